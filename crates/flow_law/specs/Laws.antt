@@ -1,0 +1,37 @@
+-- What holds of every legal history.
+use Rattle.std.specs.Prelude.{◌≡◌, ℕ, ◌<◌, ◌≤◌, false, List, [], ◌∷◌, ◌++◌, map, drop, Some}
+use Rattle.flow_law.specs.declared.config.Config.{Config}
+use Rattle.flow_law.specs.declared.config.Overflow.TheVariants.{Suspend}
+use Rattle.flow_law.specs.SharedFlow.{SharedFlowState, is_blocked, capacity, values, position_of}
+use Rattle.flow_law.specs.SharedHistory.{History, IsLegal, state_after}
+use Rattle.flow_law.specs.Mailbox.{taken, box, delivered, received, entered}
+
+-- the numbers rise, the first one above the floor, and none is above the top
+abbrev pub RisesTo : ℕ → List ℕ → ℕ → Type 0
+RisesTo floor [] top = floor ≤ top
+RisesTo floor (n ∷ ns) top = (floor < n) × RisesTo n ns top
+
+module _ {T : Type 0} where
+  -- no emission waits in the queue where the flow is not blocked
+  abbrev pub NoIdleQueue : SharedFlowState T → Type 0
+  NoIdleQueue s = is_blocked s ≡ false → s.queue ≡ []
+
+  -- the numbers along the log, then those along the queue
+  abbrev pub numbers : SharedFlowState T → List ℕ
+  numbers s = map (λ e. e.number) (s.emitted ++ s.queue)
+
+  -- what u took is what `next` gave it, and what it has still to take stands in the log from its position
+  pub record Delivers (u : ℕ) (config : Config) (h : History T) : Type 0 where
+    pub replies : taken u config h ≡ received u h
+    pub rest : (p : ℕ) → position_of u (state_after config h).subscribers ≡ Some p → drop p (values (state_after config h)) ≡ box u config h
+    -- nothing is skipped
+    pub whole : config.overflow ≡ Suspend → 0 < capacity (state_after config h) → (p : ℕ) → position_of u (state_after config h).subscribers ≡ Some p
+        → delivered u config h ≡ drop (entered u config h) (values (state_after config h))
+    -- so each emitter's values stand in its order
+    pub in_order : RisesTo 0 (numbers (state_after config h)) (state_after config h).issued
+
+abbrev pub LawNoIdleQueue : Type 0 → Type 0
+LawNoIdleQueue T = (config : Config) (h : History T) → IsLegal config h → NoIdleQueue (state_after config h)
+
+abbrev pub LawDelivered : Type 0 → Type 0
+LawDelivered T = (config : Config) (h : History T) → IsLegal config h → (u : ℕ) → Delivers u config h

@@ -1,0 +1,10 @@
+pub mod SharedFlow
+pub mod EmitRule
+pub mod SharedStep
+pub mod History
+pub mod SharedHistory
+pub mod Mailbox
+pub mod Laws
+pub mod StateFlow
+pub mod Conflation
+pub mod Growth

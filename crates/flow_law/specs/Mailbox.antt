@@ -1,0 +1,89 @@
+-- What a subscriber has received and has still to receive, told without positions.
+use Rattle.std.specs.Prelude.{ℕ, ◌-◌, ◌==◌, if◌then◌else◌, List, [], ◌∷◌, ◌++◌, length, drop}
+use Rattle.flow_law.specs.declared.config.Config.{Config}
+use Rattle.flow_law.specs.declared.outcome.Next.TheVariants.{Value, Gone}
+use Rattle.flow_law.specs.declared.call.SharedCall.{SharedCall}
+use Rattle.flow_law.specs.declared.call.SharedCall.TheVariants as call
+use Rattle.flow_law.specs.declared.call.SharedReply.{SharedReply}
+use Rattle.flow_law.specs.declared.call.SharedReply.TheVariants as reply
+use Rattle.flow_law.specs.SharedFlow.{SharedFlowState, first_state, values, cache, entry, is_offering, is_offered_as, window}
+use Rattle.flow_law.specs.SharedHistory.{History, after}
+
+pub record Mailbox (T : Type 0) : Type 0 where
+  -- what the subscriber took, the first value in front
+  pub taken : List T
+  -- what it has still to take
+  pub box : List T
+
+module _ {T : Type 0} where
+  abbrev pub keep_last : ℕ → List T → List T
+  keep_last count xs = drop (length xs - count) xs
+
+  -- each value goes to the end, and no more than the last `room` stay
+  abbrev pub arrive : ℕ → List T → List T → List T
+  arrive room box [] = box
+  arrive room box (v ∷ vs) = arrive room (keep_last room (box ++ v ∷ [])) vs
+
+  abbrev pub take_first : List T → List T → Mailbox T
+  take_first taken [] = record { taken = taken; box = [] }
+  take_first taken (v ∷ vs) = record { taken = taken ++ v ∷ []; box = vs }
+
+  -- what a new subscriber finds: the cache, or the offered value alone
+  abbrev pub found_at_entry : SharedFlowState T → List T
+  found_at_entry s = if is_offering s then drop (length s.emitted - 1) (values s) else cache s
+
+  -- before any value arrives
+  abbrev pub before_arrivals : ℕ → SharedFlowState T → SharedCall T → SharedReply T → Mailbox T → Mailbox T
+  before_arrivals u s (call.Subscribe name) (reply.Subscribed n) m = if n == u then record m { box = found_at_entry s } else m
+  before_arrivals u s (call.TakeNext n) (reply.Received Gone) m = m
+  before_arrivals u s (call.TakeNext n) (reply.Received _) m = if n == u then take_first m.taken m.box else m
+  before_arrivals u s (call.Cancel e) (reply.Tested _) m = if is_offered_as e s then record m { box = [] } else m
+  before_arrivals u s _ _ m = m
+
+  -- the values that an event appends
+  abbrev pub arrivals : SharedFlowState T → SharedFlowState T → List T
+  arrivals old new = drop (length old.emitted) (values new)
+
+  abbrev pub with_arrivals : ℕ → List T → Mailbox T → Mailbox T
+  with_arrivals room vs m = record m { box = arrive room m.box vs }
+
+  abbrev pub mailbox_by : ℕ → SharedFlowState T → SharedCall T → SharedReply T → Mailbox T → Mailbox T
+  mailbox_by u s c r m = with_arrivals (window s) (arrivals s (after s c r)) (before_arrivals u s c r m)
+
+  abbrev pub mailbox_from : ℕ → SharedFlowState T → History T → Mailbox T → Mailbox T
+  mailbox_from u s [] m = m
+  mailbox_from u s (e ∷ es) m = mailbox_from u (after s e.call e.reply) es (mailbox_by u s e.call e.reply m)
+
+  -- the mailbox of the subscriber u after a history of a flow of this configuration
+  abbrev pub mailbox : ℕ → Config → History T → Mailbox T
+  mailbox u config h = mailbox_from u (first_state config) h (record { taken = []; box = [] })
+
+  abbrev pub taken : ℕ → Config → History T → List T
+  taken u config h = (mailbox u config h).taken
+
+  abbrev pub box : ℕ → Config → History T → List T
+  box u config h = (mailbox u config h).box
+
+  abbrev pub delivered : ℕ → Config → History T → List T
+  delivered u config h = taken u config h ++ box u config h
+
+  -- the values that `next` gave to u
+  abbrev pub received_by : ℕ → SharedCall T → SharedReply T → List T
+  received_by u (call.TakeNext n) (reply.Received (Value v)) = if n == u then v ∷ [] else []
+  received_by u _ _ = []
+
+  abbrev pub received : ℕ → History T → List T
+  received u [] = []
+  received u (e ∷ es) = received_by u e.call e.reply ++ received u es
+
+  -- where u entered the log
+  abbrev pub entered_by : ℕ → SharedFlowState T → SharedCall T → SharedReply T → ℕ → ℕ
+  entered_by u s (call.Subscribe name) (reply.Subscribed n) p = if n == u then entry s else p
+  entered_by u s _ _ p = p
+
+  abbrev pub entered_from : ℕ → SharedFlowState T → History T → ℕ → ℕ
+  entered_from u s [] p = p
+  entered_from u s (e ∷ es) p = entered_from u (after s e.call e.reply) es (entered_by u s e.call e.reply p)
+
+  abbrev pub entered : ℕ → Config → History T → ℕ
+  entered u config h = entered_from u (first_state config) h 0

@@ -1,0 +1,157 @@
+-- The state of a documented shared flow (`MutableSharedFlow`) as one thread sees it, and what is read off it.
+--   emitted    v1  v2  v3  v4  v5      every value ever emitted, never cut
+--   index      0   1   2   3   4   5
+--                  ^       ^       ^
+--                  |       |       a subscriber that has received all (lag 0)
+--                  |       where the cache begins, with replay 2
+--                  a slow subscriber (lag 4): at lag `window` the flow is blocked
+--   queue      v6  v7                  values whose emitters wait, not emitted yet
+-- Begin with `is_blocked`, `cache_start` and `entry`. What a call does is in EmitRule and SharedStep.
+use Rattle.std.specs.Prelude.{ℕ, ◌+◌, ◌-◌, max, Bool, true, false, not, ◌&&◌, ◌==◌, nat_lt, nat_le, if◌then◌else◌, List, [], ◌∷◌, length, drop, map, filter, slice_get, Option, Some, None, Result, Ok, Err}
+use Rattle.std.specs.List.{list_any}
+use Rattle.std.specs.Option.{option_map_or}
+use Rattle.flow_law.specs.declared.config.Config.{Config}
+use Rattle.flow_law.specs.declared.config.Overflow.{Overflow}
+use Rattle.flow_law.specs.declared.config.Overflow.TheVariants.{Suspend, DropOldest, DropLatest}
+use Rattle.flow_law.specs.declared.fault.FlowFault.{FlowFault}
+use Rattle.flow_law.specs.declared.fault.FlowFault.TheVariants.{TooLarge, NeedsBuffer, Exhausted}
+
+-- ---- the state
+
+-- a value with the number that it took when it was accepted
+pub record Numbered (T : Type 0) : Type 0 where
+  pub value : T
+  pub number : ℕ
+
+-- a subscriber's number, and how many emitted values lie behind it
+pub record Subscriber : Type 0 where
+  pub number : ℕ
+  pub position : ℕ
+
+pub record SharedFlowState (T : Type 0) : Type 0 where
+  pub config : Config
+  -- every value ever emitted, in order. It is never cut
+  pub emitted : List (Numbered T)
+  -- how many values had been emitted at the last reset
+  pub reset_mark : ℕ
+  -- the values whose emitters wait, the first one in front
+  pub queue : List (Numbered T)
+  -- in the order in which they subscribed, so in the order of their numbers
+  pub subscribers : List Subscriber
+  -- how many numbers were issued. The next one is one more
+  pub issued : ℕ
+
+-- before any call
+abbrev pub first_state : {T : Type 0} → Config → SharedFlowState T
+first_state config = record { config = config; emitted = []; reset_mark = 0; queue = []; subscribers = []; issued = 0 }
+
+-- ---- configurations
+
+-- the most that `replay` and `extra` may come to
+abbrev pub largest_capacity : ℕ
+largest_capacity = 65536
+
+-- only a flow that suspends its emitters does without a buffer
+abbrev pub needs_no_buffer : Overflow → Bool
+needs_no_buffer Suspend = true
+needs_no_buffer DropLatest = false
+needs_no_buffer DropOldest = false
+
+-- why no flow is made of a configuration, if none is
+abbrev pub config_fault : Config → Option FlowFault
+config_fault config =
+    if nat_lt largest_capacity (config.replay + config.extra) then Some TooLarge
+    else (if (config.replay + config.extra == 0) && not (needs_no_buffer config.overflow) then Some NeedsBuffer else None)
+
+-- ---- subscribers
+
+-- where a subscriber stands
+abbrev pub position_of : ℕ → List Subscriber → Option ℕ
+position_of number [] = None
+position_of number (u ∷ us) = if u.number == number then Some u.position else position_of number us
+
+abbrev pub stand_at : ℕ → Subscriber → Subscriber
+stand_at position u = record u { position = position }
+
+abbrev pub move_to : ℕ → ℕ → List Subscriber → List Subscriber
+move_to number position [] = []
+move_to number position (u ∷ us) = if u.number == number then stand_at position u ∷ us else u ∷ move_to number position us
+
+-- everybody stands at least there
+abbrev pub raise_to : ℕ → List Subscriber → List Subscriber
+raise_to floor = map (λ u. stand_at (max u.position floor) u)
+
+abbrev pub without : ℕ → List Subscriber → List Subscriber
+without number = filter (λ u. not (u.number == number))
+
+module _ {T : Type 0} where
+  -- how many values the flow keeps for a subscriber before it is blocked
+  abbrev pub capacity : SharedFlowState T → ℕ
+  capacity s = s.config.replay + s.config.extra
+
+  -- the most that a subscriber may have still to receive
+  abbrev pub window : SharedFlowState T → ℕ
+  window s = max (capacity s) 1
+
+  -- ---- lag
+
+  -- how many values a subscriber has still to receive
+  abbrev pub lag : SharedFlowState T → Subscriber → ℕ
+  lag s u = length s.emitted - u.position
+
+  -- some subscriber has a whole window to receive
+  abbrev pub is_blocked : SharedFlowState T → Bool
+  is_blocked s = list_any (λ u. nat_le (window s) (lag s u)) s.subscribers
+
+  -- without a buffer, the last value is offered until every subscriber has received it
+  abbrev pub is_offering : SharedFlowState T → Bool
+  is_offering s = (capacity s == 0) && list_any (λ u. lag s u == 1) s.subscribers
+
+  -- ---- cache and entry
+
+  -- where the replay cache begins among the emitted values
+  abbrev pub cache_start : SharedFlowState T → ℕ
+  cache_start s = max s.reset_mark (length s.emitted - s.config.replay)
+
+  abbrev pub values : SharedFlowState T → List T
+  values s = map (λ e. e.value) s.emitted
+
+  -- what a new subscriber gets first
+  abbrev pub cache : SharedFlowState T → List T
+  cache s = drop (cache_start s) (values s)
+
+  -- where a new subscriber stands: at the offered value, or where the cache begins
+  abbrev pub entry : SharedFlowState T → ℕ
+  entry s = if is_offering s then length s.emitted - 1 else cache_start s
+
+  -- ---- numbers
+
+  -- the number of the value that was emitted last. Numbers begin at 1
+  abbrev pub newest : SharedFlowState T → ℕ
+  newest s = option_map_or (λ e. e.number) (slice_get s.emitted (length s.emitted - 1)) 0
+
+  -- the offered value has this number
+  abbrev pub is_offered_as : ℕ → SharedFlowState T → Bool
+  is_offered_as e s = is_offering s && (newest s == e)
+
+  abbrev pub is_queued : ℕ → SharedFlowState T → Bool
+  is_queued e s = list_any (λ q. q.number == e) s.queue
+
+  -- no number is left to issue
+  abbrev pub is_exhausted : SharedFlowState T → Bool
+  is_exhausted s = s.issued == s.config.limit
+
+-- ---- what a call gives
+
+-- the reply, and the state after the call
+pub record Answer (R T : Type 0) : Type 0 where
+  pub reply : Result R FlowFault
+  pub after : SharedFlowState T
+
+module _ {T : Type 0} where
+  abbrev pub answer : {R : Type 0} → R → SharedFlowState T → Answer R T
+  answer reply after = record { reply = Ok reply; after = after }
+
+  -- a call that would issue a number when none is left is refused and changes nothing
+  abbrev pub issuing : {R : Type 0} → SharedFlowState T → Answer R T → Answer R T
+  issuing s a = if is_exhausted s then record { reply = Err Exhausted; after = s } else a

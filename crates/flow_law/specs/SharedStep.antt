@@ -1,0 +1,80 @@
+-- Each call of a documented shared flow: its reply and the state after it. `emit` and `try_emit` are in EmitRule.
+-- Begin with `settle`: what every call that makes room does last.
+use Rattle.std.specs.Prelude.{ℕ, ◌+◌, ◌-◌, Bool, not, ◌||◌, ◌==◌, if◌then◌else◌, List, [], ◌∷◌, ◌++◌, length, map, filter, slice_get, Option, is_some}
+use Rattle.std.specs.Option.{option_map_or}
+use Rattle.flow_law.specs.declared.outcome.Next.{Next}
+use Rattle.flow_law.specs.declared.outcome.Next.TheVariants.{Value, Empty, Gone}
+use Rattle.flow_law.specs.SharedFlow.{Numbered, SharedFlowState, issuing, is_blocked, cache, entry, values, is_queued, is_offered_as, position_of, stand_at, move_to, without}
+pub use Rattle.flow_law.specs.SharedFlow.{Answer, answer}
+pub use Rattle.flow_law.specs.EmitRule.{emit, try_emit}
+
+module _ {T : Type 0} where
+  -- queued values are emitted, the first ones first, until the flow is blocked
+  abbrev pub admit : SharedFlowState T → List (Numbered T) → SharedFlowState T
+  admit s [] = record s { queue = [] }
+  admit s (e ∷ queue) = if is_blocked s then record s { queue = e ∷ queue } else admit (record s { emitted = s.emitted ++ e ∷ [] }) queue
+
+  abbrev pub settle : SharedFlowState T → SharedFlowState T
+  settle s = admit s s.queue
+
+  -- ---- poll and cancel
+
+  -- the emitter of this number waits: its value is queued or offered
+  abbrev pub is_waiting : ℕ → SharedFlowState T → Bool
+  is_waiting e s = is_queued e s || is_offered_as e s
+
+  abbrev pub poll : ℕ → SharedFlowState T → Answer Bool T
+  poll e s = answer (is_waiting e s) s
+
+  -- an offered value is no more for those who have not received it, a queued one is lost
+  abbrev pub withdraw : ℕ → SharedFlowState T → SharedFlowState T
+  withdraw e s =
+      if is_offered_as e s then record s { subscribers = map (stand_at (length s.emitted)) s.subscribers }
+      else record s { queue = filter (λ q. not (q.number == e)) s.queue }
+
+  abbrev pub cancel : ℕ → SharedFlowState T → Answer Bool T
+  cancel e s = answer (is_waiting e s) (settle (withdraw e s))
+
+  -- ---- subscribers
+
+  -- the subscriber takes the next number, and stands where the cache begins or at the offered value
+  abbrev pub enroll : SharedFlowState T → SharedFlowState T
+  enroll s = record s {
+    subscribers = s.subscribers ++ record { number = s.issued + 1; position = entry s } ∷ [];
+    issued = s.issued + 1;
+  }
+
+  abbrev pub subscribe : SharedFlowState T → Answer ℕ T
+  subscribe s = issuing s (answer (s.issued + 1) (enroll s))
+
+  abbrev pub advance : ℕ → ℕ → SharedFlowState T → SharedFlowState T
+  advance number position s = record s { subscribers = move_to number position s.subscribers }
+
+  -- the value at the subscriber's position, which is behind it from then on
+  abbrev pub read : ℕ → ℕ → SharedFlowState T → Answer (Next T) T
+  read number position s =
+      option_map_or (λ value. answer (Value value) (settle (advance number (position + 1) s)))
+      (slice_get (values s) position) (answer Empty s)
+
+  abbrev pub next : ℕ → SharedFlowState T → Answer (Next T) T
+  next number s = option_map_or (λ position. read number position s) (position_of number s.subscribers) (answer Gone s)
+
+  abbrev pub leave : ℕ → SharedFlowState T → SharedFlowState T
+  leave number s = record s { subscribers = without number s.subscribers }
+
+  abbrev pub unsubscribe : ℕ → SharedFlowState T → Answer Bool T
+  unsubscribe number s = answer (is_some (position_of number s.subscribers)) (settle (leave number s))
+
+  -- ---- the cache and the count
+
+  abbrev pub replay_cache : SharedFlowState T → Answer (List T) T
+  replay_cache s = answer (cache s) s
+
+  abbrev pub forget : SharedFlowState T → SharedFlowState T
+  forget s = record s { reset_mark = length s.emitted }
+
+  abbrev pub reset_replay_cache : SharedFlowState T → Answer (Unit {0}) T
+  reset_replay_cache s = answer tt (forget s)
+
+  abbrev pub subscription_count : SharedFlowState T → Answer ℕ T
+  subscription_count s = answer (length s.subscribers) s

@@ -1,0 +1,108 @@
+-- The documented state flow (`MutableStateFlow`) of one thread, and its histories.
+use Rattle.std.specs.Prelude.{◌≡◌, ◌≢◌, ◌⊎◌, ℕ, ◌+◌, ◌==◌, IsTrue, Bool, true, false, not, if◌then◌else◌, List, [], ◌∷◌, ◌++◌, length, filter, Option, Some, None, is_some}
+use Rattle.flow_law.specs.declared.fault.FlowFault.TheVariants.{Exhausted, OutOfMemory, Unsupported}
+use Rattle.flow_law.specs.declared.history.Event.{Event}
+use Rattle.flow_law.specs.declared.outcome.Next.TheVariants.{Value, Empty, Gone}
+use Rattle.flow_law.specs.declared.call.StateCall.{StateCall}
+use Rattle.flow_law.specs.declared.call.StateCall.TheVariants.{GetValue, Set, TryEmit, CompareAndSet, Subscribe, TakeNext, Unsubscribe, SubscriptionCount, ReplayCache, ResetReplayCache}
+use Rattle.flow_law.specs.declared.call.StateReply.{StateReply}
+use Rattle.flow_law.specs.declared.call.StateReply.TheVariants.{Done, Got, Answered, Subscribed, Received, Counted, Cached, Refused}
+use Rattle.flow_law.specs.History.{Owner}
+use Rattle.flow_law.specs.History as histories
+
+-- a subscriber's number, and the last value that it got, or none yet
+pub record StateSubscriber (T : Type 0) : Type 0 where
+  pub number : ℕ
+  pub last : Option T
+
+pub record StateFlowState (T : Type 0) : Type 0 where
+  -- the most numbers that it issues
+  pub limit : ℕ
+  pub value : T
+  -- in the order in which they subscribed
+  pub subscribers : List (StateSubscriber T)
+  -- how many numbers were issued. The next one is one more
+  pub issued : ℕ
+
+module _ {T : Type 0} where
+  abbrev pub first_state_flow : ℕ → T → StateFlowState T
+  first_state_flow limit first = record { limit = limit; value = first; subscribers = []; issued = 0 }
+
+  -- the last value that a subscriber got, if there is such a subscriber
+  abbrev pub last_of : ℕ → List (StateSubscriber T) → Option (Option T)
+  last_of number [] = None
+  last_of number (r ∷ rs) = if r.number == number then Some r.last else last_of number rs
+
+  abbrev pub with_last : ℕ → T → List (StateSubscriber T) → List (StateSubscriber T)
+  with_last number v [] = []
+  with_last number v (r ∷ rs) = if r.number == number then record r { last = Some v } ∷ rs else r ∷ with_last number v rs
+
+  abbrev pub without_reader : ℕ → List (StateSubscriber T) → List (StateSubscriber T)
+  without_reader number = filter (λ r. not (r.number == number))
+
+  abbrev pub is_spent : StateFlowState T → Bool
+  is_spent s = s.issued == s.limit
+
+  -- the state after a call that had this reply. A refused call changes nothing
+  abbrev pub after : StateFlowState T → StateCall T → StateReply T → StateFlowState T
+  after s (Set x) r = record s { value = x }
+  after s (TryEmit x) r = record s { value = x }
+  after s (CompareAndSet a b) (Answered true) = record s { value = b }
+  after s (Subscribe name) (Subscribed n) = record s { subscribers = s.subscribers ++ record { number = n; last = None } ∷ []; issued = n }
+  after s (TakeNext u) (Received (Value x)) = record s { subscribers = with_last u x s.subscribers }
+  after s (Unsubscribe u) (Answered _) = record s { subscribers = without_reader u s.subscribers }
+  after s _ _ = s
+
+  -- what a subscriber gets, by the last value that it got
+  abbrev pub Receives : T → Option (Option T) → StateReply T → Type 0
+  Receives v None r = r ≡ Received Gone
+  Receives v (Some last) r = ((last ≡ Some v) × (r ≡ Received Empty)) ⊎ ((last ≢ Some v) × (r ≡ Received (Value v)))
+
+  -- r is what the flow answers
+  abbrev pub Answers : StateFlowState T → StateCall T → StateReply T → Type 0
+  Answers s GetValue r = r ≡ Got s.value
+  Answers s (Set x) r = r ≡ Done
+  Answers s (TryEmit x) r = r ≡ Answered true
+  Answers s (CompareAndSet a b) r = ((s.value ≡ a) × (r ≡ Answered true)) ⊎ ((s.value ≢ a) × (r ≡ Answered false))
+  Answers s (Subscribe name) r = r ≡ (if is_spent s then Refused Exhausted else Subscribed (s.issued + 1))
+  Answers s (TakeNext u) r = Receives s.value (last_of u s.subscribers) r
+  Answers s (Unsubscribe u) r = r ≡ Answered (is_some (last_of u s.subscribers))
+  Answers s SubscriptionCount r = r ≡ Counted (length s.subscribers)
+  Answers s ReplayCache r = r ≡ Cached (s.value ∷ [])
+  Answers s ResetReplayCache r = r ≡ Refused Unsupported
+
+  -- the calls that may be refused for want of memory
+  abbrev pub may_need_memory : StateFlowState T → StateCall T → Bool
+  may_need_memory s GetValue = true
+  may_need_memory s ReplayCache = true
+  may_need_memory s (TakeNext u) = true
+  may_need_memory s (Subscribe name) = not (is_spent s)
+  may_need_memory s _ = false
+
+  abbrev pub Replies : StateFlowState T → StateCall T → StateReply T → Type 0
+  Replies s c r = Answers s c r ⊎ ((r ≡ Refused OutOfMemory) × IsTrue (may_need_memory s c))
+
+  abbrev pub owners_after_call : List Owner → List ℕ → StateCall T → StateReply T → List Owner
+  owners_after_call owners name (Subscribe given) (Subscribed u) = record { number = u; name = given } ∷ owners
+  owners_after_call owners name _ _ = owners
+
+  abbrev pub owners_after : List Owner → Event (StateCall T) (StateReply T) → List Owner
+  owners_after owners e = owners_after_call owners e.name e.call e.reply
+
+  abbrev pub speaks_of : StateCall T → Option ℕ
+  speaks_of (TakeNext u) = Some u
+  speaks_of (Unsubscribe u) = Some u
+  speaks_of _ = None
+
+abbrev pub StateHistory : Type 0 → Type 0
+StateHistory T = List (Event (StateCall T) (StateReply T))
+
+module _ {T : Type 0} where
+  abbrev pub state_after_all : StateFlowState T → StateHistory T → StateFlowState T
+  state_after_all = histories.after_all Replies after
+
+  abbrev pub IsLegalState : StateFlowState T → StateHistory T → Type 0
+  IsLegalState = histories.IsLegal Replies after
+
+  abbrev pub IsOwnedState : StateHistory T → Type 0
+  IsOwnedState = histories.IsOwned owners_after speaks_of []

@@ -1,0 +1,70 @@
+//! The calls and replies of flows, as histories have them. Contracts alone speak of them; no value of these types is made.
+ghost use Rattle.std.specs.Prelude.{◌≡◌};
+
+use crate::fault::FlowFault;
+use crate::outcome::{Emit, Next};
+use std::collections::LinkedList;
+
+/// A call of a shared flow.
+pub enum SharedCall<T> {
+    TryEmit(T),
+    Emit(T),
+    /// With the emission's number.
+    Poll(u64),
+    /// With the emission's number.
+    Cancel(u64),
+    /// With the name of the subscription.
+    Subscribe(LinkedList<u64>),
+    /// `next`, with the subscriber's number.
+    TakeNext(u64),
+    /// With the subscriber's number.
+    Unsubscribe(u64),
+    ReplayCache,
+    ResetReplayCache,
+    SubscriptionCount,
+}
+
+/// What a shared flow replies.
+pub enum SharedReply<T> {
+    Emitted(Emit),
+    /// Of `try_emit`, `poll`, `cancel` and `unsubscribe`.
+    Tested(bool),
+    /// With the subscriber's number.
+    Subscribed(u64),
+    Received(Next<T>),
+    Cached(LinkedList<T>),
+    Reset,
+    Counted(u64),
+    Refused(FlowFault),
+}
+
+/// A call of a state flow.
+pub enum StateCall<T> {
+    GetValue,
+    Set(T),
+    TryEmit(T),
+    CompareAndSet(T, T),
+    /// With the name of the subscription.
+    Subscribe(LinkedList<u64>),
+    /// `next`, with the subscriber's number.
+    TakeNext(u64),
+    /// With the subscriber's number.
+    Unsubscribe(u64),
+    SubscriptionCount,
+    ReplayCache,
+    ResetReplayCache,
+}
+
+/// What a state flow replies.
+pub enum StateReply<T> {
+    Done,
+    Got(T),
+    /// Of `try_emit`, `compare_and_set` and `unsubscribe`.
+    Answered(bool),
+    /// With the subscriber's number.
+    Subscribed(u64),
+    Received(Next<T>),
+    Counted(u64),
+    Cached(LinkedList<T>),
+    Refused(FlowFault),
+}

@@ -1,0 +1,22 @@
+//! The types, definitions and laws of flows.
+//!
+//! Nothing runs here but copies and comparisons of values. `specs/` says what a shared flow, a state flow and a
+//! chain are, what a history of one is, and when a core stands for a state. Each crate above is proved against these
+//! definitions, and cites nothing else of its neighbours.
+#![tactic(auto)]
+
+mod call;
+mod config;
+mod fault;
+mod history;
+mod laws;
+mod outcome;
+mod value;
+
+pub use call::{SharedCall, SharedReply, StateCall, StateReply};
+pub use config::{Config, Overflow};
+pub use fault::{FlowFault, Refused};
+pub use history::Event;
+pub use laws::{law_conflated, law_delivered, law_no_idle_queue};
+pub use outcome::{Emit, Next};
+pub use value::FlowValue;

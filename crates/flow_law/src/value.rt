@@ -1,0 +1,41 @@
+//! The values of flows.
+ghost use Rattle.std.proofs.Common.{rules};
+ghost use Rattle.std.specs.Ordering.{int_eq};
+ghost use Rattle.std.specs.Prelude.{Bool, ◌≡◌, ◌↔◌, IsTrue, IfOk, IfErr};
+
+use crate::fault::FlowFault;
+
+/// A value that a flow can keep, and give to several subscribers.
+///
+/// A type that holds more than its value, such as a buffer with spare room, needs a `Model` whose value is what two
+/// copies have in common: contracts compare values by it.
+pub trait FlowValue: Drop {
+    /// Whether two values are the same.
+    ghost is_same: { Self → Self → Bool };
+
+    /// The same value, or want of memory.
+    fn try_copy(&self) -> Result<Self, FlowFault>
+        ensures copy { IfOk result (λ copy. copy ≡ self.now) }
+        ensures memory { IfErr result (λ fault. fault ≡ FlowFault.OutOfMemory) };
+
+    /// Whether both are the same value.
+    fn same(&self, other: &Self) -> bool
+        ensures { result ≡ is_same self.now other.now };
+
+    /// It holds of equal values and of no others.
+    ghost is_same_exact: { (x y : Self) → IsTrue (is_same x y) ↔ x ≡ y };
+}
+
+impl FlowValue for i64 {
+    ghost is_same = { int_eq };
+
+    fn try_copy(&self) -> Result<i64, FlowFault> {
+        Ok(*self)
+    }
+
+    fn same(&self, other: &i64) -> bool {
+        *self == *other
+    }
+
+    ghost is_same_exact = { Prim.search rules };
+}
