@@ -15,8 +15,9 @@ use Rattle.flow_law.specs.declared.call.StateReply.{StateReply}
 use Rattle.flow_law.specs.declared.call.StateReply.TheVariants.{Answered, Subscribed, Received, Refused}
 use Rattle.flow_law.specs.SharedFlow.{Numbered, Subscriber, SharedFlowState, first_state, cache}
 use Rattle.flow_law.specs.SharedStep as flow
-use Rattle.flow_law.specs.StateFlow.{StateFlowState, StateHistory, first_state_flow, after, Answers, Receives, may_need_memory, is_spent, last_of, with_last, without_reader, IsLegalState}
+use Rattle.flow_law.specs.StateFlow.{StateFlowState, StateHistory, first_state_flow, after, IsReply, Receives, may_need_memory, is_spent, last_of, with_last, without_reader, IsLegalState}
 use Rattle.flow_law.specs.Conflation.{Beside, beside, newest_only, emitting, subscribing, reading, leaving, follows, Conflated, Agrees, AgreeAll, passed_on}
+use Rattle.flow_law.proofs.ReplyLemmas.{state_replies_cases}
 use Rattle.flow_law.proofs.Rows.{split}
 use Rattle.flow_law.proofs.Readers.{last-snoc, last-snoc_other, last-with, last-with_other, last-without, last-without_other}
 use Rattle.flow_law.proofs.Newest.{sole, built, entry_of, newest_at, emit_alone, emit_one, subscribe_alone, next_behind, next_newest, leave_sole, cache_newest}
@@ -303,7 +304,7 @@ module _ {T : Type 0} where
   ]
 
   -- each answer
-  answered : (u limit room : ℕ) (s : StateFlowState T) (m : Beside T) (c : StateCall T) (r : StateReply T) → Along u limit (suc room) s m → Answers s c r → Kept u limit room s m c r
+  answered : (u limit room : ℕ) (s : StateFlowState T) (m : Beside T) (c : StateCall T) (r : StateReply T) → Along u limit (suc room) s m → IsReply s c r → Kept u limit room s m c r
   answered u limit room s m GetValue r a is = subst (λ k. Kept u limit room s m GetValue k) (sym is) (cached u limit (suc room) s m a, less u limit room s m a)
   answered u limit room s m (Set x) r a is = (tt, emitted u limit room s m x a)
   answered u limit room s m (TryEmit x) r a is = (tt, emitted u limit room s m x a)
@@ -335,7 +336,7 @@ module _ {T : Type 0} where
   pub agree : (u limit : ℕ) (s : StateFlowState T) (m : Beside T) (h : StateHistory T) → Along u limit (length h) s m → IsLegalState s h → AgreeAll u m h
   agree u limit s m [] a legal = tt
   agree u limit s m (e ∷ es) a legal =
-      let step : Kept u limit (length es) s m e.call e.reply = elim legal.0 as (λ _. Kept u limit (length es) s m e.call e.reply) [
+      let step : Kept u limit (length es) s m e.call e.reply = elim (state_replies_cases s e.call e.reply legal.0) as (λ _. Kept u limit (length es) s m e.call e.reply) [
         | inl is ↦ answered u limit (length es) s m e.call e.reply a is
         | inr is ↦ subst (λ k. Kept u limit (length es) s m e.call k) (sym is.0) (short u limit (length es) s m e.call a is.1)
       ] in

@@ -25,6 +25,7 @@ use Rattle.flow_law.specs.SharedStep.{is_waiting, settle, withdraw, enroll, adva
 use Rattle.flow_law.specs.SharedHistory.{SharedOutcome, outcome_of, answer_to, is_refused, Replies, after}
 use Rattle.flow_law.specs.Mailbox.{Mailbox, arrivals, with_arrivals, take_first, found_at_entry, before_arrivals, received_by, entered_by}
 use Rattle.flow_law.proofs.Moves.{open_not_blocked}
+use Rattle.flow_law.proofs.ReplyLemmas.{replies_cases}
 use Rattle.flow_law.proofs.Rows.{split, absent, position-snoc, position-snoc_other, position-move_to, position-move_to_other, position-without, position-without_other, position-map}
 use Rattle.flow_law.proofs.Sound.{Placed, Sound, withdraw_placed, advance_placed, leave_placed, here_within, entry_within}
 use Rattle.flow_law.proofs.Boxes.{Boxed, settle_boxed, append_boxed, drop_boxed, boxed_same, unfilled, no_arrivals}
@@ -248,7 +249,7 @@ module _ {T : Type 0} where
   -- each legal reply, want of memory included
   pub event_good : (u b : ℕ) (s : SharedFlowState T) (m : Mailbox T) → Sound s → (s.config.overflow ≡ DropOldest → 0 < capacity s) → Boxed u s m b
       → (c : SharedCall T) (r : SharedReply T) → Replies s c r → Good u s m b c r (after s c r)
-  event_good u b s m sound usable h c r legal = elim legal as (λ _. Good u s m b c r (after s c r)) [
+  event_good u b s m sound usable h c r legal = elim (replies_cases s c r legal) as (λ _. Good u s m b c r (after s c r)) [
     | inl e ↦ subst (λ k. Good u s m b c k (after s c k)) (sym e) (answer_good u b s m sound usable h c)
     | inr e ↦ subst (λ k. Good u s m b c k (after s c k)) (sym e.0) (refused_good u b s m OutOfMemory c h)
   ]

@@ -8,3 +8,4 @@ pub mod Laws
 pub mod StateFlow
 pub mod Conflation
 pub mod Growth
+pub mod Standing

@@ -43,7 +43,7 @@ module _ {T : Type 0} where
   is_refused (reply.Refused fault) = true
   is_refused _ = false
 
-  -- the calls that may be refused for want of memory
+  -- the calls that may be refused for want of memory, by the state too: with a buffer made in advance fewer need any
   abbrev pub may_need_memory : SharedFlowState T → SharedCall T → Bool
   may_need_memory s (call.Poll e) = false
   may_need_memory s (call.Cancel e) = false
@@ -52,12 +52,10 @@ module _ {T : Type 0} where
   may_need_memory s call.SubscriptionCount = false
   may_need_memory s _ = true
 
-  -- a call that is not refused otherwise may be refused for want of memory
-  abbrev pub IsShort : SharedFlowState T → SharedCall T → SharedReply T → Type 0
-  IsShort s c r = (r ≡ reply.Refused OutOfMemory) × IsTrue (may_need_memory s c && not (is_refused (answer_to c s).reply))
-
+  -- Want of memory is a reply to a call that may need memory and is not refused otherwise. Any other reply is the flow's own.
   abbrev pub Replies : SharedFlowState T → SharedCall T → SharedReply T → Type 0
-  Replies s c r = (r ≡ (answer_to c s).reply) ⊎ IsShort s c r
+  Replies s c (reply.Refused OutOfMemory) = IsTrue (may_need_memory s c && not (is_refused (answer_to c s).reply))
+  Replies s c r = r ≡ (answer_to c s).reply
 
   -- a refused call changes nothing
   abbrev pub after : SharedFlowState T → SharedCall T → SharedReply T → SharedFlowState T

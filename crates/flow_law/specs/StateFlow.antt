@@ -59,17 +59,21 @@ module _ {T : Type 0} where
   Receives v (Some last) r = ((last ≡ Some v) × (r ≡ Received Empty)) ⊎ ((last ≢ Some v) × (r ≡ Received (Value v)))
 
   -- r is what the flow answers
-  abbrev pub Answers : StateFlowState T → StateCall T → StateReply T → Type 0
-  Answers s GetValue r = r ≡ Got s.value
-  Answers s (Set x) r = r ≡ Done
-  Answers s (TryEmit x) r = r ≡ Answered true
-  Answers s (CompareAndSet a b) r = ((s.value ≡ a) × (r ≡ Answered true)) ⊎ ((s.value ≢ a) × (r ≡ Answered false))
-  Answers s (Subscribe name) r = r ≡ (if is_spent s then Refused Exhausted else Subscribed (s.issued + 1))
-  Answers s (TakeNext u) r = Receives s.value (last_of u s.subscribers) r
-  Answers s (Unsubscribe u) r = r ≡ Answered (is_some (last_of u s.subscribers))
-  Answers s SubscriptionCount r = r ≡ Counted (length s.subscribers)
-  Answers s ReplayCache r = r ≡ Cached (s.value ∷ [])
-  Answers s ResetReplayCache r = r ≡ Refused Unsupported
+  abbrev pub IsReply : StateFlowState T → StateCall T → StateReply T → Type 0
+  IsReply s GetValue r = r ≡ Got s.value
+  IsReply s (Set x) r = r ≡ Done
+  IsReply s (TryEmit x) r = r ≡ Answered true
+  IsReply s (CompareAndSet a b) r = ((s.value ≡ a) × (r ≡ Answered true)) ⊎ ((s.value ≢ a) × (r ≡ Answered false))
+  IsReply s (Subscribe name) r = r ≡ (if is_spent s then Refused Exhausted else Subscribed (s.issued + 1))
+  IsReply s (TakeNext u) r = Receives s.value (last_of u s.subscribers) r
+  IsReply s (Unsubscribe u) r = r ≡ Answered (is_some (last_of u s.subscribers))
+  IsReply s SubscriptionCount r = r ≡ Counted (length s.subscribers)
+  IsReply s ReplayCache r = r ≡ Cached (s.value ∷ [])
+  IsReply s ResetReplayCache r = r ≡ Refused Unsupported
+
+  abbrev pub is_refused : StateReply T → Bool
+  is_refused (Refused fault) = true
+  is_refused _ = false
 
   -- the calls that may be refused for want of memory
   abbrev pub may_need_memory : StateFlowState T → StateCall T → Bool
@@ -80,7 +84,8 @@ module _ {T : Type 0} where
   may_need_memory s _ = false
 
   abbrev pub Replies : StateFlowState T → StateCall T → StateReply T → Type 0
-  Replies s c r = Answers s c r ⊎ ((r ≡ Refused OutOfMemory) × IsTrue (may_need_memory s c))
+  Replies s c (Refused OutOfMemory) = IsTrue (may_need_memory s c)
+  Replies s c r = IsReply s c r
 
   abbrev pub owners_after_call : List Owner → List ℕ → StateCall T → StateReply T → List Owner
   owners_after_call owners name (Subscribe given) (Subscribed u) = record { number = u; name = given } ∷ owners

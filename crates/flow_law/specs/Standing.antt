@@ -1,0 +1,72 @@
+-- What contracts see of a core, when it stands for a state of the documented flow, and what a call of it does.
+-- Begin with `Conforms`: one word for each call of a core. A reader who knows it can read every contract of flow_core.
+use Rattle.std.specs.Prelude.{◌≡◌, ℕ, min, List, [], ◌∷◌, ◌++◌, length, drop, Bool, true, false}
+use Rattle.std.specs.Bool.{OnTrue}
+use Rattle.flow_law.specs.declared.config.Config.{Config}
+use Rattle.flow_law.specs.declared.call.SharedCall.{SharedCall}
+use Rattle.flow_law.specs.declared.call.SharedReply.{SharedReply}
+use Rattle.flow_law.specs.declared.call.StateCall.{StateCall}
+use Rattle.flow_law.specs.declared.call.StateReply.{StateReply}
+use Rattle.flow_law.specs.SharedFlow.{Numbered, Subscriber, SharedFlowState, cache_start, values, newest}
+use Rattle.flow_law.specs.SharedHistory as shared
+use Rattle.flow_law.specs.StateFlow.{StateFlowState}
+use Rattle.flow_law.specs.StateFlow as state
+
+-- ---- what a call does, for any kind of flow
+
+-- A core of type K stands for states of type S. In each state that the old core stands for, the documented flow may reply
+-- so, and the new core stands for the state after. A refused call leaves the core as it was.
+module _ {K S C R : Type 0} (StandsAs : K → S → Type 0) (Replies : S → C → R → Type 0) (after : S → C → R → S) (is_refused : R → Bool) where
+  abbrev pub ConformsBy : K → C → R → K → Type 0
+  ConformsBy old call reply new = ((s : S) → StandsAs old s → Replies s call reply × StandsAs new (after s call reply)) × OnTrue (is_refused reply) (new ≡ old)
+
+-- ---- shared flows
+
+-- what contracts see of a core
+pub record Core (T : Type 0) : Type 0 where
+  pub config : Config
+  -- the values that the core still holds
+  pub held : List T
+  -- how many values were ever emitted
+  pub appended : ℕ
+  -- the number of the value that was emitted last
+  pub newest : ℕ
+  pub reset_mark : ℕ
+  pub queue : List (Numbered T)
+  pub subscribers : List Subscriber
+  pub issued : ℕ
+
+-- the least of a bound and all positions
+abbrev pub least_position : ℕ → List Subscriber → ℕ
+least_position bound [] = bound
+least_position bound (u ∷ us) = min u.position (least_position bound us)
+
+-- where the values begin that a new subscriber or an old one may still ask for
+abbrev pub first_needed : {T : Type 0} → SharedFlowState T → ℕ
+first_needed s = least_position (cache_start s) s.subscribers
+
+abbrev pub needed : {T : Type 0} → SharedFlowState T → List T
+needed s = drop (first_needed s) (values s)
+
+abbrev pub EndsWith : {X : Type 0} → List X → List X → Type 0
+EndsWith {X} xs ys = (front : List X) × (xs ≡ front ++ ys)
+
+-- a core holds at least what may still be asked for
+pub record StandsFor {T : Type 0} (core : Core T) (s : SharedFlowState T) : Type 0 where
+  pub config : core.config ≡ s.config
+  pub held : EndsWith core.held (needed s)
+  pub appended : core.appended ≡ length s.emitted
+  pub newest : core.newest ≡ newest s
+  pub reset_mark : core.reset_mark ≡ s.reset_mark
+  pub queue : core.queue ≡ s.queue
+  pub subscribers : core.subscribers ≡ s.subscribers
+  pub issued : core.issued ≡ s.issued
+
+abbrev pub Conforms : {T : Type 0} → Core T → SharedCall T → SharedReply T → Core T → Type 0
+Conforms = ConformsBy StandsFor shared.Replies shared.after shared.is_refused
+
+-- ---- state flows
+
+-- a state core keeps the state itself
+abbrev pub StateConforms : {T : Type 0} → StateFlowState T → StateCall T → StateReply T → StateFlowState T → Type 0
+StateConforms = ConformsBy (λ core s. core ≡ s) state.Replies state.after state.is_refused
