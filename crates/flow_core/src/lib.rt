@@ -19,11 +19,12 @@
 //! `reset_replay_cache` and `subscription_count` are never refused: room for a queued value is taken when it is queued.
 #![tactic(auto)]
 
+mod copies;
 mod positions;
 mod queue;
-// mod shared;
+mod shared;
 
-// pub use shared::{SharedCore, SubId};
+pub use shared::{SharedCore, SubId};
 
 // cfg
 // mod tests;

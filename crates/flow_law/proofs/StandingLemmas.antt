@@ -153,6 +153,20 @@ module _ {T : Type 0} where
       (record s { emitted = s.emitted ++ e ∷ []; queue = q; issued = n })) stands.issued
       (stands-longer core s e q core.issued h stands)
 
+  -- the same values
+  pub stands-held : (core : Core T) (s : SharedFlowState T) (xs : List T) (n : ℕ) → StandsFor core s → xs ≡ core.held → n ≡ core.appended
+      → StandsFor (record core { held = xs; appended = n }) s
+  stands-held core s xs n stands same count = record {
+    config = stands.config;
+    held = (stands.held.0, same ∙ stands.held.1);
+    appended = count ∙ stands.appended;
+    newest = stands.newest;
+    reset_mark = stands.reset_mark;
+    queue = stands.queue;
+    subscribers = stands.subscribers;
+    issued = stands.issued;
+  }
+
   -- another queue, and more numbers
   pub stands-queue : (core : Core T) (s : SharedFlowState T) (old new : List (Numbered T)) (m n : ℕ) → StandsFor core s → old ≡ new → m ≡ n
       → StandsFor (record core { queue = old; issued = m }) (record s { queue = new; issued = n })
