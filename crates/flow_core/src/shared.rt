@@ -427,7 +427,10 @@ impl<T: FlowValue, A: Allocator + Copy> SharedCore<T, A> {
     pub fn replay_cache(&self) -> Result<Vec<T, A>, FlowFault>
         ensures documented { Conforms self.now call.ReplayCache (cached (λ values. values.items) result) self.now }
     {
-        copies(self.alloc, &self.values.as_slice()[self.cache_start()..])
+        match copies(self.alloc, &self.values.as_slice()[self.cache_start()..]) {
+            Ok(cache) => Ok(cache),
+            Err(fault) => Err(fault),
+        }
     }
 
     /// Empties the cache for new subscribers. Old ones keep what they have still to receive.
