@@ -30,5 +30,5 @@ pub use shared::SharedCore;
 pub use state::StateCore;
 pub use sub_id::SubId;
 
-// cfg
-// mod tests;
+#[cfg(test)]
+mod tests;

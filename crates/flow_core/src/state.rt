@@ -99,7 +99,7 @@ impl<T: FlowValue, A: Allocator + Copy> StateCore<T, A> {
     pub fn try_emit(&mut self, value: T) -> bool
         ensures documented { StateConforms self.old (call.TryEmit value) (reply.Answered result) self.new }
     {
-        self.value = value;
+        self.set(value);
         true
     }
 
