@@ -336,11 +336,11 @@ module _ {T : Type 0} where
   pub agree : (u limit : ℕ) (s : StateFlowState T) (m : Beside T) (h : StateHistory T) → Along u limit (length h) s m → IsLegalState s h → AgreeAll u m h
   agree u limit s m [] a legal = tt
   agree u limit s m (e ∷ es) a legal =
-      let step : Kept u limit (length es) s m e.call e.reply = elim (state_replies_cases s e.call e.reply legal.0) as (λ _. Kept u limit (length es) s m e.call e.reply) [
-        | inl is ↦ answered u limit (length es) s m e.call e.reply a is
-        | inr is ↦ subst (λ k. Kept u limit (length es) s m e.call k) (sym is.0) (short u limit (length es) s m e.call a is.1)
+      let step : Kept u limit (length es) s m e.what.call e.what.reply = elim (state_replies_cases s e.what.call e.what.reply legal.0) as (λ _. Kept u limit (length es) s m e.what.call e.what.reply) [
+        | inl is ↦ answered u limit (length es) s m e.what.call e.what.reply a is
+        | inr is ↦ subst (λ k. Kept u limit (length es) s m e.what.call k) (sym is.0) (short u limit (length es) s m e.what.call a is.1)
       ] in
-      (step.0, agree u limit (after s e.call e.reply) (follows u m e.call e.reply) es step.1 legal.1)
+      (step.0, agree u limit (after s e.what.call e.what.reply) (follows u m e.what.call e.what.reply) es step.1 legal.1)
 
   pub conflates : (limit : ℕ) (first : T) (h : StateHistory T) → IsLegalState (first_state_flow limit first) h → (u unreached : ℕ) → length h < unreached → AgreeAll u (beside unreached first) h
   conflates limit first h legal u unreached l = agree u unreached (first_state_flow limit first) (beside unreached first) h (record {

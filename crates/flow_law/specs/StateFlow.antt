@@ -2,6 +2,7 @@
 use Rattle.std.specs.Prelude.{◌≡◌, ◌≢◌, ◌⊎◌, ℕ, ◌+◌, ◌==◌, IsTrue, Bool, true, false, not, if◌then◌else◌, List, [], ◌∷◌, ◌++◌, length, filter, Option, Some, None, is_some}
 use Rattle.flow_law.specs.declared.fault.FlowFault.TheVariants.{Exhausted, OutOfMemory, Unsupported}
 use Rattle.flow_law.specs.declared.history.Event.{Event}
+use Rattle.flow_law.specs.declared.history.Said.{Said}
 use Rattle.flow_law.specs.declared.outcome.Next.TheVariants.{Value, Empty, Gone}
 use Rattle.flow_law.specs.declared.call.StateCall.{StateCall}
 use Rattle.flow_law.specs.declared.call.StateCall.TheVariants.{GetValue, Set, TryEmit, CompareAndSet, Subscribe, TakeNext, Unsubscribe, SubscriptionCount, ReplayCache, ResetReplayCache}
@@ -91,8 +92,8 @@ module _ {T : Type 0} where
   owners_after_call owners name (Subscribe given) (Subscribed u) = record { number = u; name = given } ∷ owners
   owners_after_call owners name _ _ = owners
 
-  abbrev pub owners_after : List Owner → Event (StateCall T) (StateReply T) → List Owner
-  owners_after owners e = owners_after_call owners e.name e.call e.reply
+  abbrev pub owners_after : List Owner → Event (Said (StateCall T) (StateReply T)) → List Owner
+  owners_after owners e = owners_after_call owners e.name e.what.call e.what.reply
 
   abbrev pub speaks_of : StateCall T → Option ℕ
   speaks_of (TakeNext u) = Some u
@@ -100,7 +101,7 @@ module _ {T : Type 0} where
   speaks_of _ = None
 
 abbrev pub StateHistory : Type 0 → Type 0
-StateHistory T = List (Event (StateCall T) (StateReply T))
+StateHistory T = List (Event (Said (StateCall T) (StateReply T)))
 
 module _ {T : Type 0} where
   abbrev pub state_after_all : StateFlowState T → StateHistory T → StateFlowState T

@@ -16,7 +16,7 @@ mod value;
 pub use call::{SharedCall, SharedReply, StateCall, StateReply};
 pub use config::{Config, Overflow};
 pub use fault::{FlowFault, Refused};
-pub use history::Event;
+pub use history::{Event, Said};
 pub use laws::{law_conflated, law_delivered, law_no_idle_queue};
 pub use outcome::{Emit, Next};
 pub use value::FlowValue;
