@@ -1,6 +1,6 @@
 -- Rows of a state core beside the subscribers that the definitions have.
 use Rattle.std.proofs.Common.{◌≡◌, ℕ, suc, ◌+◌, ◌-◌, ◌≤◌, Bool, true, false, not, cond, ◌==◌, if◌then◌else◌, List, [], ◌∷◌, map, get_or, set, Option, Some, None, refl, ap, ◌∙◌, arith}
-use Rattle.std.specs.Prelude.{filter, is_some}
+use Rattle.std.specs.Prelude.{is_some}
 use Rattle.std.specs.List.{position_from}
 use Rattle.flow_law.specs.StateFlow.{last_of, with_last}
 use Rattle.flow_core.specs.declared.state.Row.{Row}

@@ -1,6 +1,6 @@
 -- What contracts see of a shared core, and the results of its calls as the replies of a history.
 -- Public clauses cite the replies (`tested` to `cached`); the rest is for private functions.
-use Rattle.std.specs.Prelude.{◌≡◌, ℕ, ◌+◌, ◌<◌, ◌≤◌, Bool, List, map, length, vec_len, Result, Ok, Err}
+use Rattle.std.specs.Prelude.{◌≡◌, ◌+◌, ◌<◌, ◌≤◌, Bool, List, map, length, vec_len, Result, Ok, Err}
 use Rattle.std.specs.Vec.{vec_capacity}
 use Rattle.flow_law.specs.declared.fault.FlowFault.{FlowFault}
 use Rattle.flow_law.specs.declared.fault.FlowFault.TheVariants.{OutOfMemory, Exhausted}

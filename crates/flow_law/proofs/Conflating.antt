@@ -13,7 +13,7 @@ use Rattle.flow_law.specs.declared.call.StateCall.{StateCall}
 use Rattle.flow_law.specs.declared.call.StateCall.TheVariants.{GetValue, Set, TryEmit, CompareAndSet, Subscribe, TakeNext, Unsubscribe, SubscriptionCount, ReplayCache, ResetReplayCache}
 use Rattle.flow_law.specs.declared.call.StateReply.{StateReply}
 use Rattle.flow_law.specs.declared.call.StateReply.TheVariants.{Answered, Subscribed, Received, Refused}
-use Rattle.flow_law.specs.SharedFlow.{Numbered, Subscriber, SharedFlowState, first_state, cache}
+use Rattle.flow_law.specs.SharedFlow.{Numbered, Subscriber, SharedFlowState, cache}
 use Rattle.flow_law.specs.SharedStep as flow
 use Rattle.flow_law.specs.StateFlow.{StateFlowState, StateHistory, first_state_flow, after, IsReply, Receives, may_need_memory, is_exhausted, last_of, with_last, without_subscriber, IsLegalState}
 use Rattle.flow_law.specs.Conflation.{Beside, beside, newest_only, emitting, subscribing, reading, leaving, follows, Conflated, Agrees, AgreeAll, passed_on}

@@ -27,7 +27,10 @@ fn a_subscriber_gets_no_value_twice_in_a_row(rt: HostRuntime) -> Result<(), Fail
     flow.set(value(5));
     assert_eq!(rt; number_of(flow.next(a)?), Some(5));
     assert_eq!(rt; flow.replay_cache()?.len(), 1);
-    assert_eq!(rt; flow.reset_replay_cache().err(), Some(FlowFault::Unsupported));
+    assert_eq!(rt;
+        flow.reset_replay_cache().err(),
+        Some(FlowFault::Unsupported)
+    );
     assert!(rt; flow.try_emit(value(6)));
     assert!(rt; flow.value()?.same(&value(6)));
     assert_eq!(rt; flow.subscription_count(), 1);
