@@ -20,6 +20,7 @@ mod cold;
 mod collect;
 mod meaning;
 mod operators;
+mod script_chain;
 mod sources;
 mod streamed;
 mod with_meaning;
@@ -31,5 +32,6 @@ pub use meaning::{InnerMeaning, ItemMeaning, ListMeaning, PairMeaning, TestMeani
 pub use operators::{
     Distinct, DropFirst, Filter, FlatMapConcat, Map, Scan, Take, TakeWhile, Transform, Zip,
 };
+pub use script_chain::{Arithmetic, Joining, Op, ScriptChain, Source, Spread, Test};
 pub use sources::{Entry, OfList, OfRange, Scripted};
 pub use streamed::Streamed;
