@@ -1,1 +1,4 @@
+pub mod AskLemmas
+pub mod OperatorLemmas
 pub mod StreamLemmas
+pub mod SumLemmas

@@ -25,3 +25,9 @@ module _ {T : Type 0} where
   IsFinal Pending = ⊥
   IsFinal Ended = Unit {0}
   IsFinal (Fault fault) = Unit {0}
+
+  abbrev pub IsItem : Asked T → Type 0
+  IsItem (Item x) = Unit {0}
+  IsItem Pending = ⊥
+  IsItem Ended = ⊥
+  IsItem (Fault fault) = ⊥

@@ -3,8 +3,11 @@ ghost use Rattle.std.specs.Prelude.{◌≡◌, ◌≤◌};
 ghost use Rattle.flow_cold.specs.ScriptChain.{node_depth};
 
 mod node;
+mod numbers;
 mod op;
 mod operator;
+mod stage;
+mod state;
 
 use crate::script_chain::node::Node;
 pub use op::{Arithmetic, Joining, Op, Source, Spread, Test};
