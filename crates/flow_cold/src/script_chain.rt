@@ -2,6 +2,7 @@
 ghost use Rattle.std.specs.Prelude.{◌≡◌, ◌≤◌};
 ghost use Rattle.flow_cold.specs.ScriptChain.{node_depth};
 
+mod build;
 mod node;
 mod numbers;
 mod op;

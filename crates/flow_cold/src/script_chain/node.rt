@@ -1,5 +1,5 @@
 //! A chain of whole numbers as a tree: sources at its leaves, operators above them.
-ghost use Rattle.std.specs.Prelude.{◌≡◌, ◌≤◌};
+ghost use Rattle.std.specs.Prelude.{◌≡◌, ◌≤◌, None, false};
 ghost use Rattle.flow_cold.specs.declared.script_chain.node.Node.{size-Node};
 ghost use Rattle.flow_cold.specs.Asking.{AskGives, IsFinal};
 ghost use Rattle.flow_cold.specs.ScriptChain.{IsNodeOver, node_depth, node_rest, node_whole};
@@ -22,6 +22,18 @@ pub struct Pairing {
     pub by: Joining,
     pub kept: Option<i64>,
     pub ended: bool,
+}
+
+impl Pairing {
+    pub fn new(by: Joining) -> Pairing
+        ensures { result ≡ record { by = by; kept = None; ended = false } }
+    {
+        Pairing {
+            by,
+            kept: None,
+            ended: false,
+        }
+    }
 }
 
 #[derive(Drop)]

@@ -78,6 +78,18 @@ pub struct Adding {
 }
 
 impl Adding {
+    pub fn new(entries: Vec<i64>) -> Adding
+        ensures entries { result.entries ≡ entries }
+        ensures none { IsReady (Operator.Transform result) }
+    {
+        let at = entries.len();
+        Adding {
+            entries,
+            item: 0,
+            at,
+        }
+    }
+
     /// The next sum, if one is left.
     pub fn first(&mut self) -> Step
         ensures entries { self.new.entries ≡ self.old.entries }
@@ -161,6 +173,18 @@ pub struct Following {
 }
 
 impl Following {
+    pub fn new(count: u64) -> Following
+        ensures count { result.count ≡ count }
+        ensures none { IsReady (Operator.FlatMapRange result) }
+    {
+        Following {
+            count,
+            next: 0,
+            last: 0,
+            closed: true,
+        }
+    }
+
     /// The next number, if one is left.
     pub fn first(&mut self) -> Step
         ensures count { self.new.count ≡ self.old.count }
@@ -213,6 +237,17 @@ pub struct Repeating {
 }
 
 impl Repeating {
+    pub fn new(count: u64) -> Repeating
+        ensures count { result.count ≡ count }
+        ensures none { IsReady (Operator.FlatMapRepeat result) }
+    {
+        Repeating {
+            count,
+            item: 0,
+            left: 0,
+        }
+    }
+
     /// The item once more, if it is to be given once more.
     pub fn first(&mut self) -> Step
         ensures count { self.new.count ≡ self.old.count }
