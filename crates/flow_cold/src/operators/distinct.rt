@@ -1,6 +1,7 @@
 //! `distinctUntilChanged`: items that differ from the one before.
 ghost use Rattle.std.specs.Prelude.{◌≡◌, true, None};
 ghost use Rattle.flow_law.specs.ChainRun.{unless_ended};
+ghost use Rattle.flow_law.specs.Chain.{distinct_meaning, meaning_of};
 ghost use Rattle.flow_law.specs.OperatorRuns.{distinct_run, is_repeated};
 
 use crate::cold::{Asked, Cold};
@@ -76,10 +77,12 @@ fn is_last<T: FlowValue>(last: &Option<T>, item: &T) -> bool
 }
 
 impl<C: Cold> Distinct<C> {
+    #[tactic(auto, using(flow_law::proofs::ChainLemmas::distinct_means))]
     pub fn new(upstream: C) -> Self
         requires { C.sound upstream }
         ensures sound { ⟦<Distinct<C> as Cold>⟧.sound result }
         ensures whole { ⟦<Distinct<C> as Cold>⟧.whole result ≡ distinct_run C.Item.is_same None (C.whole upstream) }
+        ensures meaning { meaning_of (⟦<Distinct<C> as Cold>⟧.whole result) ≡ distinct_meaning C.Item.is_same (meaning_of (C.whole upstream)) }
         ensures rest { ⟦<Distinct<C> as Cold>⟧.rest result ≡ distinct_run C.Item.is_same None (C.rest upstream) }
     {
         Distinct {

@@ -1,6 +1,7 @@
 //! `drop`: all but the first items.
 ghost use Rattle.std.specs.Prelude.{◌≡◌, true};
 ghost use Rattle.flow_law.specs.ChainRun.{unless_ended};
+ghost use Rattle.flow_law.specs.Chain.{drop_meaning, meaning_of};
 ghost use Rattle.flow_law.specs.OperatorRuns.{drop_run};
 
 use crate::cold::{Asked, Cold};
@@ -58,10 +59,12 @@ impl<C: Cold> Cold for DropFirst<C> {
 }
 
 impl<C: Cold> DropFirst<C> {
+    #[tactic(auto, using(flow_law::proofs::ChainLemmas::drop_means))]
     pub fn new(upstream: C, count: u64) -> Self
         requires { C.sound upstream }
         ensures sound { ⟦<DropFirst<C> as Cold>⟧.sound result }
         ensures whole { ⟦<DropFirst<C> as Cold>⟧.whole result ≡ drop_run (C.whole upstream) count }
+        ensures meaning { meaning_of (⟦<DropFirst<C> as Cold>⟧.whole result) ≡ drop_meaning count (meaning_of (C.whole upstream)) }
         ensures rest { ⟦<DropFirst<C> as Cold>⟧.rest result ≡ drop_run (C.rest upstream) count }
     {
         DropFirst {

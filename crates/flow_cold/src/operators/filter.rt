@@ -2,6 +2,7 @@
 ghost use Rattle.std.specs.Prelude.{◌≡◌, true};
 ghost use Rattle.flow_law.specs.ChainRun.{unless_ended};
 ghost use Rattle.std.specs.Fn.{FnReturnsAt};
+ghost use Rattle.flow_law.specs.Chain.{filter_meaning, meaning_of};
 ghost use Rattle.flow_law.specs.OperatorRuns.{filter_run};
 ghost use Rattle.flow_cold.specs.Closures.{Decides};
 
@@ -70,12 +71,14 @@ where
     F: Fn(&C::Item) -> bool,
 {
     /// Filters a chain by a test that decides what `meaning` says.
+    #[tactic(auto, using(flow_law::proofs::ChainLemmas::filter_means))]
     pub fn new(upstream: C, meaning: M, closure: F) -> Self
         requires sound { C.sound upstream }
         requires callable { F.IsAlwaysCallable closure }
         requires computes { Decides (λ x b. FnReturnsAt F.Fn closure x b) (M.passes meaning) }
         ensures sound { ⟦<Filter<C, M, F> as Cold>⟧.sound result }
         ensures whole { ⟦<Filter<C, M, F> as Cold>⟧.whole result ≡ filter_run (M.passes meaning) (C.whole upstream) }
+        ensures meaning { meaning_of (⟦<Filter<C, M, F> as Cold>⟧.whole result) ≡ filter_meaning (M.passes meaning) (meaning_of (C.whole upstream)) }
         ensures rest { ⟦<Filter<C, M, F> as Cold>⟧.rest result ≡ filter_run (M.passes meaning) (C.rest upstream) }
     {
         Filter {

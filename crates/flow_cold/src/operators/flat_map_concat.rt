@@ -1,6 +1,7 @@
 //! `flatMapConcat`: inner chains, one after the other.
 ghost use Rattle.std.specs.Prelude.{◌≡◌, true};
 ghost use Rattle.flow_law.specs.ChainRun.{unless_ended};
+ghost use Rattle.flow_law.specs.Chain.{flat_map_meaning, meaning_of};
 ghost use Rattle.flow_law.specs.OperatorRuns.{flat_map_run, inner_rest};
 ghost use Rattle.flow_cold.specs.Closures.{ComputesBy};
 
@@ -98,12 +99,14 @@ where
     F: Fn(C::Item) -> Result<Scripted<U>, ChainFault>,
 {
     /// InnerMeaning a chain at each item, by a closure that opens what `meaning` says.
+    #[tactic(auto, using(flow_law::proofs::ChainLemmas::flat_map_means))]
     pub fn new(upstream: C, meaning: M, closure: F) -> Self
         requires sound { C.sound upstream }
         requires callable { F.IsAlwaysCallable closure }
         requires computes { ComputesBy ⟦<Scripted<U> as Cold>⟧.whole (F.post closure) (M.inner meaning) }
         ensures sound { ⟦<FlatMapConcat<C, U, M, F> as Cold>⟧.sound result }
         ensures whole { ⟦<FlatMapConcat<C, U, M, F> as Cold>⟧.whole result ≡ flat_map_run (M.inner meaning) (C.whole upstream) }
+        ensures meaning { meaning_of (⟦<FlatMapConcat<C, U, M, F> as Cold>⟧.whole result) ≡ flat_map_meaning (M.inner meaning) (meaning_of (C.whole upstream)) }
         ensures rest { ⟦<FlatMapConcat<C, U, M, F> as Cold>⟧.rest result ≡ flat_map_run (M.inner meaning) (C.rest upstream) }
     {
         FlatMapConcat {

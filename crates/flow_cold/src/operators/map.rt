@@ -1,6 +1,7 @@
 //! `map`: what a closure makes of each item.
 ghost use Rattle.std.specs.Prelude.{◌≡◌, true, Result};
 ghost use Rattle.flow_law.specs.ChainRun.{unless_ended};
+ghost use Rattle.flow_law.specs.Chain.{map_meaning, meaning_of};
 ghost use Rattle.flow_law.specs.OperatorRuns.{map_run};
 ghost use Rattle.flow_cold.specs.Closures.{Computes};
 
@@ -74,12 +75,14 @@ where
     F: Fn(C::Item) -> Result<U, ChainFault>,
 {
     /// Maps a chain by a closure that computes what `meaning` says.
+    #[tactic(auto, using(flow_law::proofs::ChainLemmas::map_means))]
     pub fn new(upstream: C, meaning: M, closure: F) -> Self
         requires sound { C.sound upstream }
         requires callable { F.IsAlwaysCallable closure }
         requires computes { Computes (F.post closure) (M.image meaning) }
         ensures sound { ⟦<Map<C, U, M, F> as Cold>⟧.sound result }
         ensures whole { ⟦<Map<C, U, M, F> as Cold>⟧.whole result ≡ map_run (M.image meaning) (C.whole upstream) }
+        ensures meaning { meaning_of (⟦<Map<C, U, M, F> as Cold>⟧.whole result) ≡ map_meaning (M.image meaning) (meaning_of (C.whole upstream)) }
         ensures rest { ⟦<Map<C, U, M, F> as Cold>⟧.rest result ≡ map_run (M.image meaning) (C.rest upstream) }
     {
         Map {

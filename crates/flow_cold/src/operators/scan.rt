@@ -1,6 +1,7 @@
 //! `scan`: the results so far.
 ghost use Rattle.std.specs.Prelude.{◌≡◌, true};
 ghost use Rattle.flow_law.specs.ChainRun.{unless_ended, gives};
+ghost use Rattle.flow_law.specs.Chain.{scan_meaning, meaning_of};
 ghost use Rattle.flow_law.specs.OperatorRuns.{scan_run, scan_rest};
 ghost use Rattle.flow_cold.specs.Closures.{Computes};
 
@@ -110,12 +111,14 @@ where
     F: Fn(U, C::Item) -> Result<U, ChainFault>,
 {
     /// Scans a chain by a closure that computes what `meaning` says.
+    #[tactic(auto, using(flow_law::proofs::ChainLemmas::scan_means))]
     pub fn new(upstream: C, initial: U, meaning: M, closure: F) -> Self
         requires sound { C.sound upstream }
         requires callable { F.IsAlwaysCallable closure }
         requires computes { Computes (λ x r. F.post closure x.0 x.1 r) (M.image meaning) }
         ensures sound { ⟦<Scan<C, U, M, F> as Cold>⟧.sound result }
         ensures whole { ⟦<Scan<C, U, M, F> as Cold>⟧.whole result ≡ gives initial (scan_run (M.image meaning) initial (C.whole upstream)) }
+        ensures meaning { meaning_of (⟦<Scan<C, U, M, F> as Cold>⟧.whole result) ≡ scan_meaning (M.image meaning) initial (meaning_of (C.whole upstream)) }
         ensures rest { ⟦<Scan<C, U, M, F> as Cold>⟧.rest result ≡ gives initial (scan_run (M.image meaning) initial (C.rest upstream)) }
     {
         Scan {

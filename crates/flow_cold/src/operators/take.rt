@@ -1,5 +1,6 @@
 //! `take`: the first items.
 ghost use Rattle.std.specs.Prelude.{◌≡◌, ◌⊎◌, ◌↔◌, IfOk, IfErr};
+ghost use Rattle.flow_law.specs.Chain.{take_meaning, meaning_of};
 ghost use Rattle.flow_law.specs.OperatorRuns.{take_run};
 
 use crate::cold::{Asked, Cold};
@@ -15,10 +16,12 @@ pub struct Take<C> {
 
 impl<C: Cold> Take<C> {
     /// A count of 0 is refused, and the chain is dropped.
+    #[tactic(auto, using(flow_law::proofs::ChainLemmas::take_means))]
     pub fn new(upstream: C, count: u64) -> Result<Self, ChainFault>
         requires { C.sound upstream }
         ensures sound { IfOk result ⟦<Take<C> as Cold>⟧.sound }
         ensures whole { IfOk result (λ t. ⟦<Take<C> as Cold>⟧.whole t ≡ take_run count (C.whole upstream)) }
+        ensures meaning { IfOk result (λ t. meaning_of (⟦<Take<C> as Cold>⟧.whole t) ≡ take_meaning count (meaning_of (C.whole upstream))) }
         ensures rest { IfOk result (λ t. ⟦<Take<C> as Cold>⟧.rest t ≡ take_run count (C.rest upstream)) }
         ensures refused { (result ≡ Err ChainFault.NotPositive) ↔ (count ≡ 0) }
         ensures otherwise { IfErr result (λ fault. fault ≡ ChainFault.NotPositive) }

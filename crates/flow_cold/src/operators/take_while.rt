@@ -2,6 +2,7 @@
 ghost use Rattle.std.specs.Prelude.{◌≡◌, true};
 ghost use Rattle.std.specs.Fn.{FnReturnsAt};
 ghost use Rattle.flow_law.specs.ChainRun.{unless_ended};
+ghost use Rattle.flow_law.specs.Chain.{take_while_meaning, meaning_of};
 ghost use Rattle.flow_law.specs.OperatorRuns.{take_while_run};
 ghost use Rattle.flow_cold.specs.Closures.{Decides};
 
@@ -71,12 +72,14 @@ where
     F: Fn(&C::Item) -> bool,
 {
     /// Takes items of a chain by a test that decides what `meaning` says.
+    #[tactic(auto, using(flow_law::proofs::ChainLemmas::take_while_means))]
     pub fn new(upstream: C, meaning: M, closure: F) -> Self
         requires sound { C.sound upstream }
         requires callable { F.IsAlwaysCallable closure }
         requires computes { Decides (λ x b. FnReturnsAt F.Fn closure x b) (M.passes meaning) }
         ensures sound { ⟦<TakeWhile<C, M, F> as Cold>⟧.sound result }
         ensures whole { ⟦<TakeWhile<C, M, F> as Cold>⟧.whole result ≡ take_while_run (M.passes meaning) (C.whole upstream) }
+        ensures meaning { meaning_of (⟦<TakeWhile<C, M, F> as Cold>⟧.whole result) ≡ take_while_meaning (M.passes meaning) (meaning_of (C.whole upstream)) }
         ensures rest { ⟦<TakeWhile<C, M, F> as Cold>⟧.rest result ≡ take_while_run (M.passes meaning) (C.rest upstream) }
     {
         TakeWhile {

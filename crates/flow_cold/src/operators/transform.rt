@@ -1,6 +1,7 @@
 //! `transform`: several items for each.
 ghost use Rattle.std.specs.Prelude.{◌≡◌, true};
 ghost use Rattle.flow_law.specs.ChainRun.{unless_ended};
+ghost use Rattle.flow_law.specs.Chain.{transform_meaning, meaning_of};
 ghost use Rattle.flow_law.specs.OperatorRuns.{transform_run, images_rest};
 ghost use Rattle.flow_cold.specs.Closures.{ComputesBy};
 
@@ -89,12 +90,14 @@ where
     F: Fn(C::Item) -> Result<Vec<U>, ChainFault>,
 {
     /// Transforms a chain by a closure that gives what `meaning` says.
+    #[tactic(auto, using(flow_law::proofs::ChainLemmas::transform_means))]
     pub fn new(upstream: C, meaning: M, closure: F) -> Self
         requires sound { C.sound upstream }
         requires callable { F.IsAlwaysCallable closure }
         requires computes { ComputesBy (λ v. v.items) (F.post closure) (M.images meaning) }
         ensures sound { ⟦<Transform<C, U, M, F> as Cold>⟧.sound result }
         ensures whole { ⟦<Transform<C, U, M, F> as Cold>⟧.whole result ≡ transform_run (M.images meaning) (C.whole upstream) }
+        ensures meaning { meaning_of (⟦<Transform<C, U, M, F> as Cold>⟧.whole result) ≡ transform_meaning (M.images meaning) (meaning_of (C.whole upstream)) }
         ensures rest { ⟦<Transform<C, U, M, F> as Cold>⟧.rest result ≡ transform_run (M.images meaning) (C.rest upstream) }
     {
         Transform {

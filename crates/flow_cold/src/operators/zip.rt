@@ -1,6 +1,7 @@
 //! `zip`: pairs of two chains.
 ghost use Rattle.std.specs.Prelude.{◌≡◌, true};
 ghost use Rattle.flow_law.specs.ChainRun.{unless_ended};
+ghost use Rattle.flow_law.specs.Chain.{zip_meaning, meaning_of};
 ghost use Rattle.flow_law.specs.OperatorRuns.{zip_run, with_kept};
 ghost use Rattle.flow_cold.specs.Closures.{Computes};
 
@@ -98,6 +99,7 @@ where
     F: Fn(L::Item, R::Item) -> Result<U, ChainFault>,
 {
     /// Joins two chains by a closure that computes what `meaning` says.
+    #[tactic(auto, using(flow_law::proofs::ChainLemmas::zip_means))]
     pub fn new(left: L, right: R, meaning: M, closure: F) -> Self
         requires left { L.sound left }
         requires right { R.sound right }
@@ -105,6 +107,7 @@ where
         requires computes { Computes (λ x r. F.post closure x.0 x.1 r) (M.image meaning) }
         ensures sound { ⟦<Zip<L, R, U, M, F> as Cold>⟧.sound result }
         ensures whole { ⟦<Zip<L, R, U, M, F> as Cold>⟧.whole result ≡ zip_run (M.image meaning) (L.whole left) (R.whole right) }
+        ensures meaning { meaning_of (⟦<Zip<L, R, U, M, F> as Cold>⟧.whole result) ≡ zip_meaning (M.image meaning) (meaning_of (L.whole left)) (meaning_of (R.whole right)) }
         ensures rest { ⟦<Zip<L, R, U, M, F> as Cold>⟧.rest result ≡ zip_run (M.image meaning) (L.rest left) (R.rest right) }
     {
         Zip {
