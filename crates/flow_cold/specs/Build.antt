@@ -3,6 +3,7 @@ use Rattle.std.specs.Prelude.{◌≡◌, ℕ, ◌+◌, ◌≤◌, ◌<◌, max, 
 use Rattle.std.specs.Ordering.{int_eq}
 use Rattle.flow_law.specs.declared.chain.ChainFault.{ChainFault}
 use Rattle.flow_law.specs.declared.chain.ChainFault.TheVariants.{OutOfMemory, NotPositive, TooDeep}
+use Rattle.flow_law.specs.Chain.{Meaning, meaning_of, map_meaning, filter_meaning, take_while_meaning, transform_meaning, take_meaning, drop_meaning, scan_meaning, flat_map_meaning, zip_meaning, distinct_meaning}
 use Rattle.flow_law.specs.ChainRun.{ChainRun, gives, list_run, unless_ended}
 use Rattle.flow_law.specs.OperatorRuns.{map_run, filter_run, take_while_run, transform_run, take_run, drop_run, scan_run, flat_map_run, zip_run, distinct_run}
 use Rattle.flow_cold.specs.declared.script_chain.op.Op.{Op}
@@ -72,3 +73,16 @@ pub record AddsDepth (o : Op) (old new : ℕ) : Type 0 where
   pub depth : new ≡ op_depth o old
   pub shallow : new ≤ 64
   pub positive : ¬ TakesNone o
+
+-- the same by lists
+abbrev pub op_meaning : Op → Meaning ℤ → Meaning ℤ
+op_meaning (op.Map by k) m = map_meaning (λ x. computed by (x, k)) m
+op_meaning (op.Filter test) m = filter_meaning (passes test) m
+op_meaning (op.TakeWhile test) m = take_while_meaning (passes test) m
+op_meaning (op.Transform entries) m = transform_meaning (sums entries.items) m
+op_meaning (op.Take count) m = take_meaning count m
+op_meaning (op.DropFirst count) m = drop_meaning count m
+op_meaning (op.Scan from by) m = scan_meaning (computed by) from m
+op_meaning (op.FlatMap to count) m = flat_map_meaning (spread_run to count) m
+op_meaning (op.Zip with by) m = zip_meaning (joined by) m (meaning_of (node_whole with.node))
+op_meaning op.Distinct m = distinct_meaning int_eq m

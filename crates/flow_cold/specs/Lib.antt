@@ -7,3 +7,4 @@ pub mod Operators
 pub mod Part
 pub mod ScriptChain
 pub mod Streams
+pub mod Taking

@@ -1,6 +1,8 @@
 //! `take`: the first items.
 ghost use Rattle.std.specs.Prelude.{◌≡◌, ◌⊎◌, ◌↔◌, IfOk, IfErr};
 ghost use Rattle.flow_law.specs.Chain.{take_meaning, meaning_of};
+ghost use Rattle.flow_cold.specs.Asking.{AskGives, IsFinal};
+ghost use Rattle.flow_cold.specs.Taking.{items_left, left_after};
 ghost use Rattle.flow_law.specs.OperatorRuns.{take_run};
 
 use crate::cold::{Asked, Cold};
@@ -23,6 +25,7 @@ impl<C: Cold> Take<C> {
         ensures whole { IfOk result (λ t. ⟦<Take<C> as Cold>⟧.whole t ≡ take_run count (C.whole upstream)) }
         ensures meaning { IfOk result (λ t. meaning_of (⟦<Take<C> as Cold>⟧.whole t) ≡ take_meaning count (meaning_of (C.whole upstream))) }
         ensures rest { IfOk result (λ t. ⟦<Take<C> as Cold>⟧.rest t ≡ take_run count (C.rest upstream)) }
+        ensures left { IfOk result (λ t. items_left t ≡ count) }
         ensures refused { (result ≡ Err ChainFault.NotPositive) ↔ (count ≡ 0) }
         ensures otherwise { IfErr result (λ fault. fault ≡ ChainFault.NotPositive) }
     {
@@ -48,7 +51,17 @@ impl<C: Cold> Cold for Take<C> {
 
     ghost IsOver = { λ s. (s.left ≡ 0) ⊎ C.IsOver s.upstream };
 
-    fn ask(&mut self) -> Asked<C::Item> {
+    // The trait's clauses, and how many items are left. After the last one the upstream is left as it is.
+    fn ask(&mut self) -> Asked<C::Item>
+        requires { ⟦<Take<C> as Cold>⟧.sound self.old }
+        ensures sound { ⟦<Take<C> as Cold>⟧.sound self.new }
+        ensures whole { ⟦<Take<C> as Cold>⟧.whole self.new ≡ ⟦<Take<C> as Cold>⟧.whole self.old }
+        ensures gives { AskGives (⟦<Take<C> as Cold>⟧.rest self.old) result (⟦<Take<C> as Cold>⟧.rest self.new) }
+        ensures over { IsFinal result → ⟦<Take<C> as Cold>⟧.IsOver self.new }
+        ensures end { ⟦<Take<C> as Cold>⟧.IsOver self.old → (result ≡ Asked.End) × self.new ≡ self.old }
+        ensures left { items_left self.new ≡ left_after result (items_left self.old) }
+        ensures last { items_left self.old ≡ 0 → (result ≡ Asked.End) × self.new ≡ self.old }
+    {
         if self.left == 0 {
             return Asked::End;
         }

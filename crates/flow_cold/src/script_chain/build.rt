@@ -1,7 +1,8 @@
 //! Building a chain of whole numbers, and asking it.
 ghost use Rattle.std.specs.Prelude.{◌≡◌, ◌≤◌, ⊤, ℕ, ℤ, IfOk, IfErr, MatchResult};
+ghost use Rattle.flow_law.specs.Chain.{meaning_of};
 ghost use Rattle.flow_law.specs.ChainRun.{ChainRun};
-ghost use Rattle.flow_cold.specs.Build.{AddsDepth, Refuses, RefusesDepth, depth_of, op_depth, op_rest, op_whole, source_rest, source_whole};
+ghost use Rattle.flow_cold.specs.Build.{AddsDepth, Refuses, RefusesDepth, depth_of, op_depth, op_meaning, op_rest, op_whole, source_rest, source_whole};
 ghost use Rattle.flow_cold.specs.Part.{part_depth, part_rest, part_whole};
 ghost use Rattle.flow_cold.specs.ScriptChain.{IsNodeOver, node_depth, node_rest, node_whole};
 
@@ -113,8 +114,10 @@ impl ScriptChain {
 
     /// The chain with one more operator. A take of nothing is refused as `NotPositive`, then a chain that would be over 64
     /// deep as `TooDeep`, then want of memory. Where it is refused the chain is dropped, and so is the operator.
+    #[tactic(auto, using(crate::proofs::OpLemmas::op_means))]
     pub fn then(self, alloc: Global, op: Op) -> Result<ScriptChain, ChainFault>
         ensures whole { IfOk result (λ chain. ⟦<ScriptChain as Cold>⟧.whole chain ≡ op_whole op (⟦<ScriptChain as Cold>⟧.whole self)) }
+        ensures meaning { IfOk result (λ chain. meaning_of (⟦<ScriptChain as Cold>⟧.whole chain) ≡ op_meaning op (meaning_of (⟦<ScriptChain as Cold>⟧.whole self))) }
         ensures rest { IfOk result (λ chain. ⟦<ScriptChain as Cold>⟧.rest chain ≡ op_rest op (⟦<ScriptChain as Cold>⟧.rest self)) }
         ensures depth { MatchResult result (λ chain. AddsDepth op (depth_of self) (depth_of chain)) (Refuses op self) }
     {
