@@ -1,8 +1,8 @@
 -- The operators on whole numbers, in the state that each keeps. No public clause cites this module but by `node_whole`.
-use Rattle.std.specs.Prelude.{◌≡◌, ◌≢◌, ℕ, ◌≤◌, ◌==◌, ℤ, ◌+ℤ◌, Bool, true, false, cond, ◌||◌, List, [], ◌∷◌, length, drop, replicate, Option, None}
+use Rattle.std.specs.Prelude.{◌≡◌, ◌≢◌, ◌==◌, ℤ, ◌+ℤ◌, Bool, true, false, cond, ◌||◌, List, [], ◌∷◌, drop, replicate, None}
 use Rattle.std.specs.Ordering.{int_eq}
 use Rattle.flow_law.specs.declared.chain.End.TheVariants.{Completed, Failed}
-use Rattle.flow_law.specs.ChainRun.{ChainRun, gives, pends, ends, list_run, unless_ended}
+use Rattle.flow_law.specs.ChainRun.{ChainRun, gives, ends, list_run, unless_ended}
 use Rattle.flow_law.specs.OperatorRuns.{continued, map_run, filter_run, take_while_run, take_run, drop_run, distinct_run, scan_run, transform_run, followed, flat_map_run}
 use Rattle.flow_cold.specs.declared.script_chain.op.Spread.TheVariants as spread
 use Rattle.flow_cold.specs.declared.script_chain.operator.Operator.{Operator}
