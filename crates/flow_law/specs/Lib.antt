@@ -9,3 +9,5 @@ pub mod StateFlow
 pub mod Conflation
 pub mod Growth
 pub mod Standing
+pub mod Sharing
+pub mod TurnAccount
