@@ -1,0 +1,6 @@
+pub mod ChainRun
+pub mod Hub
+pub mod Policy
+pub mod SharingState
+pub mod Turn
+pub mod TurnMeaning
