@@ -11,3 +11,6 @@ pub mod Growth
 pub mod Standing
 pub mod Sharing
 pub mod TurnAccount
+pub mod ChainRun
+pub mod OperatorRuns
+pub mod Chain

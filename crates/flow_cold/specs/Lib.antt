@@ -1,0 +1,4 @@
+pub mod Asking
+pub mod Closures
+pub mod Sources
+pub mod Streams
