@@ -1,4 +1,3 @@
-pub mod ChainRun
 pub mod Hub
 pub mod Policy
 pub mod SharingState

@@ -5,8 +5,8 @@ use Rattle.flow_law.specs.declared.sharing.Command.{Command}
 use Rattle.flow_law.specs.declared.sharing.Command.TheVariants.{Start, Stop, Keep}
 use Rattle.flow_law.specs.declared.sharing.SharingObservation.{SharingObservation}
 use Rattle.flow_law.specs.TurnAccount.{IsAccountOf}
-use Rattle.flow_sharing.specs.declared.chain.End.TheVariants.{Completed}
-use Rattle.flow_sharing.specs.ChainRun.{ChainRun, ends, items}
+use Rattle.flow_law.specs.declared.chain.End.TheVariants.{Completed}
+use Rattle.flow_law.specs.ChainRun.{ChainRun, ends, items}
 use Rattle.flow_sharing.specs.declared.sharing.Sharing.{Sharing}
 use Rattle.flow_sharing.specs.Policy.{HasSeen}
 

@@ -7,9 +7,9 @@ use Rattle.flow_law.specs.declared.sharing.Command.{Command}
 use Rattle.flow_law.specs.declared.sharing.Command.TheVariants.{Keep}
 use Rattle.flow_law.specs.declared.sharing.SharingObservation.{SharingObservation}
 use Rattle.flow_law.specs.Sharing.{newest_command, last_moment}
-use Rattle.flow_sharing.specs.declared.chain.ChainFault.TheVariants.{OutOfMemory}
-use Rattle.flow_sharing.specs.declared.chain.End.TheVariants.{Completed as AtEnd, Failed}
-use Rattle.flow_sharing.specs.ChainRun.{ChainRun, gives, pends, ends}
+use Rattle.flow_law.specs.declared.chain.ChainFault.TheVariants.{OutOfMemory}
+use Rattle.flow_law.specs.declared.chain.End.TheVariants.{Completed as AtEnd, Failed}
+use Rattle.flow_law.specs.ChainRun.{ChainRun, gives, pends, ends}
 use Rattle.flow_sharing.specs.declared.report.Event.{Event}
 use Rattle.flow_sharing.specs.declared.report.Event.TheVariants.{Busy, Idle, Put, Queued, Waiting, Pending, Completed}
 use Rattle.flow_sharing.specs.declared.report.Report.{Report}

@@ -4,9 +4,9 @@ use Rattle.flow_law.specs.declared.fault.FlowFault.{FlowFault}
 use Rattle.flow_law.specs.declared.fault.FlowFault.TheVariants.{Busy as LockTaken}
 use Rattle.flow_law.specs.declared.sharing.Command.{Command}
 use Rattle.flow_law.specs.declared.sharing.Command.TheVariants.{Start, Stop, Keep}
-use Rattle.flow_sharing.specs.declared.chain.ChainFault.TheVariants.{OutOfMemory}
-use Rattle.flow_sharing.specs.declared.chain.End.TheVariants.{Completed as AtEnd, Failed}
-use Rattle.flow_sharing.specs.ChainRun.{ChainRun, pends, ends}
+use Rattle.flow_law.specs.declared.chain.ChainFault.TheVariants.{OutOfMemory}
+use Rattle.flow_law.specs.declared.chain.End.TheVariants.{Completed as AtEnd, Failed}
+use Rattle.flow_law.specs.ChainRun.{ChainRun, pends, ends}
 use Rattle.flow_sharing.specs.declared.report.Event.{Event}
 use Rattle.flow_sharing.specs.declared.report.Event.TheVariants.{Busy, Idle, Put, Queued, Waiting, Pending, Completed}
 use Rattle.flow_sharing.specs.declared.report.Report.{Report}

@@ -1,14 +1,14 @@
 //! Cold flows shared by the subscribers of a hot flow (`shareIn`, `stateIn`).
 #![tactic(auto)]
 
-mod chain;
 mod hub;
 mod policy;
 mod report;
 mod sharing;
+mod turn;
 
-pub use chain::{Asked, ChainFault, Cold, End};
-pub use flow_law::{Command, SharingObservation, Started};
+pub use flow_cold::{Asked, Cold};
+pub use flow_law::{ChainFault, Command, End, SharingObservation, Started};
 pub use hub::Hub;
 pub use policy::{Backwards, Policy};
 pub use report::{Event, Report, ShareFault};

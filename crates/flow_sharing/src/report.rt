@@ -1,8 +1,7 @@
 //! What a turn of a sharing reports.
 ghost use Rattle.std.specs.Prelude.{◌≡◌};
 
-use crate::chain::ChainFault;
-use flow_law::{Command, FlowFault};
+use flow_law::{ChainFault, Command, FlowFault};
 
 /// What a turn came to.
 #[derive(Clone, Copy, Debug, PartialEq, Eq)]

@@ -1,6 +1,6 @@
 //! A cold flow, the policy that starts and stops it, and the flow into which its items go.
-use crate::chain::Cold;
 use crate::policy::Policy;
+use flow_cold::Cold;
 
 /// A cold flow that is collected into a hot one, a turn at a time, while its policy says so.
 #[derive(Drop)]
