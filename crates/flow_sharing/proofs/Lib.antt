@@ -1,1 +1,3 @@
 pub mod AfterCommandLemmas
+pub mod AccountLemmas
+pub mod TurnLemmas

@@ -177,4 +177,35 @@ impl<C: Cold, H: Hub<Item = C::Item>> Sharing<C, H> {
     {
         self.hub.count()
     }
+
+    /// One turn at the moment `now`, in milliseconds: the subscribers are counted, the chain is started or stopped as the
+    /// policy says, and while it runs one item at most goes into the flow.
+    ///
+    /// An emission that waits is polled first, and only once it is done the next item follows, in the same turn. What a
+    /// refusal leaves undone (an item in hand, a cancel) is where the next turn goes on.
+    pub fn turn(&mut self, now: u64) -> Result<Report, ShareFault>
+        requires { IsSound C.sound self.old }
+        ensures sound { IsSound C.sound self.new }
+
+        // Whatever was observed before, these are the steps of the turn, and what has been observed after it.
+        ensures turn { (started : Started) (seen : List SharingObservation) → HasObserved started self.old seen → (all : List SharingObservation) × HasObserved started self.new all × Turn (HubStep H.does H.waits) started seen now (state_of C.whole C.rest self.old) result all (state_of C.whole C.rest self.new) }
+
+        // What the answer means for the account of the items that the flow has accepted since the last start.
+        ensures means { (started : Started) (seen : List SharingObservation) (accepted : List C.Item) → HasObserved started self.old seen → BetweenTurns H.waits (state_of C.whole C.rest self.old) → HasAccount accepted (state_of C.whole C.rest self.old) → TurnMeans (HubStep H.does H.waits) H.waits accepted (state_of C.whole C.rest self.old) result (state_of C.whole C.rest self.new) }
+        ensures between { (started : Started) (seen : List SharingObservation) → HasObserved started self.old seen → BetweenTurns H.waits (state_of C.whole C.rest self.old) → BetweenTurns H.waits (state_of C.whole C.rest self.new) }
+    {
+        if self.ended {
+            return Err(ShareFault::Ended);
+        }
+        let count = match self.counted() {
+            Ok(count) => count,
+            Err(fault) => return report_of(Command::Keep, refusal_of(fault)),
+        };
+        let command = match self.begin(now, count) {
+            Ok(command) => command,
+            Err(backwards) => return Err(ShareFault::Backwards(backwards.last)),
+        };
+        let outcome = self.work();
+        report_of(command, outcome)
+    }
 }
