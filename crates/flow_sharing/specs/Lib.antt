@@ -1,4 +1,5 @@
 pub mod Hub
+pub mod Lending
 pub mod Policy
 pub mod SharingState
 pub mod Turn

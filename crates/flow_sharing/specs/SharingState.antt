@@ -48,6 +48,10 @@ module _ {C H T : Type 0} where
   abbrev pub HasObserved : Started → Sharing C H T → List SharingObservation → Type 0
   HasObserved started sharing seen = HasSeen started sharing.policy seen
 
+  -- the chain has failed
+  abbrev pub has_ended : Sharing C H T → Bool
+  has_ended sharing = sharing.ended
+
   -- the flow into which the sharing emits
   abbrev pub hub_of : Sharing C H T → H
   hub_of sharing = sharing.hub

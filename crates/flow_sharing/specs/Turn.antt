@@ -29,7 +29,7 @@ reported command (Ok event) = Ok (record { command = command; event = event })
 reported command (Err fault) = Err fault
 
 -- the sharing has ended once a turn answered a fault of the chain
-abbrev pub ended_after : Result Report ShareFault → Bool → Bool
+abbrev pub ended_after : {R : Type 0} → Result R ShareFault → Bool → Bool
 ended_after (Err (Chain fault)) ended = true
 ended_after result ended = ended
 

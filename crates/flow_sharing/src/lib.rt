@@ -2,6 +2,7 @@
 #![tactic(auto)]
 
 mod hub;
+mod lend;
 mod policy;
 mod report;
 mod sharing;
