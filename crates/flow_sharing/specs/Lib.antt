@@ -1,3 +1,4 @@
+pub mod CoreHub
 pub mod Hub
 pub mod Lending
 pub mod Policy

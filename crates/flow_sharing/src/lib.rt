@@ -1,6 +1,7 @@
 //! Cold flows shared by the subscribers of a hot flow (`shareIn`, `stateIn`).
 #![tactic(auto)]
 
+mod core_hub;
 mod hub;
 mod lend;
 mod policy;
@@ -8,6 +9,7 @@ mod report;
 mod sharing;
 mod turn;
 
+pub use core_hub::CoreHub;
 pub use flow_cold::{Asked, Cold};
 pub use flow_law::{ChainFault, Command, End, SharingObservation, Started};
 pub use hub::Hub;
