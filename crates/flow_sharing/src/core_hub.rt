@@ -3,9 +3,9 @@ ghost use Rattle.std.specs.Prelude.{◌≡◌, false};
 ghost use Rattle.std.specs.Borrow.{sem};
 
 use crate::hub::Hub;
+use flow_core::SharedCore;
 use flow_law::{Emit, FlowFault, FlowValue, Refused};
 use std::alloc::{Allocator, Global};
-use flow_core::SharedCore;
 
 /// A `SharedCore` into which a sharing emits. It is never busy.
 #[derive(Drop)]
