@@ -1,4 +1,5 @@
 pub mod CoreHub
+pub mod CoreLending
 pub mod Hub
 pub mod Lending
 pub mod Policy

@@ -1,6 +1,5 @@
 //! A shared flow for one thread as the flow of a sharing.
 ghost use Rattle.std.specs.Prelude.{◌≡◌, false};
-ghost use Rattle.std.specs.Borrow.{sem};
 
 use crate::hub::Hub;
 use flow_core::SharedCore;
@@ -10,7 +9,7 @@ use std::alloc::{Allocator, Global};
 /// A `SharedCore` into which a sharing emits. It is never busy.
 #[derive(Drop)]
 pub struct CoreHub<T: FlowValue, A: Allocator + Copy = Global> {
-    core: SharedCore<T, A>,
+    pub(crate) core: SharedCore<T, A>,
     /// The number of the sharing's emission, where it waited when it was last asked.
     emission: Option<u64>,
 }
@@ -27,13 +26,6 @@ impl<T: FlowValue, A: Allocator + Copy> CoreHub<T, A> {
             core,
             emission: None,
         }
-    }
-
-    /// The core, to subscribe and to receive.
-    pub fn core_mut(&mut self) -> &mut SharedCore<T, A>
-        ensures core { result.now ≡ core_of self.old }
-    {
-        &mut self.core
     }
 }
 

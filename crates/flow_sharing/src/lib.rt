@@ -2,6 +2,7 @@
 #![tactic(auto)]
 
 mod core_hub;
+mod core_mut;
 mod hub;
 mod lend;
 mod policy;
