@@ -7,6 +7,7 @@ mod hub;
 mod lend;
 mod policy;
 mod report;
+mod share;
 mod sharing;
 mod turn;
 
@@ -16,4 +17,5 @@ pub use flow_law::{ChainFault, Command, End, SharingObservation, Started};
 pub use hub::Hub;
 pub use policy::{Backwards, Policy};
 pub use report::{Event, Report, ShareFault};
+pub use share::share_in;
 pub use sharing::Sharing;

@@ -1,0 +1,50 @@
+//! Sharings over flows for one thread (`shareIn`).
+ghost use Rattle.std.specs.Prelude.{◌≡◌, [], None, Some, IfOk, MatchResult};
+ghost use Rattle.flow_law.specs.declared.fault.FlowFault.{FlowFault};
+ghost use Rattle.flow_law.specs.SharedFlow.{config_fault, first_state};
+ghost use Rattle.flow_law.specs.Standing.{StandsFor};
+ghost use Rattle.flow_sharing.specs.CoreHub.{core_of, is_waiting};
+ghost use Rattle.flow_sharing.specs.ShareIn.{share_config};
+ghost use Rattle.flow_sharing.specs.SharingState.{state_of, resting, hub_of, IsSound, HasObserved, BetweenTurns};
+
+use crate::core_hub::CoreHub;
+use crate::report::ShareFault;
+use crate::sharing::Sharing;
+use flow_cold::Cold;
+use flow_core::SharedCore;
+use flow_law::{Config, Overflow, Started};
+use std::alloc::Allocator;
+
+/// The least number of values that a shared chain keeps for its subscribers.
+const LEAST_BUFFER: u32 = 64;
+
+/// Shares a chain by a shared flow of its own (`shareIn`). The flow keeps `replay` values for new subscribers, and at
+/// least 64 for slow ones; where a subscriber is further behind, the chain waits. `limit` is the most numbers that the
+/// flow issues.
+pub fn share_in<C: Cold, A: Allocator + Copy>(
+    alloc: A,
+    chain: C,
+    started: Started,
+    replay: u32,
+    limit: u64,
+) -> Result<Sharing<C, CoreHub<C::Item, A>>, ShareFault>
+    requires { C.sound chain }
+    ensures flow { MatchResult result
+        (λ sharing. (config_fault (share_config replay limit) ≡ None) × StandsFor (core_of (hub_of sharing)) (first_state (share_config replay limit)))
+        (λ fault. (refusal : FlowFault) × (config_fault (share_config replay limit) ≡ Some refusal) × (fault ≡ ShareFault.Flow refusal)) }
+    ensures nothing { IfOk result (λ sharing. HasObserved started sharing []) }
+    ensures sound { IfOk result (λ sharing. IsSound C.sound sharing) }
+    ensures state { IfOk result (λ sharing. state_of C.whole C.rest sharing ≡ resting (C.whole chain) (C.rest chain) (hub_of sharing)) }
+    ensures between { IfOk result (λ sharing. BetweenTurns is_waiting (state_of C.whole C.rest sharing)) }
+{
+    let config = Config {
+        replay,
+        extra: replay.max(LEAST_BUFFER) - replay,
+        overflow: Overflow::Suspend,
+        limit,
+    };
+    match SharedCore::new(alloc, config) {
+        Ok(core) => Ok(Sharing::new(chain, started, CoreHub::new(core))),
+        Err(fault) => Err(ShareFault::Flow(fault)),
+    }
+}
