@@ -36,7 +36,7 @@ module _ {T H : Type 0} where
   next-items s x rest (inl h) = rw (h.0, h.1) refl
   next-items s x rest (inr h) = rw (h.0, h.1) refl
 
-  accepted-account : (s t : SharingState T H) (accepted : List T) (x : T) (h : H) (rest : ChainRun T) → Accounts accepted s → NextItem s x rest
+  pub accepted-account : (s t : SharingState T H) (accepted : List T) (x : T) (h : H) (rest : ChainRun T) → Accounts accepted s → NextItem s x rest
       → t ≡ record s { rest = rest; kept = None; hub = h } → Accounts (accepted ++ x ∷ []) t
   accepted-account s t accepted x h rest acc next e =
       let P : SharingState T H → Type 0 = Accounts (accepted ++ x ∷ []) in
@@ -64,12 +64,12 @@ module _ {T H : Type 0} (does : H → HubCall T → HubReply → H → Type 0) w
   ready-continues : (s q : SharingState T H) → IsReady does s q → Continues q
   ready-continues s q (p, a, polled) = subst Continues (sym polled.1) (active-continues s p a)
 
-  ready-account : (s q : SharingState T H) (accepted : List T) → IsReady does s q → Accounts accepted s → Accounts accepted q
+  pub ready-account : (s q : SharingState T H) (accepted : List T) → IsReady does s q → Accounts accepted s → Accounts accepted q
   ready-account s q accepted (p, a, polled) acc =
       let P : SharingState T H → Type 0 = Accounts accepted in
       subst P (sym polled.1) (active-account s p accepted a acc)
 
-  active-runs : (s p : SharingState T H) → IsActive does s p → s.runs ≡ true
+  pub active-runs : (s p : SharingState T H) → IsActive does s p → s.runs ≡ true
   active-runs s p a =
       let P : SharingState T H → Type 0 = λ x. x.runs ≡ s.runs in
       sym (kept-by-cancel P s p (λ h due. refl) a.0) ∙ a.1
@@ -79,7 +79,7 @@ module _ {T H : Type 0} (does : H → HubCall T → HubReply → H → Type 0) w
       let P : SharingState T H → Type 0 = λ x. x.rest ≡ s.rest in
       kept-by-cancel P s p (λ h due. refl) a.0
 
-  ready-runs : (s q : SharingState T H) → IsReady does s q → s.runs ≡ true
+  pub ready-runs : (s q : SharingState T H) → IsReady does s q → s.runs ≡ true
   ready-runs s q (p, a, polled) = active-runs s p a
 
   ready-rest : (s q : SharingState T H) → IsReady does s q → q.rest ≡ s.rest

@@ -1,3 +1,4 @@
 pub mod AfterCommandLemmas
 pub mod AccountLemmas
 pub mod TurnLemmas
+pub mod OverCoreLemmas

@@ -21,7 +21,7 @@ use Rattle.flow_sharing.specs.TurnMeaning.{WasRefused, OutcomeMeans, TurnMeans, 
 use Rattle.flow_sharing.proofs.AccountLemmas.{outcome-means}
 
 -- only what did not run is started
-starts-at-rest : (ran runs : Bool) → command_of ran runs ≡ Start → ran ≡ false
+pub starts-at-rest : (ran runs : Bool) → command_of ran runs ≡ Start → ran ≡ false
 starts-at-rest false runs e = refl
 starts-at-rest true true e = cc
 starts-at-rest true false e = cc

@@ -2,6 +2,7 @@ pub mod CoreHub
 pub mod CoreLending
 pub mod Hub
 pub mod Lending
+pub mod OverCore
 pub mod Policy
 pub mod ShareIn
 pub mod SharingState

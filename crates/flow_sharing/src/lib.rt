@@ -4,6 +4,7 @@
 mod core_hub;
 mod core_mut;
 mod hub;
+mod laws;
 mod lend;
 mod policy;
 mod report;
@@ -15,6 +16,7 @@ pub use core_hub::CoreHub;
 pub use flow_cold::{Asked, Cold};
 pub use flow_law::{ChainFault, Command, End, SharingObservation, Started};
 pub use hub::Hub;
+pub use laws::law_turn_over_core;
 pub use policy::{Backwards, Policy};
 pub use report::{Event, Report, ShareFault};
 pub use share::share_in;
