@@ -37,11 +37,11 @@ module _ {T : Type 0} where
   with_last number v [] = []
   with_last number v (r ∷ rs) = if r.number == number then record r { last = Some v } ∷ rs else r ∷ with_last number v rs
 
-  abbrev pub without_reader : ℕ → List (StateSubscriber T) → List (StateSubscriber T)
-  without_reader number = filter (λ r. not (r.number == number))
+  abbrev pub without_subscriber : ℕ → List (StateSubscriber T) → List (StateSubscriber T)
+  without_subscriber number = filter (λ r. not (r.number == number))
 
-  abbrev pub is_spent : StateFlowState T → Bool
-  is_spent s = s.issued == s.limit
+  abbrev pub is_exhausted : StateFlowState T → Bool
+  is_exhausted s = s.issued == s.limit
 
   -- the state after a call that had this reply. A refused call changes nothing
   abbrev pub after : StateFlowState T → StateCall T → StateReply T → StateFlowState T
@@ -50,7 +50,7 @@ module _ {T : Type 0} where
   after s (CompareAndSet a b) (Answered true) = record s { value = b }
   after s (Subscribe name) (Subscribed n) = record s { subscribers = s.subscribers ++ record { number = n; last = None } ∷ []; issued = n }
   after s (TakeNext u) (Received (Value x)) = record s { subscribers = with_last u x s.subscribers }
-  after s (Unsubscribe u) (Answered _) = record s { subscribers = without_reader u s.subscribers }
+  after s (Unsubscribe u) (Answered _) = record s { subscribers = without_subscriber u s.subscribers }
   after s _ _ = s
 
   -- what a subscriber gets, by the last value that it got
@@ -64,7 +64,7 @@ module _ {T : Type 0} where
   IsReply s (Set x) r = r ≡ Done
   IsReply s (TryEmit x) r = r ≡ Answered true
   IsReply s (CompareAndSet a b) r = ((s.value ≡ a) × (r ≡ Answered true)) ⊎ ((s.value ≢ a) × (r ≡ Answered false))
-  IsReply s (Subscribe name) r = r ≡ (if is_spent s then Refused Exhausted else Subscribed (s.issued + 1))
+  IsReply s (Subscribe name) r = r ≡ (if is_exhausted s then Refused Exhausted else Subscribed (s.issued + 1))
   IsReply s (TakeNext u) r = Receives s.value (last_of u s.subscribers) r
   IsReply s (Unsubscribe u) r = r ≡ Answered (is_some (last_of u s.subscribers))
   IsReply s SubscriptionCount r = r ≡ Counted (length s.subscribers)
@@ -80,7 +80,7 @@ module _ {T : Type 0} where
   may_need_memory s GetValue = true
   may_need_memory s ReplayCache = true
   may_need_memory s (TakeNext u) = true
-  may_need_memory s (Subscribe name) = not (is_spent s)
+  may_need_memory s (Subscribe name) = not (is_exhausted s)
   may_need_memory s _ = false
 
   abbrev pub Replies : StateFlowState T → StateCall T → StateReply T → Type 0
