@@ -6,5 +6,7 @@ pub mod OverCore
 pub mod Policy
 pub mod ShareIn
 pub mod SharingState
+pub mod StateHub
+pub mod StateLending
 pub mod Turn
 pub mod TurnMeaning

@@ -10,6 +10,7 @@ mod policy;
 mod report;
 mod share;
 mod sharing;
+mod state_hub;
 mod turn;
 
 pub use core_hub::CoreHub;
@@ -19,5 +20,6 @@ pub use hub::Hub;
 pub use laws::law_turn_over_core;
 pub use policy::{Backwards, Policy};
 pub use report::{Event, Report, ShareFault};
-pub use share::share_in;
+pub use share::{share_in, state_in};
 pub use sharing::Sharing;
+pub use state_hub::StateHub;
