@@ -23,3 +23,6 @@ pub use report::{Event, Report, ShareFault};
 pub use share::{share_in, state_in};
 pub use sharing::Sharing;
 pub use state_hub::StateHub;
+
+#[cfg(test)]
+mod tests;
