@@ -25,4 +25,6 @@ pub use sharing::Sharing;
 pub use state_hub::StateHub;
 
 #[cfg(test)]
+mod refusals;
+#[cfg(test)]
 mod tests;
