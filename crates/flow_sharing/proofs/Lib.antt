@@ -2,3 +2,4 @@ pub mod AfterCommandLemmas
 pub mod AccountLemmas
 pub mod TurnLemmas
 pub mod OverCoreLemmas
+pub mod OverStateCoreLemmas

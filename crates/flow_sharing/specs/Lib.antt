@@ -3,6 +3,7 @@ pub mod CoreLending
 pub mod Hub
 pub mod Lending
 pub mod OverCore
+pub mod OverStateCore
 pub mod Policy
 pub mod ShareIn
 pub mod SharingState

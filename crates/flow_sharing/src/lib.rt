@@ -17,7 +17,7 @@ pub use core_hub::CoreHub;
 pub use flow_cold::{Asked, Cold};
 pub use flow_law::{ChainFault, Command, End, SharingObservation, Started};
 pub use hub::Hub;
-pub use laws::law_turn_over_core;
+pub use laws::{law_turn_over_core, law_turn_over_state_core};
 pub use policy::{Backwards, Policy};
 pub use report::{Event, Report, ShareFault};
 pub use share::{share_in, state_in};
