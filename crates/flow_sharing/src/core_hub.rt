@@ -11,7 +11,7 @@ use std::alloc::{Allocator, Global};
 pub struct CoreHub<T: FlowValue, A: Allocator + Copy = Global> {
     pub(crate) core: SharedCore<T, A>,
     /// The number of the sharing's emission, where it waited when it was last asked.
-    emission: Option<u64>,
+    pub(crate) emission: Option<u64>,
 }
 
 impl<T: FlowValue, A: Allocator + Copy> CoreHub<T, A> {

@@ -2,7 +2,7 @@
 #![tactic(auto)]
 
 mod core_hub;
-mod core_mut;
+mod core_lend;
 mod hub;
 mod laws;
 mod lend;
@@ -11,6 +11,7 @@ mod report;
 mod share;
 mod sharing;
 mod state_hub;
+mod state_lend;
 mod turn;
 
 pub use core_hub::CoreHub;

@@ -1,14 +1,11 @@
-//! The core of a hub, lent to the caller.
+//! The core of a shared flow's hub, lent to the caller.
 ghost use Rattle.std.specs.Prelude.{◌≡◌};
 ghost use Rattle.std.specs.Borrow.{sem};
 ghost use Rattle.flow_sharing.specs.CoreHub.{core_of};
 ghost use Rattle.flow_sharing.specs.CoreLending.{LendsCore};
-ghost use Rattle.flow_sharing.specs.StateHub.{state_core_of};
-ghost use Rattle.flow_sharing.specs.StateLending.{LendsStateCore};
 
 use crate::core_hub::CoreHub;
-use crate::state_hub::StateHub;
-use flow_core::{SharedCore, StateCore};
+use flow_core::SharedCore;
 use flow_law::FlowValue;
 use std::alloc::Allocator;
 
@@ -17,16 +14,6 @@ impl<T: FlowValue, A: Allocator + Copy> CoreHub<T, A> {
     pub fn core_mut(&mut self) -> &mut SharedCore<T, A>
         ensures* writes_back { sem 𝓛 (LendsCore T.row A.row T.FlowValue A.Allocator self.entry result) }
         ensures core { result.now ≡ core_of self.old }
-    {
-        &mut self.core
-    }
-}
-
-impl<T: FlowValue, A: Allocator + Copy> StateHub<T, A> {
-    /// The core, to subscribe and to receive.
-    pub fn core_mut(&mut self) -> &mut StateCore<T, A>
-        ensures* writes_back { sem 𝓛 (LendsStateCore T.row A.row T.FlowValue A.Allocator self.entry result) }
-        ensures core { result.now ≡ state_core_of self.old }
     {
         &mut self.core
     }
