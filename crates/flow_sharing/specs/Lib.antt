@@ -11,3 +11,4 @@ pub mod StateHub
 pub mod StateLending
 pub mod Turn
 pub mod TurnMeaning
+pub mod TurnClauses

@@ -4,9 +4,9 @@ ghost use Rattle.flow_law.specs.declared.sharing.SharingObservation.{SharingObse
 ghost use Rattle.flow_law.specs.declared.sharing.Started.{Started};
 ghost use Rattle.flow_sharing.specs.Policy.{Observes};
 ghost use Rattle.flow_sharing.specs.Hub.{HubStep, counts, count_reply, test_reply};
-ghost use Rattle.flow_sharing.specs.SharingState.{state_of, resting, commanded, IsSound, HasObserved, HasAccount, BetweenTurns, has_ended};
-ghost use Rattle.flow_sharing.specs.Turn.{refusal, reported, Cancels, Polls, Sends, AfterCommand, Turn, ended_after};
-ghost use Rattle.flow_sharing.specs.TurnMeaning.{TurnMeans};
+ghost use Rattle.flow_sharing.specs.SharingState.{state_of, resting, commanded, IsSound, HasObserved, BetweenTurns, has_ended};
+ghost use Rattle.flow_sharing.specs.Turn.{refusal, reported, Cancels, Polls, Sends, AfterCommand, ended_after};
+ghost use Rattle.flow_sharing.specs.TurnClauses.{TakesTurn, MeansAnswer, StaysBetween};
 
 use crate::hub::Hub;
 use crate::policy::{Backwards, Policy};
@@ -187,16 +187,16 @@ impl<C: Cold, H: Hub<Item = C::Item>> Sharing<C, H> {
         requires { IsSound C.sound self.old }
         ensures sound { IsSound C.sound self.new }
 
-        // Whatever was observed before, these are the steps of the turn, and what has been observed after it.
-        ensures turn { (started : Started) (seen : List SharingObservation) → HasObserved started self.old seen → (all : List SharingObservation) × HasObserved started self.new all × Turn (HubStep H.does H.waits) started seen now (state_of C.whole C.rest self.old) result all (state_of C.whole C.rest self.new) }
+        // The steps of the turn, and what has been observed after it.
+        ensures turn { TakesTurn C.whole C.rest H.does H.waits now self.old result self.new }
 
         // The sharing has ended once a turn has answered a fault of the chain, and every later turn says so.
         ensures ended { has_ended self.new ≡ ended_after result (has_ended self.old) }
         ensures refused_after_end { IsTrue (has_ended self.old) ↔ (result ≡ Err ShareFault.Ended) }
 
-        // What the answer means for the account of the items that the flow has accepted since the last start.
-        ensures means { (started : Started) (seen : List SharingObservation) (accepted : List C.Item) → HasObserved started self.old seen → BetweenTurns H.waits (state_of C.whole C.rest self.old) → HasAccount accepted (state_of C.whole C.rest self.old) → TurnMeans (HubStep H.does H.waits) H.waits accepted (state_of C.whole C.rest self.old) result (state_of C.whole C.rest self.new) }
-        ensures between { (started : Started) (seen : List SharingObservation) → HasObserved started self.old seen → BetweenTurns H.waits (state_of C.whole C.rest self.old) → BetweenTurns H.waits (state_of C.whole C.rest self.new) }
+        // What the answer means for the items that the flow has accepted since the last start.
+        ensures means { MeansAnswer C.whole C.rest H.does H.waits self.old result self.new }
+        ensures between { StaysBetween C.whole C.rest H.does H.waits self.old self.new }
     {
         if self.ended {
             return Err(ShareFault::Ended);
