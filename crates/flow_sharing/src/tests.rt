@@ -1,10 +1,16 @@
 //! Sharings over the flows of one thread. The answers are those of the rules of `SharingStarted`, of `shareIn` (a buffer
 //! of 64 values at least) and of `stateIn`.
+use crate::core_hub::CoreHub;
+use crate::hub::Hub;
+use crate::laws::{law_turn_over_core, law_turn_over_state_core};
+use crate::policy::{Backwards, Policy};
 use crate::report::{Event, Report, ShareFault};
 use crate::share::{share_in, state_in};
+use crate::state_hub::StateHub;
 use flow_cold::{Entry, OfList, OfRange, Scripted};
-use flow_law::{ChainFault, Command, Next, Started};
-use std::alloc::AllocError;
+use flow_core::{SharedCore, StateCore};
+use flow_law::{ChainFault, Command, Config, Next, Overflow, Started};
+use std::alloc::{AllocError, Global};
 
 fn reports(command: Command, event: Event) -> Result<Report, ShareFault> {
     Ok(Report { command, event })
@@ -147,4 +153,48 @@ fn ends_with_its_chain(rt: HostRuntime) -> Result<(), AllocError> {
     assert_eq!(rt; cache.as_slice(), [1].as_slice());
     assert_eq!(rt; shared.hub_mut().core_mut().next(a), Ok(Next::Value(1)));
     Ok(())
+}
+
+/// A policy by itself: moments may stand still, and do not go back.
+#[test]
+fn observes_subscribers(rt: HostRuntime) {
+    let mut policy = Policy::new(Started::WhileSubscribed { stop: 10 });
+    assert_eq!(rt; policy.observe(5, 0), Ok(Command::Keep));
+    assert_eq!(rt; policy.observe(5, 2), Ok(Command::Start));
+    assert_eq!(rt; policy.observe(7, 0), Ok(Command::Keep));
+    assert_eq!(rt; policy.observe(6, 1), Err(Backwards { last: 7 }));
+    assert_eq!(rt; policy.observe(17, 0), Ok(Command::Stop));
+    law_turn_over_core::<i64, Global>();
+    law_turn_over_state_core::<i64, Global>();
+}
+
+/// Without a buffer an emission waits until its subscriber has received it. A state flow lets nothing wait.
+#[test]
+fn hubs_answer_by_their_flows(rt: HostRuntime) {
+    let config = Config {
+        replay: 0,
+        extra: 0,
+        overflow: Overflow::Suspend,
+        limit: u64::MAX,
+    };
+    let Ok(core) = SharedCore::new(rt.alloc(), config) else {
+        panic!(rt; "a flow was made");
+    };
+    let mut hub = CoreHub::new(core);
+    let Ok(a) = hub.core_mut().subscribe() else {
+        panic!(rt; "a subscriber came");
+    };
+    assert_eq!(rt; hub.count(), Ok(1));
+    assert_eq!(rt; hub.put(7i64), Ok(true));
+    assert_eq!(rt; hub.poll(), Ok(true));
+    assert_eq!(rt; hub.cancel(), Ok(true));
+    assert_eq!(rt; hub.poll(), Ok(false));
+    assert_eq!(rt; hub.core_mut().next(a), Ok(Next::Empty));
+
+    let mut states = StateHub::new(StateCore::new(rt.alloc(), 0i64, u64::MAX));
+    assert_eq!(rt; states.count(), Ok(0));
+    assert_eq!(rt; states.put(3), Ok(false));
+    assert_eq!(rt; states.poll(), Ok(false));
+    assert_eq!(rt; states.cancel(), Ok(false));
+    assert_eq!(rt; states.core_mut().value(), Ok(3));
 }
