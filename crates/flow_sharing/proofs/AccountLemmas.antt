@@ -1,19 +1,17 @@
 -- The account holds after what follows a command. Begin with `outcome-means`.
-use Rattle.std.proofs.Common.{◌≡◌, ◌≢◌, ◌⊎◌, inl, inr, ℕ, Bool, true, false, List, [], ◌∷◌, ◌++◌, Option, Some, None, Result, Ok, Err, subst, sym, refl, ap, ◌∙◌, append_assoc}
+use Rattle.std.proofs.Common.{◌≡◌, inl, inr, Bool, true, false, List, [], ◌∷◌, ◌++◌, Some, None, Result, Ok, Err, subst, sym, refl, ap, ◌∙◌, append_assoc}
 use Rattle.flow_law.specs.declared.fault.FlowFault.{FlowFault}
 use Rattle.flow_law.specs.declared.fault.FlowFault.TheVariants.{Busy as LockTaken}
-use Rattle.flow_law.specs.declared.chain.ChainFault.{ChainFault}
-use Rattle.flow_law.specs.declared.chain.ChainFault.TheVariants.{OutOfMemory}
-use Rattle.flow_law.specs.declared.chain.End.TheVariants.{Completed as AtEnd, Failed}
-use Rattle.flow_law.specs.ChainRun.{ChainRun, gives, pends, ends, items}
+use Rattle.flow_law.specs.declared.chain.End.TheVariants.{Completed as AtEnd}
+use Rattle.flow_law.specs.ChainRun.{ChainRun, ends, items}
 use Rattle.flow_law.specs.TurnAccount.{kept_items}
 use Rattle.flow_sharing.specs.declared.report.Event.{Event}
 use Rattle.flow_sharing.specs.declared.report.Event.TheVariants.{Busy, Idle, Put, Queued, Waiting, Pending, Completed}
 use Rattle.flow_sharing.specs.declared.report.ShareFault.{ShareFault}
 use Rattle.flow_sharing.specs.declared.report.ShareFault.TheVariants.{Backwards, Ended, Chain, Flow}
-use Rattle.flow_sharing.specs.Hub.{HubStep, HubCall, HubReply, counts, puts, polls, cancels, counted, answered, refused}
+use Rattle.flow_sharing.specs.Hub.{HubStep, HubCall, HubReply, puts, polls, cancels}
 use Rattle.flow_sharing.specs.SharingState.{SharingState, Accounts, HasAccount, BetweenTurns}
-use Rattle.flow_sharing.specs.Turn.{NextItem, Cancels, Polls, IsActive, IsReady, Accepts, Refuses, Sends, HubRefuses, AfterCommand}
+use Rattle.flow_sharing.specs.Turn.{NextItem, Cancels, IsActive, IsReady, Accepts, HubRefuses, AfterCommand}
 use Rattle.flow_sharing.specs.TurnMeaning.{AcceptsOne, WasRefused, OutcomeMeans}
 
 pub not-both : {b : Bool} → b ≡ true → b ≡ false → ⊥

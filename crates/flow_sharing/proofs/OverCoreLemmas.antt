@@ -1,7 +1,7 @@
 -- What a turn over a core means for the flow that it stands for. Begin with `turn-over_core`.
-use Rattle.std.proofs.Common.{◌≡◌, ◌≢◌, ◌≤◌, ◌<◌, ◌⊎◌, inl, inr, ℕ, Bool, true, false, if◌then◌else◌, List, [], ◌∷◌, ◌++◌, ◌+◌, length, Option, Some, None, Result, Ok, Err, subst, sym, refl, ap, ◌∙◌}
+use Rattle.std.proofs.Common.{◌≡◌, ◌⊎◌, inl, inr, ℕ, Bool, true, false, if◌then◌else◌, List, [], ◌∷◌, ◌++◌, ◌+◌, length, Option, Some, None, Result, Ok, Err, subst, sym, refl, ap, ◌∙◌}
 use Rattle.flow_law.specs.declared.fault.FlowFault.{FlowFault}
-use Rattle.flow_law.specs.declared.fault.FlowFault.TheVariants.{OutOfMemory, TooLarge, NeedsBuffer, Exhausted, Unsupported, Busy as LockTaken}
+use Rattle.flow_law.specs.declared.fault.FlowFault.TheVariants.{Exhausted, Busy as LockTaken}
 use Rattle.flow_law.specs.declared.outcome.Emit.{Emit}
 use Rattle.flow_law.specs.declared.outcome.Emit.TheVariants as emission
 use Rattle.flow_law.specs.declared.call.SharedCall.TheVariants as call
@@ -9,31 +9,28 @@ use Rattle.flow_law.specs.declared.call.SharedReply.{SharedReply}
 use Rattle.flow_law.specs.declared.call.SharedReply.TheVariants as reply
 use Rattle.flow_law.specs.declared.sharing.Command.{Command}
 use Rattle.flow_law.specs.declared.sharing.Command.TheVariants.{Start, Stop, Keep}
-use Rattle.flow_law.specs.declared.sharing.Started.{Started}
 use Rattle.flow_law.specs.declared.sharing.SharingObservation.{SharingObservation}
 use Rattle.flow_law.specs.declared.chain.ChainFault.TheVariants.{OutOfMemory as NoMemory}
 use Rattle.flow_law.specs.declared.chain.End.TheVariants.{Completed as AtEnd, Failed}
 use Rattle.flow_law.specs.ChainRun.{ChainRun, pends, ends, items}
 use Rattle.flow_law.specs.TurnAccount.{kept_items}
-use Rattle.flow_law.specs.Sharing.{newest_command, is_running}
+use Rattle.flow_law.specs.Sharing.{newest_command}
 use Rattle.flow_law.specs.SharedFlow.{SharedFlowState, Answer, answer, issuing, is_exhausted}
-use Rattle.flow_law.specs.EmitRule.{EmitCase, appends, offers, queues, drops_latest, drops_oldest, emit_case, emit_in, append, suspend, drop_oldest}
+use Rattle.flow_law.specs.EmitRule.{appends, offers, queues, drops_latest, drops_oldest, emit_case, emit_in, append, suspend, drop_oldest}
 use Rattle.flow_law.specs.SharedStep as flow
 use Rattle.flow_law.specs.SharedHistory.{Replies, reply_by}
-use Rattle.flow_law.specs.SharedHistory as law
-use Rattle.flow_law.specs.Standing.{Core, StandsFor, Conforms}
+use Rattle.flow_law.specs.Standing.{StandsFor}
 use Rattle.flow_sharing.specs.declared.core_hub.CoreHub.{CoreHub}
 use Rattle.flow_sharing.specs.declared.report.Event.{Event}
 use Rattle.flow_sharing.specs.declared.report.Event.TheVariants.{Busy, Idle, Put, Queued, Waiting, Pending, Completed}
-use Rattle.flow_sharing.specs.declared.report.Report.{Report}
 use Rattle.flow_sharing.specs.declared.report.ShareFault.{ShareFault}
 use Rattle.flow_sharing.specs.declared.report.ShareFault.TheVariants.{Backwards, Ended, Chain, Flow}
-use Rattle.flow_sharing.specs.Hub.{HubStep, HubCall, HubReply, counts, puts, polls, cancels, counted, answered, refused}
+use Rattle.flow_sharing.specs.Hub.{HubStep, HubCall, HubReply, counts, counted}
 use Rattle.flow_sharing.specs.CoreHub.{CoreHubDoes, PollDoes, CancelDoes, is_waiting}
 use Rattle.flow_sharing.specs.SharingState.{SharingState, Accounts, HasAccount, BetweenTurns, commanded}
 use Rattle.flow_sharing.specs.Turn.{reported, NextItem, Cancels, IsActive, IsReady, Accepts, HubRefuses, AfterCommand, Turn}
 use Rattle.flow_sharing.specs.Turn as turn
-use Rattle.flow_sharing.specs.OverCore.{after_stop, still_waits, LeavesFlow, MaySend, EmitsNext, OutcomeOverCore, EventOverCore, TurnOverCore, has_ended, backwards, observed, LawTurnOverCore}
+use Rattle.flow_sharing.specs.OverCore.{after_stop, still_waits, LeavesFlow, MaySend, EmitsNext, OutcomeOverCore, EventOverCore, has_ended, backwards, observed, LawTurnOverCore}
 use Rattle.flow_sharing.proofs.AccountLemmas.{not-both, accepted-account, ready-account, active-runs, ready-runs, kept-by-cancel}
 use Rattle.flow_sharing.proofs.TurnLemmas.{starts-at-rest}
 

@@ -1,5 +1,5 @@
 -- What a turn over a state core means for its state. Begin with `turn-over_state_core`.
-use Rattle.std.proofs.Common.{◌≡◌, ◌⊎◌, inl, inr, ℕ, Bool, true, false, List, [], ◌∷◌, ◌++◌, length, Option, Some, None, Result, Ok, Err, subst, sym, refl, ap, ◌∙◌}
+use Rattle.std.proofs.Common.{◌≡◌, ◌⊎◌, inl, inr, ℕ, Bool, true, false, List, [], ◌∷◌, ◌++◌, length, None, Result, Ok, Err, subst, sym, refl, ap, ◌∙◌}
 use Rattle.flow_law.specs.declared.fault.FlowFault.{FlowFault}
 use Rattle.flow_law.specs.declared.fault.FlowFault.TheVariants.{Busy as LockTaken}
 use Rattle.flow_law.specs.declared.call.StateReply.{StateReply}
@@ -9,23 +9,22 @@ use Rattle.flow_law.specs.declared.sharing.Command.TheVariants.{Start, Stop, Kee
 use Rattle.flow_law.specs.declared.sharing.SharingObservation.{SharingObservation}
 use Rattle.flow_law.specs.declared.chain.ChainFault.TheVariants.{OutOfMemory as NoMemory}
 use Rattle.flow_law.specs.declared.chain.End.TheVariants.{Completed as AtEnd, Failed}
-use Rattle.flow_law.specs.ChainRun.{ChainRun, pends, ends, items}
+use Rattle.flow_law.specs.ChainRun.{pends, ends, items}
 use Rattle.flow_law.specs.TurnAccount.{kept_items}
 use Rattle.flow_law.specs.Sharing.{newest_command}
 use Rattle.flow_law.specs.StateFlow.{StateFlowState}
 use Rattle.flow_sharing.specs.declared.state_hub.StateHub.{StateHub}
 use Rattle.flow_sharing.specs.declared.report.Event.{Event}
 use Rattle.flow_sharing.specs.declared.report.Event.TheVariants.{Busy, Idle, Put, Queued, Waiting, Pending, Completed}
-use Rattle.flow_sharing.specs.declared.report.Report.{Report}
 use Rattle.flow_sharing.specs.declared.report.ShareFault.{ShareFault}
 use Rattle.flow_sharing.specs.declared.report.ShareFault.TheVariants.{Backwards, Ended, Chain, Flow}
-use Rattle.flow_sharing.specs.Hub.{HubStep, HubCall, HubReply, counts, puts, polls, cancels, counted, answered, refused}
+use Rattle.flow_sharing.specs.Hub.{HubStep, HubCall, HubReply, counts, cancels, counted, answered}
 use Rattle.flow_sharing.specs.StateHub.{StateHubDoes, never_waits}
-use Rattle.flow_sharing.specs.SharingState.{SharingState, Accounts, HasAccount, BetweenTurns, commanded}
+use Rattle.flow_sharing.specs.SharingState.{SharingState, HasAccount, BetweenTurns, commanded}
 use Rattle.flow_sharing.specs.Turn.{reported, NextItem, Cancels, IsActive, IsReady, HubRefuses, AfterCommand, Turn}
 use Rattle.flow_sharing.specs.Turn as turn
-use Rattle.flow_sharing.specs.OverStateCore.{Goes, OutcomeOverStateCore, EventOverStateCore, TurnOverStateCore, has_ended, backwards, observed, LawTurnOverStateCore}
-use Rattle.flow_sharing.proofs.AccountLemmas.{not-both, accepted-account, ready-account, active-runs, ready-runs, kept-by-cancel}
+use Rattle.flow_sharing.specs.OverStateCore.{Goes, OutcomeOverStateCore, EventOverStateCore, has_ended, backwards, observed, LawTurnOverStateCore}
+use Rattle.flow_sharing.proofs.AccountLemmas.{not-both, accepted-account, ready-account, ready-runs, kept-by-cancel}
 use Rattle.flow_sharing.proofs.TurnLemmas.{starts-at-rest}
 
 abbrev Over : Type 0 → Type 0 → Type 0

@@ -1,23 +1,22 @@
 -- The account holds after a turn, and so does what is true between turns. Begin with `turn-means`.
-use Rattle.std.proofs.Common.{◌≡◌, ◌≢◌, ◌≤◌, ◌<◌, ◌⊎◌, inl, inr, ℕ, Bool, true, false, List, [], ◌∷◌, ◌++◌, Option, Some, None, Result, Ok, Err, subst, sym, refl, ap, ◌∙◌}
+use Rattle.std.proofs.Common.{◌≡◌, inl, inr, ℕ, Bool, true, false, List, [], ◌++◌, Result, Ok, Err, subst, sym, refl, ap, ◌∙◌}
 use Rattle.flow_law.specs.declared.fault.FlowFault.{FlowFault}
 use Rattle.flow_law.specs.declared.fault.FlowFault.TheVariants.{OutOfMemory, TooLarge, NeedsBuffer, Exhausted, Unsupported, Busy as LockTaken}
-use Rattle.flow_law.specs.declared.chain.ChainFault.{ChainFault}
 use Rattle.flow_law.specs.declared.sharing.Started.{Started}
 use Rattle.flow_law.specs.declared.sharing.Command.{Command}
 use Rattle.flow_law.specs.declared.sharing.Command.TheVariants.{Start, Stop, Keep}
 use Rattle.flow_law.specs.declared.sharing.SharingObservation.{SharingObservation}
-use Rattle.flow_law.specs.Sharing.{newest_command, command_of, is_running, last_moment}
-use Rattle.flow_law.specs.ChainRun.{ChainRun, items}
+use Rattle.flow_law.specs.Sharing.{newest_command, command_of, is_running}
+use Rattle.flow_law.specs.ChainRun.{items}
 use Rattle.flow_law.specs.TurnAccount.{kept_items}
 use Rattle.flow_sharing.specs.declared.report.Event.{Event}
 use Rattle.flow_sharing.specs.declared.report.Report.{Report}
 use Rattle.flow_sharing.specs.declared.report.ShareFault.{ShareFault}
 use Rattle.flow_sharing.specs.declared.report.ShareFault.TheVariants.{Backwards, Ended, Chain, Flow}
-use Rattle.flow_sharing.specs.Hub.{HubStep, HubCall, HubReply, counts, puts, polls, cancels, counted, answered, refused}
+use Rattle.flow_sharing.specs.Hub.{HubStep, HubCall, HubReply, counts}
 use Rattle.flow_sharing.specs.SharingState.{SharingState, commanded, HasAccount, BetweenTurns}
 use Rattle.flow_sharing.specs.Turn.{refusal, reported, AfterCommand, Turn, has_ended, uncounted, backwards, observed}
-use Rattle.flow_sharing.specs.TurnMeaning.{WasRefused, OutcomeMeans, TurnMeans, since_start}
+use Rattle.flow_sharing.specs.TurnMeaning.{WasRefused, OutcomeMeans, TurnMeans}
 use Rattle.flow_sharing.proofs.AccountLemmas.{outcome-means}
 
 -- only what did not run is started

@@ -1,6 +1,5 @@
 -- What each call of a sharing does to a `SharedCore`. Begin with `CoreHubDoes`.
 use Rattle.std.specs.Prelude.{◌≡◌, ℕ, Bool, true, false, if◌then◌else◌, Option, Some, None, is_some}
-use Rattle.std.specs.Borrow.{Lends, MutBor, Fml, RattleType}
 use Rattle.flow_law.specs.declared.call.SharedCall.TheVariants as call
 use Rattle.flow_law.specs.declared.call.SharedReply.TheVariants as reply
 use Rattle.flow_law.specs.declared.outcome.Emit.TheVariants.{Done, Queued}

@@ -1,6 +1,5 @@
 -- What a turn does to the documented shared flow that the core of its hub stands for. Begin with `TurnOverCore`.
 use Rattle.std.specs.Prelude.{◌≡◌, ◌<◌, ◌≤◌, ◌⊎◌, ℕ, Bool, true, false, List, [], ◌∷◌, ◌++◌, length, Option, Some, None, Result, Ok, Err}
-use Rattle.flow_law.specs.declared.fault.FlowFault.{FlowFault}
 use Rattle.flow_law.specs.declared.outcome.Emit.{Emit}
 use Rattle.flow_law.specs.declared.outcome.Emit.TheVariants as emission
 use Rattle.flow_law.specs.declared.call.SharedCall.TheVariants as call

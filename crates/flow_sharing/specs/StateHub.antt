@@ -1,5 +1,5 @@
 -- What each call of a sharing does to a `StateCore`. Begin with `StateHubDoes`.
-use Rattle.std.specs.Prelude.{◌≡◌, Bool, true, false}
+use Rattle.std.specs.Prelude.{◌≡◌, Bool, false}
 use Rattle.flow_law.specs.declared.call.StateCall.TheVariants as call
 use Rattle.flow_law.specs.declared.call.StateReply.TheVariants as reply
 use Rattle.flow_law.specs.StateFlow.{StateFlowState}

@@ -1,9 +1,9 @@
-use Rattle.std.proofs.Common.{[], ◌≡◌, ◌≤◌, ◌∷◌, ◌∙◌, ap, sym, refl, subst, Err}
+use Rattle.std.proofs.Common.{[], ◌≡◌, ◌∷◌, ◌∙◌, ap, refl, Err}
 use Rattle.flow_law.specs.declared.sharing.Command.TheVariants.{Keep}
 use Rattle.flow_law.specs.Sharing.{newest_command}
 use Rattle.flow_sharing.specs.declared.report.ShareFault.TheVariants.{Backwards}
 use Rattle.flow_sharing.specs.Policy.{HasSeen}
-use Rattle.flow_sharing.specs.Turn.{reported, has_ended, uncounted, backwards, observed}
+use Rattle.flow_sharing.specs.Turn.{reported, uncounted, backwards, observed}
 use Rattle.flow_sharing.proofs.TurnLemmas.{turn-means}
 use Rattle.flow_sharing.proofs.sharing.Sharing.turn.Goals as goal
 
