@@ -1,5 +1,5 @@
 //! Collecting a chain to its end.
-ghost use Rattle.std.specs.Prelude.{◌≡◌, IfOk, ◌⊎◌, MatchResult};
+ghost use Rattle.std.specs.Prelude.{◌≡◌, IfOk, IfErr};
 ghost use Rattle.flow_law.specs.ChainRun.{Collects};
 
 use crate::cold::{Asked, Cold};
@@ -13,15 +13,19 @@ pub struct Collected<T, A: Allocator = Global> {
     pub end: End,
 }
 
-/// Rewinds the chain, and asks it to its end.
+/// Starts the chain anew, and asks it to its end. A turn that pends is followed by the next ask.
+///
+/// It is refused where memory is wanted for the list of items; the items so far are dropped then. What the chain itself
+/// is refused is its end.
 pub fn collect_all<C: Cold, A: Allocator>(
     alloc: A,
     chain: &mut C,
 ) -> Result<Collected<C::Item, A>, ChainFault>
     requires { C.sound chain.old }
     ensures sound { C.sound chain.new }
-    ensures keeps { C.whole chain.new ≡ C.whole chain.old }
-    ensures collects { MatchResult result (λ r. Collects (C.whole chain.old) r.items.items r.end) (λ f. f ≡ ChainFault.OutOfMemory) }
+    ensures whole { C.whole chain.new ≡ C.whole chain.old }
+    ensures collects { IfOk result (λ collected. Collects (C.whole chain.old) collected.items.items collected.end) }
+    ensures memory { IfErr result (λ fault. fault ≡ ChainFault.OutOfMemory) }
 {
     chain.rewind();
     let mut items = Vec::new(alloc);

@@ -1,5 +1,10 @@
-//! Tests of cold chains: worked examples, how often a chain is asked, and chains as streams.
+//! Callers of cold chains: one that is proved from a list to what was collected, and tests of worked examples, of how
+//! often a chain is asked, and of chains as streams.
 #![tactic(auto)]
+
+mod callers;
+
+pub use callers::{Plus, collect_plus};
 
 #[cfg(test)]
 mod asks;

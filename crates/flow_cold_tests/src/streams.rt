@@ -1,6 +1,6 @@
 //! A chain as a stream gives what a collection gives.
 
-use flow_cold::{ChainFault, Entry, Scripted, Streamed};
+use flow_cold::{ChainFault, End, Entry, Scripted, Streamed, collect_all};
 use futures::StreamExt;
 use futures::executor::block_on;
 use std::alloc::Global;
@@ -23,5 +23,8 @@ fn a_stream_gives_the_items_and_the_fault(rt: HostRuntime) -> Result<(), Fail> {
         got.as_slice(),
         [Ok(5), Ok(6), Err(ChainFault::Source(7))].as_slice()
     );
+    let collected = collect_all(alloc, &mut script(alloc)?)?;
+    assert_eq!(rt; collected.items.as_slice(), [5, 6].as_slice());
+    assert_eq!(rt; collected.end, End::Failed(ChainFault::Source(7)));
     Ok(())
 }

@@ -1,7 +1,7 @@
 -- The run that each operator makes means what the lists say. A lemma `map_means` is of `map_run` and `map_meaning`, and so
 -- for each operator.
 use Rattle.std.proofs.Common.{◌≡◌, ℕ, zero, suc, Bool, true, false, cond, ◌&&◌, List, [], ◌∷◌, length, Option, Some, None, Result, Ok, Err, inl, inr, arith, refl, sym, ap, ◌∙◌}
-use Rattle.std.specs.Prelude.{nat_le, filter, take_while}
+use Rattle.std.specs.Prelude.{nat_le, filter, take_while, flat_map, option_to_list}
 use Rattle.std.specs.List.{list_all}
 use Rattle.std.proofs.Math.Dec.{leb-suc-zero, leb-suc-suc}
 use Rattle.std.proofs.lemmas.Bool.Decides.{leb_tells}
@@ -10,7 +10,7 @@ use Rattle.std.specs.Bool.{IsTrue}
 use Rattle.flow_law.specs.declared.chain.ChainFault.{ChainFault}
 use Rattle.flow_law.specs.declared.chain.End.{End}
 use Rattle.flow_law.specs.declared.chain.End.TheVariants.{Completed, Failed}
-use Rattle.flow_law.specs.ChainRun.{ChainRun, gives, pends, ends, items, ending}
+use Rattle.flow_law.specs.ChainRun.{ChainRun, gives, pends, ends, items, ending, entries, asks}
 use Rattle.flow_law.specs.OperatorRuns.{continued, map_run, filter_run, take_while_run, take_run, drop_run, is_repeated, distinct_run, scan_run, pair_run, zip_run, prepended, transform_run, followed, flat_map_run}
 use Rattle.flow_law.specs.Chain.{Meaning, meaning, meaning_of, with_first, with_ending, then_meaning, onward, images, map_meaning, filter_meaning, take_while_meaning, take_meaning, drop_meaning, differing, distinct_meaning, results, scan_meaning, concatenated, transform_meaning, flattened, flat_map_meaning, zip_meaning}
 
@@ -141,3 +141,15 @@ module _ {A B C : Type 0} (f : A × B → Result C ChainFault) where
   zip_means (gives x r) q = pair_means x r (zip_run f r) (zip_means r) q
   zip_means (pends r) q = zip_means r q
   zip_means (ends e) q = rw (zero-le-length (length (items q))) refl
+
+-- a chain can be asked as often as its run has entries
+pub asks_entries : {T : Type 0} (r : ChainRun T) → asks r ≡ length (entries r)
+asks_entries (gives x r) = rw (asks_entries r) (omega arith)
+asks_entries (pends r) = rw (asks_entries r) (omega arith)
+asks_entries (ends e) = refl
+
+-- the items are those of the entries
+pub items_entries : {T : Type 0} (r : ChainRun T) → items r ≡ flat_map option_to_list (entries r)
+items_entries (gives x r) = ap (λ xs. x ∷ xs) (items_entries r)
+items_entries (pends r) = items_entries r
+items_entries (ends e) = refl

@@ -6,7 +6,7 @@ ghost use Rattle.flow_law.specs.OperatorRuns.{drop_run};
 
 use crate::cold::{Asked, Cold};
 
-/// Gives a chain's items continued the first `count`.
+/// Gives a chain's items after the first `count`.
 #[derive(Drop)]
 pub struct DropFirst<C> {
     upstream: C,
@@ -60,6 +60,7 @@ impl<C: Cold> Cold for DropFirst<C> {
 
 impl<C: Cold> DropFirst<C> {
     #[tactic(auto, using(flow_law::proofs::ChainLemmas::drop_means))]
+    /// A count of 0 gives the chain as it is.
     pub fn new(upstream: C, count: u64) -> Self
         requires { C.sound upstream }
         ensures sound { ⟦<DropFirst<C> as Cold>⟧.sound result }

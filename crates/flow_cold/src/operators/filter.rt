@@ -70,7 +70,7 @@ where
     M: TestMeaning<C::Item>,
     F: Fn(&C::Item) -> bool,
 {
-    /// Filters a chain by a test that decides what `meaning` says.
+    /// `meaning` is for contracts: its type says which items pass.
     #[tactic(auto, using(flow_law::proofs::ChainLemmas::filter_means))]
     pub fn new(upstream: C, meaning: M, closure: F) -> Self
         requires sound { C.sound upstream }

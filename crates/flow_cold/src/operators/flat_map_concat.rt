@@ -11,7 +11,9 @@ use crate::sources::Scripted;
 use crate::with_meaning::WithMeaning;
 use flow_law::{ChainFault, FlowValue};
 
-/// Gives the items of the chain that a closure opens at each item.
+/// Gives the items of the chain that a closure opens at each item, one chain after the other.
+///
+/// An inner chain is started anew before it is asked. A fault of it ends the whole.
 #[derive(Drop)]
 pub struct FlatMapConcat<C, U: FlowValue, M, F> {
     upstream: C,
@@ -98,7 +100,8 @@ where
     M: InnerMeaning<C::Item, U>,
     F: Fn(C::Item) -> Result<Scripted<U>, ChainFault>,
 {
-    /// Opens a chain at each item, by a closure that opens what `meaning` says.
+    /// A fault that the closure answers ends the chain, too. `meaning` is for contracts: its type says which chain the closure
+    /// opens.
     #[tactic(auto, using(flow_law::proofs::ChainLemmas::flat_map_means))]
     pub fn new(upstream: C, meaning: M, closure: F) -> Self
         requires sound { C.sound upstream }

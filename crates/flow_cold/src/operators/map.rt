@@ -74,7 +74,8 @@ where
     M: ItemMeaning<C::Item, U>,
     F: Fn(C::Item) -> Result<U, ChainFault>,
 {
-    /// Maps a chain by a closure that computes what `meaning` says.
+    /// A fault that the closure answers ends the chain; of that item nothing is given. `meaning` is for contracts: its type
+    /// says what the closure computes.
     #[tactic(auto, using(flow_law::proofs::ChainLemmas::map_means))]
     pub fn new(upstream: C, meaning: M, closure: F) -> Self
         requires sound { C.sound upstream }

@@ -110,7 +110,8 @@ where
     M: PairMeaning<U, C::Item, U>,
     F: Fn(U, C::Item) -> Result<U, ChainFault>,
 {
-    /// Scans a chain by a closure that computes what `meaning` says.
+    /// The initial value is given without asking the upstream. A fault that the closure answers ends the chain. `meaning` is
+    /// for contracts: its type says what the closure computes.
     #[tactic(auto, using(flow_law::proofs::ChainLemmas::scan_means))]
     pub fn new(upstream: C, initial: U, meaning: M, closure: F) -> Self
         requires sound { C.sound upstream }

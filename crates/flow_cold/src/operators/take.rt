@@ -8,7 +8,7 @@ ghost use Rattle.flow_law.specs.OperatorRuns.{take_run};
 use crate::cold::{Asked, Cold};
 use flow_law::ChainFault;
 
-/// Gives the first `count` items of a chain.
+/// Gives the first `count` items of a chain. After the last of them the upstream is not asked again.
 #[derive(Drop)]
 pub struct Take<C> {
     upstream: C,

@@ -10,7 +10,7 @@ use crate::cold::{Asked, Cold};
 use crate::meaning::TestMeaning;
 use crate::with_meaning::WithMeaning;
 
-/// Gives a chain's items while they pass a test.
+/// Gives a chain's items while they pass a test. The first that does not pass is dropped, and ends the chain.
 #[derive(Drop)]
 pub struct TakeWhile<C, M, F> {
     upstream: C,
@@ -71,7 +71,7 @@ where
     M: TestMeaning<C::Item>,
     F: Fn(&C::Item) -> bool,
 {
-    /// Takes items of a chain by a test that decides what `meaning` says.
+    /// `meaning` is for contracts: its type says which items pass.
     #[tactic(auto, using(flow_law::proofs::ChainLemmas::take_while_means))]
     pub fn new(upstream: C, meaning: M, closure: F) -> Self
         requires sound { C.sound upstream }

@@ -10,7 +10,7 @@ use crate::meaning::ListMeaning;
 use crate::with_meaning::WithMeaning;
 use flow_law::{ChainFault, FlowValue};
 
-/// Gives what a closure makes of each item, in order.
+/// Gives the items of the list that a closure makes of each item.
 #[derive(Drop)]
 pub struct Transform<C, U: FlowValue, M, F> {
     upstream: C,
@@ -89,7 +89,8 @@ where
     M: ListMeaning<C::Item, U>,
     F: Fn(C::Item) -> Result<Vec<U>, ChainFault>,
 {
-    /// Transforms a chain by a closure that gives what `meaning` says.
+    /// A fault that the closure answers ends the chain; of that item nothing is given. `meaning` is for contracts: its type
+    /// says which list the closure makes.
     #[tactic(auto, using(flow_law::proofs::ChainLemmas::transform_means))]
     pub fn new(upstream: C, meaning: M, closure: F) -> Self
         requires sound { C.sound upstream }

@@ -11,7 +11,10 @@ use crate::with_meaning::WithMeaning;
 use flow_law::{ChainFault, FlowValue};
 use std::marker::PhantomData;
 
-/// Gives what a closure makes of each pair; the left side is asked first.
+/// Gives what a closure makes of each pair, and ends as soon as one side does.
+///
+/// For each pair the left side is asked first. Where it pends, the right side is not asked; where the right side pends,
+/// the left item is kept.
 #[derive(Drop)]
 pub struct Zip<L: Cold, R, U, M, F> {
     left: L,
@@ -98,7 +101,7 @@ where
     M: PairMeaning<L::Item, R::Item, U>,
     F: Fn(L::Item, R::Item) -> Result<U, ChainFault>,
 {
-    /// Joins two chains by a closure that computes what `meaning` says.
+    /// A fault that the closure answers ends the chain. `meaning` is for contracts: its type says what the closure computes.
     #[tactic(auto, using(flow_law::proofs::ChainLemmas::zip_means))]
     pub fn new(left: L, right: R, meaning: M, closure: F) -> Self
         requires left { L.sound left }

@@ -16,6 +16,7 @@ pub struct Stage {
     pub ended: bool,
 }
 
+/// A source, an operator on an upstream, or a zip of two.
 #[derive(Drop)]
 pub enum Node {
     List(OfList<i64>),

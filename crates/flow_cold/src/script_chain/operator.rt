@@ -9,6 +9,7 @@ use crate::script_chain::state::{
 };
 use flow_law::ChainFault;
 
+/// An operator, in the state that it has while its chain is asked.
 #[derive(Drop)]
 pub enum Operator {
     Map(Mapping),

@@ -18,6 +18,7 @@ pub struct Pairing {
 }
 
 impl Pairing {
+    /// No left item is kept yet.
     pub fn new(by: Joining) -> Pairing
         ensures { result ≡ record { by = by; kept = None; ended = false } }
     {

@@ -9,6 +9,7 @@ use crate::script_chain::node::Stage;
 use crate::script_chain::operator::{Operator, Step};
 
 impl Stage {
+    /// It has not ended.
     pub fn new(operator: Operator) -> Stage
         ensures { result ≡ record { operator = operator; ended = false } }
     {

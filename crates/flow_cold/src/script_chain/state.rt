@@ -37,6 +37,7 @@ impl Counting {
         }
     }
 
+    /// The item, and one less to give.
     pub fn take(&mut self, item: i64) -> Step
         requires { self.old.left ≢ 0 }
         ensures count { self.new.count ≡ self.old.count }
@@ -46,6 +47,7 @@ impl Counting {
         Step::Item(item)
     }
 
+    /// Nothing while items have to be dropped, then the item.
     pub fn drop_first(&mut self, item: i64) -> Step
         ensures count { self.new.count ≡ self.old.count }
         ensures gives { (r : ChainRun ℤ) → StepGives (drop_run (gives item r) self.old.left) result (drop_run r self.new.left) }
@@ -67,6 +69,7 @@ pub struct Adding {
 }
 
 impl Adding {
+    /// No item has been met yet.
     pub fn new(entries: Vec<i64>) -> Adding
         ensures entries { result.entries ≡ entries }
         ensures none { drop result.at result.entries.items ≡ [] }
@@ -136,6 +139,7 @@ impl Scanning {
         Step::Item(self.initial)
     }
 
+    /// The next accumulator, which is given.
     pub fn on_item(&mut self, item: i64) -> Step
         requires { self.old.begun ≡ true }
         ensures by { self.new.by ≡ self.old.by }
@@ -162,6 +166,7 @@ pub struct Following {
 }
 
 impl Following {
+    /// No item has been met yet.
     pub fn new(count: u64) -> Following
         ensures count { result.count ≡ count }
         ensures none { result.closed ≡ true }
@@ -226,6 +231,7 @@ pub struct Repeating {
 }
 
 impl Repeating {
+    /// No item has been met yet.
     pub fn new(count: u64) -> Repeating
         ensures count { result.count ≡ count }
         ensures none { result.left ≡ 0 }
@@ -250,6 +256,7 @@ impl Repeating {
         Step::Item(self.item)
     }
 
+    /// Begins to repeat an item.
     pub fn on_item(&mut self, item: i64) -> Step
         requires { self.old.left ≡ 0 }
         ensures count { self.new.count ≡ self.old.count }
@@ -268,6 +275,7 @@ pub struct Comparing {
 }
 
 impl Comparing {
+    /// The item, unless it is the one before.
     pub fn on_item(&mut self, item: i64) -> Step
         ensures { (r : ChainRun ℤ) → StepGives (distinct_run int_eq self.old.last (gives item r)) result (distinct_run int_eq self.new.last r) }
     {

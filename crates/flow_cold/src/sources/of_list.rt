@@ -14,6 +14,7 @@ pub struct OfList<T, A: Allocator = Global> {
 }
 
 impl<T: FlowValue, A: Allocator> OfList<T, A> {
+    /// Each item is copied as it is given, so the list can be given again.
     pub fn new(items: Vec<T, A>) -> Self
         ensures whole { ⟦<OfList<T, A> as Cold>⟧.whole result ≡ list_run items.items }
         ensures rest { ⟦<OfList<T, A> as Cold>⟧.rest result ≡ list_run items.items }

@@ -5,7 +5,7 @@ ghost use Rattle.flow_cold.specs.Sources.{range_run};
 
 use crate::cold::{Asked, Cold};
 
-/// The numbers from `first` to `last`, both among them.
+/// The numbers from `first` to `last`, both among them; none where `first` is above `last`.
 #[derive(Drop)]
 pub struct OfRange {
     first: i64,
@@ -15,6 +15,7 @@ pub struct OfRange {
 }
 
 impl OfRange {
+    /// No number is kept but the next.
     pub fn new(first: i64, last: i64) -> Self
         ensures whole { ⟦<OfRange as Cold>⟧.whole result ≡ range_run first last }
         ensures rest { ⟦<OfRange as Cold>⟧.rest result ≡ range_run first last }

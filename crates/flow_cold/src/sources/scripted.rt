@@ -25,6 +25,7 @@ pub struct Scripted<T, A: Allocator = Global> {
 impl<T: FlowValue, A: Allocator> Scripted<T, A> {
     ghost use Rattle.flow_cold.specs.Sources.{scripted_run};
 
+    /// Each item is copied as it is given. Entries after the first fault are never reached.
     pub fn new(entries: Vec<Entry<T>, A>) -> Self
         ensures whole { ⟦<Scripted<T, A> as Cold>⟧.whole result ≡ scripted_run entries.items }
         ensures rest { ⟦<Scripted<T, A> as Cold>⟧.rest result ≡ scripted_run entries.items }
