@@ -1,7 +1,7 @@
 -- What the closures of the tests compute.
-use Rattle.std.specs.Prelude.{◌≡◌, ℤ, Bool, pos, ◌+ℤ◌, int_lt, cond, List, [], ◌∷◌, Result, Ok, Err, Vec}
+use Rattle.std.specs.Prelude.{◌≡◌, ℤ, Bool, pos, ◌+ℤ◌, int_lt, List, [], ◌∷◌, Result, Ok, Err, Vec}
 use Rattle.flow_law.specs.declared.chain.ChainFault.{ChainFault}
-use Rattle.flow_law.specs.declared.chain.ChainFault.TheVariants.{Overflow, OutOfMemory}
+use Rattle.flow_law.specs.declared.chain.ChainFault.TheVariants.{OutOfMemory}
 use Rattle.flow_law.specs.declared.chain.End.TheVariants.{Completed}
 use Rattle.flow_law.specs.ChainRun.{ChainRun, gives, ends}
 use Rattle.flow_cold.specs.declared.sources.scripted.Scripted.{Scripted}
