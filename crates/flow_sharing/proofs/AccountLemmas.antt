@@ -9,7 +9,7 @@ use Rattle.flow_sharing.specs.declared.report.Event.{Event}
 use Rattle.flow_sharing.specs.declared.report.Event.TheVariants.{Busy, Idle, Put, Queued, Waiting, Pending, Completed}
 use Rattle.flow_sharing.specs.declared.report.ShareFault.{ShareFault}
 use Rattle.flow_sharing.specs.declared.report.ShareFault.TheVariants.{Backwards, Ended, Chain, Flow}
-use Rattle.flow_sharing.specs.Hub.{HubStep, HubCall, HubReply, puts, polls, cancels}
+use Rattle.flow_sharing.specs.Hub.{HubCall, HubReply, puts, polls, cancels}
 use Rattle.flow_sharing.specs.SharingState.{SharingState, Accounts, HasAccount, BetweenTurns}
 use Rattle.flow_sharing.specs.Turn.{NextItem, Cancels, IsActive, IsReady, Accepts, HubRefuses, AfterCommand}
 use Rattle.flow_sharing.specs.TurnMeaning.{AcceptsOne, WasRefused, OutcomeMeans}
@@ -22,11 +22,10 @@ module _ {T H : Type 0} where
   abbrev pub Continues : SharingState T H → Type 0
   Continues t = (t.runs ≡ true) × (t.completed ≡ false)
 
-  between-continues : (waits : H → Bool) (t : SharingState T H) → Continues t → BetweenTurns waits t
-  between-continues waits t g = record {
+  between-continues : (t : SharingState T H) → Continues t → BetweenTurns t
+  between-continues t g = record {
     rested = λ r. absurd (not-both g.0 r);
     done = λ r d. absurd (not-both d g.1);
-    quiet = λ r d. absurd (not-both g.0 r);
   }
 
   -- the next item is what is left without it
@@ -53,13 +52,13 @@ module _ {T H : Type 0} (does : H → HubCall T → HubReply → H → Type 0) w
   kept-by-cancel P s t f (inl e) = subst P (sym e.1) (f s.hub s.cancel_due)
   kept-by-cancel P s t f (inr e) = subst P (sym e.2) (f t.hub false)
 
-  active-continues : (s p : SharingState T H) → IsActive does s p → Continues p
+  pub active-continues : (s p : SharingState T H) → IsActive does s p → Continues p
   active-continues s p a = (a.1, a.2)
 
   active-account : (s p : SharingState T H) (accepted : List T) → IsActive does s p → Accounts accepted s → Accounts accepted p
   active-account s p accepted a acc = kept-by-cancel (Accounts accepted) s p (λ h due. acc) a.0
 
-  ready-continues : (s q : SharingState T H) → IsReady does s q → Continues q
+  pub ready-continues : (s q : SharingState T H) → IsReady does s q → Continues q
   ready-continues s q (p, a, polled) = subst Continues (sym polled.1) (active-continues s p a)
 
   pub ready-account : (s q : SharingState T H) (accepted : List T) → IsReady does s q → Accounts accepted s → Accounts accepted q
@@ -85,57 +84,48 @@ module _ {T H : Type 0} (does : H → HubCall T → HubReply → H → Type 0) w
       let P : SharingState T H → Type 0 = λ x. x.rest ≡ p.rest in
       subst P (sym polled.1) refl ∙ active-rest s p a
 
-module _ {T H : Type 0} (does : H → HubCall T → HubReply → H → Type 0) (waits : H → Bool) where
-  -- nothing waits once the cancel is done, where the sharing does not run
-  quiet-cancelled : (s t : SharingState T H) → BetweenTurns waits s → Cancels (HubStep does waits) {U = Unit {0}} s (Ok tt) t → t.runs ≡ false → waits t.hub ≡ false
-  quiet-cancelled s t o (inl e) r =
-      let P : SharingState T H → Type 0 = λ x. x.runs ≡ false in
-      let Q : SharingState T H → Type 0 = λ x. waits x.hub ≡ false in
-      subst Q (sym e.1) (o.quiet (subst P e.1 r) e.0)
-  quiet-cancelled s t o (inr (d, (b, told), e)) r = told.1
-
-  refusal-means : (s t : SharingState T H) (accepted : List T) (fault : FlowFault) → BetweenTurns waits s → s.ended ≡ false
-      → HubRefuses (HubStep does waits) s fault t
-      → (HasAccount accepted s → HasAccount accepted t) × WasRefused (HubStep does waits) fault t × BetweenTurns waits t
+module _ {T H : Type 0} (does : H → HubCall T → HubReply → H → Type 0) where
+  refusal-means : (s t : SharingState T H) (accepted : List T) (fault : FlowFault) → BetweenTurns s → s.ended ≡ false
+      → HubRefuses does s fault t
+      → (HasAccount accepted s → HasAccount accepted t) × WasRefused does fault t × BetweenTurns t
   refusal-means s t accepted fault o e (inl (d, told, same)) =
       let P : SharingState T H → Type 0 = HasAccount accepted in
-      let Q : SharingState T H → Type 0 = BetweenTurns waits in
-      let before : BetweenTurns waits (record s { hub = t.hub }) = record {
+      let Q : SharingState T H → Type 0 = BetweenTurns in
+      let before : BetweenTurns (record s { hub = t.hub }) = record {
         rested = o.rested;
         done = o.done;
-        quiet = λ r u. absurd (not-both d u);
       } in
       (λ acc. subst P (sym same) acc, (s.hub, (cancels, told)), subst Q (sym same) before)
   refusal-means s t accepted fault o e (inr (inl (p, a, polled))) =
       let P : SharingState T H → Type 0 = HasAccount accepted in
-      let goes : Continues t = subst Continues (sym polled.1) (active-continues (HubStep does waits) s p a) in (
-        λ acc. subst P (sym polled.1) (kept-by-cancel (HubStep does waits) (HasAccount accepted) s p (λ h due. acc) a.0),
+      let goes : Continues t = subst Continues (sym polled.1) (active-continues does s p a) in (
+        λ acc. subst P (sym polled.1) (kept-by-cancel does (HasAccount accepted) s p (λ h due. acc) a.0),
         (p.hub, (polls, polled.0)),
-        between-continues waits t goes,
+        between-continues t goes,
       )
   refusal-means s t accepted fault o e (inr (inr (q, ready, (x, next, told, same)))) =
-      let goes : Continues t = subst Continues (sym same) (ready-continues (HubStep does waits) s q ready) in (
+      let goes : Continues t = subst Continues (sym same) (ready-continues does s q ready) in (
         λ acc r u. refused-account q t accepted x t.hub t.rest
-            (ready-account (HubStep does waits) s q accepted ready (acc (ready-runs (HubStep does waits) s q ready) e)) next same,
+            (ready-account does s q accepted ready (acc (ready-runs does s q ready) e)) next same,
         (q.hub, (puts x, told)),
-        between-continues waits t goes,
+        between-continues t goes,
       )
 
-  acceptance-means : (s q t : SharingState T H) (accepted : List T) (w : Bool) → s.ended ≡ false → IsReady (HubStep does waits) s q
-      → Accepts (HubStep does waits) q w t → (HasAccount accepted s → AcceptsOne (HubStep does waits) accepted w t) × BetweenTurns waits t
+  acceptance-means : (s q t : SharingState T H) (accepted : List T) (w : Bool) → s.ended ≡ false → IsReady does s q
+      → Accepts does q w t → (HasAccount accepted s → AcceptsOne does accepted w t) × BetweenTurns t
   acceptance-means s q t accepted w e ready (x, next, told, same) =
-      let goes : Continues t = subst Continues (sym same) (ready-continues (HubStep does waits) s q ready) in (
+      let goes : Continues t = subst Continues (sym same) (ready-continues does s q ready) in (
         λ acc. (
           x,
           (q.hub, told),
           accepted-account q t accepted x t.hub t.rest
-              (ready-account (HubStep does waits) s q accepted ready (acc (ready-runs (HubStep does waits) s q ready) e)) next same,
+              (ready-account does s q accepted ready (acc (ready-runs does s q ready) e)) next same,
         ),
-        between-continues waits t goes,
+        between-continues t goes,
       )
 
-  pub outcome-means : (s t : SharingState T H) (accepted : List T) (r : Result Event ShareFault) → BetweenTurns waits s → s.ended ≡ false
-      → AfterCommand (HubStep does waits) s r t → (HasAccount accepted s → OutcomeMeans (HubStep does waits) waits s.rest accepted r t) × BetweenTurns waits t
+  pub outcome-means : (s t : SharingState T H) (accepted : List T) (r : Result Event ShareFault) → BetweenTurns s → s.ended ≡ false
+      → AfterCommand does s r t → (HasAccount accepted s → OutcomeMeans does s.rest accepted r t) × BetweenTurns t
   outcome-means s t accepted (Ok Busy) o e h =
       let m = refusal-means s t accepted LockTaken o e h in
       (λ acc. (m.0 acc, m.1), m.2)
@@ -144,35 +134,32 @@ module _ {T H : Type 0} (does : H → HubCall T → HubReply → H → Type 0) (
       (λ acc. (m.0 acc, m.1, h.1), m.2)
   outcome-means s t accepted (Ok Idle) o e h =
       let P : SharingState T H → Type 0 = λ x. x.runs ≡ false → x.kept ≡ None in
-      let rested : t.runs ≡ false → t.kept ≡ None = kept-by-cancel (HubStep does waits) P s t (λ h due. o.rested) h.0 in
-      let quiet : waits t.hub ≡ false = quiet-cancelled s t o h.0 h.1 in (
-        λ acc. (h.1, rested h.1, quiet),
+      let rested : t.runs ≡ false → t.kept ≡ None = kept-by-cancel does P s t (λ h due. o.rested) h.0 in (
+        λ acc. (h.1, rested h.1),
         record {
           rested = rested;
           done = λ r d. absurd (not-both r h.1);
-          quiet = λ r d. quiet;
         },
       )
   outcome-means s t accepted (Ok Waiting) o e (p, a, polled) =
       let P : SharingState T H → Type 0 = Accounts accepted in
-      let goes : Continues t = subst Continues (sym polled.1) (active-continues (HubStep does waits) s p a) in (
+      let goes : Continues t = subst Continues (sym polled.1) (active-continues does s p a) in (
         λ acc. (
-          subst P (sym polled.1) (active-account (HubStep does waits) s p accepted a (acc (active-runs (HubStep does waits) s p a) e)),
+          subst P (sym polled.1) (active-account does s p accepted a (acc (active-runs does s p a) e)),
           (p.hub, polled.0),
         ),
-        between-continues waits t goes,
+        between-continues t goes,
       )
   outcome-means s t accepted (Ok Completed) o e (inl (cancelled, runs, complete)) =
       let P : SharingState T H → Type 0 = λ x. x.runs ≡ s.runs in
       let Q : SharingState T H → Type 0 = λ x. (x.kept ≡ None) × (x.rest ≡ ends AtEnd) in
-      let ran : s.runs ≡ true = sym (kept-by-cancel (HubStep does waits) P s t (λ h due. refl) cancelled) ∙ runs in
+      let ran : s.runs ≡ true = sym (kept-by-cancel does P s t (λ h due. refl) cancelled) ∙ runs in
       let over = o.done ran complete in
-      let now : (t.kept ≡ None) × (t.rest ≡ ends AtEnd) = kept-by-cancel (HubStep does waits) Q s t (λ h due. over) cancelled in (
-        λ acc. (kept-by-cancel (HubStep does waits) (Accounts accepted) s t (λ h due. acc ran e) cancelled, now.0, over.1),
+      let now : (t.kept ≡ None) × (t.rest ≡ ends AtEnd) = kept-by-cancel does Q s t (λ h due. over) cancelled in (
+        λ acc. (kept-by-cancel does (Accounts accepted) s t (λ h due. acc ran e) cancelled, now.0, over.1),
         record {
           rested = λ r. absurd (not-both runs r);
           done = λ r d. now;
-          quiet = λ r d. absurd (not-both runs r);
         },
       )
   outcome-means s t accepted (Ok Completed) o e (inr (q, ready, (k, r, same))) =
@@ -181,13 +168,12 @@ module _ {T H : Type 0} (does : H → HubCall T → HubReply → H → Type 0) (
       let R : SharingState T H → Type 0 = λ x. x.rest ≡ ends AtEnd in
       let G : SharingState T H → Type 0 = λ x. x.runs ≡ true in
       let first : HasAccount accepted s → Accounts accepted q = λ acc.
-      ready-account (HubStep does waits) s q accepted ready (acc (ready-runs (HubStep does waits) s q ready) e) in
-      let runs : t.runs ≡ true = subst G (sym same) (ready-continues (HubStep does waits) s q ready).0 in (
-        λ acc. (subst P (sym same) (first acc), subst K (sym same) k, sym (ready-rest (HubStep does waits) s q ready) ∙ r),
+      ready-account does s q accepted ready (acc (ready-runs does s q ready) e) in
+      let runs : t.runs ≡ true = subst G (sym same) (ready-continues does s q ready).0 in (
+        λ acc. (subst P (sym same) (first acc), subst K (sym same) k, sym (ready-rest does s q ready) ∙ r),
         record {
           rested = λ u. absurd (not-both runs u);
           done = λ u d. (subst K (sym same) k, subst R (sym same) r);
-          quiet = λ u d. absurd (not-both runs u);
         },
       )
   outcome-means s t accepted (Ok Put) o e (q, ready, h) = acceptance-means s q t accepted false e ready h
@@ -195,31 +181,31 @@ module _ {T H : Type 0} (does : H → HubCall T → HubReply → H → Type 0) (
   outcome-means s t accepted (Ok Pending) o e (q, ready, (k, r, same)) =
       let P : SharingState T H → Type 0 = Accounts accepted in
       let first : HasAccount accepted s → Accounts accepted q = λ acc.
-      ready-account (HubStep does waits) s q accepted ready (acc (ready-runs (HubStep does waits) s q ready) e) in
-      let goes : Continues t = subst Continues (sym same) (ready-continues (HubStep does waits) s q ready) in (
+      ready-account does s q accepted ready (acc (ready-runs does s q ready) e) in
+      let goes : Continues t = subst Continues (sym same) (ready-continues does s q ready) in (
         λ acc. (
           subst P (sym same) (first acc ∙ ap (λ rest. accepted ++ (kept_items q.kept ++ items rest)) r),
-          sym (ready-rest (HubStep does waits) s q ready) ∙ r,
+          sym (ready-rest does s q ready) ∙ r,
         ),
-        between-continues waits t goes,
+        between-continues t goes,
       )
   outcome-means s t accepted (Err (Chain fault)) o e (q, ready, (k, why, same)) =
       let P : SharingState T H → Type 0 = Accounts accepted in
       let E : SharingState T H → Type 0 = λ x. x.ended ≡ true in
       let first : HasAccount accepted s → Accounts accepted q = λ acc.
-      ready-account (HubStep does waits) s q accepted ready (acc (ready-runs (HubStep does waits) s q ready) e) in
-      let goes : Continues t = subst Continues (sym same) (ready-continues (HubStep does waits) s q ready) in (
+      ready-account does s q accepted ready (acc (ready-runs does s q ready) e) in
+      let goes : Continues t = subst Continues (sym same) (ready-continues does s q ready) in (
         λ acc. (
           λ n. elim why [
             | inl r ↦ (
               subst P (sym same) (first acc ∙ ap (λ rest. accepted ++ (kept_items q.kept ++ items rest)) r),
-              sym (ready-rest (HubStep does waits) s q ready) ∙ r,
+              sym (ready-rest does s q ready) ∙ r,
             )
             | inr m ↦ absurd (n m)
           ],
           subst E (sym same) refl,
         ),
-        between-continues waits t goes,
+        between-continues t goes,
       )
   outcome-means s t accepted (Err Ended) o e h = absurd h
   outcome-means s t accepted (Err (Backwards last)) o e h = absurd h

@@ -3,3 +3,4 @@ pub mod AccountLemmas
 pub mod TurnLemmas
 pub mod OverCoreLemmas
 pub mod OverStateCoreLemmas
+pub mod QuietLemmas

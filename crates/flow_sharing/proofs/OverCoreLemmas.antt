@@ -305,7 +305,7 @@ module _ {T A : Type 0} where
 
   observed-over_core : (c : Command) (f : SharedFlowState T) (s t : Over T A) (hub : CoreHub T A) (accepted : List T) (r : Result Event ShareFault)
       → (c ≡ Start → s.runs ≡ false) → StandsFor hub.core f → hub.emission ≡ s.hub.emission → s.cancel_due ≡ false → HasAccount accepted s
-      → BetweenTurns is_waiting s → s.ended ≡ false → AfterCommand Does (commanded c (record s { hub = hub })) r t
+      → BetweenTurns s → s.ended ≡ false → AfterCommand Does (commanded c (record s { hub = hub })) r t
       → EventOverCore c accepted s f r t
   observed-over_core Start f s t hub accepted r rests stands same none held between going works =
       let s' : Over T A = commanded Start (record s { hub = hub }) in

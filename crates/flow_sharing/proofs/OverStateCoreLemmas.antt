@@ -181,7 +181,7 @@ module _ {T A : Type 0} where
   outcome-undue f s t accepted (Err (Backwards last)) none h = absurd h
 
   observed-over_state_core : (c : Command) (s t : Over T A) (hub : StateHub T A) (accepted : List T) (r : Result Event ShareFault)
-      → (c ≡ Start → s.runs ≡ false) → s.cancel_due ≡ false → HasAccount accepted s → BetweenTurns never_waits s → s.ended ≡ false
+      → (c ≡ Start → s.runs ≡ false) → s.cancel_due ≡ false → HasAccount accepted s → BetweenTurns s → s.ended ≡ false
       → AfterCommand Does (commanded c (record s { hub = hub })) r t → EventOverStateCore c accepted s hub.core r t
   observed-over_state_core Start s t hub accepted r rests none held between going works =
       let s' : Over T A = commanded Start (record s { hub = hub }) in

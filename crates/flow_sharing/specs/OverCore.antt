@@ -102,6 +102,6 @@ abbrev pub LawTurnOverCore : Type 0 → Type 0 → Type 0
 LawTurnOverCore T A =
     (started : Started) (f : SharedFlowState T) (accepted : List T) (seen all : List SharingObservation) (now : ℕ)
     (s t : SharingState T (CoreHub T A)) (result : Result Report ShareFault) →
-    StandsFor s.hub.core f → s.cancel_due ≡ false → HasAccount accepted s → BetweenTurns is_waiting s →
+    StandsFor s.hub.core f → s.cancel_due ≡ false → HasAccount accepted s → BetweenTurns s →
     s.runs ≡ is_running started seen → Turn (HubStep CoreHubDoes is_waiting) started seen now s result all t →
     TurnOverCore started f accepted seen now s result all t × (t.cancel_due ≡ false)

@@ -74,6 +74,6 @@ abbrev pub LawTurnOverStateCore : Type 0 → Type 0 → Type 0
 LawTurnOverStateCore T A =
     (started : Started) (accepted : List T) (seen all : List SharingObservation) (now : ℕ)
     (s t : SharingState T (StateHub T A)) (result : Result Report ShareFault) →
-    s.cancel_due ≡ false → HasAccount accepted s → BetweenTurns never_waits s →
+    s.cancel_due ≡ false → HasAccount accepted s → BetweenTurns s →
     s.runs ≡ is_running started seen → Turn (HubStep StateHubDoes never_waits) started seen now s result all t →
     TurnOverStateCore started s.hub.core accepted seen now s result all t × (t.cancel_due ≡ false)

@@ -84,11 +84,13 @@ module _ {T H : Type 0} where
   abbrev pub HasAccount : List T → SharingState T H → Type 0
   HasAccount accepted s = s.runs ≡ true → s.ended ≡ false → Accounts accepted s
 
--- What is true between turns. Whoever emits through the hub by himself leaves the first two as they are.
-pub record BetweenTurns {T H : Type 0} (waits : H → Bool) (s : SharingState T H) : Type 0 where
+-- What is true between turns, whatever is done through the hub meanwhile.
+pub record BetweenTurns {T H : Type 0} (s : SharingState T H) : Type 0 where
   -- while it does not run, no item is kept
   pub rested : s.runs ≡ false → s.kept ≡ None
   -- once the chain has ended normally, no item is kept and the chain has none
   pub done : s.runs ≡ true → s.completed ≡ true → (s.kept ≡ None) × (s.rest ≡ ends Completed)
-  -- while it does not run, no emission waits but one that is still to be cancelled
-  pub quiet : s.runs ≡ false → s.cancel_due ≡ false → waits s.hub ≡ false
+
+-- While it does not run, no emission waits but one that is still to be cancelled: this holds unless somebody else emits through the hub.
+abbrev pub IsQuiet : {T H : Type 0} → (H → Bool) → SharingState T H → Type 0
+IsQuiet waits s = s.runs ≡ false → s.cancel_due ≡ false → waits s.hub ≡ false

@@ -21,7 +21,7 @@ since_start Start accepted = []
 since_start Stop accepted = accepted
 since_start Keep accepted = accepted
 
--- `does` says what a call of the hub does, `waits` whether its emission waits
+-- `does` says what a call of the hub does
 module _ {T H : Type 0} (does : H → HubCall T → HubReply → H → Type 0) where
   -- the hub accepted one item more, which is the next one of the chain's list, and the reply says whether it waits
   abbrev pub AcceptsOne : List T → Bool → SharingState T H → Type 0
@@ -31,17 +31,16 @@ module _ {T H : Type 0} (does : H → HubCall T → HubReply → H → Type 0) w
   abbrev pub WasRefused : FlowFault → SharingState T H → Type 0
   WasRefused fault t = (h : H) × ((call : HubCall T) × does h call (refused fault) t.hub)
 
-module _ {T H : Type 0} (does : H → HubCall T → HubReply → H → Type 0) (waits : H → Bool) where
   -- what an event or a fault means, where the hub had accepted these items since the last start, and the chain had still to give `before`
   abbrev pub OutcomeMeans : ChainRun T → List T → Result Event ShareFault → SharingState T H → Type 0
-  OutcomeMeans before accepted (Ok Put) t = AcceptsOne does accepted false t
-  OutcomeMeans before accepted (Ok Queued) t = AcceptsOne does accepted true t
-  OutcomeMeans before accepted (Ok Busy) t = HasAccount accepted t × WasRefused does LockTaken t
-  OutcomeMeans before accepted (Ok Idle) t = (t.runs ≡ false) × (t.kept ≡ None) × (waits t.hub ≡ false)
+  OutcomeMeans before accepted (Ok Put) t = AcceptsOne accepted false t
+  OutcomeMeans before accepted (Ok Queued) t = AcceptsOne accepted true t
+  OutcomeMeans before accepted (Ok Busy) t = HasAccount accepted t × WasRefused LockTaken t
+  OutcomeMeans before accepted (Ok Idle) t = (t.runs ≡ false) × (t.kept ≡ None)
   OutcomeMeans before accepted (Ok Waiting) t = Accounts accepted t × ((h : H) × does h polls (answered true) t.hub)
   OutcomeMeans before accepted (Ok Pending) t = Accounts accepted t × (before ≡ pends t.rest)
   OutcomeMeans before accepted (Ok Completed) t = Accounts accepted t × (t.kept ≡ None) × (before ≡ ends AtEnd)
-  OutcomeMeans before accepted (Err (Flow fault)) t = HasAccount accepted t × WasRefused does fault t × (fault ≢ LockTaken)
+  OutcomeMeans before accepted (Err (Flow fault)) t = HasAccount accepted t × WasRefused fault t × (fault ≢ LockTaken)
   -- after want of memory the chain has lost its place, and nothing is claimed of what is left
   OutcomeMeans before accepted (Err (Chain fault)) t =
       (fault ≢ OutOfMemory → Accounts accepted t × (before ≡ ends (Failed fault))) × (t.ended ≡ true)

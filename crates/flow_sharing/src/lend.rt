@@ -11,8 +11,9 @@ use flow_cold::Cold;
 impl<C: Cold, H: Hub<Item = C::Item>> Sharing<C, H> {
     /// The flow into which the sharing emits, to subscribe and to receive.
     ///
-    /// Who emits or cancels through it acts as the sharing does. A turn then still takes its steps, but an emission
-    /// that the caller left waiting is polled and cancelled as the sharing's own.
+    /// Who emits or cancels through it acts as the sharing does. A turn then still takes its steps and keeps its account.
+    /// But an emission that the caller leaves waiting while the sharing does not run may wait on after a turn that
+    /// answers `Idle`.
     pub fn hub_mut(&mut self) -> &mut H
         ensures* writes_back { sem 𝓛 (LendsHub C.row H.row C.Item.row self.entry result) }
         ensures hub { result.now ≡ hub_of self.old }

@@ -7,7 +7,7 @@ ghost use Rattle.flow_law.specs.StateFlow.{first_state_flow};
 ghost use Rattle.flow_sharing.specs.CoreHub.{core_of, is_waiting};
 ghost use Rattle.flow_sharing.specs.ShareIn.{share_config};
 ghost use Rattle.flow_sharing.specs.StateHub.{state_core_of, never_waits};
-ghost use Rattle.flow_sharing.specs.SharingState.{state_of, resting, hub_of, IsSound, HasObserved, BetweenTurns};
+ghost use Rattle.flow_sharing.specs.SharingState.{state_of, resting, hub_of, IsSound, HasObserved, BetweenTurns, IsQuiet};
 
 use crate::core_hub::CoreHub;
 use crate::report::ShareFault;
@@ -38,7 +38,8 @@ pub fn share_in<C: Cold, A: Allocator + Copy>(
     ensures nothing { IfOk result (λ sharing. HasObserved started sharing []) }
     ensures sound { IfOk result (λ sharing. IsSound C.sound sharing) }
     ensures state { IfOk result (λ sharing. state_of C.whole C.rest sharing ≡ resting (C.whole chain) (C.rest chain) (hub_of sharing)) }
-    ensures between { IfOk result (λ sharing. BetweenTurns is_waiting (state_of C.whole C.rest sharing)) }
+    ensures between { IfOk result (λ sharing. BetweenTurns (state_of C.whole C.rest sharing)) }
+    ensures quiet { IfOk result (λ sharing. IsQuiet is_waiting (state_of C.whole C.rest sharing)) }
 {
     let config = Config {
         replay,
@@ -67,7 +68,8 @@ pub fn state_in<C: Cold, A: Allocator + Copy>(
     ensures nothing { IfOk result (λ sharing. HasObserved started sharing []) }
     ensures sound { IfOk result (λ sharing. IsSound C.sound sharing) }
     ensures state { IfOk result (λ sharing. state_of C.whole C.rest sharing ≡ resting (C.whole chain) (C.rest chain) (hub_of sharing)) }
-    ensures between { IfOk result (λ sharing. BetweenTurns never_waits (state_of C.whole C.rest sharing)) }
+    ensures between { IfOk result (λ sharing. BetweenTurns (state_of C.whole C.rest sharing)) }
+    ensures quiet { IfOk result (λ sharing. IsQuiet never_waits (state_of C.whole C.rest sharing)) }
 {
     let core = StateCore::new(alloc, initial, limit);
     Ok(Sharing::new(chain, started, StateHub::new(core)))

@@ -4,9 +4,9 @@ ghost use Rattle.flow_law.specs.declared.sharing.SharingObservation.{SharingObse
 ghost use Rattle.flow_law.specs.declared.sharing.Started.{Started};
 ghost use Rattle.flow_sharing.specs.Policy.{Observes};
 ghost use Rattle.flow_sharing.specs.Hub.{HubStep, counts, count_reply, test_reply};
-ghost use Rattle.flow_sharing.specs.SharingState.{state_of, resting, commanded, IsSound, HasObserved, BetweenTurns, has_ended};
+ghost use Rattle.flow_sharing.specs.SharingState.{state_of, resting, commanded, IsSound, HasObserved, BetweenTurns, IsQuiet, has_ended};
 ghost use Rattle.flow_sharing.specs.Turn.{refusal, reported, Cancels, Polls, Sends, AfterCommand, ended_after};
-ghost use Rattle.flow_sharing.specs.TurnClauses.{TakesTurn, MeansAnswer, StaysBetween};
+ghost use Rattle.flow_sharing.specs.TurnClauses.{TakesTurn, MeansAnswer, StaysBetween, StaysQuiet};
 
 use crate::hub::Hub;
 use crate::policy::{Backwards, Policy};
@@ -41,7 +41,8 @@ impl<C: Cold, H: Hub<Item = C::Item>> Sharing<C, H> {
         ensures sound { IsSound C.sound result }
         ensures nothing { HasObserved started result [] }
         ensures state { state_of C.whole C.rest result ≡ resting (C.whole chain) (C.rest chain) hub }
-        ensures between { BetweenTurns H.waits (state_of C.whole C.rest result) }
+        ensures between { BetweenTurns (state_of C.whole C.rest result) }
+        ensures quiet { IsQuiet H.waits (state_of C.whole C.rest result) }
     {
         Sharing {
             chain,
@@ -196,7 +197,8 @@ impl<C: Cold, H: Hub<Item = C::Item>> Sharing<C, H> {
 
         // What the answer means for the items that the flow has accepted since the last start.
         ensures means { MeansAnswer C.whole C.rest H.does H.waits self.old result self.new }
-        ensures between { StaysBetween C.whole C.rest H.does H.waits self.old self.new }
+        ensures between { StaysBetween C.whole C.rest self.old self.new }
+        ensures quiet { StaysQuiet C.whole C.rest H.waits self.old result self.new }
     {
         if self.ended {
             return Err(ShareFault::Ended);

@@ -4,6 +4,7 @@ use Rattle.flow_law.specs.Sharing.{newest_command}
 use Rattle.flow_sharing.specs.declared.report.ShareFault.TheVariants.{Backwards}
 use Rattle.flow_sharing.specs.Policy.{HasSeen}
 use Rattle.flow_sharing.specs.Turn.{reported, uncounted, backwards, observed}
+use Rattle.flow_sharing.proofs.QuietLemmas.{turn-quiet}
 use Rattle.flow_sharing.proofs.TurnLemmas.{turn-means}
 use Rattle.flow_sharing.proofs.sharing.Sharing.turn.Goals as goal
 
@@ -56,3 +57,15 @@ pub returns-in-Err-clause-means : goal.returns-in-Err-clause-means
 returns-in-Err-clause-means g c = λ started seen accepted stands between held.
     let turn = returns-in-Err-clause-turn g c started seen stands in
     (turn-means g.H.Hub.does g.H.Hub.waits started seen turn.0 _ _ _ accepted _ stands.running between turn.2).0 held
+
+pub returns-clause-quiet : goal.returns-clause-quiet
+returns-clause-quiet g c = λ started seen stands quiet.
+    let turn = returns-clause-turn g c started seen stands in turn-quiet g.H.Hub.does g.H.Hub.waits started seen turn.0 _ _ _ _ quiet turn.2
+
+pub returns-in-Err-clause-quiet : goal.returns-in-Err-clause-quiet
+returns-in-Err-clause-quiet g c = λ started seen stands quiet.
+    let turn = returns-in-Err-clause-turn g c started seen stands in turn-quiet g.H.Hub.does g.H.Hub.waits started seen turn.0 _ _ _ _ quiet turn.2
+
+pub returns-in-Err-begin-clause-quiet : goal.returns-in-Err-begin-clause-quiet
+returns-in-Err-begin-clause-quiet g c = λ started seen stands quiet.
+    let turn = returns-in-Err-begin-clause-turn g c started seen stands in turn-quiet g.H.Hub.does g.H.Hub.waits started seen turn.0 _ _ _ _ quiet turn.2
