@@ -1,0 +1,107 @@
+-- What the JSON text of a script says: its head, and the keys of each step.
+-- Begin with `head_of` and `verb_of`. What is refused, and in which order, is in Checks.
+use Rattle.std.specs.Prelude.{◌≡◌, ℕ, ◌+◌, ◌^◌, ◌-◌, Bool, false, ◌&&◌, ◌||◌, ◌==◌, nat_lt, nat_le, if◌then◌else◌, ℤ, List, length, Option, Some, None, option_map, option_and_then, is_some, codes}
+use Rattle.std.specs.Option.{option_map_or}
+use Rattle.std.specs.List.{list_all}
+use Rattle.std.specs.Str.{bytes_eq}
+use Rattle.serde_json.specs.Data.{Data, Items}
+use Rattle.serde_json.specs.Events.{members_len}
+use Rattle.serde_json.specs.Find.{get, as_number, as_u64, as_i64, as_str, as_array, as_object}
+use Rattle.flow_law.specs.declared.config.Config.{Config}
+use Rattle.flow_law.specs.declared.config.Overflow.{Overflow}
+use Rattle.flow_law.specs.declared.config.Overflow.TheVariants.{Suspend, DropOldest, DropLatest}
+use Rattle.flow_script.specs.declared.verb.Verb.{Verb}
+use Rattle.flow_script.specs.declared.verb.Verb.TheVariants.{TryEmit, Emit, Poll, Cancel, Subscribe, Next, Unsubscribe, Cache, Count, Reset}
+
+-- ---- members of an object
+
+abbrev pub u64_at : List ℕ → Data → Option ℕ
+u64_at key d = option_and_then as_u64 (option_and_then as_number (get key d))
+
+abbrev pub u32_at : List ℕ → Data → Option ℕ
+u32_at key d = option_and_then (λ n. if nat_lt n (2 ^ 32) then Some n else None) (u64_at key d)
+
+abbrev pub i64_at : List ℕ → Data → Option ℤ
+i64_at key d = option_and_then as_i64 (option_and_then as_number (get key d))
+
+abbrev pub text_at : List ℕ → Data → Option (List ℕ)
+text_at key d = option_and_then as_str (get key d)
+
+-- An object of so many members. Where that many keys were found in it, it has no other
+abbrev pub has_members : ℕ → Data → Bool
+has_members count d = option_map_or (λ ms. members_len ms == count) (as_object d) false
+
+-- the shape, if the test passes
+abbrev pub where_true : {A : Type 0} → Bool → Option A → Option A
+where_true test o = if test then o else None
+
+-- a to z, 0 to 9, and _
+abbrev pub is_name_byte : ℕ → Bool
+is_name_byte b = (nat_le 97 b && nat_le b 122) || (nat_le 48 b && nat_le b 57) || (b == 95)
+
+abbrev pub is_name : List ℕ → Bool
+is_name bs = nat_lt 0 (length bs) && nat_le (length bs) 32 && list_all is_name_byte bs
+
+abbrev pub name_at : Data → Option (List ℕ)
+name_at d = option_and_then (λ name. where_true (is_name name) (Some name)) (text_at (codes "name") d)
+
+-- ---- the head
+
+abbrev pub overflow_named : List ℕ → Option Overflow
+overflow_named text =
+    if bytes_eq text (codes "suspend") then Some Suspend
+    else (if bytes_eq text (codes "drop_oldest") then Some DropOldest
+    else (if bytes_eq text (codes "drop_latest") then Some DropLatest else None))
+
+-- an absent limit is the greatest one
+abbrev pub limit_at : Data → Option ℕ
+limit_at d = option_map_or (λ l. option_and_then as_u64 (as_number l)) (get (codes "limit") d) (Some (2 ^ 64 - 1))
+
+-- how many keys a flow has that may have a limit, beside it
+abbrev pub with_limit : ℕ → Data → ℕ
+with_limit keys d = if is_some (get (codes "limit") d) then keys + 1 else keys
+
+abbrev pub config_of : Data → Option Config
+config_of d =
+    option_and_then (λ replay. option_and_then (λ extra. option_and_then (λ overflow. option_and_then (λ limit.
+    where_true (has_members (with_limit 4 d) d)
+    (Some (record { replay = replay; extra = extra; overflow = overflow; limit = limit })))
+    (limit_at d)) (option_and_then overflow_named (text_at (codes "overflow") d))) (u32_at (codes "extra") d)) (u32_at (codes "replay") d)
+
+abbrev pub flow_of : Data → Option Config
+flow_of d = option_and_then (λ kind. if bytes_eq kind (codes "shared") then config_of d else None) (text_at (codes "kind") d)
+
+abbrev pub has_version : Data → Bool
+has_version d = option_map_or (λ version. version == 1) (u64_at (codes "version") d) false
+
+-- the flow and the steps of a head of the right shape
+abbrev pub head_of : Data → Option (Config × Items)
+head_of d = where_true (has_members 3 d) (option_and_then (λ config. option_map (λ steps. (config, steps))
+    (option_and_then as_array (get (codes "steps") d))) (option_and_then flow_of (get (codes "flow") d)))
+
+-- ---- steps
+
+abbrev pub verb_named : List ℕ → Option Verb
+verb_named text =
+    if bytes_eq text (codes "try_emit") then Some TryEmit
+    else (if bytes_eq text (codes "emit") then Some Emit
+    else (if bytes_eq text (codes "poll") then Some Poll
+    else (if bytes_eq text (codes "cancel") then Some Cancel
+    else (if bytes_eq text (codes "subscribe") then Some Subscribe
+    else (if bytes_eq text (codes "next") then Some Next
+    else (if bytes_eq text (codes "unsubscribe") then Some Unsubscribe
+    else (if bytes_eq text (codes "cache") then Some Cache
+    else (if bytes_eq text (codes "count") then Some Count
+    else (if bytes_eq text (codes "reset") then Some Reset else None)))))))))
+
+-- how many keys a step has, `do` among them
+abbrev pub key_count : Verb → ℕ
+key_count Emit = 3
+key_count Cache = 1
+key_count Count = 1
+key_count Reset = 1
+key_count _ = 2
+
+-- what a step does, if it has as many keys as that needs
+abbrev pub verb_of : Data → Option Verb
+verb_of d = option_and_then (λ verb. where_true (has_members (key_count verb) d) (Some verb)) (option_and_then verb_named (text_at (codes "do") d))
