@@ -1,2 +1,6 @@
 pub mod NameLemmas
 pub mod ReadLemmas
+pub mod ByteLemmas
+pub mod CallLemmas
+pub mod PlayLemmas
+pub mod MeaningLemmas

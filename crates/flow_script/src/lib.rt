@@ -4,15 +4,23 @@
 //! that is refused writes nothing, and the refusal names the step.
 #![tactic(auto)]
 
+mod calls;
 mod fault;
+mod lines;
 mod members;
 mod names;
+mod player;
+mod playing;
 mod read;
 mod read_head;
 mod read_step;
 mod script;
+mod transfer;
 mod verb;
+mod watched;
 
 pub use fault::ScriptFault;
+pub use playing::play;
 pub use read::read_script;
 pub use script::{Script, Step};
+pub use watched::Watched;
