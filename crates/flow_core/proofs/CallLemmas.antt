@@ -1,0 +1,43 @@
+-- What the documented calls come to where a core has found out which case it is in.
+use Rattle.std.proofs.Common.{◌≡◌, ℕ, ◌+◌, Bool, true, false, ◌==◌, cond, List, Option, Some, None, refl, sym, ap, ◌∙◌, ◌≤◌, not, length, ◌∷◌, [], take, drop, ◌-◌, arith}
+use Rattle.std.specs.Prelude.{Err, filter}
+use Rattle.std.specs.List.{slice_get}
+use Rattle.std.specs.Option.{option_map_or}
+use Rattle.std.proofs.lemmas.Grind.{common_steps}
+use Rattle.flow_law.specs.declared.fault.FlowFault.TheVariants.{Exhausted}
+use Rattle.flow_law.specs.declared.outcome.Next.TheVariants.{Value, Empty, Gone}
+use Rattle.flow_law.specs.SharedFlow.{SharedFlowState, Answer, answer, issuing, is_exhausted, values, position_of}
+use Rattle.flow_law.specs.EmitRule.{EmitCase, emit_case, emit, emit_in, try_emit, try_emit_in}
+use Rattle.flow_law.specs.SharedStep.{settle, advance, read, next}
+use Rattle.flow_law.specs.Standing.{Core, StandsFor}
+use Rattle.flow_core.proofs.QueueLemmas.{unequal}
+
+module _ {T : Type 0} where
+  pub not_exhausted : (core : Core T) (s : SharedFlowState T) → StandsFor core s → (core.issued ≡ core.config.limit → ⊥) → is_exhausted s ≡ false
+  not_exhausted core s stands left = unequal s.issued s.config.limit (λ e. left (stands.issued ∙ e ∙ sym (ap (λ c. c.limit) stands.config)))
+
+  pub issued_now : {R : Type 0} (s : SharedFlowState T) (a : Answer R T) → is_exhausted s ≡ false → issuing s a ≡ a
+  issued_now s a left = ap (λ t. cond t (record { reply = Err Exhausted; after = s }) a) left
+
+  pub emits_in : (v : T) (s : SharedFlowState T) (k : EmitCase) → emit_case s ≡ k → emit v s ≡ emit_in k v s
+  emits_in v s k e = ap (λ c. emit_in c v s) e
+
+  pub tries_in : (v : T) (s : SharedFlowState T) (k : EmitCase) → emit_case s ≡ k → try_emit v s ≡ try_emit_in k v s
+  tries_in v s k e = ap (λ c. try_emit_in c v s) e
+
+  pub next_value : (number p : ℕ) (v : T) (s : SharedFlowState T) → position_of number s.subscribers ≡ Some p → slice_get (values s) p ≡ Some v
+      → next number s ≡ answer (Value v) (settle (advance number (p + 1) s))
+  next_value number p v s at here =
+      ap (λ o. option_map_or (λ position. read number position s) o (answer Gone s)) at
+      ∙ ap (λ o. option_map_or (λ value. answer (Value value) (settle (advance number (p + 1) s))) o (answer Empty s)) here
+
+pub length-filter : {X : Type 0} (p : X → Bool) (xs : List X) → length (filter p xs) ≤ length xs
+length-filter p [] = omega arith
+length-filter p (x ∷ xs) =
+    elim (p x) as (λ t. length (cond t (x ∷ filter p xs) (filter p xs)) ≤ length (x ∷ xs)) [
+      | true ↦ omega (arith, length-filter p xs)
+      | false ↦ omega (arith, length-filter p xs)
+    ]
+
+pub rest_whole : {X : Type 0} (n : ℕ) (xs : List X) → take (length xs - n) (drop n xs) ≡ drop n xs
+rest_whole n xs = grind (arith, common_steps)

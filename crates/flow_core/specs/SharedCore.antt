@@ -1,0 +1,95 @@
+-- What contracts see of a shared core, and the results of its calls as the replies of a history.
+-- Public clauses cite `number_of` and the replies (`tested` to `cached`); the rest is for private functions.
+use Rattle.std.specs.Prelude.{◌≡◌, ℕ, ◌+◌, ◌<◌, ◌≤◌, Bool, List, map, length, vec_len, Result, Ok, Err}
+use Rattle.std.specs.Vec.{vec_capacity}
+use Rattle.flow_law.specs.declared.fault.FlowFault.{FlowFault}
+use Rattle.flow_law.specs.declared.fault.FlowFault.TheVariants.{OutOfMemory, Exhausted}
+use Rattle.flow_law.specs.declared.fault.Refused.{Refused}
+use Rattle.flow_law.specs.declared.outcome.Next.{Next}
+use Rattle.flow_law.specs.declared.outcome.Emit.{Emit}
+use Rattle.flow_law.specs.declared.call.SharedReply.{SharedReply}
+use Rattle.flow_law.specs.declared.call.SharedReply.TheVariants as reply
+use Rattle.flow_law.specs.SharedFlow.{SharedFlowState}
+use Rattle.flow_law.specs.EmitRule as law
+use Rattle.flow_law.specs.SharedStep.{settle}
+use Rattle.flow_law.specs.Laws.{RisesTo}
+use Rattle.flow_law.specs.Standing.{Core, StandsFor}
+use Rattle.flow_core.specs.declared.shared.SharedCore.TheInside.{Inside}
+use Rattle.flow_core.specs.declared.shared.SubId.{SubId}
+use Rattle.flow_core.specs.declared.shared.EmitCase.{EmitCase}
+use Rattle.flow_core.specs.declared.shared.EmitCase.TheVariants.{Appends, Offers, Queues, DropsLatest, DropsOldest}
+
+-- ---- replies
+
+-- the number of a subscription
+abbrev pub number_of : SubId → ℕ
+number_of id = id.number
+
+abbrev pub tested : {T : Type 0} → Result Bool (Refused T) → SharedReply T
+tested (Ok answer) = reply.Tested answer
+tested (Err refused) = reply.Refused refused.fault
+
+abbrev pub emitted : {T : Type 0} → Result Emit (Refused T) → SharedReply T
+emitted (Ok emission) = reply.Emitted emission
+emitted (Err refused) = reply.Refused refused.fault
+
+abbrev pub subscribed : {T : Type 0} → Result SubId FlowFault → SharedReply T
+subscribed (Ok id) = reply.Subscribed id.number
+subscribed (Err fault) = reply.Refused fault
+
+abbrev pub received : {T : Type 0} → Result (Next T) FlowFault → SharedReply T
+received (Ok next) = reply.Received next
+received (Err fault) = reply.Refused fault
+
+abbrev pub cached : {V T : Type 0} → (V → List T) → Result V FlowFault → SharedReply T
+cached items (Ok values) = reply.Cached (items values)
+cached items (Err fault) = reply.Refused fault
+
+-- ---- the fields
+
+-- what a core's fields keep of a flow. It never lets go of a value
+abbrev pub kept : {T A : Type 0} → Inside T A → Core T
+kept c = record {
+  config = c.config;
+  held = c.values.items;
+  appended = vec_len c.values;
+  newest = c.newest;
+  reset_mark = c.reset_mark;
+  queue = c.queue;
+  subscribers = c.subscribers;
+  issued = c.issued;
+}
+
+pub record IsSound {T A : Type 0} (c : Inside T A) : Type 0 where
+  pub issued : c.issued ≤ c.config.limit
+  pub reset_mark : c.reset_mark ≤ vec_len c.values
+  -- there is room for each queued value, so that no admission grows anything
+  pub room : vec_len c.values + length c.queue ≤ vec_capacity c.values
+  pub rising : RisesTo 0 (map (λ q. q.number) c.queue) c.issued
+
+-- ---- private steps
+
+abbrev pub case_of : EmitCase → law.EmitCase
+case_of Appends = law.appends
+case_of Offers = law.offers
+case_of Queues = law.queues
+case_of DropsLatest = law.drops_latest
+case_of DropsOldest = law.drops_oldest
+
+-- in each state that the core stands for, what is read off it is this
+abbrev pub Shows : {T R : Type 0} → Core T → (SharedFlowState T → R) → R → Type 0
+Shows {T} core read result = (s : SharedFlowState T) → StandsFor core s → result ≡ read s
+
+-- from each state that the old core stands for, this step leads to one that the new core stands for
+abbrev pub Leads : {T : Type 0} → Core T → (SharedFlowState T → SharedFlowState T) → Core T → Type 0
+Leads {T} old step new = (s : SharedFlowState T) → StandsFor old s → StandsFor new (step s)
+
+-- why a step that issues a number was refused
+abbrev pub RefusedFor : {T : Type 0} → FlowFault → Core T → Type 0
+RefusedFor Exhausted core = core.issued ≡ core.config.limit
+RefusedFor OutOfMemory core = core.issued ≡ core.config.limit → ⊥
+RefusedFor _ core = ⊥
+
+-- the first queued value was emitted, and what is left to settle is the same
+abbrev pub Admits : {T : Type 0} → Core T → Core T → Type 0
+Admits {T} old new = (length new.queue < length old.queue) × ((s : SharedFlowState T) → StandsFor old s → (t : SharedFlowState T) × StandsFor new t × settle t ≡ settle s)

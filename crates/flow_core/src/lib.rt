@@ -1,0 +1,30 @@
+//! Flows for one thread: what is emitted, who has received how much of it, and who waits.
+//!
+//! A `SharedCore` is a `MutableSharedFlow` of kotlinx.coroutines as one thread sees it. Every call has one clause,
+//! `documented`: in each state of the documented flow that the core stands for, that flow may reply so, and the core
+//! stands for the state after. The states are defined in `flow_law/specs/SharedFlow.antt`.
+//!
+//! # Who waits
+//! An emitter waits where some subscriber has a whole window of values still to receive. `emit` then answers `Queued`
+//! with a number, and `poll` tells by it whether the emission still waits. To walk away, call `cancel`: an emission
+//! that is only forgotten stays queued, and is emitted when room comes.
+//!
+//! # Capacity zero
+//! Without a buffer a value is offered to the subscribers of that moment, and its emitter waits until each of them has
+//! received it or left. Who subscribes meanwhile is offered it too.
+//!
+//! # Refusals
+//! A call that would issue a number when `limit` numbers are issued is refused as `Exhausted`; want of memory comes
+//! after that. A refused call hands its value back and has changed nothing. `poll`, `cancel`, `unsubscribe`,
+//! `reset_replay_cache` and `subscription_count` are never refused: room for a queued value is taken when it is queued.
+#![tactic(auto)]
+
+mod copies;
+mod positions;
+mod queue;
+mod shared;
+
+pub use shared::{SharedCore, SubId};
+
+// cfg
+// mod tests;

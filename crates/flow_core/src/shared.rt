@@ -1,0 +1,449 @@
+//! A shared flow for one thread.
+ghost use Rattle.std.specs.Prelude.{◌≡◌, ◌≢◌, ℕ, ◌+◌, ◌-◌, ◌<◌, ◌≤◌, List, Some, None, IfOk, IfErr, MatchResult, MatchOption, length, vec_len};
+ghost use Rattle.std.specs.Bool.{OnTrue, OnFalse};
+ghost use Rattle.std.specs.Vec.{vec_capacity};
+ghost use Rattle.flow_law.specs.SharedFlow as flow;
+ghost use Rattle.flow_law.specs.EmitRule as rule;
+ghost use Rattle.flow_law.specs.SharedStep as step;
+ghost use Rattle.flow_law.specs.Standing.{StandsFor, Conforms};
+ghost use Rattle.flow_law.specs.declared.call.SharedCall.TheVariants as call;
+ghost use Rattle.flow_law.specs.declared.call.SharedReply.TheVariants as reply;
+ghost use Rattle.flow_core.specs.SharedCore.{number_of, tested, emitted, subscribed, received, cached, case_of, Shows, Leads, RefusedFor, Admits};
+
+use crate::copies::copies;
+use crate::positions::Subscribers;
+use crate::queue::Queue;
+use flow_law::{Config, Emit, FlowFault, FlowValue, Next, Overflow, Refused};
+use std::alloc::{Allocator, Global};
+use std::marker::Model;
+
+/// A subscription of a shared or state flow, by its number. It stands for the number alone: a core does not ask where
+/// it came from.
+#[derive(Clone, Copy, Debug, PartialEq, Eq)]
+pub struct SubId {
+    number: u64,
+}
+
+impl SubId {
+    /// The number that the subscription took when it was made.
+    pub fn number(self) -> u64
+        ensures { result ≡ number_of self }
+    {
+        self.number
+    }
+}
+
+/// A shared flow (`MutableSharedFlow`) for one thread.
+///
+/// It keeps every value that was emitted. A subscription that is only forgotten stays, and may block emitters:
+/// `unsubscribe` ends it.
+#[derive(Drop)]
+pub struct SharedCore<T: FlowValue, A: Allocator + Copy = Global> {
+    alloc: A,
+    config: Config,
+    values: Vec<T, A>,
+    /// The number of the last of `values`, or 0.
+    newest: u64,
+    reset_mark: usize,
+    queue: Queue<T, A>,
+    subscribers: Subscribers<A>,
+    issued: u64,
+}
+
+impl<T: FlowValue, A: Allocator + Copy> Model for SharedCore<T, A> {
+    ghost use Rattle.flow_law.specs.Standing.{Core};
+
+    ghost Value = { Core T };
+
+    ghost use Rattle.flow_core.specs.SharedCore.{kept, IsSound};
+
+    ghost view = { kept };
+
+    ghost invariant = { λ c. IsSound c };
+}
+
+/// What becomes of an emission.
+#[derive(Clone, Copy)]
+enum EmitCase {
+    Appends,
+    Offers,
+    Queues,
+    DropsLatest,
+    DropsOldest,
+}
+
+const LARGEST_CAPACITY: u64 = 65_536;
+
+/// Why no flow is made of a configuration, if none is.
+fn fault_of(config: Config) -> Option<FlowFault>
+    ensures { result ≡ flow.config_fault config }
+{
+    let capacity = config.replay as u64 + config.extra as u64;
+    if capacity > LARGEST_CAPACITY {
+        return Some(FlowFault::TooLarge);
+    }
+    match config.overflow {
+        Overflow::Suspend => None,
+        Overflow::DropOldest | Overflow::DropLatest => {
+            if capacity == 0 {
+                Some(FlowFault::NeedsBuffer)
+            } else {
+                None
+            }
+        }
+    }
+}
+
+/// Makes room for one value more than `queued`.
+fn make_room<T, A: Allocator>(values: &mut Vec<T, A>, queued: usize) -> bool
+    ensures items { values.new.items ≡ values.old.items }
+    ensures len { vec_len values.new ≡ vec_len values.old }
+    ensures capacity { vec_capacity values.old ≤ vec_capacity values.new }
+    ensures room { OnTrue result (vec_len values.new + (queued + 1) ≤ vec_capacity values.new) }
+{
+    match queued.checked_add(1) {
+        Some(count) => values.reserve(count).is_ok(),
+        None => false,
+    }
+}
+
+impl<T: FlowValue, A: Allocator + Copy> SharedCore<T, A> {
+    /// A flow that nobody emitted into and nobody subscribed to. It takes no memory.
+    pub fn new(alloc: A, config: Config) -> Result<Self, FlowFault>
+        ensures { MatchResult result
+            (λ core. (flow.config_fault config ≡ None) × StandsFor core (flow.first_state config))
+            (λ fault. flow.config_fault config ≡ Some fault) }
+    {
+        match fault_of(config) {
+            Some(fault) => Err(fault),
+            None => Ok(SharedCore {
+                alloc,
+                config,
+                values: Vec::new(alloc),
+                newest: 0,
+                reset_mark: 0,
+                queue: Queue::new(alloc),
+                subscribers: Subscribers::new(alloc),
+                issued: 0,
+            }),
+        }
+    }
+
+    fn capacity(&self) -> usize
+        ensures { result ≡ self.now.config.replay + self.now.config.extra }
+    {
+        self.config.replay as usize + self.config.extra as usize
+    }
+
+    /// Whether somebody has a whole window of values still to receive.
+    fn is_blocked(&self) -> bool
+        ensures { Shows self.now flow.is_blocked result }
+    {
+        self.subscribers
+            .has_lag(self.values.len(), self.capacity().max(1))
+    }
+
+    /// Whether the last value is offered to somebody.
+    fn is_offering(&self) -> bool
+        ensures { Shows self.now flow.is_offering result }
+    {
+        self.capacity() == 0 && self.subscribers.has_last(self.values.len())
+    }
+
+    fn emit_case(&self) -> EmitCase
+        ensures { Shows self.now rule.emit_case (case_of result) }
+    {
+        if self.subscribers.len() == 0 {
+            return EmitCase::Appends;
+        }
+        if !self.is_blocked() {
+            if self.capacity() > 0 {
+                return EmitCase::Appends;
+            }
+            return EmitCase::Offers;
+        }
+        match self.config.overflow {
+            Overflow::Suspend => EmitCase::Queues,
+            Overflow::DropLatest => EmitCase::DropsLatest,
+            Overflow::DropOldest => EmitCase::DropsOldest,
+        }
+    }
+
+    /// Emits a value now, and answers its number.
+    fn append(&mut self, value: T) -> Result<u64, Refused<T>>
+        ensures { MatchResult result
+            (λ number. (number ≡ self.old.issued + 1) × (self.old.issued ≢ self.old.config.limit) × Leads self.old (rule.append value) self.new)
+            (λ refused. (refused.value ≡ value) × (self.new ≡ self.old) × RefusedFor refused.fault self.old) }
+    {
+        if self.issued == self.config.limit {
+            return Err(Refused {
+                value,
+                fault: FlowFault::Exhausted,
+            });
+        }
+        if !make_room(&mut self.values, self.queue.len()) {
+            return Err(Refused {
+                value,
+                fault: FlowFault::OutOfMemory,
+            });
+        }
+        self.values.push_reserved(value);
+        self.issued += 1;
+        self.newest = self.issued;
+        Ok(self.issued)
+    }
+
+    /// Puts a value into the queue, and answers its number. Room for its emission is made now.
+    fn suspend(&mut self, value: T) -> Result<u64, Refused<T>>
+        ensures { MatchResult result
+            (λ number. (number ≡ self.old.issued + 1) × (self.old.issued ≢ self.old.config.limit) × Leads self.old (rule.suspend value) self.new)
+            (λ refused. (refused.value ≡ value) × (self.new ≡ self.old) × RefusedFor refused.fault self.old) }
+    {
+        if self.issued == self.config.limit {
+            return Err(Refused {
+                value,
+                fault: FlowFault::Exhausted,
+            });
+        }
+        if !make_room(&mut self.values, self.queue.len()) {
+            return Err(Refused {
+                value,
+                fault: FlowFault::OutOfMemory,
+            });
+        }
+        let number = self.issued + 1;
+        match self.queue.push(value, number) {
+            Ok(()) => {
+                self.issued = number;
+                Ok(number)
+            }
+            Err(value) => Err(Refused {
+                value,
+                fault: FlowFault::OutOfMemory,
+            }),
+        }
+    }
+
+    /// Leaves nobody more than a buffer to receive.
+    fn drop_oldest(&mut self)
+        ensures { Leads self.old rule.drop_oldest self.new }
+    {
+        let floor = self.values.len().saturating_sub(self.capacity());
+        self.subscribers.raise_to(floor);
+    }
+
+    /// Emits the first queued value, if there is one and the flow is not blocked.
+    fn admit(&mut self) -> bool
+        ensures admitted { OnTrue result (Admits self.old self.new) }
+        ensures settled { OnFalse result ((self.new ≡ self.old) × Leads self.old step.settle self.new) }
+    {
+        if self.is_blocked() {
+            return false;
+        }
+        match self.queue.pop_front() {
+            None => false,
+            Some(first) => {
+                self.newest = first.number;
+                self.values.push_reserved(first.value);
+                true
+            }
+        }
+    }
+
+    /// Emits queued values until the flow is blocked.
+    fn settle(&mut self)
+        ensures { Leads self.old step.settle self.new }
+    {
+        while self.admit() {}
+    }
+
+    /// Emits a value, if it need not wait: `true` where the flow took it or, under `DropLatest`, dropped it.
+    ///
+    /// At `false` an `emit` would wait. The value is dropped then, and nothing has changed.
+    pub fn try_emit(&mut self, value: T) -> Result<bool, Refused<T>>
+        ensures documented { Conforms self.old (call.TryEmit value) (tested result) self.new }
+        ensures handed_back { IfErr result (λ refused. refused.value ≡ value) }
+    {
+        match self.emit_case() {
+            EmitCase::Appends => match self.append(value) {
+                Ok(_number) => Ok(true),
+                Err(refused) => Err(refused),
+            },
+            EmitCase::Offers | EmitCase::Queues => Ok(false),
+            EmitCase::DropsLatest => Ok(true),
+            EmitCase::DropsOldest => match self.append(value) {
+                Ok(_number) => {
+                    self.drop_oldest();
+                    Ok(true)
+                }
+                Err(refused) => Err(refused),
+            },
+        }
+    }
+
+    /// Emits a value, or puts it where it waits.
+    ///
+    /// At `Queued` the emitter is to wait: `poll` tells by the number for how long, and `cancel` ends the wait. An
+    /// emission that is neither polled nor cancelled stays, and is emitted when room comes.
+    pub fn emit(&mut self, value: T) -> Result<Emit, Refused<T>>
+        ensures documented { Conforms self.old (call.Emit value) (emitted result) self.new }
+        ensures handed_back { IfErr result (λ refused. refused.value ≡ value) }
+    {
+        match self.emit_case() {
+            EmitCase::Appends => match self.append(value) {
+                Ok(_number) => Ok(Emit::Done),
+                Err(refused) => Err(refused),
+            },
+            EmitCase::Offers => match self.append(value) {
+                Ok(number) => Ok(Emit::Queued(number)),
+                Err(refused) => Err(refused),
+            },
+            EmitCase::Queues => match self.suspend(value) {
+                Ok(number) => Ok(Emit::Queued(number)),
+                Err(refused) => Err(refused),
+            },
+            EmitCase::DropsLatest => Ok(Emit::Done),
+            EmitCase::DropsOldest => match self.append(value) {
+                Ok(_number) => {
+                    self.drop_oldest();
+                    Ok(Emit::Done)
+                }
+                Err(refused) => Err(refused),
+            },
+        }
+    }
+
+    fn is_offered_as(&self, number: u64) -> bool
+        ensures { Shows self.now (flow.is_offered_as number) result }
+    {
+        self.is_offering() && self.newest == number
+    }
+
+    /// Whether the emission of this number still waits: its value is queued, or offered to some subscriber.
+    ///
+    /// `false` tells that it was emitted and received, or cancelled, or that no emission has this number.
+    pub fn poll(&self, number: u64) -> bool
+        ensures documented { Conforms self.now (call.Poll number) (reply.Tested result) self.now }
+    {
+        self.queue.contains(number) || self.is_offered_as(number)
+    }
+
+    /// Ends the wait of an emission, and answers whether it waited.
+    ///
+    /// A queued value is lost. An offered one is no more for those who have not received it.
+    pub fn cancel(&mut self, number: u64) -> bool
+        ensures documented { Conforms self.old (call.Cancel number) (reply.Tested result) self.new }
+    {
+        let was_waiting = self.poll(number);
+        self.withdraw(number);
+        self.settle();
+        was_waiting
+    }
+
+    /// Takes an emission's value back.
+    fn withdraw(&mut self, number: u64)
+        ensures { Leads self.old (step.withdraw number) self.new }
+    {
+        if self.is_offered_as(number) {
+            self.subscribers.gather_at(self.values.len());
+        } else {
+            self.queue.remove(number);
+        }
+    }
+
+    /// Where the replay cache begins among the values.
+    fn cache_start(&self) -> usize
+        ensures within { result ≤ length self.now.held }
+        ensures start { Shows self.now flow.cache_start result }
+    {
+        self.values
+            .len()
+            .saturating_sub(self.config.replay as usize)
+            .max(self.reset_mark)
+    }
+
+    /// Where a new subscriber stands.
+    fn entry(&self) -> usize
+        ensures { Shows self.now flow.entry result }
+    {
+        if self.is_offering() {
+            self.values.len().saturating_sub(1)
+        } else {
+            self.cache_start()
+        }
+    }
+
+    /// A new subscriber, who gets the replay cache first, or the value that is offered, and then what is emitted.
+    ///
+    /// A subscriber who does not read blocks emitters or loses values, as the strategy says, until `unsubscribe`.
+    pub fn subscribe(&mut self) -> Result<SubId, FlowFault>
+        ensures documented { (name : List ℕ) → Conforms self.old (call.Subscribe name) (subscribed result) self.new }
+    {
+        if self.issued == self.config.limit {
+            return Err(FlowFault::Exhausted);
+        }
+        let number = self.issued + 1;
+        let position = self.entry();
+        match self.subscribers.push(number, position) {
+            Ok(()) => {
+                self.issued = number;
+                Ok(SubId { number })
+            }
+            Err(_refused) => Err(FlowFault::OutOfMemory),
+        }
+    }
+
+    /// What a subscriber receives next. It makes room, so queued values may be emitted by it.
+    pub fn next(&mut self, id: SubId) -> Result<Next<T>, FlowFault>
+        ensures documented { Conforms self.old (call.TakeNext (number_of id)) (received result) self.new }
+    {
+        let Some(position) = self.subscribers.position_of(id.number) else {
+            return Ok(Next::Gone);
+        };
+        let Some(value) = self.values.get(position) else {
+            return Ok(Next::Empty);
+        };
+        match value.try_copy() {
+            Ok(copy) => {
+                self.subscribers.move_to(id.number, position + 1);
+                self.settle();
+                Ok(Next::Value(copy))
+            }
+            Err(fault) => Err(fault),
+        }
+    }
+
+    /// Ends a subscription, and answers whether it was there. Emitters who waited for it alone go on.
+    pub fn unsubscribe(&mut self, id: SubId) -> bool
+        ensures documented { Conforms self.old (call.Unsubscribe (number_of id)) (reply.Tested result) self.new }
+    {
+        let was_there = self.subscribers.position_of(id.number).is_some();
+        self.subscribers.remove(id.number);
+        self.settle();
+        was_there
+    }
+
+    /// What a new subscriber would get first, where nothing is offered: copies of at most `replay` values.
+    pub fn replay_cache(&self) -> Result<Vec<T, A>, FlowFault>
+        ensures documented { Conforms self.now call.ReplayCache (cached (λ values. values.items) result) self.now }
+    {
+        match copies(self.alloc, &self.values.as_slice()[self.cache_start()..]) {
+            Ok(cache) => Ok(cache),
+            Err(fault) => Err(fault),
+        }
+    }
+
+    /// Empties the cache for new subscribers. Old ones keep what they have still to receive.
+    pub fn reset_replay_cache(&mut self)
+        ensures documented { Conforms self.old call.ResetReplayCache reply.Reset self.new }
+    {
+        self.reset_mark = self.values.len();
+    }
+
+    /// How many subscribers there are.
+    pub fn subscription_count(&self) -> u64
+        ensures documented { Conforms self.now call.SubscriptionCount (reply.Counted result) self.now }
+    {
+        self.subscribers.len() as u64
+    }
+}

@@ -1,0 +1,288 @@
+-- How a core goes on to stand for the states after the one that it stands for, and what it has of that state's values.
+-- The key facts: `stands-longer` (a value more), `stands-subscribers` (other positions), `same_value`, `same_cache`.
+use Rattle.std.proofs.Common.{inl, inr, ◌≡◌, ℕ, zero, suc, ◌+◌, ◌-◌, ◌≤◌, ◌<◌, max, min, Bool, true, false, not, cond, ◌&&◌, ◌||◌, ◌==◌, if◌then◌else◌, List, [], ◌∷◌, ◌++◌, length, map, take, drop, Option, Some, None, refl, sym, ap, ◌∙◌, subst, arith, append_assoc, length-append, length-drop}
+use Rattle.std.specs.Option.{IfSome, option_map_or}
+use Rattle.std.specs.Prelude.{filter}
+use Rattle.std.specs.List.{list_any, slice_get}
+use Rattle.std.proofs.lemmas.Bool.Decides.{Decides-eqb}
+use Rattle.std.proofs.Math.Seq.{drop-append-add}
+use Rattle.std.proofs.lemmas.List.{take-append-drop, drop-drop, drop-append-le, map-append, length-map}
+use Rattle.std.proofs.lemmas.Grind.{common_steps}
+use Rattle.flow_law.specs.SharedFlow.{Numbered, Subscriber, SharedFlowState, cache_start, values, cache, entry, is_offering, newest, position_of, move_to, stand_at, raise_to, without}
+use Rattle.flow_law.specs.EmitRule.{append, suspend, numbered}
+use Rattle.flow_law.specs.SharedStep.{admit, settle, enroll, forget}
+use Rattle.flow_law.specs.Standing.{Core, StandsFor, EndsWith, least_position, first_needed, needed}
+
+-- ---- the least position
+
+pub least_position_bound : (b : ℕ) (us : List Subscriber) → least_position b us ≤ b
+least_position_bound b [] = omega arith
+least_position_bound b (u ∷ us) = omega (arith, least_position_bound b us)
+
+pub least_position_rises : (a b : ℕ) (us : List Subscriber) → a ≤ b → least_position a us ≤ least_position b us
+least_position_rises a b [] h = h
+least_position_rises a b (u ∷ us) h = omega (arith, least_position_rises a b us h)
+
+pub least_position-append : (b : ℕ) (us : List Subscriber) (v : Subscriber) → least_position b (us ++ v ∷ []) ≡ min v.position (least_position b us)
+least_position-append b [] v = refl
+least_position-append b (u ∷ us) v = omega (arith, least_position-append b us v)
+
+pub least_position-move_to : (b number p : ℕ) (us : List Subscriber) → IfSome (position_of number us) (λ q. q ≤ p) → least_position b us ≤ least_position b (move_to number p us)
+least_position-move_to b number p [] h = omega arith
+least_position-move_to b number p (u ∷ us) h =
+    elim (u.number == number) as (λ t. IfSome (if t then Some u.position else position_of number us) (λ q. q ≤ p)
+    → min u.position (least_position b us) ≤ least_position b (if t then stand_at p u ∷ us else u ∷ move_to number p us)) [
+      | true ↦ λ le. omega (arith, le)
+      | false ↦ λ le. omega (arith, least_position-move_to b number p us le)
+    ] h
+
+pub least_position-raise_to : (b floor : ℕ) (us : List Subscriber) → least_position b us ≤ least_position b (raise_to floor us)
+least_position-raise_to b floor [] = omega arith
+least_position-raise_to b floor (u ∷ us) = omega (arith, least_position-raise_to b floor us)
+
+pub least_position-gathered : (b n : ℕ) (us : List Subscriber) → b ≤ n → least_position b us ≤ least_position b (map (stand_at n) us)
+least_position-gathered b n us h = omega (arith, least_position_bound b us, no_lower b n us h)
+  where
+    no_lower : (b n : ℕ) (us : List Subscriber) → b ≤ n → b ≤ least_position b (map (stand_at n) us)
+    no_lower b n [] h = omega arith
+    no_lower b n (u ∷ us) h = omega (arith, no_lower b n us h)
+
+pub least_position-without : (b number : ℕ) (us : List Subscriber) → least_position b us ≤ least_position b (without number us)
+least_position-without b number [] = omega arith
+least_position-without b number (u ∷ us) =
+    elim (u.number == number) as (λ t. min u.position (least_position b us) ≤ least_position b (cond (not t) (u ∷ without number us) (without number us))) [
+      | true ↦ omega (arith, least_position-without b number us)
+      | false ↦ omega (arith, least_position-without b number us)
+    ]
+
+pub least_position-position_of : (b number : ℕ) (us : List Subscriber) → IfSome (position_of number us) (λ p. least_position b us ≤ p)
+least_position-position_of b number [] = tt
+least_position-position_of b number (u ∷ us) =
+    elim (u.number == number) as (λ t. IfSome (if t then Some u.position else position_of number us) (λ p. min u.position (least_position b us) ≤ p)) [
+      | true ↦ omega arith
+      | false ↦ above (position_of number us) (least_position-position_of b number us)
+    ]
+  where
+    above : (o : Option ℕ) → IfSome o (λ p. least_position b us ≤ p) → IfSome o (λ p. min u.position (least_position b us) ≤ p)
+    above None h = tt
+    above (Some p) h = omega (arith, h)
+
+-- where a value is offered, somebody has still to receive it
+pub least_position_offered : (b n : ℕ) (us : List Subscriber) → list_any (λ u. (n - u.position) == 1) us ≡ true → (least_position b us ≤ n - 1) × (1 ≤ n)
+least_position_offered b n [] h = absurd (cc)
+least_position_offered b n (u ∷ us) h =
+    elim (n - u.position == 1) as (λ t. (n - u.position == 1) ≡ t → (t || list_any (λ v. (n - v.position) == 1) us) ≡ true
+    → (min u.position (least_position b us) ≤ n - 1) × (1 ≤ n)) [
+      | true ↦ λ e _. let same : n - u.position ≡ 1 = (Decides-eqb (n - u.position) 1).0 e in (omega arith, omega arith)
+      | false ↦ λ _ more. let rest = least_position_offered b n us more in (omega (arith, rest), rest.1)
+    ] refl h
+
+-- ---- what a list ends with
+
+pub ends_further : {X : Type 0} (xs ys : List X) (a b : ℕ) → a ≤ b → EndsWith xs (drop a ys) → EndsWith xs (drop b ys)
+ends_further xs ys a b h e =
+    let whole : a + (b - a) ≡ b = omega arith in
+    let dropped : drop (b - a) (drop a ys) ≡ drop b ys = drop-drop (b - a) a ys ∙ ap (λ n. drop n ys) whole in
+    let parts : drop a ys ≡ take (b - a) (drop a ys) ++ drop b ys =
+    sym (take-append-drop (b - a) (drop a ys)) ∙ ap (λ l. take (b - a) (drop a ys) ++ l) dropped in
+    (e.0 ++ take (b - a) (drop a ys), e.1 ∙ ap (λ l. e.0 ++ l) parts ∙ sym (append_assoc e.0 _ _))
+
+pub ends-append : {X : Type 0} (xs ys zs : List X) → EndsWith xs ys → EndsWith (xs ++ zs) (ys ++ zs)
+ends-append xs ys zs e = (e.0, ap (λ l. l ++ zs) e.1 ∙ append_assoc e.0 ys zs)
+
+-- a place in a list is the front of what is left there
+pub slice_get-drop : {X : Type 0} (i : ℕ) (xs : List X) → slice_get (drop i xs) 0 ≡ slice_get xs i
+slice_get-drop i [] = grind (arith, common_steps)
+slice_get-drop zero (x ∷ xs) = refl
+slice_get-drop (suc i) (x ∷ xs) = slice_get-drop i xs
+
+pub slice_get_last : {X : Type 0} (xs : List X) (x : X) → slice_get (xs ++ x ∷ []) (length (xs ++ x ∷ []) - 1) ≡ Some x
+slice_get_last xs x =
+    let count : length (xs ++ x ∷ []) - 1 ≡ length xs = omega (arith, length-append xs (x ∷ [])) in
+    ap (slice_get (xs ++ x ∷ [])) count ∙ at xs
+  where
+    at : (ys : List _) → slice_get (ys ++ x ∷ []) (length ys) ≡ Some x
+    at [] = refl
+    at (y ∷ ys) = at ys
+
+-- ---- steps of a core
+
+module _ {T : Type 0} where
+  -- a core whose mark is within its values needs no more than there is
+  pub needed_within : (core : Core T) (s : SharedFlowState T) → StandsFor core s → core.reset_mark ≤ core.appended → first_needed s ≤ length s.emitted
+  needed_within core s stands h = omega (arith, least_position_bound (cache_start s) s.subscribers, stands.reset_mark, stands.appended)
+
+  -- a value more, and another queue
+  pub stands-longer : (core : Core T) (s : SharedFlowState T) (e : Numbered T) (q : List (Numbered T)) (n : ℕ) → core.reset_mark ≤ core.appended → StandsFor core s
+      → StandsFor (record core { held = core.held ++ e.value ∷ []; appended = core.appended + 1; newest = e.number; queue = q; issued = n })
+      (record s { emitted = s.emitted ++ e ∷ []; queue = q; issued = n })
+  stands-longer core s e q n h stands =
+      let longer : SharedFlowState T = record s { emitted = s.emitted ++ e ∷ []; queue = q; issued = n } in
+      let within : first_needed s ≤ length (values s) = rw length-map (needed_within core s stands h) in
+      let all : values longer ≡ values s ++ e.value ∷ [] = map-append _ s.emitted _ in
+      let count : length s.emitted + 1 ≡ length longer.emitted = sym (length-append s.emitted _) in
+      let moved : first_needed s ≤ first_needed longer = least_position_rises (cache_start s) (cache_start longer) s.subscribers (omega (arith, count)) in
+      let kept : EndsWith (core.held ++ e.value ∷ []) (drop (first_needed s) (values longer)) =
+      rw (all, drop-append-le (first_needed s) (values s) (e.value ∷ []) within) (ends-append core.held (needed s) (e.value ∷ []) stands.held) in
+      record {
+        config = stands.config;
+        held = ends_further _ _ _ _ moved kept;
+        appended = ap (λ n. n + 1) stands.appended ∙ count;
+        newest = sym (ap (λ o. option_map_or (λ (x : Numbered T). x.number) o 0) (slice_get_last s.emitted e));
+        reset_mark = stands.reset_mark;
+        queue = refl;
+        subscribers = stands.subscribers;
+        issued = refl;
+      }
+
+  pub stands-append : (core : Core T) (s : SharedFlowState T) (v : T) → core.reset_mark ≤ core.appended → StandsFor core s
+      → StandsFor (record core { held = core.held ++ v ∷ []; appended = core.appended + 1; newest = core.issued + 1; issued = core.issued + 1 }) (append v s)
+  stands-append core s v h stands =
+      subst (λ q. StandsFor (record core { held = core.held ++ v ∷ []; appended = core.appended + 1; newest = core.issued + 1; queue = core.queue; issued = core.issued + 1 })
+      (record s { emitted = s.emitted ++ record { value = v; number = s.issued + 1 } ∷ []; queue = q; issued = s.issued + 1 })) stands.queue
+      (subst (λ n. StandsFor (record core { held = core.held ++ v ∷ []; appended = core.appended + 1; newest = core.issued + 1; queue = core.queue; issued = core.issued + 1 })
+      (record s { emitted = s.emitted ++ record { value = v; number = n + 1 } ∷ []; queue = core.queue; issued = n + 1 })) stands.issued
+      (stands-longer core s (record { value = v; number = core.issued + 1 }) core.queue (core.issued + 1) h stands))
+
+  -- the first queued value is emitted
+  pub stands-admit : (core : Core T) (s : SharedFlowState T) (e : Numbered T) (q : List (Numbered T)) → core.reset_mark ≤ core.appended → StandsFor core s
+      → StandsFor (record core { held = core.held ++ e.value ∷ []; appended = core.appended + 1; newest = e.number; queue = q })
+      (record s { emitted = s.emitted ++ e ∷ []; queue = q })
+  stands-admit core s e q h stands =
+      subst (λ n. StandsFor (record core { held = core.held ++ e.value ∷ []; appended = core.appended + 1; newest = e.number; queue = q })
+      (record s { emitted = s.emitted ++ e ∷ []; queue = q; issued = n })) stands.issued
+      (stands-longer core s e q core.issued h stands)
+
+  -- the same values
+  pub stands-held : (core : Core T) (s : SharedFlowState T) (xs : List T) (n : ℕ) → StandsFor core s → xs ≡ core.held → n ≡ core.appended
+      → StandsFor (record core { held = xs; appended = n }) s
+  stands-held core s xs n stands same count = record {
+    config = stands.config;
+    held = (stands.held.0, same ∙ stands.held.1);
+    appended = count ∙ stands.appended;
+    newest = stands.newest;
+    reset_mark = stands.reset_mark;
+    queue = stands.queue;
+    subscribers = stands.subscribers;
+    issued = stands.issued;
+  }
+
+  -- another queue, and more numbers
+  pub stands-queue : (core : Core T) (s : SharedFlowState T) (old new : List (Numbered T)) (m n : ℕ) → StandsFor core s → old ≡ new → m ≡ n
+      → StandsFor (record core { queue = old; issued = m }) (record s { queue = new; issued = n })
+  stands-queue core s old new m n stands same count = record {
+    config = stands.config;
+    held = stands.held;
+    appended = stands.appended;
+    newest = stands.newest;
+    reset_mark = stands.reset_mark;
+    queue = same;
+    subscribers = stands.subscribers;
+    issued = count;
+  }
+
+  pub stands-suspend : (core : Core T) (s : SharedFlowState T) (v : T) → StandsFor core s
+      → StandsFor (record core { queue = core.queue ++ record { value = v; number = core.issued + 1 } ∷ []; issued = core.issued + 1 }) (suspend v s)
+  stands-suspend core s v stands = stands-queue core s _ _ _ _ stands
+      (ap (λ q. q ++ record { value = v; number = core.issued + 1 } ∷ []) stands.queue ∙ ap (λ n. s.queue ++ record { value = v; number = n + 1 } ∷ []) stands.issued)
+      (ap (λ n. n + 1) stands.issued)
+
+  -- other positions, none of which asks for an earlier value
+  pub stands-subscribers : (core : Core T) (s : SharedFlowState T) (old new : List Subscriber) (m n : ℕ) → StandsFor core s → old ≡ new → m ≡ n
+      → least_position (cache_start s) s.subscribers ≤ least_position (cache_start s) new
+      → StandsFor (record core { subscribers = old; issued = m }) (record s { subscribers = new; issued = n })
+  stands-subscribers core s old new m n stands same count later = record {
+    config = stands.config;
+    held = ends_further _ _ _ _ later stands.held;
+    appended = stands.appended;
+    newest = stands.newest;
+    reset_mark = stands.reset_mark;
+    queue = stands.queue;
+    subscribers = same;
+    issued = count;
+  }
+
+  pub needed_entry : (s : SharedFlowState T) → first_needed s ≤ entry s
+  needed_entry s =
+      let bound = least_position_bound (cache_start s) s.subscribers in
+      elim (is_offering s) as (λ t. is_offering s ≡ t → first_needed s ≤ (if t then length s.emitted - 1 else cache_start s)) [
+        | true ↦ λ offering. (least_position_offered (cache_start s) (length s.emitted) s.subscribers (and_right _ _ offering)).0
+        | false ↦ λ _. bound
+      ] refl
+    where
+      and_right : (a b : Bool) → (a && b) ≡ true → b ≡ true
+      and_right true b h = h
+      and_right false b h = absurd (cc)
+
+  -- a subscriber more
+  pub stands-enroll : (core : Core T) (s : SharedFlowState T) (p : ℕ) → StandsFor core s → p ≡ entry s
+      → StandsFor (record core { subscribers = core.subscribers ++ record { number = core.issued + 1; position = p } ∷ []; issued = core.issued + 1 }) (enroll s)
+  stands-enroll core s p stands at =
+      let joined = least_position-append (cache_start s) s.subscribers (record { number = s.issued + 1; position = entry s }) in
+      stands-subscribers core s _ _ _ _ stands (cc (stands.subscribers, stands.issued, at)) (ap (λ n. n + 1) stands.issued) (omega (arith, needed_entry s, joined))
+
+  -- the cache of a new subscriber is empty from now on
+  pub stands-forget : (core : Core T) (s : SharedFlowState T) → core.reset_mark ≤ core.appended → StandsFor core s
+      → StandsFor (record core { reset_mark = core.appended }) (forget s)
+  stands-forget core s h stands = record {
+    config = stands.config;
+    held = ends_further _ _ _ _ (least_position_rises (cache_start s) (cache_start (forget s)) s.subscribers (omega (arith, stands.reset_mark, stands.appended, h))) stands.held;
+    appended = stands.appended;
+    newest = stands.newest;
+    reset_mark = stands.appended;
+    queue = stands.queue;
+    subscribers = stands.subscribers;
+    issued = stands.issued;
+  }
+
+  -- ---- admission
+
+  pub settle_idle : (s : SharedFlowState T) → s.queue ≡ [] → settle s ≡ s
+  settle_idle s e = ap (λ q. admit s q) e ∙ ap (λ q. record s { queue = q }) (sym e)
+
+  -- admission puts its own queue in place of the state's
+  pub admit_any_queue : (s : SharedFlowState T) (r q : List (Numbered T)) → admit (record s { queue = r }) q ≡ admit s q
+  admit_any_queue s r [] = refl
+  admit_any_queue s r (e ∷ q) = ap (λ (t : SharedFlowState T). cond (Rattle.flow_law.specs.SharedFlow.is_blocked s) (record s { queue = e ∷ q }) t) (admit_any_queue (record s { emitted = s.emitted ++ e ∷ [] }) r q)
+
+  pub settle_first : (s : SharedFlowState T) (e : Numbered T) (q : List (Numbered T)) → s.queue ≡ e ∷ q → Rattle.flow_law.specs.SharedFlow.is_blocked s ≡ false
+      → settle s ≡ settle (record s { emitted = s.emitted ++ e ∷ []; queue = q })
+  settle_first s e q here free =
+      ap (λ r. admit s r) here
+      ∙ ap (λ t. cond t (record s { queue = e ∷ q }) (admit (record s { emitted = s.emitted ++ e ∷ [] }) q)) free
+      ∙ sym (admit_any_queue (record s { emitted = s.emitted ++ e ∷ [] }) q q)
+
+  pub settle_blocked : (s : SharedFlowState T) → Rattle.flow_law.specs.SharedFlow.is_blocked s ≡ true → settle s ≡ s
+  settle_blocked s b = at s.queue refl
+    where
+      at : (q : List (Numbered T)) → s.queue ≡ q → admit s q ≡ s
+      at [] e = ap (λ r. record s { queue = r }) (sym e)
+      at (x ∷ q) e = ap (λ t. cond t (record s { queue = x ∷ q }) (admit (record s { emitted = s.emitted ++ x ∷ [] }) q)) b ∙ ap (λ r. record s { queue = r }) (sym e)
+
+  -- ---- reads
+
+  -- where a core never let go of a value, it has all that was emitted
+  pub same_rest : (core : Core T) (s : SharedFlowState T) (i : ℕ) → StandsFor core s → core.reset_mark ≤ core.appended → length core.held ≡ core.appended
+      → first_needed s ≤ i → drop i core.held ≡ drop i (values s)
+  same_rest core s i stands h whole le =
+      let front = stands.held.0 in
+      let length_values : length (values s) ≡ length s.emitted = length-map s.emitted _ in
+      let within : first_needed s ≤ length s.emitted = needed_within core s stands h in
+      let count : length core.held ≡ length front + length (drop (first_needed s) (values s)) = ap length stands.held.1 ∙ length-append front _ in
+      let here : length front ≡ first_needed s = omega (arith, count, length-drop (first_needed s) (values s), length_values, stands.appended, whole) in
+      let split : length front + (i - first_needed s) ≡ i = omega arith in
+      let split_too : first_needed s + (i - first_needed s) ≡ i = omega arith in
+      ap (λ n. drop n core.held) (sym split) ∙ ap (λ l. drop (length front + (i - first_needed s)) l) stands.held.1
+      ∙ drop-append-add front (drop (first_needed s) (values s)) (i - first_needed s)
+      ∙ drop-drop (i - first_needed s) (first_needed s) (values s)
+      ∙ ap (λ n. drop n (values s)) split_too
+
+  pub same_value : (core : Core T) (s : SharedFlowState T) (number p : ℕ) → StandsFor core s → core.reset_mark ≤ core.appended → length core.held ≡ core.appended
+      → position_of number s.subscribers ≡ Some p → slice_get (values s) p ≡ slice_get core.held p
+  same_value core s number p stands h whole at =
+      let least : IfSome (Some p) (λ q. first_needed s ≤ q) = subst (λ o. IfSome o (λ q. first_needed s ≤ q)) at (least_position-position_of (cache_start s) number s.subscribers) in
+      sym (slice_get-drop p (values s)) ∙ ap (λ l. slice_get l 0) (sym (same_rest core s p stands h whole least)) ∙ slice_get-drop p core.held
+
+  pub same_cache : (core : Core T) (s : SharedFlowState T) → StandsFor core s → core.reset_mark ≤ core.appended → length core.held ≡ core.appended
+      → drop (cache_start s) core.held ≡ cache s
+  same_cache core s stands h whole = same_rest core s (cache_start s) stands h whole (least_position_bound (cache_start s) s.subscribers)
