@@ -12,7 +12,11 @@ use crate::lines::{add_count, add_line, add_list, add_next, add_refusal, add_tes
 use flow_core::{SharedCore, SubId};
 use flow_law::{Emit, FlowFault};
 
-pub fn try_emit(core: &mut SharedCore<i64>, text: &mut String, value: i64) -> Result<(), ScriptFault>
+pub fn try_emit(
+    core: &mut SharedCore<i64>,
+    text: &mut String,
+    value: i64,
+) -> Result<(), ScriptFault>
     ensures writes { OnOk result (Writes (call.TryEmit value) core.old core.new (string_bytes text.old) (string_bytes text.new)) }
     ensures fault { IfErr result (λ fault. fault ≡ ScriptFault.OutOfMemory) }
 {
@@ -139,10 +143,7 @@ pub fn subscription_count(core: &SharedCore<i64>, text: &mut String) -> Result<(
     Ok(())
 }
 
-pub fn reset_replay_cache(
-    core: &mut SharedCore<i64>,
-    text: &mut String,
-) -> Result<(), ScriptFault>
+pub fn reset_replay_cache(core: &mut SharedCore<i64>, text: &mut String) -> Result<(), ScriptFault>
     ensures writes { OnOk result (Writes call.ResetReplayCache core.old core.new (string_bytes text.old) (string_bytes text.new)) }
     ensures fault { IfErr result (λ fault. fault ≡ ScriptFault.OutOfMemory) }
 {

@@ -14,4 +14,4 @@ returns-in_ok-add_refusal-in-Err-clause-writes c =
     let sent : Conforms old (Emit (to_z w64 (of_z w64 c.args.value))) (Refused fault) c.emit.new.self = c.in-Err.ensures.documented in
     let conforms : Conforms old (Emit c.args.value) (Refused fault) c.emit.new.self = subst (λ v. Conforms old (Emit v) (Refused fault) c.emit.new.self) (to_z-of_z c.ranges.value) sent in
     refusal_writes (Emit c.args.value) fault old c.emit.new.self (string_bytes c.args.text.now) (string_bytes c.add_refusal.new.text) conforms
-        c.in_ok-add_refusal-in-Err.ensures.memory c.in_ok-add_refusal-in-Err.ensures.line
+    c.in_ok-add_refusal-in-Err.ensures.memory c.in_ok-add_refusal-in-Err.ensures.line
