@@ -29,5 +29,25 @@ some_differ : (a b : ℕ) → (a == b) ≡ false → Some a ≢ Some b
 some_differ a b t e = let same : a ≡ b = cc in differ a b t same
 
 state_run_is_legal : IsLegalState (first_state_flow 1000 0) state_run
-state_run_is_legal = (refl, (inr (none_yet 0, refl), (refl, (refl, (inl (refl, refl), (inl (refl, refl), (inr (differ 0 1 refl, refl),
-    (refl, (inr (some_differ 0 5 refl, refl), (refl, (refl, (refl, (refl, (refl, tt))))))))))))))
+state_run_is_legal = (
+  refl,
+  (
+    inr (none_yet 0, refl),
+    (
+      refl,
+      (
+        refl,
+        (
+          inl (refl, refl),
+          (
+            inl (refl, refl),
+            (
+              inr (differ 0 1 refl, refl),
+              (refl, (inr (some_differ 0 5 refl, refl), (refl, (refl, (refl, (refl, (refl, tt))))))),
+            ),
+          ),
+        ),
+      ),
+    ),
+  ),
+)

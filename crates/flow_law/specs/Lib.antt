@@ -9,3 +9,6 @@ pub mod StateFlow
 pub mod Conflation
 pub mod Growth
 pub mod Standing
+pub mod ChainRun
+pub mod OperatorRuns
+pub mod Chain

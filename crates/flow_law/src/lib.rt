@@ -6,6 +6,7 @@
 #![tactic(auto)]
 
 mod call;
+mod chain;
 mod config;
 mod fault;
 mod history;
@@ -14,6 +15,7 @@ mod outcome;
 mod value;
 
 pub use call::{SharedCall, SharedReply, StateCall, StateReply};
+pub use chain::{ChainFault, End};
 pub use config::{Config, Overflow};
 pub use fault::{FlowFault, Refused};
 pub use history::Event;

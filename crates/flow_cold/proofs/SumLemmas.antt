@@ -1,0 +1,23 @@
+-- The sums of an item and a list of entries, all of which are in range.
+use Rattle.std.proofs.Common.{◌≡◌, ℕ, ℤ, ◌+ℤ◌, Bool, true, false, cond, ◌&&◌, List, [], ◌∷◌, map, drop, Ok, Err, refl, ap}
+use Rattle.std.specs.List.{list_all}
+use Rattle.flow_law.specs.declared.chain.ChainFault.TheVariants.{Overflow}
+use Rattle.flow_law.specs.ChainRun.{ChainRun, gives}
+use Rattle.flow_law.specs.OperatorRuns.{continued, prepended, transform_run}
+use Rattle.flow_cold.specs.Numbers.{is_i64, sums}
+use Rattle.flow_cold.specs.Operators.{with_sums}
+
+first-fits : (b : Bool) (x d : ℤ) (ds : List ℤ) (r : ChainRun ℤ) → b && list_all (λ e. is_i64 (x +ℤ e)) ds ≡ true
+    → (list_all (λ e. is_i64 (x +ℤ e)) ds ≡ true → prepended (map (λ e. x +ℤ e) ds) r ≡ with_sums x ds r)
+    → gives (x +ℤ d) (prepended (map (λ e. x +ℤ e) ds) r) ≡ continued (cond b (Ok (x +ℤ d)) (Err Overflow)) (λ y. gives y (with_sums x ds r))
+first-fits true x d ds r h rest = ap (gives (x +ℤ d)) (rest h)
+first-fits false x d ds r h rest = cc
+
+with_sums-fits : (x : ℤ) (ds : List ℤ) (r : ChainRun ℤ) → list_all (λ e. is_i64 (x +ℤ e)) ds ≡ true
+    → prepended (map (λ e. x +ℤ e) ds) r ≡ with_sums x ds r
+with_sums-fits x [] r h = refl
+with_sums-fits x (d ∷ ds) r h = first-fits (is_i64 (x +ℤ d)) x d ds r h (with_sums-fits x ds r)
+
+pub with_sums-begins : (before : ℤ) (at : ℕ) (x : ℤ) (ds : List ℤ) (r : ChainRun ℤ) → drop at ds ≡ [] → list_all (λ e. is_i64 (x +ℤ e)) ds ≡ true
+    → with_sums before (drop at ds) (transform_run (sums ds) (gives x r)) ≡ with_sums x ds (transform_run (sums ds) r)
+with_sums-begins before at x ds r none fits = rw (none, fits) (with_sums-fits x ds (transform_run (sums ds) r) fits)

@@ -1,0 +1,17 @@
+use Rattle.std.proofs.Common.{◌≡◌, false}
+use Rattle.flow_law.specs.ChainRun.{asks}
+use Rattle.flow_law.specs.OperatorRuns.{transform_run, images_rest}
+use Rattle.flow_cold.proofs.operators.transform.TransformCold.ask.Given as goal
+
+abbrev pub invariant-loop-images : goal.invariant-loop-images
+invariant-loop-images g l = record {
+  sound : g.C.Cold.sound l.self.upstream;
+  given : l.self.given ≡ l.fn.self.given;
+  runs : l.self.ended ≡ false;
+  keeps : g.C.Cold.whole l.self.upstream ≡ g.C.Cold.whole l.fn.self.upstream;
+  rest : images_rest (λ v. v.items) l.fn.self.images (transform_run (g.M.ListMeaning.images l.fn.self.given.meaning) (g.C.Cold.rest l.fn.self.upstream))
+      ≡ images_rest (λ v. v.items) l.self.images (transform_run (g.M.ListMeaning.images l.fn.self.given.meaning) (g.C.Cold.rest l.self.upstream));
+}
+
+abbrev pub decreases-loop-images : goal.decreases-loop-images
+decreases-loop-images g l = asks (g.C.Cold.rest l.self.upstream)

@@ -1,0 +1,88 @@
+-- What a source is as a chain, and what an operator of a script makes of a chain.
+use Rattle.std.specs.Prelude.{◌≡◌, ℕ, ◌+◌, ◌≤◌, ◌<◌, max, ℤ, None, drop}
+use Rattle.std.specs.Ordering.{int_eq}
+use Rattle.flow_law.specs.declared.chain.ChainFault.{ChainFault}
+use Rattle.flow_law.specs.declared.chain.ChainFault.TheVariants.{OutOfMemory, NotPositive, TooDeep}
+use Rattle.flow_law.specs.Chain.{Meaning, meaning_of, map_meaning, filter_meaning, take_while_meaning, transform_meaning, take_meaning, drop_meaning, scan_meaning, flat_map_meaning, zip_meaning, distinct_meaning}
+use Rattle.flow_law.specs.ChainRun.{ChainRun, gives, list_run, unless_ended}
+use Rattle.flow_law.specs.OperatorRuns.{map_run, filter_run, take_while_run, transform_run, take_run, drop_run, scan_run, flat_map_run, zip_run, distinct_run}
+use Rattle.flow_cold.specs.declared.script_chain.op.Op.{Op}
+use Rattle.flow_cold.specs.declared.script_chain.op.Op.TheVariants as op
+use Rattle.flow_cold.specs.declared.script_chain.op.Source.{Source}
+use Rattle.flow_cold.specs.declared.script_chain.op.Source.TheVariants as source
+use Rattle.flow_cold.specs.declared.script_chain.ScriptChain.{ScriptChain}
+use Rattle.flow_cold.specs.Numbers.{computed, joined, passes, sums, spread_run}
+use Rattle.flow_cold.specs.Operators.{operator_whole, operator_rest}
+use Rattle.flow_cold.specs.ScriptChain.{node_whole, node_rest}
+use Rattle.flow_cold.specs.Sources.{range_run, scripted_run}
+
+abbrev pub depth_of : ScriptChain → ℕ
+depth_of chain = chain.depth
+
+abbrev pub source_whole : Source → ChainRun ℤ
+source_whole (source.List s) = list_run s.items.items
+source_whole (source.Range s) = range_run s.first s.last
+source_whole (source.Scripted s) = scripted_run s.entries.items
+
+-- of a source that was asked before
+abbrev pub source_rest : Source → ChainRun ℤ
+source_rest (source.List s) = list_run (drop s.at s.items.items)
+source_rest (source.Range s) = unless_ended s.ended (range_run s.next s.last)
+source_rest (source.Scripted s) = scripted_run (drop s.at s.entries.items)
+
+-- the run of an operator on a run; `with_run` says which run of the other chain a zip pairs it with
+abbrev pub op_run : (ScriptChain → ChainRun ℤ) → Op → ChainRun ℤ → ChainRun ℤ
+op_run with_run (op.Map by k) r = map_run (λ x. computed by (x, k)) r
+op_run with_run (op.Filter test) r = filter_run (passes test) r
+op_run with_run (op.TakeWhile test) r = take_while_run (passes test) r
+op_run with_run (op.Transform entries) r = transform_run (sums entries.items) r
+op_run with_run (op.Take count) r = take_run count r
+op_run with_run (op.DropFirst count) r = drop_run r count
+op_run with_run (op.Scan from by) r = gives from (scan_run (computed by) from r)
+op_run with_run (op.FlatMap to count) r = flat_map_run (spread_run to count) r
+op_run with_run (op.Zip with by) r = zip_run (joined by) r (with_run with)
+op_run with_run op.Distinct r = distinct_run int_eq None r
+
+abbrev pub op_whole : Op → ChainRun ℤ → ChainRun ℤ
+op_whole = op_run (λ with. node_whole with.node)
+
+abbrev pub op_rest : Op → ChainRun ℤ → ChainRun ℤ
+op_rest = op_run (λ with. node_rest with.node)
+
+-- an operator adds 1, and a zip counts from its deeper side
+abbrev pub op_depth : Op → ℕ → ℕ
+op_depth (op.Zip with by) depth = max depth (depth_of with) + 1
+op_depth _ depth = depth + 1
+
+abbrev pub TakesNone : Op → Type 0
+TakesNone (op.Take count) = count ≡ 0
+TakesNone _ = ⊥
+
+-- refused before anything is made: a take of nothing comes first
+abbrev pub RefusesDepth : Op → ℕ → ChainFault → Type 0
+RefusesDepth o depth NotPositive = TakesNone o
+RefusesDepth o depth TooDeep = (¬ TakesNone o) × (64 < op_depth o depth)
+RefusesDepth o depth _ = ⊥
+
+abbrev pub Refuses : Op → ScriptChain → ChainFault → Type 0
+Refuses o chain OutOfMemory = (¬ TakesNone o) × (op_depth o (depth_of chain) ≤ 64)
+Refuses o chain fault = RefusesDepth o (depth_of chain) fault
+
+-- the depth with an operator that is not refused
+pub record AddsDepth (o : Op) (old new : ℕ) : Type 0 where
+  pub depth : new ≡ op_depth o old
+  pub shallow : new ≤ 64
+  pub positive : ¬ TakesNone o
+
+-- the same by lists
+abbrev pub op_meaning : Op → Meaning ℤ → Meaning ℤ
+op_meaning (op.Map by k) m = map_meaning (λ x. computed by (x, k)) m
+op_meaning (op.Filter test) m = filter_meaning (passes test) m
+op_meaning (op.TakeWhile test) m = take_while_meaning (passes test) m
+op_meaning (op.Transform entries) m = transform_meaning (sums entries.items) m
+op_meaning (op.Take count) m = take_meaning count m
+op_meaning (op.DropFirst count) m = drop_meaning count m
+op_meaning (op.Scan from by) m = scan_meaning (computed by) from m
+op_meaning (op.FlatMap to count) m = flat_map_meaning (spread_run to count) m
+op_meaning (op.Zip with by) m = zip_meaning (joined by) m (meaning_of (node_whole with.node))
+op_meaning op.Distinct m = distinct_meaning int_eq m

@@ -1,0 +1,10 @@
+pub mod Asking
+pub mod Build
+pub mod Closures
+pub mod Sources
+pub mod Numbers
+pub mod Operators
+pub mod Part
+pub mod ScriptChain
+pub mod Streams
+pub mod Taking

@@ -1,0 +1,55 @@
+-- What the operators on whole numbers compute. A result that is no i64 is Overflow.
+use Rattle.std.specs.Prelude.{ℕ, zero, suc, ◌%◌, ◌==◌, ℤ, pos, negsuc, ◌+ℤ◌, ◌*ℤ◌, int_lt, unsigned_abs, Bool, not, ◌&&◌, cond, List, map, replicate, Result, Ok, Err}
+use Rattle.std.specs.Ordering.{int_eq}
+use Rattle.std.specs.List.{list_all}
+use Rattle.flow_law.specs.declared.chain.ChainFault.{ChainFault}
+use Rattle.flow_law.specs.declared.chain.ChainFault.TheVariants.{Overflow}
+use Rattle.flow_law.specs.declared.chain.End.TheVariants.{Completed}
+use Rattle.flow_law.specs.ChainRun.{ChainRun, ends, list_run}
+use Rattle.flow_cold.specs.declared.script_chain.op.Arithmetic.{Arithmetic}
+use Rattle.flow_cold.specs.declared.script_chain.op.Arithmetic.TheVariants as arithmetic
+use Rattle.flow_cold.specs.declared.script_chain.op.Joining.{Joining}
+use Rattle.flow_cold.specs.declared.script_chain.op.Joining.TheVariants as joining
+use Rattle.flow_cold.specs.declared.script_chain.op.Spread.{Spread}
+use Rattle.flow_cold.specs.declared.script_chain.op.Spread.TheVariants as spread
+use Rattle.flow_cold.specs.declared.script_chain.op.Test.{Test}
+use Rattle.flow_cold.specs.declared.script_chain.op.Test.TheVariants as test
+use Rattle.flow_cold.specs.Sources.{range_run}
+
+abbrev pub is_i64 : ℤ → Bool
+is_i64 x = not (int_lt x (negsuc 9223372036854775807)) && not (int_lt (pos 9223372036854775807) x)
+
+-- x, if it is in range
+abbrev pub ranged : ℤ → Result ℤ ChainFault
+ranged x = cond (is_i64 x) (Ok x) (Err Overflow)
+
+abbrev pub computed : Arithmetic → ℤ × ℤ → Result ℤ ChainFault
+computed arithmetic.Add (x, y) = ranged (x +ℤ y)
+computed arithmetic.Mul (x, y) = ranged (x *ℤ y)
+
+abbrev pub joined : Joining → ℤ × ℤ → Result ℤ ChainFault
+joined joining.Add (x, y) = ranged (x +ℤ y)
+joined joining.Mul (x, y) = ranged (x *ℤ y)
+joined joining.Left (x, y) = Ok x
+joined joining.Right (x, y) = Ok y
+
+abbrev pub passes : Test → ℤ → Bool
+passes test.Even x = unsigned_abs x % 2 == 0
+passes test.Odd x = unsigned_abs x % 2 == 1
+passes (test.Less k) x = int_lt x k
+passes (test.Greater k) x = int_lt k x
+passes (test.NotEqual k) x = not (int_eq x k)
+
+-- each entry of the list added to x
+abbrev pub sums : List ℤ → ℤ → Result (List ℤ) ChainFault
+sums entries x = cond (list_all (λ d. is_i64 (x +ℤ d)) entries) (Ok (map (λ d. x +ℤ d) entries)) (Err Overflow)
+
+-- x and the numbers that follow it, count of them
+abbrev pub following : ℕ → ℤ → Result (ChainRun ℤ) ChainFault
+following zero x = Ok (ends Completed)
+following (suc n) x = cond (is_i64 (x +ℤ pos n)) (Ok (range_run x (x +ℤ pos n))) (Err Overflow)
+
+-- what an item is replaced by
+abbrev pub spread_run : Spread → ℕ → ℤ → Result (ChainRun ℤ) ChainFault
+spread_run spread.Range count x = following count x
+spread_run spread.Repeat count x = Ok (list_run (replicate count x))

@@ -1,0 +1,29 @@
+-- What a chain gives as a stream.
+use Rattle.std.specs.Prelude.{◌≡◌, ◌⊎◌, List, [], ◌∷◌, Option, Some, None, Result, Ok, Err}
+use Rattle.flow_law.specs.declared.chain.ChainFault.{ChainFault}
+use Rattle.flow_law.specs.declared.chain.ChainFault.TheVariants.{OutOfMemory}
+use Rattle.flow_law.specs.declared.chain.End.TheVariants.{Completed, Failed}
+use Rattle.flow_law.specs.ChainRun.{ChainRun, gives, pends, ends}
+
+module _ {T : Type 0} where
+  -- nothing follows
+  abbrev pub Over : List (Result T ChainFault) → Option (Result T ChainFault) → Type 0
+  Over [] last = last ≡ None
+  Over (y ∷ ys) last = ⊥
+
+  -- y, and then nothing
+  abbrev pub Last : Result T ChainFault → List (Result T ChainFault) → Option (Result T ChainFault) → Type 0
+  Last y [] last = last ≡ Some y
+  Last y (z ∷ zs) last = (z ≡ y) × Over zs last
+
+  -- x, and then k
+  abbrev pub First : T → (List (Result T ChainFault) → Option (Result T ChainFault) → Type 0) → List (Result T ChainFault) → Option (Result T ChainFault) → Type 0
+  First x k [] last = last ≡ Some (Ok x)
+  First x k (y ∷ ys) last = (y ≡ Ok x) × k ys last
+
+  -- the items of a run, and its fault as the last; want of memory may come in place of an answer
+  abbrev pub Streams : ChainRun T → List (Result T ChainFault) → Option (Result T ChainFault) → Type 0
+  Streams (gives x p) xs last = First x (Streams p) xs last ⊎ Last (Err OutOfMemory) xs last
+  Streams (pends p) xs last = Streams p xs last ⊎ Last (Err OutOfMemory) xs last
+  Streams (ends Completed) xs last = Over xs last ⊎ Last (Err OutOfMemory) xs last
+  Streams (ends (Failed f)) xs last = Last (Err f) xs last ⊎ Last (Err OutOfMemory) xs last

@@ -1,0 +1,23 @@
+//! What is made of a chain's items.
+
+mod distinct;
+mod drop_first;
+mod filter;
+mod flat_map_concat;
+mod map;
+mod scan;
+mod take;
+mod take_while;
+mod transform;
+mod zip;
+
+pub use distinct::Distinct;
+pub use drop_first::DropFirst;
+pub use filter::Filter;
+pub use flat_map_concat::FlatMapConcat;
+pub use map::Map;
+pub use scan::Scan;
+pub use take::Take;
+pub use take_while::TakeWhile;
+pub use transform::Transform;
+pub use zip::Zip;

@@ -1,0 +1,26 @@
+//! Chains of whole numbers that are built at run time.
+ghost use Rattle.std.specs.Prelude.{◌≡◌, ◌≤◌};
+ghost use Rattle.flow_cold.specs.ScriptChain.{node_depth};
+
+mod build;
+mod node;
+mod numbers;
+mod op;
+mod operator;
+mod stage;
+mod state;
+
+use crate::script_chain::node::Node;
+pub use op::{Arithmetic, Joining, Op, Source, Spread, Test};
+
+/// A chain of whole numbers, at most 64 deep.
+///
+/// It begins with a source, which is 1 deep, and grows by `then`: an operator is one deeper than its upstream, a zip one
+/// deeper than its deeper side.
+#[derive(Drop)]
+pub struct ScriptChain {
+    pub(crate) depth: u32,
+    pub(crate) node: Node,
+    ghost exact: { depth ≡ node_depth node },
+    ghost bounded: { depth ≤ 64 },
+}

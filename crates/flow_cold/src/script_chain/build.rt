@@ -1,0 +1,153 @@
+//! Building a chain of whole numbers, and asking it.
+ghost use Rattle.std.specs.Prelude.{◌≡◌, ◌≤◌, ⊤, ℕ, ℤ, IfOk, IfErr, MatchResult};
+ghost use Rattle.flow_law.specs.Chain.{meaning_of};
+ghost use Rattle.flow_law.specs.ChainRun.{ChainRun};
+ghost use Rattle.flow_cold.specs.Build.{AddsDepth, Refuses, RefusesDepth, depth_of, op_depth, op_meaning, op_rest, op_whole, source_rest, source_whole};
+ghost use Rattle.flow_cold.specs.Part.{part_depth, part_rest, part_whole};
+ghost use Rattle.flow_cold.specs.ScriptChain.{IsNodeOver, node_depth, node_rest, node_whole};
+
+use crate::cold::{Asked, Cold};
+use crate::script_chain::ScriptChain;
+use crate::script_chain::node::{Node, Pairing, Stage, ask_node, rewind_node};
+use crate::script_chain::op::{Joining, Op, Source, Spread};
+use crate::script_chain::operator::Operator;
+use crate::script_chain::state::{
+    Adding, Comparing, Counting, Following, Mapping, Repeating, Scanning,
+};
+use flow_law::ChainFault;
+use std::alloc::Global;
+
+/// What an operator of a script becomes in the tree.
+#[derive(Drop)]
+pub enum Part {
+    On(Operator),
+    With(ScriptChain, Joining),
+}
+
+impl Op {
+    /// How deep a chain is with this operator on it.
+    fn depth_on(&self, depth: u32) -> Result<u32, ChainFault>
+        requires { depth ≤ 64 }
+        ensures { MatchResult result (AddsDepth self.now depth) (RefusesDepth self.now depth) }
+    {
+        let deepest = match self {
+            Op::Take(count) => {
+                if *count == 0 {
+                    return Err(ChainFault::NotPositive);
+                }
+                depth
+            }
+            Op::Zip { with, .. } => depth.max(with.depth),
+            _ => depth,
+        };
+        if deepest >= 64 {
+            return Err(ChainFault::TooDeep);
+        }
+        Ok(deepest + 1)
+    }
+
+    /// The operator as it begins.
+    fn begun(self) -> Part
+        ensures whole { (r : ChainRun ℤ) → part_whole result r ≡ op_whole self r }
+        ensures rest { (r : ChainRun ℤ) → part_rest result r ≡ op_rest self r }
+        ensures depth { (depth : ℕ) → part_depth result depth ≡ op_depth self depth }
+    {
+        let operator = match self {
+            Op::Map { by, k } => Operator::Map(Mapping { by, k }),
+            Op::Filter(test) => Operator::Filter(test),
+            Op::TakeWhile(test) => Operator::TakeWhile(test),
+            Op::Transform(entries) => Operator::Transform(Adding::new(entries)),
+            Op::Take(count) => Operator::Take(Counting { count, left: count }),
+            Op::DropFirst(count) => Operator::DropFirst(Counting { count, left: count }),
+            Op::Scan { from, by } => Operator::Scan(Scanning {
+                initial: from,
+                by,
+                begun: false,
+                last: from,
+            }),
+            Op::FlatMap { to, count } => match to {
+                Spread::Range => Operator::FlatMapRange(Following::new(count)),
+                Spread::Repeat => Operator::FlatMapRepeat(Repeating::new(count)),
+            },
+            Op::Zip { with, by } => return Part::With(with, by),
+            Op::Distinct => Operator::Distinct(Comparing { last: None }),
+        };
+        Part::On(operator)
+    }
+}
+
+impl Part {
+    /// The tree with the upstream below this part.
+    fn joined(self, alloc: Global, upstream: Box<Node>) -> Result<Node, ChainFault>
+        ensures whole { IfOk result (λ node. node_whole node ≡ part_whole self (node_whole upstream.value)) }
+        ensures rest { IfOk result (λ node. node_rest node ≡ part_rest self (node_rest upstream.value)) }
+        ensures depth { IfOk result (λ node. node_depth node ≡ part_depth self (node_depth upstream.value)) }
+        ensures refused { IfErr result (λ fault. fault ≡ ChainFault.OutOfMemory) }
+    {
+        match self {
+            Part::On(operator) => Ok(Node::On(upstream, Stage::new(operator))),
+            Part::With(with, by) => {
+                let ScriptChain { depth: _, node } = with;
+                match Box::new(alloc, node) {
+                    Ok(right) => Ok(Node::Zip(upstream, right, Pairing::new(by))),
+                    Err(_) => Err(ChainFault::OutOfMemory),
+                }
+            }
+        }
+    }
+}
+
+impl ScriptChain {
+    /// The chain of a source alone.
+    pub fn source(source: Source) -> ScriptChain
+        ensures whole { ⟦<ScriptChain as Cold>⟧.whole result ≡ source_whole source }
+        ensures rest { ⟦<ScriptChain as Cold>⟧.rest result ≡ source_rest source }
+        ensures depth { depth_of result ≡ 1 }
+    {
+        let node = match source {
+            Source::List(list) => Node::List(list),
+            Source::Range(range) => Node::Range(range),
+            Source::Scripted(script) => Node::Script(script),
+        };
+        ScriptChain { depth: 1, node }
+    }
+
+    /// The chain with one more operator. A take of nothing is refused as `NotPositive`, then a chain that would be over 64
+    /// deep as `TooDeep`, then want of memory. Where it is refused the chain is dropped, and so is the operator.
+    #[tactic(auto, using(crate::proofs::OpLemmas::op_means))]
+    pub fn then(self, alloc: Global, op: Op) -> Result<ScriptChain, ChainFault>
+        ensures whole { IfOk result (λ chain. ⟦<ScriptChain as Cold>⟧.whole chain ≡ op_whole op (⟦<ScriptChain as Cold>⟧.whole self)) }
+        ensures meaning { IfOk result (λ chain. meaning_of (⟦<ScriptChain as Cold>⟧.whole chain) ≡ op_meaning op (meaning_of (⟦<ScriptChain as Cold>⟧.whole self))) }
+        ensures rest { IfOk result (λ chain. ⟦<ScriptChain as Cold>⟧.rest chain ≡ op_rest op (⟦<ScriptChain as Cold>⟧.rest self)) }
+        ensures depth { MatchResult result (λ chain. AddsDepth op (depth_of self) (depth_of chain)) (Refuses op self) }
+    {
+        let depth = op.depth_on(self.depth)?;
+        let ScriptChain { depth: _, node } = self;
+        let upstream = match Box::new(alloc, node) {
+            Ok(upstream) => upstream,
+            Err(_) => return Err(ChainFault::OutOfMemory),
+        };
+        let node = op.begun().joined(alloc, upstream)?;
+        Ok(ScriptChain { depth, node })
+    }
+}
+
+impl Cold for ScriptChain {
+    type Item = i64;
+
+    ghost sound = { λ _. ⊤ };
+
+    ghost whole = { λ s. node_whole s.node };
+
+    ghost rest = { λ s. node_rest s.node };
+
+    ghost IsOver = { λ s. IsNodeOver s.node };
+
+    fn ask(&mut self) -> Asked<i64> {
+        ask_node(&mut self.node)
+    }
+
+    fn rewind(&mut self) {
+        rewind_node(&mut self.node);
+    }
+}

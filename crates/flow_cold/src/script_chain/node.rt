@@ -1,0 +1,142 @@
+//! A chain of whole numbers as a tree: sources at its leaves, operators above them.
+ghost use Rattle.std.specs.Prelude.{◌≡◌, ◌≤◌, None, false};
+ghost use Rattle.flow_cold.specs.declared.script_chain.node.Node.{size-Node};
+ghost use Rattle.flow_cold.specs.Asking.{AskGives, IsFinal};
+ghost use Rattle.flow_cold.specs.ScriptChain.{IsNodeOver, node_depth, node_rest, node_whole};
+
+use crate::cold::{Asked, Cold};
+use crate::script_chain::op::Joining;
+use crate::script_chain::operator::Operator;
+use crate::sources::{OfList, OfRange, Scripted};
+
+/// An operator in a chain, and whether it has ended.
+#[derive(Drop)]
+pub struct Stage {
+    pub operator: Operator,
+    pub ended: bool,
+}
+
+/// `kept` is a left item whose right one is still to come.
+#[derive(Drop)]
+pub struct Pairing {
+    pub by: Joining,
+    pub kept: Option<i64>,
+    pub ended: bool,
+}
+
+impl Pairing {
+    pub fn new(by: Joining) -> Pairing
+        ensures { result ≡ record { by = by; kept = None; ended = false } }
+    {
+        Pairing {
+            by,
+            kept: None,
+            ended: false,
+        }
+    }
+}
+
+#[derive(Drop)]
+pub enum Node {
+    List(OfList<i64>),
+    Range(OfRange),
+    Script(Scripted<i64>),
+    On(Box<Node>, Stage),
+    Zip(Box<Node>, Box<Node>, Pairing),
+}
+
+/// Gives the chain's next answer.
+pub fn ask_node(node: &mut Node) -> Asked<i64>
+    ensures whole { node_whole node.new ≡ node_whole node.old }
+    ensures gives { AskGives (node_rest node.old) result (node_rest node.new) }
+    ensures over { IsFinal result → IsNodeOver node.new }
+    // So a take that has given its last item leaves all that stands behind it as it is.
+    ensures end { IsNodeOver node.old → (result ≡ Asked.End) × node.new ≡ node.old }
+    ensures depth { node_depth node.new ≡ node_depth node.old }
+    ensures size { size-Node node.new ≤ size-Node node.old }
+{
+    match node {
+        Node::List(list) => list.ask(),
+        Node::Range(range) => range.ask(),
+        Node::Script(script) => script.ask(),
+        Node::On(upstream, stage) => {
+            if stage.is_over() {
+                return Asked::End;
+            }
+            loop {
+                if let Some(answer) = stage.first() {
+                    return answer;
+                }
+                let asked = ask_node(upstream);
+                if let Some(answer) = stage.on_answer(asked) {
+                    return answer;
+                }
+            }
+        }
+        Node::Zip(left, right, pairing) => {
+            if pairing.ended {
+                return Asked::End;
+            }
+            let first = match pairing.kept {
+                Some(item) => item,
+                None => match ask_node(left) {
+                    Asked::Item(item) => item,
+                    Asked::Pending => return Asked::Pending,
+                    Asked::End => {
+                        pairing.ended = true;
+                        return Asked::End;
+                    }
+                    Asked::Fault(fault) => {
+                        pairing.ended = true;
+                        return Asked::Fault(fault);
+                    }
+                },
+            };
+            pairing.kept = None;
+            match ask_node(right) {
+                Asked::Item(second) => match pairing.by.join(first, second) {
+                    Ok(item) => Asked::Item(item),
+                    Err(fault) => {
+                        pairing.ended = true;
+                        Asked::Fault(fault)
+                    }
+                },
+                Asked::Pending => {
+                    pairing.kept = Some(first);
+                    Asked::Pending
+                }
+                Asked::End => {
+                    pairing.ended = true;
+                    Asked::End
+                }
+                Asked::Fault(fault) => {
+                    pairing.ended = true;
+                    Asked::Fault(fault)
+                }
+            }
+        }
+    }
+}
+
+/// Starts the chain anew.
+pub fn rewind_node(node: &mut Node)
+    ensures whole { node_whole node.new ≡ node_whole node.old }
+    ensures rest { node_rest node.new ≡ node_whole node.old }
+    ensures depth { node_depth node.new ≡ node_depth node.old }
+{
+    match node {
+        Node::List(list) => list.rewind(),
+        Node::Range(range) => range.rewind(),
+        Node::Script(script) => script.rewind(),
+        Node::On(upstream, stage) => {
+            stage.rewind();
+            rewind_node(upstream);
+        }
+        Node::Zip(left, right, pairing) => {
+            pairing.ended = false;
+            pairing.kept = None;
+            rewind_node(left);
+            rewind_node(right);
+        }
+    }
+}

@@ -1,0 +1,103 @@
+//! An operator with one upstream, in a chain.
+ghost use Rattle.std.specs.Prelude.{◌≡◌, ℤ, true, false, None, MatchOption, IfSome};
+ghost use Rattle.flow_law.specs.ChainRun.{ChainRun};
+ghost use Rattle.flow_cold.specs.Asking.{AskGives, IsFinal, IsItem};
+ghost use Rattle.flow_cold.specs.Operators.{IsReady, StepGives, is_over, operator_rest, operator_whole, stage_rest};
+
+use crate::cold::Asked;
+use crate::script_chain::node::Stage;
+use crate::script_chain::operator::{Operator, Step};
+
+impl Stage {
+    pub fn new(operator: Operator) -> Stage
+        ensures { result ≡ record { operator = operator; ended = false } }
+    {
+        Stage {
+            operator,
+            ended: false,
+        }
+    }
+
+    /// Whether the upstream is not to be asked again.
+    pub fn is_over(&self) -> bool
+        ensures { result ≡ is_over self.now }
+    {
+        if self.ended {
+            return true;
+        }
+        match &self.operator {
+            Operator::Take(state) => state.left == 0,
+            _ => false,
+        }
+    }
+
+    /// What can be answered before the upstream is asked.
+    pub fn first(&mut self) -> Option<Asked<i64>>
+        requires { self.old.ended ≡ false }
+        ensures whole { (r : ChainRun ℤ) → operator_whole self.new.operator r ≡ operator_whole self.old.operator r }
+        ensures gives { (r : ChainRun ℤ) → MatchOption result (stage_rest self.new r ≡ stage_rest self.old r) (λ asked. AskGives (stage_rest self.old r) asked (stage_rest self.new r)) }
+        ensures ready { result ≡ None → (self.new.ended ≡ false) × IsReady self.new.operator }
+        ensures over { IfSome result (λ asked. IsFinal asked → self.new.ended ≡ true) }
+    {
+        let step = self.operator.first();
+        self.answer(step)
+    }
+
+    /// What is made of the upstream's answer; `None` where the upstream is to be asked again.
+    pub fn on_answer(&mut self, asked: Asked<i64>) -> Option<Asked<i64>>
+        requires runs { self.old.ended ≡ false }
+        requires ready { IsReady self.old.operator }
+        ensures whole { (r : ChainRun ℤ) → operator_whole self.new.operator r ≡ operator_whole self.old.operator r }
+        ensures gives { (before after : ChainRun ℤ) → AskGives before asked after → MatchOption result (stage_rest self.new after ≡ stage_rest self.old before) (λ given. AskGives (stage_rest self.old before) given (stage_rest self.new after)) }
+        ensures runs { result ≡ None → self.new.ended ≡ false }
+        ensures again { result ≡ None → IsItem asked }
+        ensures over { IfSome result (λ given. IsFinal given → self.new.ended ≡ true) }
+    {
+        match asked {
+            Asked::Item(item) => {
+                let step = self.operator.on_item(item);
+                self.answer(step)
+            }
+            Asked::Pending => Some(Asked::Pending),
+            Asked::End => {
+                self.ended = true;
+                Some(Asked::End)
+            }
+            Asked::Fault(fault) => {
+                self.ended = true;
+                Some(Asked::Fault(fault))
+            }
+        }
+    }
+
+    /// A step of the operator as an answer of the chain.
+    fn answer(&mut self, step: Step) -> Option<Asked<i64>>
+        requires { self.old.ended ≡ false }
+        ensures operator { self.new.operator ≡ self.old.operator }
+        ensures gives { (before r : ChainRun ℤ) → StepGives before step (operator_rest self.old.operator r) → MatchOption result (stage_rest self.new r ≡ before) (λ given. AskGives before given (stage_rest self.new r)) }
+        ensures runs { result ≡ None → (self.new ≡ self.old) × (step ≡ Step.Nothing) }
+        ensures over { IfSome result (λ given. IsFinal given → self.new.ended ≡ true) }
+    {
+        match step {
+            Step::Item(item) => Some(Asked::Item(item)),
+            Step::Nothing => None,
+            Step::End => {
+                self.ended = true;
+                Some(Asked::End)
+            }
+            Step::Fault(fault) => {
+                self.ended = true;
+                Some(Asked::Fault(fault))
+            }
+        }
+    }
+
+    /// Starts anew.
+    pub fn rewind(&mut self)
+        ensures whole { (r : ChainRun ℤ) → operator_whole self.new.operator r ≡ operator_whole self.old.operator r }
+        ensures rest { (r : ChainRun ℤ) → stage_rest self.new r ≡ operator_whole self.old.operator r }
+    {
+        self.ended = false;
+        self.operator.rewind();
+    }
+}

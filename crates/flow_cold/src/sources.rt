@@ -1,0 +1,9 @@
+//! Where a chain's items come from.
+
+mod of_list;
+mod of_range;
+mod scripted;
+
+pub use of_list::OfList;
+pub use of_range::OfRange;
+pub use scripted::{Entry, Scripted};

@@ -1,0 +1,54 @@
+//! A list as a chain.
+ghost use Rattle.std.specs.Prelude.{◌≡◌, ◌≤◌, drop, length, ⊤};
+ghost use Rattle.flow_law.specs.ChainRun.{ChainRun, list_run};
+
+use crate::cold::{Asked, Cold};
+use flow_law::{ChainFault, FlowValue};
+
+/// The items of a list, then the end.
+#[derive(Drop)]
+pub struct OfList<T> {
+    items: Vec<T>,
+    at: usize,
+}
+
+impl<T: FlowValue> OfList<T> {
+    pub fn new(items: Vec<T>) -> Self
+        ensures whole { ⟦<OfList<T> as Cold>⟧.whole result ≡ list_run items.items }
+        ensures rest { ⟦<OfList<T> as Cold>⟧.rest result ≡ list_run items.items }
+    {
+        OfList { items, at: 0 }
+    }
+}
+
+impl<T: FlowValue> Cold for OfList<T> {
+    type Item = T;
+
+    ghost sound = { λ _. ⊤ };
+
+    ghost whole = { λ s. list_run s.items.items };
+
+    ghost rest = { λ s. list_run (drop s.at s.items.items) };
+
+    ghost IsOver = { λ s. length s.items.items ≤ s.at };
+
+    fn ask(&mut self) -> Asked<T> {
+        if self.at >= self.items.len() {
+            return Asked::End;
+        }
+        match self.items[self.at].try_copy() {
+            Ok(item) => {
+                self.at += 1;
+                Asked::Item(item)
+            }
+            Err(_) => {
+                self.at = self.items.len();
+                Asked::Fault(ChainFault::OutOfMemory)
+            }
+        }
+    }
+
+    fn rewind(&mut self) {
+        self.at = 0;
+    }
+}

@@ -1,0 +1,117 @@
+-- What each operator makes of the run of its upstream. A pending turn stays where it is; nothing follows the item at
+-- which the operator ends the chain. What this means by lists is in `Chain`.
+use Rattle.std.specs.Prelude.{ℕ, zero, suc, Bool, true, false, cond, Result, Ok, Err, Option, Some, None, List, [], ◌∷◌, reverse}
+use Rattle.flow_law.specs.declared.chain.ChainFault.{ChainFault}
+use Rattle.flow_law.specs.declared.chain.End.TheVariants.{Completed, Failed}
+use Rattle.flow_law.specs.ChainRun.{ChainRun, gives, pends, ends}
+
+-- what follows a closure's answer: its value goes on, its fault ends the chain
+abbrev pub continued : {B C : Type 0} → Result B ChainFault → (B → ChainRun C) → ChainRun C
+continued (Ok y) k = k y
+continued (Err fault) k = ends (Failed fault)
+
+-- each item's image
+abbrev pub map_run : {A B : Type 0} → (A → Result B ChainFault) → ChainRun A → ChainRun B
+map_run f (gives x r) = continued (f x) (λ y. gives y (map_run f r))
+map_run f (pends r) = pends (map_run f r)
+map_run f (ends e) = ends e
+
+-- the items that pass
+abbrev pub filter_run : {A : Type 0} → (A → Bool) → ChainRun A → ChainRun A
+filter_run test (gives x r) = cond (test x) (gives x (filter_run test r)) (filter_run test r)
+filter_run test (pends r) = pends (filter_run test r)
+filter_run test (ends e) = ends e
+
+-- the items up to the first that does not pass
+abbrev pub take_while_run : {A : Type 0} → (A → Bool) → ChainRun A → ChainRun A
+take_while_run test (gives x r) = cond (test x) (gives x (take_while_run test r)) (ends Completed)
+take_while_run test (pends r) = pends (take_while_run test r)
+take_while_run test (ends e) = ends e
+
+-- the first n items: nothing follows the last
+abbrev pub take_run : {A : Type 0} → ℕ → ChainRun A → ChainRun A
+take_run zero r = ends Completed
+take_run (suc n) (gives x r) = gives x (take_run n r)
+take_run (suc n) (pends r) = pends (take_run (suc n) r)
+take_run (suc n) (ends e) = ends e
+
+-- all but the first n items
+abbrev pub drop_run : {A : Type 0} → ChainRun A → ℕ → ChainRun A
+drop_run (gives x r) zero = gives x (drop_run r zero)
+drop_run (gives x r) (suc n) = drop_run r n
+drop_run (pends r) n = pends (drop_run r n)
+drop_run (ends e) n = ends e
+
+-- whether x is the same as the one before, if there is one
+abbrev pub is_repeated : {A : Type 0} → (A → A → Bool) → Option A → A → Bool
+is_repeated is_same (Some y) x = is_same y x
+is_repeated is_same None x = false
+
+-- the items that differ from the one before
+abbrev pub distinct_run : {A : Type 0} → (A → A → Bool) → Option A → ChainRun A → ChainRun A
+distinct_run is_same last (gives x r) = cond (is_repeated is_same last x) (distinct_run is_same last r) (gives x (distinct_run is_same (Some x) r))
+distinct_run is_same last (pends r) = pends (distinct_run is_same last r)
+distinct_run is_same last (ends e) = ends e
+
+-- the results after the one that stands before the first item
+abbrev pub scan_run : {A B : Type 0} → (B × A → Result B ChainFault) → B → ChainRun A → ChainRun B
+scan_run f last (gives x r) = continued (f (last, x)) (λ y. gives y (scan_run f y r))
+scan_run f last (pends r) = pends (scan_run f last r)
+scan_run f last (ends e) = ends e
+
+-- the same, with the initial value first where it was not given yet; None: the initial value is the last result
+abbrev pub scan_rest : {A B : Type 0} → (B × A → Result B ChainFault) → Bool → B → Option B → ChainRun A → ChainRun B
+scan_rest f true initial (Some last) r = scan_run f last r
+scan_rest f true initial None r = scan_run f initial r
+scan_rest f false initial last r = gives initial (scan_run f initial r)
+
+-- the left item x and the right side's next item; k says what follows
+abbrev pub pair_run : {A B C : Type 0} → (A × B → Result C ChainFault) → A → (ChainRun B → ChainRun C) → ChainRun B → ChainRun C
+pair_run f x k (gives y q) = continued (f (x, y)) (λ z. gives z (k q))
+pair_run f x k (pends q) = pends (pair_run f x k q)
+pair_run f x k (ends e) = ends e
+
+-- the pairs' results: for each pair the left side is asked first
+abbrev pub zip_run : {A B C : Type 0} → (A × B → Result C ChainFault) → ChainRun A → ChainRun B → ChainRun C
+zip_run f (gives x r) = λ q. pair_run f x (zip_run f r) q
+zip_run f (pends r) = λ q. pends (zip_run f r q)
+zip_run f (ends e) = λ q. ends e
+
+-- a left item that was kept stands before the left side
+abbrev pub with_kept : {A : Type 0} → Option A → ChainRun A → ChainRun A
+with_kept (Some x) r = gives x r
+with_kept None r = r
+
+-- the items xs, then r
+abbrev pub prepended : {A : Type 0} → List A → ChainRun A → ChainRun A
+prepended [] r = r
+prepended (x ∷ xs) r = gives x (prepended xs r)
+
+-- each item's images
+abbrev pub transform_run : {A B : Type 0} → (A → Result (List B) ChainFault) → ChainRun A → ChainRun B
+transform_run f (gives x r) = continued (f x) (λ ys. prepended ys (transform_run f r))
+transform_run f (pends r) = pends (transform_run f r)
+transform_run f (ends e) = ends e
+
+-- the images that are left, which are kept in reverse, come first
+abbrev pub images_rest : {A V : Type 0} → (V → List A) → Option V → ChainRun A → ChainRun A
+images_rest view (Some kept) r = prepended (reverse (view kept)) r
+images_rest view None r = r
+
+-- r, then q where r completes
+abbrev pub followed : {A : Type 0} → ChainRun A → ChainRun A → ChainRun A
+followed (gives x r) q = gives x (followed r q)
+followed (pends r) q = pends (followed r q)
+followed (ends Completed) q = q
+followed (ends (Failed fault)) q = ends (Failed fault)
+
+-- the inner runs, one after the other
+abbrev pub flat_map_run : {A B : Type 0} → (A → Result (ChainRun B) ChainFault) → ChainRun A → ChainRun B
+flat_map_run f (gives x r) = continued (f x) (λ inner. followed inner (flat_map_run f r))
+flat_map_run f (pends r) = pends (flat_map_run f r)
+flat_map_run f (ends e) = ends e
+
+-- what an open inner chain has left comes first
+abbrev pub inner_rest : {A S : Type 0} → (S → ChainRun A) → Option S → ChainRun A → ChainRun A
+inner_rest view (Some inner) r = followed (view inner) r
+inner_rest view None r = r

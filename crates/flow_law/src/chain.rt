@@ -1,0 +1,26 @@
+//! How a cold chain ends.
+ghost use Rattle.std.specs.Prelude.{◌≡◌};
+
+/// Why a chain failed. A fault ends the chain; the items before it were given.
+#[derive(Clone, Copy, Debug, PartialEq, Eq)]
+pub enum ChainFault {
+    /// Memory was wanted and not given. The chain can be started anew.
+    OutOfMemory,
+    /// A result is outside the range of its type.
+    Overflow,
+    /// `take` wants a positive count.
+    NotPositive,
+    /// The source failed, with a number of its own.
+    Source(u32),
+    /// A chain that is built at run time may be 64 deep.
+    TooDeep,
+}
+
+/// How a chain ended.
+#[derive(Clone, Copy, Debug, PartialEq, Eq)]
+pub enum End {
+    /// After its last item.
+    Completed,
+    /// By a fault of the source, of a closure or of the chain itself.
+    Failed(ChainFault),
+}
