@@ -4,3 +4,4 @@ pub mod ByteLemmas
 pub mod CallLemmas
 pub mod PlayLemmas
 pub mod MeaningLemmas
+pub mod ChainLemmas

@@ -14,6 +14,7 @@ use Rattle.serde_json.specs.declared.value.Value.{Value}
 use Rattle.flow_law.specs.declared.config.Config.{Config}
 use Rattle.flow_script.specs.declared.fault.ScriptFault.{ScriptFault}
 use Rattle.flow_script.specs.declared.fault.ScriptFault.TheVariants.{OutOfMemory, ReadFailed, WriteFailed, NotJson, BadVersion, BadShape, UnknownName, DuplicateName, TooLarge}
+pub use Rattle.flow_script.specs.Results.{result_then, result_map, or_fault}
 use Rattle.flow_script.specs.declared.script.Script.{Script}
 use Rattle.flow_script.specs.declared.script.Step.{Step}
 use Rattle.flow_script.specs.declared.script.Step.TheVariants as step
@@ -27,19 +28,6 @@ most_bytes = 1048576
 
 abbrev pub most_steps : ℕ
 most_steps = 10000
-
--- ---- results
-
-abbrev pub result_then : {A B : Type 0} → (A → Result B ScriptFault) → Result A ScriptFault → Result B ScriptFault
-result_then follow (Ok a) = follow a
-result_then follow (Err fault) = Err fault
-
-abbrev pub result_map : {A B : Type 0} → (A → B) → Result A ScriptFault → Result B ScriptFault
-result_map f (Ok a) = Ok (f a)
-result_map f (Err fault) = Err fault
-
-abbrev pub or_fault : {A : Type 0} → ScriptFault → Option A → Result A ScriptFault
-or_fault fault o = option_map_or (λ a. Ok a) o (Err fault)
 
 -- ---- names
 

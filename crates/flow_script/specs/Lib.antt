@@ -1,6 +1,9 @@
+pub mod Results
 pub mod Format
+pub mod ChainFormat
 pub mod Checks
 pub mod Names
+pub mod Chains
 pub mod Lines
 pub mod ScriptMeaning
 pub mod Playing

@@ -5,6 +5,7 @@
 #![tactic(auto)]
 
 mod calls;
+mod chain_words;
 mod fault;
 mod lines;
 mod members;
@@ -12,7 +13,10 @@ mod names;
 mod player;
 mod playing;
 mod read;
+mod read_chain;
 mod read_head;
+mod read_op;
+mod read_source;
 mod read_step;
 mod script;
 mod transfer;
