@@ -6,6 +6,7 @@ use std::alloc::Global;
 use std::process::Abort;
 use std::test::Fail;
 
+mod chains;
 mod refused;
 mod shared;
 mod streams;

@@ -8,19 +8,21 @@ use Rattle.std.specs.declared.alloc.Global.{Global}
 use Rattle.serde_json.specs.Data.{Data, Items, no_items, item}
 use Rattle.serde_json.specs.Read.{read}
 use Rattle.serde_json.specs.Events.{items_len}
-use Rattle.serde_json.specs.Find.{as_object}
+use Rattle.serde_json.specs.Find.{get, as_object}
 use Rattle.serde_json.specs.View.{view}
 use Rattle.serde_json.specs.declared.value.Value.{Value}
-use Rattle.flow_law.specs.declared.config.Config.{Config}
 use Rattle.flow_script.specs.declared.fault.ScriptFault.{ScriptFault}
 use Rattle.flow_script.specs.declared.fault.ScriptFault.TheVariants.{OutOfMemory, ReadFailed, WriteFailed, NotJson, BadVersion, BadShape, UnknownName, DuplicateName, TooLarge}
 pub use Rattle.flow_script.specs.Results.{result_then, result_map, or_fault}
 use Rattle.flow_script.specs.declared.script.Script.{Script}
 use Rattle.flow_script.specs.declared.script.Step.{Step}
-use Rattle.flow_script.specs.declared.script.Step.TheVariants as step
+use Rattle.flow_script.specs.Actions.{Action, action_of, actions_of, head_of_flow}
+use Rattle.flow_script.specs.Actions as action
+use Rattle.flow_script.specs.ChainFormat.{Build, chain_in}
 use Rattle.flow_script.specs.declared.verb.Verb.{Verb}
-use Rattle.flow_script.specs.declared.verb.Verb.TheVariants.{TryEmit, Emit, Poll, Cancel, Subscribe, Next, Unsubscribe, Cache, Count, Reset}
-use Rattle.flow_script.specs.Format.{i64_at, name_at, verb_of, head_of, has_version}
+use Rattle.flow_script.specs.declared.verb.Verb.TheVariants.{TryEmit, Emit, Poll, Cancel, Subscribe, Next, Unsubscribe, Cache, Count, Reset, Collect}
+use Rattle.flow_script.specs.declared.verb.Kind.{Kind}
+use Rattle.flow_script.specs.Format.{Head, kind_of, i64_at, name_at, verb_of, head_of, has_version}
 
 -- the most bytes, and the most steps
 abbrev pub most_bytes : ℕ
@@ -57,7 +59,7 @@ with_subscriber at name names = if is_known name names then Err (DuplicateName a
 
 -- a step, and the names that were introduced up to it
 pub record Named : Type 0 where
-  pub step : Step
+  pub step : Action
   pub names : NameLists
 
 -- what a step's keys hold
@@ -74,41 +76,45 @@ emission_in at names d = result_then (λ name. or_fault (UnknownName at) (place_
 abbrev pub subscriber_in : ℕ → NameLists → Data → Result ℕ ScriptFault
 subscriber_in at names d = result_then (λ name. or_fault (UnknownName at) (place_of name names.subscribers)) (name_in at d)
 
-abbrev pub named : NameLists → Step → Named
+abbrev pub named : NameLists → Action → Named
 named names step = record { step = step; names = names }
 
-abbrev pub step_by : Verb → ℕ → NameLists → Data → Result Named ScriptFault
-step_by TryEmit at names d = result_map (λ value. named names (step.TryEmit value)) (value_in at d)
-step_by Emit at names d = result_then (λ value. result_then (λ name. result_map (λ after. named after (step.Emit value)) (with_emission at name names)) (name_in at d)) (value_in at d)
-step_by Poll at names d = result_map (λ place. named names (step.Poll place)) (emission_in at names d)
-step_by Cancel at names d = result_map (λ place. named names (step.Cancel place)) (emission_in at names d)
-step_by Subscribe at names d = result_then (λ name. result_map (λ after. named after step.Subscribe) (with_subscriber at name names)) (name_in at d)
-step_by Next at names d = result_map (λ place. named names (step.Next place)) (subscriber_in at names d)
-step_by Unsubscribe at names d = result_map (λ place. named names (step.Unsubscribe place)) (subscriber_in at names d)
-step_by Cache at names d = Ok (named names step.Cache)
-step_by Count at names d = Ok (named names step.Count)
-step_by Reset at names d = Ok (named names step.Reset)
+abbrev pub collected_in : ℕ → Data → Result Build ScriptFault
+collected_in at d = result_then (chain_in at) (or_fault (BadShape at) (get (codes "chain") d))
 
-abbrev pub step_of : ℕ → NameLists → Data → Result Named ScriptFault
-step_of at names d = result_then (λ verb. step_by verb at names d) (or_fault (BadShape at) (verb_of d))
+abbrev pub step_by : Verb → ℕ → NameLists → Data → Result Named ScriptFault
+step_by TryEmit at names d = result_map (λ value. named names (action.try_emit value)) (value_in at d)
+step_by Emit at names d = result_then (λ value. result_then (λ name. result_map (λ after. named after (action.emit value)) (with_emission at name names)) (name_in at d)) (value_in at d)
+step_by Poll at names d = result_map (λ place. named names (action.poll place)) (emission_in at names d)
+step_by Cancel at names d = result_map (λ place. named names (action.cancel place)) (emission_in at names d)
+step_by Subscribe at names d = result_then (λ name. result_map (λ after. named after action.subscribe) (with_subscriber at name names)) (name_in at d)
+step_by Next at names d = result_map (λ place. named names (action.next place)) (subscriber_in at names d)
+step_by Unsubscribe at names d = result_map (λ place. named names (action.unsubscribe place)) (subscriber_in at names d)
+step_by Cache at names d = Ok (named names action.cache)
+step_by Count at names d = Ok (named names action.count)
+step_by Reset at names d = Ok (named names action.reset)
+step_by Collect at names d = result_map (λ build. named names (action.collect build)) (collected_in at d)
+
+abbrev pub step_of : Kind → ℕ → NameLists → Data → Result Named ScriptFault
+step_of kind at names d = result_then (λ verb. step_by verb at names d) (or_fault (BadShape at) (verb_of kind d))
 
 -- the steps in order, up to the first one that is refused
-abbrev pub steps_of : ℕ → NameLists → Items → Result (List Step) ScriptFault
-steps_of at names no_items = Ok []
-steps_of at names (item d ds) = result_then (λ named. result_map (λ steps. named.step ∷ steps) (steps_of (at + 1) named.names ds)) (step_of at names d)
+abbrev pub steps_of : Kind → ℕ → NameLists → Items → Result (List Action) ScriptFault
+steps_of kind at names no_items = Ok []
+steps_of kind at names (item d ds) = result_then (λ named. result_map (λ steps. named.step ∷ steps) (steps_of kind (at + 1) named.names ds)) (step_of kind at names d)
 
 -- ---- scripts
 
 -- a script that is not refused
 pub record Checked : Type 0 where
-  pub config : Config
-  pub steps : List Step
+  pub flow : Head
+  pub steps : List Action
 
 -- the number of steps, then the steps
-abbrev pub checked : Config × Items → Result Checked ScriptFault
+abbrev pub checked : Head × Items → Result Checked ScriptFault
 checked head =
     if nat_lt most_steps (items_len head.1) then Err (TooLarge 0)
-    else result_map (λ steps. record { config = head.0; steps = steps }) (steps_of 1 no_names head.1)
+    else result_map (λ steps. record { flow = head.0; steps = steps }) (steps_of (kind_of head.0) 1 no_names head.1)
 
 -- an object first, then its version, then its shape, then what it says
 abbrev pub script_of : Data → Result Checked ScriptFault
@@ -146,10 +152,10 @@ abbrev pub value_result : Result Value ScriptFault → Result Data ScriptFault
 value_result r = result_map view r
 
 abbrev pub named_result : Result Step ScriptFault → NameLists → Result Named ScriptFault
-named_result r names = result_map (λ step. record { step = step; names = names }) r
+named_result r names = result_map (λ step. named names (action_of step)) r
 
-abbrev pub steps_result : Result (Vec Step Global) ScriptFault → Result (List Step) ScriptFault
-steps_result r = result_map (λ steps. steps.items) r
+abbrev pub steps_result : Result (Vec Step Global) ScriptFault → Result (List Action) ScriptFault
+steps_result r = result_map (λ steps. actions_of steps.items) r
 
 abbrev pub script_result : Result Script ScriptFault → Result Checked ScriptFault
-script_result r = result_map (λ script. record { config = script.config; steps = script.steps.items }) r
+script_result r = result_map (λ script. record { flow = head_of_flow script.flow; steps = actions_of script.steps.items }) r

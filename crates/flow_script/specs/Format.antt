@@ -1,6 +1,6 @@
 -- What the JSON text of a script says: its head, and the keys of each step.
 -- Begin with `head_of` and `verb_of`. What is refused, and in which order, is in Checks.
-use Rattle.std.specs.Prelude.{◌≡◌, ℕ, ◌+◌, ◌^◌, ◌-◌, Bool, false, ◌&&◌, ◌||◌, ◌==◌, nat_lt, nat_le, if◌then◌else◌, ℤ, List, length, Option, Some, None, option_map, option_and_then, is_some, codes}
+use Rattle.std.specs.Prelude.{◌≡◌, ℕ, ◌+◌, ◌^◌, ◌-◌, Bool, true, false, ◌&&◌, ◌||◌, ◌==◌, nat_lt, nat_le, if◌then◌else◌, ℤ, List, length, Option, Some, None, option_map, option_and_then, is_some, codes}
 use Rattle.std.specs.Option.{option_map_or}
 use Rattle.std.specs.List.{list_all}
 use Rattle.std.specs.Str.{bytes_eq}
@@ -11,7 +11,9 @@ use Rattle.flow_law.specs.declared.config.Config.{Config}
 use Rattle.flow_law.specs.declared.config.Overflow.{Overflow}
 use Rattle.flow_law.specs.declared.config.Overflow.TheVariants.{Suspend, DropOldest, DropLatest}
 use Rattle.flow_script.specs.declared.verb.Verb.{Verb}
-use Rattle.flow_script.specs.declared.verb.Verb.TheVariants.{TryEmit, Emit, Poll, Cancel, Subscribe, Next, Unsubscribe, Cache, Count, Reset}
+use Rattle.flow_script.specs.declared.verb.Verb.TheVariants.{TryEmit, Emit, Poll, Cancel, Subscribe, Next, Unsubscribe, Cache, Count, Reset, Collect}
+use Rattle.flow_script.specs.declared.verb.Kind.{Kind}
+use Rattle.flow_script.specs.declared.verb.Kind.TheVariants as kind
 
 -- ---- members of an object
 
@@ -68,15 +70,29 @@ config_of d =
     (Some (record { replay = replay; extra = extra; overflow = overflow; limit = limit })))
     (limit_at d)) (option_and_then overflow_named (text_at (codes "overflow") d))) (u32_at (codes "extra") d)) (u32_at (codes "replay") d)
 
-abbrev pub flow_of : Data → Option Config
-flow_of d = option_and_then (λ kind. if bytes_eq kind (codes "shared") then config_of d else None) (text_at (codes "kind") d)
+-- what a head says of its flow
+pub data Head : Type 0 where
+  no_flow : Head
+  shared_flow : Config → Head
+
+abbrev pub kind_of : Head → Kind
+kind_of no_flow = kind.Absent
+kind_of (shared_flow config) = kind.Shared
+
+abbrev pub flow_named : List ℕ → Data → Option Head
+flow_named kind d =
+    if bytes_eq kind (codes "none") then where_true (has_members 1 d) (Some no_flow)
+    else (if bytes_eq kind (codes "shared") then option_map shared_flow (config_of d) else None)
+
+abbrev pub flow_of : Data → Option Head
+flow_of d = option_and_then (λ kind. flow_named kind d) (text_at (codes "kind") d)
 
 abbrev pub has_version : Data → Bool
 has_version d = option_map_or (λ version. version == 1) (u64_at (codes "version") d) false
 
 -- the flow and the steps of a head of the right shape
-abbrev pub head_of : Data → Option (Config × Items)
-head_of d = where_true (has_members 3 d) (option_and_then (λ config. option_map (λ steps. (config, steps))
+abbrev pub head_of : Data → Option (Head × Items)
+head_of d = where_true (has_members 3 d) (option_and_then (λ flow. option_map (λ steps. (flow, steps))
     (option_and_then as_array (get (codes "steps") d))) (option_and_then flow_of (get (codes "flow") d)))
 
 -- ---- steps
@@ -92,7 +108,8 @@ verb_named text =
     else (if bytes_eq text (codes "unsubscribe") then Some Unsubscribe
     else (if bytes_eq text (codes "cache") then Some Cache
     else (if bytes_eq text (codes "count") then Some Count
-    else (if bytes_eq text (codes "reset") then Some Reset else None)))))))))
+    else (if bytes_eq text (codes "reset") then Some Reset
+    else (if bytes_eq text (codes "collect") then Some Collect else None))))))))))
 
 -- how many keys a step has, `do` among them
 abbrev pub key_count : Verb → ℕ
@@ -102,6 +119,15 @@ key_count Count = 1
 key_count Reset = 1
 key_count _ = 2
 
--- what a step does, if it has as many keys as that needs
-abbrev pub verb_of : Data → Option Verb
-verb_of d = option_and_then (λ verb. where_true (has_members (key_count verb) d) (Some verb)) (option_and_then verb_named (text_at (codes "do") d))
+abbrev pub is_collect : Verb → Bool
+is_collect Collect = true
+is_collect _ = false
+
+-- the steps that each kind of flow allows
+abbrev pub is_allowed : Kind → Verb → Bool
+is_allowed kind.Absent verb = is_collect verb
+is_allowed kind.Shared verb = true
+
+-- what a step does, if the flow allows it and it has as many keys as it needs
+abbrev pub verb_of : Kind → Data → Option Verb
+verb_of kind d = option_and_then (λ verb. where_true (is_allowed kind verb && has_members (key_count verb) d) (Some verb)) (option_and_then verb_named (text_at (codes "do") d))

@@ -1,6 +1,7 @@
 pub mod Results
 pub mod Format
 pub mod ChainFormat
+pub mod Actions
 pub mod Checks
 pub mod Names
 pub mod Chains

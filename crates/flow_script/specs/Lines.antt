@@ -1,10 +1,16 @@
 -- The lines that a script writes, by the documented reply to each call.
 -- Begin with `line_of`.
-use Rattle.std.specs.Prelude.{ℕ, ℤ, Bool, true, false, List, [], ◌∷◌, ◌++◌, if◌then◌else◌, codes, decimal}
+use Rattle.std.specs.Prelude.{ℕ, ℤ, Bool, true, false, List, [], ◌∷◌, ◌++◌, if◌then◌else◌, Ok, Err, codes, decimal}
 use Rattle.std.specs.Fmt.{signed_decimal}
 use Rattle.std.specs.List.{flat_map}
 use Rattle.flow_law.specs.declared.fault.FlowFault.{FlowFault}
 use Rattle.flow_law.specs.declared.fault.FlowFault.TheVariants.{OutOfMemory, TooLarge, NeedsBuffer, Exhausted, Unsupported, Busy}
+use Rattle.flow_law.specs.declared.chain.ChainFault.{ChainFault}
+use Rattle.flow_law.specs.declared.chain.ChainFault.TheVariants as chain_fault
+use Rattle.flow_law.specs.declared.chain.End.{End}
+use Rattle.flow_law.specs.declared.chain.End.TheVariants.{Completed, Failed}
+use Rattle.flow_law.specs.ChainRun.{items, ending}
+use Rattle.flow_script.specs.ChainFormat.{Build}
 use Rattle.flow_law.specs.declared.outcome.Emit.TheVariants.{Done, Queued}
 use Rattle.flow_law.specs.declared.outcome.Next.{Next}
 use Rattle.flow_law.specs.declared.outcome.Next.TheVariants.{Value, Empty, Gone}
@@ -43,6 +49,30 @@ abbrev pub next_text : Next ℤ → List ℕ
 next_text (Value value) = codes "value " ++ signed_decimal value
 next_text Empty = codes "empty"
 next_text Gone = codes "gone"
+
+-- ---- chains
+
+abbrev pub chain_fault_text : ChainFault → List ℕ
+chain_fault_text chain_fault.OutOfMemory = codes "1 OutOfMemory"
+chain_fault_text chain_fault.Overflow = codes "2 Overflow"
+chain_fault_text chain_fault.NotPositive = codes "3 NotPositive"
+chain_fault_text (chain_fault.Source number) = codes "4 Source " ++ decimal number
+chain_fault_text chain_fault.TooDeep = codes "5 TooDeep"
+
+abbrev pub end_text : End → List ℕ
+end_text Completed = codes " completed"
+end_text (Failed fault) = codes " failed " ++ chain_fault_text fault
+
+-- what a collection gives, or why the chain could not be built
+abbrev pub collection_text : Build → List ℕ
+collection_text (Ok chain) = list_text (items chain.run) ++ end_text (ending chain.run)
+collection_text (Err fault) = codes "refused " ++ chain_fault_text fault
+
+-- ---- calls of a flow
+
+-- the line of a step that the flow does not allow. No script that is read has one
+abbrev pub not_allowed : List ℕ
+not_allowed = codes "not allowed"
 
 -- a call of a shared flow, and its reply
 abbrev pub line_of : SharedCall ℤ → SharedReply ℤ → List ℕ

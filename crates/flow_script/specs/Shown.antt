@@ -5,10 +5,13 @@ use Rattle.flow_law.specs.declared.call.SharedCall.{SharedCall}
 use Rattle.flow_law.specs.Standing.{Core, StandsFor}
 use Rattle.flow_core.specs.declared.shared.SubId.{SubId}
 use Rattle.flow_core.specs.SharedCore.{number_of}
-use Rattle.flow_script.specs.declared.script.Step.{Step}
-use Rattle.flow_script.specs.declared.player.SharedPlayer.{SharedPlayer}
+use Rattle.flow_script.specs.declared.shared_player.SharedPlayer.{SharedPlayer}
+use Rattle.flow_script.specs.declared.player.Player.{Player}
+use Rattle.flow_script.specs.declared.player.Player.TheVariants.{Idle, Shared}
+use Rattle.flow_script.specs.Actions.{Action}
 use Rattle.flow_script.specs.Lines.{lined, line_of}
-use Rattle.flow_script.specs.ScriptMeaning.{Player, reply_to, state_after, turn}
+use Rattle.flow_script.specs.ScriptMeaning.{SharedPlay, reply_to, state_after, shared_turn, flow_turn, turn}
+use Rattle.flow_script.specs.ScriptMeaning as player
 
 -- the call is made, and its line is written
 abbrev pub Writes : SharedCall ℤ → Core ℤ → Core ℤ → List ℕ → List ℕ → Type 0
@@ -18,11 +21,25 @@ Writes call old new before after =
 abbrev pub numbers_of : List (Option SubId) → List (Option ℕ)
 numbers_of ids = map (option_map number_of) ids
 
-pub record Shows (player : SharedPlayer) (p : Player) : Type 0 where
+pub record ShowsShared (player : SharedPlayer) (p : SharedPlay) : Type 0 where
   pub flow : StandsFor player.core p.flow
   pub emissions : player.emissions.items ≡ p.emissions
   pub subscribers : numbers_of player.subscribers.items ≡ p.subscribers
 
+-- the step is played on the shared flow, and its line is written
+abbrev pub PlaysShared : Action → SharedPlayer → SharedPlayer → List ℕ → List ℕ → Type 0
+PlaysShared action old new before after =
+    (p : SharedPlay) → ShowsShared old p → ShowsShared new (shared_turn action p).after × (after ≡ before ++ lined (shared_turn action p).line)
+
+abbrev pub Shows : Player → player.Player → Type 0
+Shows Idle player.idle = Unit {0}
+Shows (Shared core) (player.shared p) = ShowsShared core p
+Shows _ _ = ⊥
+
 -- the step is played, and its line is written
-abbrev pub Plays : Step → SharedPlayer → SharedPlayer → List ℕ → List ℕ → Type 0
-Plays step old new before after = (p : Player) → Shows old p → Shows new (turn step p).after × (after ≡ before ++ lined (turn step p).line)
+abbrev pub Plays : Action → Player → Player → List ℕ → List ℕ → Type 0
+Plays action old new before after = (p : player.Player) → Shows old p → Shows new (turn action p).after × (after ≡ before ++ lined (turn action p).line)
+
+-- the same, of a step that is about the flow
+abbrev pub PlaysFlow : Action → Player → Player → List ℕ → List ℕ → Type 0
+PlaysFlow action old new before after = (p : player.Player) → Shows old p → Shows new (flow_turn action p).after × (after ≡ before ++ lined (flow_turn action p).line)

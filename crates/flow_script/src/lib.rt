@@ -6,6 +6,7 @@
 
 mod calls;
 mod chain_words;
+mod collect;
 mod fault;
 mod lines;
 mod members;
@@ -19,6 +20,7 @@ mod read_op;
 mod read_source;
 mod read_step;
 mod script;
+mod shared_player;
 mod transfer;
 mod verb;
 mod watched;
@@ -26,5 +28,5 @@ mod watched;
 pub use fault::ScriptFault;
 pub use playing::play;
 pub use read::read_script;
-pub use script::{Script, Step};
+pub use script::{Build, Script, ScriptFlow, Step};
 pub use watched::Watched;

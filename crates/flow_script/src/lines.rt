@@ -6,6 +6,9 @@ use crate::fault::ScriptFault;
 use flow_law::{FlowFault, Next};
 use std::alloc::AllocError;
 
+/// The line of a step that the flow does not allow. No script that is read has one.
+pub const NOT_ALLOWED: &str = "not allowed";
+
 pub fn add_line(text: &mut String, line: &str) -> Result<(), AllocError>
     ensures { OnOk result (string_bytes text.new ≡ string_bytes text.old ++ lines.lined line.now) }
 {
@@ -22,15 +25,23 @@ fn add_more_items(text: &mut String, values: &[i64]) -> Result<(), AllocError>
     Ok(())
 }
 
-pub fn add_list(text: &mut String, values: &[i64]) -> Result<(), AllocError>
-    ensures { OnOk result (string_bytes text.new ≡ string_bytes text.old ++ lines.lined (lines.list_text values.now)) }
+/// A list, in a line that is not ended.
+pub fn add_items(text: &mut String, values: &[i64]) -> Result<(), AllocError>
+    ensures { OnOk result (string_bytes text.new ≡ string_bytes text.old ++ lines.list_text values.now) }
 {
     let Some((first, more)) = values.split_first() else {
-        return add_line(text, "[]");
+        return text.push_str("[]");
     };
     write!(text, "[{first}")?;
     add_more_items(text, more)?;
-    add_line(text, "]")
+    text.push(']')
+}
+
+pub fn add_list(text: &mut String, values: &[i64]) -> Result<(), AllocError>
+    ensures { OnOk result (string_bytes text.new ≡ string_bytes text.old ++ lines.lined (lines.list_text values.now)) }
+{
+    add_items(text, values)?;
+    text.push('\n')
 }
 
 pub fn add_test(text: &mut String, test: bool) -> Result<(), AllocError>

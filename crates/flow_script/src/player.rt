@@ -1,160 +1,81 @@
-//! Playing the steps of a script over a shared flow.
-ghost use Rattle.std.specs.Prelude.{◌≡◌, OnOk, IfOk, IfErr, string_bytes, option_map};
-ghost use Rattle.flow_core.specs.SharedCore.{number_of};
+//! Playing the steps of a script.
+ghost use Rattle.std.specs.Prelude.{◌≡◌, OnOk, IfOk, IfErr, MatchResult, Ok, Err, string_bytes};
+ghost use Rattle.flow_script.specs.Actions.{action_of, actions_of, head_of_flow};
 ghost use Rattle.flow_script.specs.ScriptMeaning as meaning;
-ghost use Rattle.flow_script.specs.Shown.{Plays, numbers_of};
+ghost use Rattle.flow_script.specs.Shown.{Plays, PlaysFlow, Shows};
 
-use crate::calls;
+use crate::collect::add_collection;
 use crate::fault::ScriptFault;
-use crate::lines::{add_line, add_refusal};
-use crate::script::{Script, Step};
-use flow_core::{SharedCore, SubId};
+use crate::lines::{NOT_ALLOWED, add_line, add_refusal};
+use crate::script::{Script, ScriptFlow, Step};
+use crate::shared_player::SharedPlayer;
+use flow_law::FlowFault;
 use std::alloc::Global;
 
-/// The flow of a script, and what the names of its steps stand for, each kind in the order of introduction.
+/// What the steps of a script are played on.
 #[derive(Drop)]
-pub struct SharedPlayer {
-    core: SharedCore<i64>,
-    /// The number of each emission that waited at first.
-    emissions: Vec<Option<u64>>,
-    /// Each subscription that was not refused.
-    subscribers: Vec<Option<SubId>>,
+pub enum Player {
+    Idle,
+    Shared(SharedPlayer),
 }
 
-impl SharedPlayer {
-    fn emission_at(&self, place: usize) -> Option<u64>
-        ensures { result ≡ meaning.number_at place self.now.emissions.items }
+impl Player {
+    /// Before the first step.
+    fn new(alloc: Global, flow: ScriptFlow) -> Result<Self, FlowFault>
+        ensures { MatchResult result
+            (λ player. (p : meaning.Player) × (meaning.player_of (head_of_flow flow) ≡ Ok p) × Shows player p)
+            (λ fault. meaning.player_of (head_of_flow flow) ≡ Err fault) }
     {
-        if place < self.emissions.len() {
-            self.emissions[place]
-        } else {
-            None
+        match flow {
+            ScriptFlow::Absent => Ok(Player::Idle),
+            ScriptFlow::Shared(config) => match SharedPlayer::new(alloc, config) {
+                Ok(player) => Ok(Player::Shared(player)),
+                Err(fault) => Err(fault),
+            },
         }
     }
 
-    fn subscriber_at(&self, place: usize) -> Option<SubId>
-        ensures { option_map number_of result ≡ meaning.number_at place (numbers_of self.now.subscribers.items) }
-    {
-        if place < self.subscribers.len() {
-            self.subscribers[place]
-        } else {
-            None
-        }
-    }
-
-    fn emit(&mut self, text: &mut String, value: i64) -> Result<(), ScriptFault>
-        ensures plays { OnOk result (Plays (Step.Emit value) self.old self.new (string_bytes text.old) (string_bytes text.new)) }
-        ensures fault { IfErr result (λ fault. fault ≡ ScriptFault.OutOfMemory) }
-    {
-        let number = calls::emit(&mut self.core, text, value)?;
-        match self.emissions.push(number) {
-            Ok(()) => Ok(()),
-            Err(_) => Err(ScriptFault::OutOfMemory),
-        }
-    }
-
-    fn subscribe(&mut self, text: &mut String) -> Result<(), ScriptFault>
-        ensures plays { OnOk result (Plays Step.Subscribe self.old self.new (string_bytes text.old) (string_bytes text.new)) }
-        ensures fault { IfErr result (λ fault. fault ≡ ScriptFault.OutOfMemory) }
-    {
-        let id = calls::subscribe(&mut self.core, text)?;
-        match self.subscribers.push(id) {
-            Ok(()) => Ok(()),
-            Err(_) => Err(ScriptFault::OutOfMemory),
-        }
-    }
-
-    fn poll(&mut self, text: &mut String, place: usize) -> Result<(), ScriptFault>
-        ensures plays { OnOk result (Plays (Step.Poll place) self.old self.new (string_bytes text.old) (string_bytes text.new)) }
-        ensures fault { IfErr result (λ fault. fault ≡ ScriptFault.OutOfMemory) }
-    {
-        match self.emission_at(place) {
-            Some(emission) => calls::poll(&self.core, text, emission),
-            None => {
-                add_line(text, "done")?;
-                Ok(())
-            }
-        }
-    }
-
-    fn cancel(&mut self, text: &mut String, place: usize) -> Result<(), ScriptFault>
-        ensures plays { OnOk result (Plays (Step.Cancel place) self.old self.new (string_bytes text.old) (string_bytes text.new)) }
-        ensures fault { IfErr result (λ fault. fault ≡ ScriptFault.OutOfMemory) }
-    {
-        match self.emission_at(place) {
-            Some(emission) => calls::cancel(&mut self.core, text, emission),
-            None => {
-                add_line(text, "false")?;
-                Ok(())
-            }
-        }
-    }
-
-    fn next(&mut self, text: &mut String, place: usize) -> Result<(), ScriptFault>
-        ensures plays { OnOk result (Plays (Step.Next place) self.old self.new (string_bytes text.old) (string_bytes text.new)) }
-        ensures fault { IfErr result (λ fault. fault ≡ ScriptFault.OutOfMemory) }
-    {
-        match self.subscriber_at(place) {
-            Some(id) => calls::next(&mut self.core, text, id),
-            None => {
-                add_line(text, "gone")?;
-                Ok(())
-            }
-        }
-    }
-
-    fn unsubscribe(&mut self, text: &mut String, place: usize) -> Result<(), ScriptFault>
-        ensures plays { OnOk result (Plays (Step.Unsubscribe place) self.old self.new (string_bytes text.old) (string_bytes text.new)) }
-        ensures fault { IfErr result (λ fault. fault ≡ ScriptFault.OutOfMemory) }
-    {
-        match self.subscriber_at(place) {
-            Some(id) => calls::unsubscribe(&mut self.core, text, id),
-            None => {
-                add_line(text, "false")?;
-                Ok(())
-            }
-        }
-    }
-
-    fn step(&mut self, text: &mut String, step: Step) -> Result<(), ScriptFault>
-        ensures plays { OnOk result (Plays step self.old self.new (string_bytes text.old) (string_bytes text.new)) }
+    fn step(&mut self, alloc: Global, text: &mut String, step: Step) -> Result<(), ScriptFault>
+        ensures plays { OnOk result (Plays (action_of step) self.old self.new (string_bytes text.old) (string_bytes text.new)) }
         ensures fault { IfErr result (λ fault. fault ≡ ScriptFault.OutOfMemory) }
     {
         match step {
-            Step::TryEmit(value) => calls::try_emit(&mut self.core, text, value),
-            Step::Emit(value) => self.emit(text, value),
-            Step::Poll(place) => self.poll(text, place),
-            Step::Cancel(place) => self.cancel(text, place),
-            Step::Subscribe => self.subscribe(text),
-            Step::Next(place) => self.next(text, place),
-            Step::Unsubscribe(place) => self.unsubscribe(text, place),
-            Step::Cache => calls::replay_cache(&self.core, text),
-            Step::Count => calls::subscription_count(&self.core, text),
-            Step::Reset => calls::reset_replay_cache(&mut self.core, text),
+            Step::Collect(build) => add_collection(alloc, text, build),
+            step => self.flow_step(text, &step),
+        }
+    }
+
+    /// Plays a step that is about the flow.
+    fn flow_step(&mut self, text: &mut String, step: &Step) -> Result<(), ScriptFault>
+        ensures plays { OnOk result (PlaysFlow (action_of step.now) self.old self.new (string_bytes text.old) (string_bytes text.new)) }
+        ensures fault { IfErr result (λ fault. fault ≡ ScriptFault.OutOfMemory) }
+    {
+        match self {
+            Player::Idle => {
+                add_line(text, NOT_ALLOWED)?;
+                Ok(())
+            }
+            Player::Shared(player) => player.step(text, step),
         }
     }
 }
 
 /// The lines of a script.
-pub fn text_of(alloc: Global, script: &Script) -> Result<String, ScriptFault>
-    ensures text { IfOk result (λ text. string_bytes text ≡ meaning.text_of script.now.config script.now.steps.items) }
+pub fn text_of(alloc: Global, script: Script) -> Result<String, ScriptFault>
+    ensures text { IfOk result (λ text. string_bytes text ≡ meaning.text_of (head_of_flow script.flow) (actions_of script.steps.items)) }
     ensures fault { IfErr result (λ fault. fault ≡ ScriptFault.OutOfMemory) }
 {
+    let Script { flow, steps } = script;
     let mut text = String::new(alloc);
-    let core = match SharedCore::new(alloc, script.config) {
-        Ok(core) => core,
+    let mut player = match Player::new(alloc, flow) {
+        Ok(player) => player,
         Err(fault) => {
             add_refusal(&mut text, fault)?;
             return Ok(text);
         }
     };
-    let mut player = SharedPlayer {
-        core,
-        emissions: Vec::new(alloc),
-        subscribers: Vec::new(alloc),
-    };
-    for step in &script.steps {
-        player.step(&mut text, *step)?;
+    for step in steps {
+        player.step(alloc, &mut text, step)?;
     }
     Ok(text)
 }

@@ -21,7 +21,7 @@ fn lines_of(alloc: Global, bytes: &[u8]) -> Result<String, ScriptFault>
         Ok(script) => script,
         Err(fault) => return Err(fault),
     };
-    match text_of(alloc, &script) {
+    match text_of(alloc, script) {
         Ok(text) => Ok(text),
         Err(_) => Err(ScriptFault::OutOfMemory),
     }

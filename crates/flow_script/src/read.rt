@@ -3,13 +3,14 @@ ghost use Rattle.std.specs.Prelude.{◌≡◌, ◌<◌, ◌+◌, Ok, Err, length
 ghost use Rattle.serde_json.specs.Find.{as_object};
 ghost use Rattle.serde_json.specs.View.{view, items_view};
 ghost use Rattle.flow_script.specs.Checks as checks;
+ghost use Rattle.flow_script.specs.Actions.{head_of_flow};
 
 use crate::fault::ScriptFault;
 use crate::names::Names;
-use crate::read_head::{has_version, head_of};
+use crate::read_head::{has_version, head_of, kind_of};
 use crate::read_step::step_of;
-use crate::script::{Script, Step};
-use flow_law::Config;
+use crate::script::{Script, ScriptFlow, Step};
+use crate::verb::Kind;
 use serde_json::Value;
 use std::alloc::Global;
 
@@ -18,13 +19,13 @@ pub const MOST_BYTES: usize = 1_048_576;
 
 const MOST_STEPS: usize = 10_000;
 
-fn steps_of(alloc: Global, steps: &[Value]) -> Result<Vec<Step>, ScriptFault>
-    ensures { checks.Gives (checks.steps_of 1 checks.no_names (items_view steps.now)) (checks.steps_result result) }
+fn steps_of(alloc: Global, kind: Kind, steps: &[Value]) -> Result<Vec<Step>, ScriptFault>
+    ensures { checks.Gives (checks.steps_of kind 1 checks.no_names (items_view steps.now)) (checks.steps_result result) }
 {
     let mut names = Names::new(alloc);
     let mut checked = Vec::new(alloc);
     for (index, step) in steps.iter().enumerate() {
-        let step = match step_of(&mut names, index as u64 + 1, step) {
+        let step = match step_of(alloc, kind, &mut names, index as u64 + 1, step) {
             Ok(step) => step,
             Err(fault) => return Err(fault),
         };
@@ -36,14 +37,14 @@ fn steps_of(alloc: Global, steps: &[Value]) -> Result<Vec<Step>, ScriptFault>
 }
 
 /// The script of a head of the right shape.
-fn checked(alloc: Global, config: Config, steps: &[Value]) -> Result<Script, ScriptFault>
-    ensures { checks.Gives (checks.checked (config, items_view steps.now)) (checks.script_result result) }
+fn checked(alloc: Global, flow: ScriptFlow, steps: &[Value]) -> Result<Script, ScriptFault>
+    ensures { checks.Gives (checks.checked (head_of_flow flow, items_view steps.now)) (checks.script_result result) }
 {
     if steps.len() > MOST_STEPS {
         return Err(ScriptFault::TooLarge(0));
     }
-    match steps_of(alloc, steps) {
-        Ok(steps) => Ok(Script { config, steps }),
+    match steps_of(alloc, kind_of(&flow), steps) {
+        Ok(steps) => Ok(Script { flow, steps }),
         Err(fault) => Err(fault),
     }
 }
@@ -58,7 +59,7 @@ fn script_of(alloc: Global, value: &Value) -> Result<Script, ScriptFault>
         return Err(ScriptFault::BadVersion);
     }
     match head_of(value) {
-        Some((config, steps)) => checked(alloc, config, steps.as_slice()),
+        Some((flow, steps)) => checked(alloc, flow, steps.as_slice()),
         None => Err(ScriptFault::BadShape(0)),
     }
 }

@@ -12,15 +12,13 @@ use crate::fault::ScriptFault;
 use crate::members::has_members;
 use crate::read_op::{operator_in, zip_parts};
 use crate::read_source::source_in;
+use crate::script::Build;
 use flow_cold::{ChainFault, Joining, Op, ScriptChain, Source};
 use serde_json::Value;
 use std::alloc::Global;
 
 /// How deep zips may nest: more than any text does, since JSON nests at most 127 deep, and three deeper with each zip.
 const MOST_LEVELS: u32 = 127;
-
-/// A chain of a script, or why it could not be built.
-pub type Build = Result<ScriptChain, ChainFault>;
 
 /// The source and the operators of a chain.
 fn parts_of(chain: &Value) -> Option<(&Value, &Vec<Value>)>

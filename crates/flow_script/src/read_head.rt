@@ -3,8 +3,11 @@ ghost use Rattle.std.specs.Prelude.{◌≡◌, ◌+◌, ◌<◌, ◌^◌, codes,
 ghost use Rattle.serde_json.specs.Find.{get, as_array};
 ghost use Rattle.serde_json.specs.View.{view, items_view};
 ghost use Rattle.flow_script.specs.Format as format;
+ghost use Rattle.flow_script.specs.Actions.{head_of_flow};
 
 use crate::members::{has_members, text_at, u32_at, u64_at};
+use crate::script::ScriptFlow;
+use crate::verb::Kind;
 use flow_law::{Config, Overflow};
 use serde_json::Value;
 
@@ -69,14 +72,37 @@ fn config_of(flow: &Value) -> Option<Config>
     })
 }
 
-fn flow_of(flow: &Value) -> Option<Config>
-    ensures { result ≡ format.flow_of (view flow.now) }
+/// The flow that a head names by its kind.
+fn flow_named(kind: &str, flow: &Value) -> Option<ScriptFlow>
+    ensures { option_map head_of_flow result ≡ format.flow_named kind.now (view flow.now) }
+{
+    if kind == "none" {
+        return if has_members(flow, 1) {
+            Some(ScriptFlow::Absent)
+        } else {
+            None
+        };
+    }
+    if kind == "shared" {
+        return Some(ScriptFlow::Shared(config_of(flow)?));
+    }
+    None
+}
+
+fn flow_of(flow: &Value) -> Option<ScriptFlow>
+    ensures { option_map head_of_flow result ≡ format.flow_of (view flow.now) }
 {
     let kind = text_at(flow, "kind")?;
-    if kind == "shared" {
-        config_of(flow)
-    } else {
-        None
+    flow_named(kind, flow)
+}
+
+/// The kind of a flow, which says what steps there may be.
+pub fn kind_of(flow: &ScriptFlow) -> Kind
+    ensures { result ≡ format.kind_of (head_of_flow flow.now) }
+{
+    match flow {
+        ScriptFlow::Absent => Kind::Absent,
+        ScriptFlow::Shared(_) => Kind::Shared,
     }
 }
 
@@ -89,8 +115,8 @@ pub fn has_version(value: &Value) -> bool
     }
 }
 
-fn flow_in(value: &Value) -> Option<Config>
-    ensures { result ≡ option_and_then format.flow_of (get (codes "flow") (view value.now)) }
+fn flow_in(value: &Value) -> Option<ScriptFlow>
+    ensures { option_map head_of_flow result ≡ option_and_then format.flow_of (get (codes "flow") (view value.now)) }
 {
     match value.get("flow") {
         Some(flow) => flow_of(flow),
@@ -105,13 +131,13 @@ fn steps_in(value: &Value) -> Option<&Vec<Value>>
 }
 
 /// The flow and the steps of a head of the right shape.
-pub fn head_of(value: &Value) -> Option<(Config, &Vec<Value>)>
-    ensures { option_map (λ head. (head.0, items_view head.1.now.items)) result ≡ format.head_of (view value.now) }
+pub fn head_of(value: &Value) -> Option<(ScriptFlow, &Vec<Value>)>
+    ensures { option_map (λ head. (head_of_flow head.0, items_view head.1.now.items)) result ≡ format.head_of (view value.now) }
 {
     if !has_members(value, 3) {
         return None;
     }
-    let config = flow_in(value)?;
+    let flow = flow_in(value)?;
     let steps = steps_in(value)?;
-    Some((config, steps))
+    Some((flow, steps))
 }

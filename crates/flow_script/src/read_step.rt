@@ -4,21 +4,24 @@ ghost use Rattle.serde_json.specs.View.{view};
 ghost use Rattle.flow_script.specs.Format as format;
 ghost use Rattle.flow_script.specs.Checks as checks;
 ghost use Rattle.flow_script.specs.Names.{lists_of};
+ghost use Rattle.flow_script.specs.Chains.{build_result};
 
 use crate::fault::ScriptFault;
 use crate::members::{has_members, i64_at, name_at, text_at};
 use crate::names::Names;
-use crate::script::Step;
-use crate::verb::{Verb, key_count, verb_named};
+use crate::read_chain::chain_in;
+use crate::script::{Build, Step};
+use crate::verb::{Kind, Verb, is_allowed, key_count, verb_named};
 use serde_json::Value;
+use std::alloc::Global;
 
-/// What a step does, if it has as many keys as that needs.
-fn verb_of(step: &Value) -> Option<Verb>
-    ensures { result ≡ format.verb_of (view step.now) }
+/// What a step does, if the flow allows it and it has as many keys as it needs.
+fn verb_of(kind: Kind, step: &Value) -> Option<Verb>
+    ensures { result ≡ format.verb_of kind (view step.now) }
 {
     let text = text_at(step, "do")?;
     let verb = verb_named(text)?;
-    if has_members(step, key_count(verb)) {
+    if is_allowed(kind, verb) && has_members(step, key_count(verb)) {
         Some(verb)
     } else {
         None
@@ -83,11 +86,27 @@ fn subscribe_step<'a>(names: &mut Names<'a>, at: u64, step: &'a Value) -> Result
     Ok(Step::Subscribe)
 }
 
-/// The step, where the names are those of the steps before it.
-pub fn step_of<'a>(names: &mut Names<'a>, at: u64, step: &'a Value) -> Result<Step, ScriptFault>
-    ensures { checks.Gives (checks.step_of at (lists_of names.old) (view step.now)) (checks.named_result result (lists_of names.new)) }
+/// The chain of a step that collects it.
+fn collected_in(alloc: Global, at: u64, step: &Value) -> Result<Build, ScriptFault>
+    ensures { checks.Gives (checks.collected_in at (view step.now)) (build_result result) }
 {
-    let Some(verb) = verb_of(step) else {
+    match step.get("chain") {
+        Some(chain) => chain_in(alloc, at, chain),
+        None => Err(ScriptFault::BadShape(at)),
+    }
+}
+
+/// The step, where the names are those of the steps before it.
+pub fn step_of<'a>(
+    alloc: Global,
+    kind: Kind,
+    names: &mut Names<'a>,
+    at: u64,
+    step: &'a Value,
+) -> Result<Step, ScriptFault>
+    ensures { checks.Gives (checks.step_of kind at (lists_of names.old) (view step.now)) (checks.named_result result (lists_of names.new)) }
+{
+    let Some(verb) = verb_of(kind, step) else {
         return Err(ScriptFault::BadShape(at));
     };
     match verb {
@@ -101,5 +120,6 @@ pub fn step_of<'a>(names: &mut Names<'a>, at: u64, step: &'a Value) -> Result<St
         Verb::Cache => Ok(Step::Cache),
         Verb::Count => Ok(Step::Count),
         Verb::Reset => Ok(Step::Reset),
+        Verb::Collect => Ok(Step::Collect(collected_in(alloc, at, step)?)),
     }
 }

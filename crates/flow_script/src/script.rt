@@ -1,11 +1,14 @@
 //! A script that was read and checked.
-ghost use Rattle.std.specs.Prelude.{◌≡◌};
 
+use flow_cold::{ChainFault, ScriptChain};
 use flow_law::Config;
+
+/// A chain of a script, or why it could not be built. That is no fault of the script, but what its collection tells.
+pub type Build = Result<ScriptChain, ChainFault>;
 
 /// A step. A name is known by how many names of its kind were introduced before it: emissions and subscribers are
 /// counted apart.
-#[derive(Clone, Copy, Debug, PartialEq, Eq)]
+#[derive(Drop)]
 pub enum Step {
     TryEmit(i64),
     /// It introduces an emission.
@@ -23,11 +26,20 @@ pub enum Step {
     Cache,
     Count,
     Reset,
+    Collect(Build),
+}
+
+/// The flow that the steps of a script are about.
+#[derive(Drop)]
+pub enum ScriptFlow {
+    /// There is none: the steps only collect chains.
+    Absent,
+    Shared(Config),
 }
 
 /// A script that was checked. The flow itself may still be refused when it is made.
 #[derive(Drop)]
 pub struct Script {
-    pub config: Config,
+    pub flow: ScriptFlow,
     pub steps: Vec<Step>,
 }

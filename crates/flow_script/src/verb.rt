@@ -2,6 +2,13 @@
 ghost use Rattle.std.specs.Prelude.{◌≡◌};
 ghost use Rattle.flow_script.specs.Format as format;
 
+/// What kind of flow a script is about.
+#[derive(Clone, Copy, Debug, PartialEq, Eq)]
+pub enum Kind {
+    Absent,
+    Shared,
+}
+
 /// What a step does.
 #[derive(Clone, Copy, Debug, PartialEq, Eq)]
 pub enum Verb {
@@ -15,6 +22,7 @@ pub enum Verb {
     Cache,
     Count,
     Reset,
+    Collect,
 }
 
 pub fn verb_named(text: &str) -> Option<Verb>
@@ -40,6 +48,8 @@ pub fn verb_named(text: &str) -> Option<Verb>
         Some(Verb::Count)
     } else if text == "reset" {
         Some(Verb::Reset)
+    } else if text == "collect" {
+        Some(Verb::Collect)
     } else {
         None
     }
@@ -60,5 +70,25 @@ pub fn key_count(verb: Verb) -> usize
         Verb::Cache => 1,
         Verb::Count => 1,
         Verb::Reset => 1,
+        Verb::Collect => 2,
+    }
+}
+
+/// Whether a flow of this kind allows such a step.
+pub fn is_allowed(kind: Kind, verb: Verb) -> bool
+    ensures { result ≡ format.is_allowed kind verb }
+{
+    match kind {
+        Kind::Absent => is_collect(verb),
+        Kind::Shared => true,
+    }
+}
+
+fn is_collect(verb: Verb) -> bool
+    ensures { result ≡ format.is_collect verb }
+{
+    match verb {
+        Verb::Collect => true,
+        _ => false,
     }
 }
