@@ -1,5 +1,5 @@
 -- What the documented calls come to where a core has found out which case it is in.
-use Rattle.std.proofs.Common.{◌≡◌, ℕ, ◌+◌, Bool, true, false, ◌==◌, cond, List, Option, Some, None, refl, sym, ap, ◌∙◌, ◌≤◌, not, length, ◌∷◌, [], take, drop, ◌-◌, arith}
+use Rattle.std.proofs.Common.{◌≡◌, ℕ, ◌+◌, Bool, true, false, cond, List, Some, sym, ap, ◌∙◌, ◌≤◌, length, ◌∷◌, [], take, drop, ◌-◌, arith}
 use Rattle.std.specs.Prelude.{Err, filter}
 use Rattle.std.specs.List.{slice_get}
 use Rattle.std.specs.Option.{option_map_or}

@@ -1,3 +1,4 @@
 pub mod PositionLemmas
 pub mod QueueLemmas
 pub mod CallLemmas
+pub mod StateLemmas

@@ -1,5 +1,5 @@
 -- Rows of subscribers beside the list that the definitions have.
-use Rattle.std.proofs.Common.{◌≡◌, ℕ, suc, ◌+◌, ◌-◌, ◌≤◌, Bool, true, false, not, cond, ◌||◌, ◌==◌, if◌then◌else◌, List, [], ◌∷◌, map, get_or, set, Some, None, refl, ap, ◌∙◌, ◌++◌, length, take, drop, subst, arith}
+use Rattle.std.proofs.Common.{◌≡◌, ℕ, suc, ◌+◌, ◌-◌, ◌≤◌, Bool, true, false, cond, ◌||◌, ◌==◌, if◌then◌else◌, List, [], ◌∷◌, map, get_or, set, Some, None, refl, ap, ◌∙◌, ◌++◌, length, take, drop, arith}
 use Rattle.std.specs.Prelude.{filter}
 use Rattle.std.specs.List.{list_any, position_from}
 use Rattle.std.proofs.lemmas.List.{take_all, drop_all}

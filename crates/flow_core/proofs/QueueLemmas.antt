@@ -59,32 +59,34 @@ module _ {X : Type 0} (key : X → ℕ) where
   found e floor top [] i d r h is = absurd (omega (arith, h))
   found e floor top (x ∷ xs) zero d r h is =
       let same : (key x == e) ≡ true = equal (key x) e is in
-      let rest : filter (λ q. not (key q == e)) xs ≡ xs = filter_all (λ q. key q == e) xs (none_above e top xs (subst (λ n. RisesTo n (map key xs) top) is r.1)) in
-      (ap (λ t. t || list_any (λ q. key q == e) xs) same,
-        sym (ap (λ t. cond (not t) (x ∷ filter (λ q. not (key q == e)) xs) (filter (λ q. not (key q == e)) xs)) same ∙ rest))
+      let rest : filter (λ q. not (key q == e)) xs ≡ xs = filter_all (λ q. key q == e) xs (none_above e top xs (subst (λ n. RisesTo n (map key xs) top) is r.1)) in (
+        ap (λ t. t || list_any (λ q. key q == e) xs) same,
+        sym (ap (λ t. cond (not t) (x ∷ filter (λ q. not (key q == e)) xs) (filter (λ q. not (key q == e)) xs)) same ∙ rest),
+      )
   found e floor top (x ∷ xs) (suc i) d r h is =
       let below = above_floor (key x) top xs i d r.1 (omega (arith, h)) in
       let other : (key x == e) ≡ false = unequal (key x) e (λ same. omega (arith, below, is, same)) in
-      let rest = found e (key x) top xs i d r.1 (omega (arith, h)) is in
-      (ap (λ t. t || list_any (λ q. key q == e) xs) other ∙ rest.0,
-        ap (λ l. x ∷ l) rest.1 ∙ sym (ap (λ t. cond (not t) (x ∷ filter (λ q. not (key q == e)) xs) (filter (λ q. not (key q == e)) xs)) other))
+      let rest = found e (key x) top xs i d r.1 (omega (arith, h)) is in (
+        ap (λ t. t || list_any (λ q. key q == e) xs) other ∙ rest.0,
+        ap (λ l. x ∷ l) rest.1 ∙ sym (ap (λ t. cond (not t) (x ∷ filter (λ q. not (key q == e)) xs) (filter (λ q. not (key q == e)) xs)) other),
+      )
 
   -- the place between those below e and those from e on has no e
   pub none_there : (e floor top : ℕ) (xs : List X) (i : ℕ) → RisesTo floor (map key xs) top
       → AllWithin (λ q. nat_lt (key q) e ≡ true) xs 0 i → AllWithin (λ q. nat_lt (key q) e ≡ false) xs i (length xs)
       → ((d : X) → i < length xs → key (get_or xs i d) ≡ e → ⊥) → list_any (λ q. key q == e) xs ≡ false
   none_there e floor top xs i r low high other = none_at_each (λ q. key q == e) xs (λ k d l. unequal _ _ (λ is. elim (cases_lt k i) as (λ _. ⊥) [
-      | inl lt ↦
-          let under : key (get_or xs k d) < e = (Decides-ltb (key (get_or xs k d)) e).0 (low k d (omega arith) lt) in
-          omega (arith, under, is)
-      | inr ge ↦
-          let order = non_decreasing floor top xs r i k d ge l in
-          let not_under : e ≤ key (get_or xs i d) = elim (cases_lt (key (get_or xs i d)) e) as (λ _. e ≤ key (get_or xs i d)) [
-            | inl lt ↦ absurd (Rattle.std.proofs.lemmas.Bool.both_ways _ (high i d (omega arith) (omega (arith, ge, l))) ((Decides-ltb (key (get_or xs i d)) e).1 lt))
-            | inr h ↦ h
-          ] in
-          other d (omega (arith, ge, l)) (omega (arith, order, is, not_under))
-    ]))
+    | inl lt ↦
+        let under : key (get_or xs k d) < e = (Decides-ltb (key (get_or xs k d)) e).0 (low k d (omega arith) lt) in
+        omega (arith, under, is)
+    | inr ge ↦
+        let order = non_decreasing floor top xs r i k d ge l in
+        let not_under : e ≤ key (get_or xs i d) = elim (cases_lt (key (get_or xs i d)) e) as (λ _. e ≤ key (get_or xs i d)) [
+          | inl lt ↦ absurd (Rattle.std.proofs.lemmas.Bool.both_ways _ (high i d (omega arith) (omega (arith, ge, l))) ((Decides-ltb (key (get_or xs i d)) e).1 lt))
+          | inr h ↦ h
+        ] in
+        other d (omega (arith, ge, l)) (omega (arith, order, is, not_under))
+  ]))
 
 -- ---- the queue as the definitions have it
 
@@ -103,10 +105,11 @@ module _ {T : Type 0} where
       → IsPlace e (map numbered_of xs) (Some i)
   place_found e xs i d r h is =
       let rises : RisesTo 0 (map (λ q. q.number) xs) (2 ^ 64) = subst (λ l. RisesTo 0 l (2 ^ 64)) (numbers_of xs) r in
-      let there = found (λ (q : Queued T). q.number) e 0 (2 ^ 64) xs i d rises h is in
-      (rw length-map h,
+      let there = found (λ (q : Queued T). q.number) e 0 (2 ^ 64) xs i d rises h is in (
+        rw length-map h,
         list_any-map (λ q. q.number == e) numbered_of xs ∙ there.0,
-        remove-map xs i ∙ ap (map numbered_of) there.1 ∙ sym (filter-map (λ q. not (q.number == e)) numbered_of xs))
+        remove-map xs i ∙ ap (map numbered_of) there.1 ∙ sym (filter-map (λ q. not (q.number == e)) numbered_of xs),
+      )
 
   pub place_missing : (e : ℕ) (xs : List (Queued T)) (i : ℕ) → Rises (map numbered_of xs)
       → AllWithin (λ q. nat_lt q.number e ≡ true) xs 0 i → AllWithin (λ q. nat_lt q.number e ≡ false) xs i (length xs)

@@ -1,5 +1,5 @@
 -- The queue as the definitions have it. No public clause cites this module.
-use Rattle.std.specs.Prelude.{◌≡◌, ℕ, ◌<◌, ◌^◌, ◌==◌, Bool, true, false, not, List, map, filter, length, Option, Some, None}
+use Rattle.std.specs.Prelude.{◌≡◌, ℕ, ◌<◌, ◌^◌, ◌==◌, true, false, not, List, map, filter, length, Option, Some, None}
 use Rattle.std.specs.List.{list_any, remove}
 use Rattle.flow_law.specs.SharedFlow.{Numbered}
 use Rattle.flow_law.specs.Laws.{RisesTo}

@@ -1,6 +1,6 @@
 -- What contracts see of a shared core, and the results of its calls as the replies of a history.
--- Public clauses cite `number_of` and the replies (`tested` to `cached`); the rest is for private functions.
-use Rattle.std.specs.Prelude.{◌≡◌, ℕ, ◌+◌, ◌<◌, ◌≤◌, Bool, List, map, length, vec_len, Result, Ok, Err}
+-- Public clauses cite the replies (`tested` to `cached`); the rest is for private functions.
+use Rattle.std.specs.Prelude.{◌≡◌, ◌+◌, ◌<◌, ◌≤◌, Bool, List, map, length, vec_len, Result, Ok, Err}
 use Rattle.std.specs.Vec.{vec_capacity}
 use Rattle.flow_law.specs.declared.fault.FlowFault.{FlowFault}
 use Rattle.flow_law.specs.declared.fault.FlowFault.TheVariants.{OutOfMemory, Exhausted}
@@ -15,15 +15,12 @@ use Rattle.flow_law.specs.SharedStep.{settle}
 use Rattle.flow_law.specs.Laws.{RisesTo}
 use Rattle.flow_law.specs.Standing.{Core, StandsFor}
 use Rattle.flow_core.specs.declared.shared.SharedCore.TheInside.{Inside}
-use Rattle.flow_core.specs.declared.shared.SubId.{SubId}
+use Rattle.flow_core.specs.declared.sub_id.SubId.{SubId}
+use Rattle.flow_core.specs.SubId.{number_of}
 use Rattle.flow_core.specs.declared.shared.EmitCase.{EmitCase}
 use Rattle.flow_core.specs.declared.shared.EmitCase.TheVariants.{Appends, Offers, Queues, DropsLatest, DropsOldest}
 
 -- ---- replies
-
--- the number of a subscription
-abbrev pub number_of : SubId → ℕ
-number_of id = id.number
 
 abbrev pub tested : {T : Type 0} → Result Bool (Refused T) → SharedReply T
 tested (Ok answer) = reply.Tested answer
@@ -34,7 +31,7 @@ emitted (Ok emission) = reply.Emitted emission
 emitted (Err refused) = reply.Refused refused.fault
 
 abbrev pub subscribed : {T : Type 0} → Result SubId FlowFault → SharedReply T
-subscribed (Ok id) = reply.Subscribed id.number
+subscribed (Ok id) = reply.Subscribed (number_of id)
 subscribed (Err fault) = reply.Refused fault
 
 abbrev pub received : {T : Type 0} → Result (Next T) FlowFault → SharedReply T

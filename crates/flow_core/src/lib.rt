@@ -23,8 +23,12 @@ mod copies;
 mod positions;
 mod queue;
 mod shared;
+mod state;
+mod sub_id;
 
-pub use shared::{SharedCore, SubId};
+pub use shared::SharedCore;
+pub use state::StateCore;
+pub use sub_id::SubId;
 
-// cfg
-// mod tests;
+#[cfg(test)]
+mod tests;

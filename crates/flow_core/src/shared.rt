@@ -8,30 +8,16 @@ ghost use Rattle.flow_law.specs.SharedStep as step;
 ghost use Rattle.flow_law.specs.Standing.{StandsFor, Conforms};
 ghost use Rattle.flow_law.specs.declared.call.SharedCall.TheVariants as call;
 ghost use Rattle.flow_law.specs.declared.call.SharedReply.TheVariants as reply;
-ghost use Rattle.flow_core.specs.SharedCore.{number_of, tested, emitted, subscribed, received, cached, case_of, Shows, Leads, RefusedFor, Admits};
+ghost use Rattle.flow_core.specs.SubId.{number_of};
+ghost use Rattle.flow_core.specs.SharedCore.{tested, emitted, subscribed, received, cached, case_of, Shows, Leads, RefusedFor, Admits};
 
 use crate::copies::copies;
 use crate::positions::Subscribers;
 use crate::queue::Queue;
+use crate::sub_id::SubId;
 use flow_law::{Config, Emit, FlowFault, FlowValue, Next, Overflow, Refused};
 use std::alloc::{Allocator, Global};
 use std::marker::Model;
-
-/// A subscription of a shared or state flow, by its number. It stands for the number alone: a core does not ask where
-/// it came from.
-#[derive(Clone, Copy, Debug, PartialEq, Eq)]
-pub struct SubId {
-    number: u64,
-}
-
-impl SubId {
-    /// The number that the subscription took when it was made.
-    pub fn number(self) -> u64
-        ensures { result ≡ number_of self }
-    {
-        self.number
-    }
-}
 
 /// A shared flow (`MutableSharedFlow`) for one thread.
 ///

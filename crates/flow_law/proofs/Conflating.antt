@@ -13,13 +13,13 @@ use Rattle.flow_law.specs.declared.call.StateCall.{StateCall}
 use Rattle.flow_law.specs.declared.call.StateCall.TheVariants.{GetValue, Set, TryEmit, CompareAndSet, Subscribe, TakeNext, Unsubscribe, SubscriptionCount, ReplayCache, ResetReplayCache}
 use Rattle.flow_law.specs.declared.call.StateReply.{StateReply}
 use Rattle.flow_law.specs.declared.call.StateReply.TheVariants.{Answered, Subscribed, Received, Refused}
-use Rattle.flow_law.specs.SharedFlow.{Numbered, Subscriber, SharedFlowState, first_state, cache}
+use Rattle.flow_law.specs.SharedFlow.{Numbered, Subscriber, SharedFlowState, cache}
 use Rattle.flow_law.specs.SharedStep as flow
-use Rattle.flow_law.specs.StateFlow.{StateFlowState, StateHistory, first_state_flow, after, IsReply, Receives, may_need_memory, is_spent, last_of, with_last, without_reader, IsLegalState}
+use Rattle.flow_law.specs.StateFlow.{StateFlowState, StateHistory, first_state_flow, after, IsReply, Receives, may_need_memory, is_exhausted, last_of, with_last, without_subscriber, IsLegalState}
 use Rattle.flow_law.specs.Conflation.{Beside, beside, newest_only, emitting, subscribing, reading, leaving, follows, Conflated, Agrees, AgreeAll, passed_on}
 use Rattle.flow_law.proofs.ReplyLemmas.{state_replies_cases}
 use Rattle.flow_law.proofs.Rows.{split}
-use Rattle.flow_law.proofs.Readers.{last-snoc, last-snoc_other, last-with, last-with_other, last-without, last-without_other}
+use Rattle.flow_law.proofs.StateSubscriberLemmas.{last-snoc, last-snoc_other, last-with, last-with_other, last-without, last-without_other}
 use Rattle.flow_law.proofs.Newest.{sole, built, entry_of, newest_at, emit_alone, emit_one, subscribe_alone, next_behind, next_newest, leave_sole, cache_newest}
 
 none_or_some : {A : Type 0} (a : A) → None ≡ Some a → ⊥
@@ -262,16 +262,16 @@ module _ {T : Type 0} where
           let here = here_from u limit room s m a last (subst (λ j. last_of j s.subscribers ≡ Some last) is at) in
           own_value u limit room s m a here (λ k. other (sym (same_some m.last last (sym here.last ∙ subst (λ j. last_of j s.subscribers ≡ Some last) is at)) ∙ k))
 
-  left_both : (u limit room k : ℕ) (s : StateFlowState T) (m : Beside T) (a : Along u limit (suc room) s m) → (o : Option ℕ) → m.number ≡ o → Along u limit room (record s { subscribers = without_reader u s.subscribers }) (option_map_or (λ k. leaving k m) o m)
-  left_both u limit room k s m a o e = elim a.seat as (λ _. Along u limit room (record s { subscribers = without_reader u s.subscribers }) (option_map_or (λ k. leaving k m) o m)) [
+  left_both : (u limit room k : ℕ) (s : StateFlowState T) (m : Beside T) (a : Along u limit (suc room) s m) → (o : Option ℕ) → m.number ≡ o → Along u limit room (record s { subscribers = without_subscriber u s.subscribers }) (option_map_or (λ k. leaving k m) o m)
+  left_both u limit room k s m a o e = elim a.seat as (λ _. Along u limit room (record s { subscribers = without_subscriber u s.subscribers }) (option_map_or (λ k. leaving k m) o m)) [
     | inl away ↦ let is : m.shared ≡ built limit a.emitted [] a.issued = a.is ∙ ap (λ r. built limit a.emitted r a.issued) away.0 in gone is o
     | inr here ↦
         let is : m.shared ≡ built limit a.emitted (sole here.k here.p) a.issued = a.is ∙ ap (λ r. built limit a.emitted r a.issued) here.row in
-        subst (λ q. Along u limit room (record s { subscribers = without_reader u s.subscribers }) (option_map_or (λ k. leaving k m) q m)) (sym here.number ∙ e)
+        subst (λ q. Along u limit room (record s { subscribers = without_subscriber u s.subscribers }) (option_map_or (λ k. leaving k m) q m)) (sym here.number ∙ e)
         (away_after (leaving here.k m) (ap (λ t. (flow.unsubscribe here.k t).after) is ∙ leave_sole here.k here.p limit a.issued a.emitted))
   ]
     where
-      away_after : (m2 : Beside T) → m2.shared ≡ built limit a.emitted [] a.issued → Along u limit room (record s { subscribers = without_reader u s.subscribers }) m2
+      away_after : (m2 : Beside T) → m2.shared ≡ built limit a.emitted [] a.issued → Along u limit room (record s { subscribers = without_subscriber u s.subscribers }) m2
       away_after m2 is = record {
         emitted = a.emitted;
         us = [];
@@ -283,7 +283,7 @@ module _ {T : Type 0} where
         room_left = omega (arith, a.room_left);
       }
 
-      gone : m.shared ≡ built limit a.emitted [] a.issued → (o : Option ℕ) → Along u limit room (record s { subscribers = without_reader u s.subscribers }) (option_map_or (λ k. leaving k m) o m)
+      gone : m.shared ≡ built limit a.emitted [] a.issued → (o : Option ℕ) → Along u limit room (record s { subscribers = without_subscriber u s.subscribers }) (option_map_or (λ k. leaving k m) o m)
       gone is None = away_after m is
       gone is (Some k) = away_after (leaving k m) (ap (λ t. (flow.unsubscribe k t).after) is)
 
@@ -291,9 +291,9 @@ module _ {T : Type 0} where
   departed u limit room n b s m a = (
     tt,
     split (n == u)
-        (λ t. Along u limit room (record s { subscribers = without_reader n s.subscribers }) (cond t (option_map_or (λ k. leaving k m) m.number m) m))
-        (λ e. subst (λ j. Along u limit room (record s { subscribers = without_reader j s.subscribers }) (option_map_or (λ k. leaving k m) m.number m)) (sym ((Decides-eqb n u).0 e)) (left_both u limit room 0 s m a m.number refl))
-        (λ e. others u limit room s (record s { subscribers = without_reader n s.subscribers }) m refl (omega arith) (last-without_other u n s.subscribers e) a),
+        (λ t. Along u limit room (record s { subscribers = without_subscriber n s.subscribers }) (cond t (option_map_or (λ k. leaving k m) m.number m) m))
+        (λ e. subst (λ j. Along u limit room (record s { subscribers = without_subscriber j s.subscribers }) (option_map_or (λ k. leaving k m) m.number m)) (sym ((Decides-eqb n u).0 e)) (left_both u limit room 0 s m a m.number refl))
+        (λ e. others u limit room s (record s { subscribers = without_subscriber n s.subscribers }) m refl (omega arith) (last-without_other u n s.subscribers e) a),
   )
 
   received_kept : (u limit room n : ℕ) (s : StateFlowState T) (m : Beside T) (r : StateReply T) → Along u limit (suc room) s m → (o : Option (Option T)) → last_of n s.subscribers ≡ o → Receives s.value o r → Kept u limit room s m (TakeNext n) r
@@ -313,7 +313,7 @@ module _ {T : Type 0} where
     | inr e ↦ subst (λ k. Kept u limit room s m (CompareAndSet x y) k) (sym e.1) (tt, less u limit room s m a)
   ]
   answered u limit room s m (Subscribe name) r a is = subst (λ k. Kept u limit room s m (Subscribe name) k) (sym is)
-      (cond_both (is_spent s) (Refused Exhausted) (Subscribed (s.issued + 1)) (λ k. Kept u limit room s m (Subscribe name) k) (λ _. (tt, less u limit room s m a)) (λ _. enlisted u limit room s m name a))
+      (cond_both (is_exhausted s) (Refused Exhausted) (Subscribed (s.issued + 1)) (λ k. Kept u limit room s m (Subscribe name) k) (λ _. (tt, less u limit room s m a)) (λ _. enlisted u limit room s m name a))
   answered u limit room s m (TakeNext n) r a is = received_kept u limit room n s m r a (last_of n s.subscribers) refl is
   answered u limit room s m (Unsubscribe n) r a is = subst (λ k. Kept u limit room s m (Unsubscribe n) k) (sym is) (departed u limit room n (is_some (last_of n s.subscribers)) s m a)
   answered u limit room s m SubscriptionCount r a is = (tt, less u limit room s m a)
@@ -336,11 +336,11 @@ module _ {T : Type 0} where
   pub agree : (u limit : ℕ) (s : StateFlowState T) (m : Beside T) (h : StateHistory T) → Along u limit (length h) s m → IsLegalState s h → AgreeAll u m h
   agree u limit s m [] a legal = tt
   agree u limit s m (e ∷ es) a legal =
-      let step : Kept u limit (length es) s m e.call e.reply = elim (state_replies_cases s e.call e.reply legal.0) as (λ _. Kept u limit (length es) s m e.call e.reply) [
-        | inl is ↦ answered u limit (length es) s m e.call e.reply a is
-        | inr is ↦ subst (λ k. Kept u limit (length es) s m e.call k) (sym is.0) (short u limit (length es) s m e.call a is.1)
+      let step : Kept u limit (length es) s m e.what.call e.what.reply = elim (state_replies_cases s e.what.call e.what.reply legal.0) as (λ _. Kept u limit (length es) s m e.what.call e.what.reply) [
+        | inl is ↦ answered u limit (length es) s m e.what.call e.what.reply a is
+        | inr is ↦ subst (λ k. Kept u limit (length es) s m e.what.call k) (sym is.0) (short u limit (length es) s m e.what.call a is.1)
       ] in
-      (step.0, agree u limit (after s e.call e.reply) (follows u m e.call e.reply) es step.1 legal.1)
+      (step.0, agree u limit (after s e.what.call e.what.reply) (follows u m e.what.call e.what.reply) es step.1 legal.1)
 
   pub conflates : (limit : ℕ) (first : T) (h : StateHistory T) → IsLegalState (first_state_flow limit first) h → (u unreached : ℕ) → length h < unreached → AgreeAll u (beside unreached first) h
   conflates limit first h legal u unreached l = agree u unreached (first_state_flow limit first) (beside unreached first) h (record {

@@ -49,11 +49,11 @@ module _ {T : Type 0} where
   follow u b config s m [] ok is sound boxed legal = (boxed, sym (Rattle.std.proofs.Common.append-nil m.taken))
   follow u b config s m (e ∷ es) ok is sound boxed legal =
       let fits : s.config.overflow ≡ DropOldest → 0 < capacity s = λ o. subst (λ (g : Config). 0 < g.replay + g.extra) (sym is) (usable config ok (ap (λ (g : Config). g.overflow) (sym is) ∙ o)) in
-      let step = event_good u b s m sound fits boxed e.call e.reply legal.0 in
-      let rest = follow u (entered_by u s e.call e.reply b) config (after s e.call e.reply) (mailbox_by u s e.call e.reply m) es ok
-      (event_keeps (λ t. t.config ≡ config) s is (config_keeps config s is) e.call e.reply)
-      (event_keeps Sound s sound (sound_keeps s sound) e.call e.reply) step.0 legal.1 in
-      (rest.0, rest.1 ∙ ap (λ l. l ++ received u es) step.1 ∙ append_assoc m.taken (received_by u e.call e.reply) (received u es))
+      let step = event_good u b s m sound fits boxed e.what.call e.what.reply legal.0 in
+      let rest = follow u (entered_by u s e.what.call e.what.reply b) config (after s e.what.call e.what.reply) (mailbox_by u s e.what.call e.what.reply m) es ok
+      (event_keeps (λ t. t.config ≡ config) s is (config_keeps config s is) e.what.call e.what.reply)
+      (event_keeps Sound s sound (sound_keeps s sound) e.what.call e.what.reply) step.0 legal.1 in
+      (rest.0, rest.1 ∙ ap (λ l. l ++ received u es) step.1 ∙ append_assoc m.taken (received_by u e.what.call e.what.reply) (received u es))
 
   pub delivers : (config : Config) (h : History T) → IsLegal config h → (u : ℕ) → Delivers u config h
   delivers config h legal u =

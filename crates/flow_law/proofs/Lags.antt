@@ -61,27 +61,27 @@ module _ {T : Type 0} where
 
   -- ---- the state after an answer
 
-  abbrev Told_after : SharedFlowState T → SharedOutcome T → Type 0
-  Told_after s t = cond (is_refused t.reply) s t.after ≡ t.after
+  abbrev StateAfterReply : SharedFlowState T → SharedOutcome T → Type 0
+  StateAfterReply s t = cond (is_refused t.reply) s t.after ≡ t.after
 
-  next_after : (u : ℕ) (s : SharedFlowState T) → Told_after s (outcome_of reply.Received (next u s))
+  next_after : (u : ℕ) (s : SharedFlowState T) → StateAfterReply s (outcome_of reply.Received (next u s))
   next_after u s = at (position_of u s.subscribers)
     where
-      here : (p : ℕ) (o : Option T) → Told_after s (outcome_of reply.Received (option_map_or (λ value. answer (Value value) (settle (advance u (p + 1) s))) o (answer Empty s)))
+      here : (p : ℕ) (o : Option T) → StateAfterReply s (outcome_of reply.Received (option_map_or (λ value. answer (Value value) (settle (advance u (p + 1) s))) o (answer Empty s)))
       here p None = refl
       here p (Some v) = refl
 
-      at : (o : Option ℕ) → Told_after s (outcome_of reply.Received (option_map_or (λ position. read u position s) o (answer Gone s)))
+      at : (o : Option ℕ) → StateAfterReply s (outcome_of reply.Received (option_map_or (λ position. read u position s) o (answer Gone s)))
       at None = refl
       at (Some p) = here p (slice_get (values s) p)
 
   -- the state after an event with the documented reply is the documented state after the call
   pub after_is : (c : SharedCall T) (s : SharedFlowState T) → after s c (answer_to c s).reply ≡ (answer_to c s).after
-  after_is (call.TryEmit v) s = try_emit_split (λ a. Told_after s (outcome_of reply.Tested a)) s v refl (λ _. refl) (λ _. refl) (λ _. refl)
-  after_is (call.Emit v) s = emit_split (λ a. Told_after s (outcome_of reply.Emitted a)) s v refl (λ _ _. refl) refl (λ _. refl) refl
+  after_is (call.TryEmit v) s = try_emit_split (λ a. StateAfterReply s (outcome_of reply.Tested a)) s v refl (λ _. refl) (λ _. refl) (λ _. refl)
+  after_is (call.Emit v) s = emit_split (λ a. StateAfterReply s (outcome_of reply.Emitted a)) s v refl (λ _ _. refl) refl (λ _. refl) refl
   after_is (call.Poll e) s = refl
   after_is (call.Cancel e) s = refl
-  after_is (call.Subscribe name) s = cond_both (is_exhausted s) (record { reply = Err Exhausted; after = s }) (answer (s.issued + 1) (enroll s)) (λ a. Told_after s (outcome_of reply.Subscribed a)) (λ _. refl) (λ _. refl)
+  after_is (call.Subscribe name) s = cond_both (is_exhausted s) (record { reply = Err Exhausted; after = s }) (answer (s.issued + 1) (enroll s)) (λ a. StateAfterReply s (outcome_of reply.Subscribed a)) (λ _. refl) (λ _. refl)
   after_is (call.TakeNext u) s = next_after u s
   after_is (call.Unsubscribe u) s = refl
   after_is call.ReplayCache s = refl

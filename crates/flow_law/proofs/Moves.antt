@@ -98,7 +98,7 @@ module _ {T : Type 0} where
   -- what every move keeps holds after each history
   pub history_keeps : (P : SharedFlowState T → Type 0) → ((s : SharedFlowState T) → P s → Keeps P s) → (s : SharedFlowState T) (h : History T) → P s → P (after_all s h)
   history_keeps P k s [] p = p
-  history_keeps P k s (e ∷ es) p = history_keeps P k (after s e.call e.reply) es (event_keeps P s p (k s p) e.call e.reply)
+  history_keeps P k s (e ∷ es) p = history_keeps P k (after s e.what.call e.what.reply) es (event_keeps P s p (k s p) e.what.call e.what.reply)
 
   -- admission keeps what each admitted value keeps
   pub admit_keeps : (P : SharedFlowState T → Type 0)

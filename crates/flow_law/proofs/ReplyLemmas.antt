@@ -1,7 +1,7 @@
 -- Each reply of a flow is the documented one, or want of memory.
 use Rattle.std.proofs.Common.{inl, inr, ◌≡◌, ◌⊎◌, not, ◌&&◌, refl}
 use Rattle.std.specs.Prelude.{IsTrue}
-use Rattle.flow_law.specs.declared.fault.FlowFault.TheVariants.{OutOfMemory, TooLarge, NeedsBuffer, Exhausted, Unsupported, Busy}
+use Rattle.flow_law.specs.declared.fault.FlowFault.TheVariants.{OutOfMemory}
 use Rattle.flow_law.specs.declared.call.SharedCall.{SharedCall}
 use Rattle.flow_law.specs.declared.call.SharedReply.{SharedReply}
 use Rattle.flow_law.specs.declared.call.SharedReply.TheVariants as shared

@@ -77,7 +77,7 @@ module _ {T : Type 0} where
   -- each event of the history agrees with the shared flow beside it
   abbrev pub AgreeAll : ℕ → Beside T → StateHistory T → Type 0
   AgreeAll u m [] = Unit {0}
-  AgreeAll u m (e ∷ es) = Agrees u m e.call e.reply × AgreeAll u (follows u m e.call e.reply) es
+  AgreeAll u m (e ∷ es) = Agrees u m e.what.call e.what.reply × AgreeAll u (follows u m e.what.call e.what.reply) es
 
 -- the shared flow's limit is so high that it is not reached
 abbrev pub LawConflated : Type 0 → Type 0

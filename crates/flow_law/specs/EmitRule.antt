@@ -5,7 +5,7 @@
 --   queues          the value waits            unchanged, false
 --   drops_latest    unchanged, done            unchanged, true
 --   drops_oldest    append, all catch up       the same, true
-use Rattle.std.specs.Prelude.{ℕ, ◌+◌, ◌-◌, Bool, true, false, not, ◌&&◌, ◌||◌, ◌==◌, nat_lt, if◌then◌else◌, [], ◌∷◌, ◌++◌, length}
+use Rattle.std.specs.Prelude.{◌+◌, ◌-◌, Bool, true, false, not, ◌&&◌, ◌||◌, ◌==◌, nat_lt, if◌then◌else◌, [], ◌∷◌, ◌++◌, length}
 use Rattle.flow_law.specs.declared.config.Overflow.{Overflow}
 use Rattle.flow_law.specs.declared.config.Overflow.TheVariants.{Suspend, DropOldest, DropLatest}
 use Rattle.flow_law.specs.declared.outcome.Emit.{Emit}

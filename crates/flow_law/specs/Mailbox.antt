@@ -52,7 +52,7 @@ module _ {T : Type 0} where
 
   abbrev pub mailbox_from : ℕ → SharedFlowState T → History T → Mailbox T → Mailbox T
   mailbox_from u s [] m = m
-  mailbox_from u s (e ∷ es) m = mailbox_from u (after s e.call e.reply) es (mailbox_by u s e.call e.reply m)
+  mailbox_from u s (e ∷ es) m = mailbox_from u (after s e.what.call e.what.reply) es (mailbox_by u s e.what.call e.what.reply m)
 
   -- the mailbox of the subscriber u after a history of a flow of this configuration
   abbrev pub mailbox : ℕ → Config → History T → Mailbox T
@@ -74,7 +74,7 @@ module _ {T : Type 0} where
 
   abbrev pub received : ℕ → History T → List T
   received u [] = []
-  received u (e ∷ es) = received_by u e.call e.reply ++ received u es
+  received u (e ∷ es) = received_by u e.what.call e.what.reply ++ received u es
 
   -- where u entered the log
   abbrev pub entered_by : ℕ → SharedFlowState T → SharedCall T → SharedReply T → ℕ → ℕ
@@ -83,7 +83,7 @@ module _ {T : Type 0} where
 
   abbrev pub entered_from : ℕ → SharedFlowState T → History T → ℕ → ℕ
   entered_from u s [] p = p
-  entered_from u s (e ∷ es) p = entered_from u (after s e.call e.reply) es (entered_by u s e.call e.reply p)
+  entered_from u s (e ∷ es) p = entered_from u (after s e.what.call e.what.reply) es (entered_by u s e.what.call e.what.reply p)
 
   abbrev pub entered : ℕ → Config → History T → ℕ
   entered u config h = entered_from u (first_state config) h 0

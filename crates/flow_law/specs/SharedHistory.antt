@@ -1,10 +1,11 @@
 -- Histories of a shared flow.
-use Rattle.std.specs.Prelude.{◌≡◌, ◌⊎◌, ℕ, IsTrue, Bool, true, false, not, ◌&&◌, if◌then◌else◌, List, [], ◌∷◌, Option, Some, None, Result, Ok, Err}
+use Rattle.std.specs.Prelude.{◌≡◌, ℕ, IsTrue, Bool, true, false, not, ◌&&◌, if◌then◌else◌, List, [], ◌∷◌, Option, Some, None, Result, Ok, Err}
 use Rattle.flow_law.specs.declared.config.Config.{Config}
 use Rattle.flow_law.specs.declared.fault.FlowFault.{FlowFault}
 use Rattle.flow_law.specs.declared.fault.FlowFault.TheVariants.{OutOfMemory}
 use Rattle.flow_law.specs.declared.outcome.Emit.TheVariants.{Queued}
 use Rattle.flow_law.specs.declared.history.Event.{Event}
+use Rattle.flow_law.specs.declared.history.Said.{Said}
 use Rattle.flow_law.specs.declared.call.SharedCall.{SharedCall}
 use Rattle.flow_law.specs.declared.call.SharedCall.TheVariants as call
 use Rattle.flow_law.specs.declared.call.SharedReply.{SharedReply}
@@ -66,8 +67,8 @@ module _ {T : Type 0} where
   owners_after_call owners name (call.Emit v) (reply.Emitted (Queued e)) = record { number = e; name = name } ∷ owners
   owners_after_call owners name _ _ = owners
 
-  abbrev pub owners_after : List Owner → Event (SharedCall T) (SharedReply T) → List Owner
-  owners_after owners e = owners_after_call owners e.name e.call e.reply
+  abbrev pub owners_after : List Owner → Event (Said (SharedCall T) (SharedReply T)) → List Owner
+  owners_after owners e = owners_after_call owners e.name e.what.call e.what.reply
 
   -- of which subscriber or emission a call speaks
   abbrev pub speaks_of : SharedCall T → Option ℕ
@@ -78,7 +79,7 @@ module _ {T : Type 0} where
   speaks_of _ = None
 
 abbrev pub History : Type 0 → Type 0
-History T = List (Event (SharedCall T) (SharedReply T))
+History T = List (Event (Said (SharedCall T) (SharedReply T)))
 
 module _ {T : Type 0} where
   abbrev pub after_all : SharedFlowState T → History T → SharedFlowState T

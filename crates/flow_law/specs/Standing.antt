@@ -1,6 +1,6 @@
 -- What contracts see of a core, when it stands for a state of the documented flow, and what a call of it does.
 -- Begin with `Conforms`: one word for each call of a core. A reader who knows it can read every contract of flow_core.
-use Rattle.std.specs.Prelude.{◌≡◌, ℕ, min, List, [], ◌∷◌, ◌++◌, length, drop, Bool, true, false}
+use Rattle.std.specs.Prelude.{◌≡◌, ℕ, min, List, [], ◌∷◌, ◌++◌, length, drop, Bool}
 use Rattle.std.specs.Bool.{OnTrue}
 use Rattle.flow_law.specs.declared.config.Config.{Config}
 use Rattle.flow_law.specs.declared.call.SharedCall.{SharedCall}

@@ -2,6 +2,7 @@
 use Rattle.std.specs.Prelude.{◌≡◌, ◌≢◌, ◌⊎◌, ℕ, ◌+◌, ◌==◌, IsTrue, Bool, true, false, not, if◌then◌else◌, List, [], ◌∷◌, ◌++◌, length, filter, Option, Some, None, is_some}
 use Rattle.flow_law.specs.declared.fault.FlowFault.TheVariants.{Exhausted, OutOfMemory, Unsupported}
 use Rattle.flow_law.specs.declared.history.Event.{Event}
+use Rattle.flow_law.specs.declared.history.Said.{Said}
 use Rattle.flow_law.specs.declared.outcome.Next.TheVariants.{Value, Empty, Gone}
 use Rattle.flow_law.specs.declared.call.StateCall.{StateCall}
 use Rattle.flow_law.specs.declared.call.StateCall.TheVariants.{GetValue, Set, TryEmit, CompareAndSet, Subscribe, TakeNext, Unsubscribe, SubscriptionCount, ReplayCache, ResetReplayCache}
@@ -37,11 +38,11 @@ module _ {T : Type 0} where
   with_last number v [] = []
   with_last number v (r ∷ rs) = if r.number == number then record r { last = Some v } ∷ rs else r ∷ with_last number v rs
 
-  abbrev pub without_reader : ℕ → List (StateSubscriber T) → List (StateSubscriber T)
-  without_reader number = filter (λ r. not (r.number == number))
+  abbrev pub without_subscriber : ℕ → List (StateSubscriber T) → List (StateSubscriber T)
+  without_subscriber number = filter (λ r. not (r.number == number))
 
-  abbrev pub is_spent : StateFlowState T → Bool
-  is_spent s = s.issued == s.limit
+  abbrev pub is_exhausted : StateFlowState T → Bool
+  is_exhausted s = s.issued == s.limit
 
   -- the state after a call that had this reply. A refused call changes nothing
   abbrev pub after : StateFlowState T → StateCall T → StateReply T → StateFlowState T
@@ -50,7 +51,7 @@ module _ {T : Type 0} where
   after s (CompareAndSet a b) (Answered true) = record s { value = b }
   after s (Subscribe name) (Subscribed n) = record s { subscribers = s.subscribers ++ record { number = n; last = None } ∷ []; issued = n }
   after s (TakeNext u) (Received (Value x)) = record s { subscribers = with_last u x s.subscribers }
-  after s (Unsubscribe u) (Answered _) = record s { subscribers = without_reader u s.subscribers }
+  after s (Unsubscribe u) (Answered _) = record s { subscribers = without_subscriber u s.subscribers }
   after s _ _ = s
 
   -- what a subscriber gets, by the last value that it got
@@ -64,7 +65,7 @@ module _ {T : Type 0} where
   IsReply s (Set x) r = r ≡ Done
   IsReply s (TryEmit x) r = r ≡ Answered true
   IsReply s (CompareAndSet a b) r = ((s.value ≡ a) × (r ≡ Answered true)) ⊎ ((s.value ≢ a) × (r ≡ Answered false))
-  IsReply s (Subscribe name) r = r ≡ (if is_spent s then Refused Exhausted else Subscribed (s.issued + 1))
+  IsReply s (Subscribe name) r = r ≡ (if is_exhausted s then Refused Exhausted else Subscribed (s.issued + 1))
   IsReply s (TakeNext u) r = Receives s.value (last_of u s.subscribers) r
   IsReply s (Unsubscribe u) r = r ≡ Answered (is_some (last_of u s.subscribers))
   IsReply s SubscriptionCount r = r ≡ Counted (length s.subscribers)
@@ -80,7 +81,7 @@ module _ {T : Type 0} where
   may_need_memory s GetValue = true
   may_need_memory s ReplayCache = true
   may_need_memory s (TakeNext u) = true
-  may_need_memory s (Subscribe name) = not (is_spent s)
+  may_need_memory s (Subscribe name) = not (is_exhausted s)
   may_need_memory s _ = false
 
   abbrev pub Replies : StateFlowState T → StateCall T → StateReply T → Type 0
@@ -91,8 +92,8 @@ module _ {T : Type 0} where
   owners_after_call owners name (Subscribe given) (Subscribed u) = record { number = u; name = given } ∷ owners
   owners_after_call owners name _ _ = owners
 
-  abbrev pub owners_after : List Owner → Event (StateCall T) (StateReply T) → List Owner
-  owners_after owners e = owners_after_call owners e.name e.call e.reply
+  abbrev pub owners_after : List Owner → Event (Said (StateCall T) (StateReply T)) → List Owner
+  owners_after owners e = owners_after_call owners e.name e.what.call e.what.reply
 
   abbrev pub speaks_of : StateCall T → Option ℕ
   speaks_of (TakeNext u) = Some u
@@ -100,7 +101,7 @@ module _ {T : Type 0} where
   speaks_of _ = None
 
 abbrev pub StateHistory : Type 0 → Type 0
-StateHistory T = List (Event (StateCall T) (StateReply T))
+StateHistory T = List (Event (Said (StateCall T) (StateReply T)))
 
 module _ {T : Type 0} where
   abbrev pub state_after_all : StateFlowState T → StateHistory T → StateFlowState T

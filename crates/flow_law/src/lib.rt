@@ -18,7 +18,7 @@ pub use call::{SharedCall, SharedReply, StateCall, StateReply};
 pub use chain::{ChainFault, End};
 pub use config::{Config, Overflow};
 pub use fault::{FlowFault, Refused};
-pub use history::Event;
+pub use history::{Event, Said};
 pub use laws::{law_conflated, law_delivered, law_no_idle_queue};
 pub use outcome::{Emit, Next};
 pub use value::FlowValue;

@@ -1,4 +1,4 @@
-use Rattle.std.proofs.Common.{◌≡◌, ◌==◌, map, set, sym, ap, ◌∙◌}
+use Rattle.std.proofs.Common.{◌==◌, map, set, sym, ap, ◌∙◌}
 use Rattle.std.proofs.lemmas.Iterator.Adapters.{position_from-zero}
 use Rattle.flow_law.specs.SharedFlow.{move_to}
 use Rattle.flow_core.specs.Positions.{subscriber_of, moved}

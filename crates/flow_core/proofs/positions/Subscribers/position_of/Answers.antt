@@ -1,4 +1,4 @@
-use Rattle.std.proofs.Common.{◌≡◌, ◌==◌, Some, None, sym, ap, ◌∙◌}
+use Rattle.std.proofs.Common.{◌==◌, Some, sym, ap, ◌∙◌}
 use Rattle.std.proofs.lemmas.Iterator.Adapters.{position_from-zero}
 use Rattle.flow_law.specs.SharedFlow.{position_of}
 use Rattle.flow_core.proofs.PositionLemmas.{place_at, place_none}

@@ -1,4 +1,4 @@
-use Rattle.std.proofs.Common.{◌≡◌, ◌∙◌, sym, ap, refl, max, get_or, map, arith}
+use Rattle.std.proofs.Common.{◌∙◌, ap, refl, max, get_or, map, arith}
 use Rattle.std.proofs.lemmas.List.{get_or_default, with_items_is}
 use Rattle.std.proofs.lemmas.List.Edits.{map_over_more}
 use Rattle.flow_law.specs.SharedFlow.{stand_at}

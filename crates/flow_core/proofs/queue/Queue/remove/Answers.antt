@@ -1,8 +1,7 @@
-use Rattle.std.proofs.Common.{◌≡◌, ◌<◌, ◌==◌, ◌∙◌, not, map, sym, ap, subst, length, Some, None, arith}
+use Rattle.std.proofs.Common.{◌==◌, ◌∙◌, not, sym, ap, subst, Some, arith}
 use Rattle.std.specs.Prelude.{filter}
-use Rattle.std.specs.List.{remove}
 use Rattle.std.proofs.lemmas.List.{length-map}
-use Rattle.flow_core.specs.Queue.{IsPlace, Rises, numbered_of, queue_of}
+use Rattle.flow_core.specs.Queue.{IsPlace, numbered_of, queue_of}
 use Rattle.flow_core.proofs.QueueLemmas.{on_some, taken_out, rises_taken_out}
 use Rattle.flow_core.proofs.queue.Queue.remove.Goals as goal
 use Rattle.flow_core.proofs.queue.Queue.remove.Goals.{in-Some-1, in-None-1}

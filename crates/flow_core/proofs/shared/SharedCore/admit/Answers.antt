@@ -1,6 +1,5 @@
 use Rattle.std.proofs.Common.{◌≡◌, true, false, map, ◌∙◌, ◌+◌, ◌∷◌, ◌++◌, [], sym, ap, refl, subst, length, arith}
 use Rattle.flow_law.specs.SharedFlow.{Numbered, is_blocked}
-use Rattle.flow_law.specs.SharedStep.{settle}
 use Rattle.flow_law.specs.Standing.{StandsFor}
 use Rattle.flow_law.specs.Laws.{RisesTo}
 use Rattle.flow_law.proofs.Rows.{rises_from}
@@ -10,9 +9,12 @@ use Rattle.flow_core.specs.Queue.{numbered_of}
 use Rattle.flow_core.proofs.shared.SharedCore.admit.Goals as goal
 
 pub returns-then-is_blocked-clause-settled : goal.returns-then-is_blocked-clause-settled
-returns-then-is_blocked-clause-settled g c = (refl, λ s stands.
-    let blocked : is_blocked s ≡ true = sym (c.is_blocked.ensures s stands) ∙ c.if-is_blocked.true in
-    subst (λ t. StandsFor c.args.self.now t) (sym (settle_blocked s blocked)) stands)
+returns-then-is_blocked-clause-settled g c = (
+  refl,
+  λ s stands.
+      let blocked : is_blocked s ≡ true = sym (c.is_blocked.ensures s stands) ∙ c.if-is_blocked.true in
+      subst (λ t. StandsFor c.args.self.now t) (sym (settle_blocked s blocked)) stands,
+)
 
 pub invariant_of-self-in-Some : goal.invariant_of-self-in-Some
 invariant_of-self-in-Some g c =
@@ -33,11 +35,10 @@ returns-in-Some-clause-admitted g c = (
       let within : StandsFor (kept c.self.inside) s = subst (λ k. StandsFor k s) (sym c.self.view_is) stands in
       let free : is_blocked s ≡ false = sym (c.is_blocked.ensures s stands) ∙ c.if-is_blocked.false in
       let first = numbered_of c.in-Some.first in
-      let here : s.queue ≡ first ∷ c.pop_front.new.self = sym within.queue ∙ c.in-Some.ensures in
-      (
+      let here : s.queue ≡ first ∷ c.pop_front.new.self = sym within.queue ∙ c.in-Some.ensures in (
         record s { emitted = s.emitted ++ first ∷ []; queue = c.pop_front.new.self },
         stands-held _ _ c.push_reserved.new.self.items _ (stands-admit (kept c.self.inside) s first c.pop_front.new.self c.self.invariant.reset_mark within)
-        c.push_reserved.ensures.items c.push_reserved.ensures.len,
+            c.push_reserved.ensures.items c.push_reserved.ensures.len,
         sym (settle_first s first c.pop_front.new.self here free),
       ),
 )

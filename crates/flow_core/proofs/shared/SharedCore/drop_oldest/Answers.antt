@@ -1,4 +1,4 @@
-use Rattle.std.proofs.Common.{◌≡◌, ◌∙◌, ◌-◌, ◌+◌, sym, ap, refl, subst, length, arith}
+use Rattle.std.proofs.Common.{◌≡◌, ◌∙◌, ◌-◌, ◌+◌, sym, ap, subst, length}
 use Rattle.flow_law.specs.SharedFlow.{raise_to, capacity, cache_start}
 use Rattle.flow_law.specs.Standing.{StandsFor}
 use Rattle.flow_law.proofs.StandingLemmas.{stands-subscribers, least_position-raise_to}

@@ -10,9 +10,13 @@ use Rattle.flow_core.proofs.CallLemmas.{not_exhausted, issued_now, emits_in}
 use Rattle.flow_core.proofs.shared.SharedCore.emit.Goals as goal
 
 pub returns-in-Ok-append-2-clause-documented : goal.returns-in-Ok-append-2-clause-documented
-returns-in-Ok-append-2-clause-documented g c = (λ s stands.
-    let kind : emit_case s ≡ drops_oldest = sym (c.emit_case.ensures s stands) ∙ ap case_of c.in-DropsOldest.is in
-    let left : is_exhausted s ≡ false = not_exhausted c.args.self.now s stands c.in-Ok-append-2.ensures.1 in
-    let all : emit c.args.value s ≡ answer Done (drop_oldest (append c.args.value s)) = emits_in c.args.value s drops_oldest kind ∙ issued_now s _ left in
-    (sym (ap (λ a. reply_by reply.Emitted a.reply) all),
-      subst (λ t. StandsFor c.drop_oldest.new.self t) (sym (ap (λ a. a.after) all)) (c.drop_oldest.ensures (append c.args.value s) (c.in-Ok-append-2.ensures.2 s stands))), tt)
+returns-in-Ok-append-2-clause-documented g c = (
+  λ s stands.
+      let kind : emit_case s ≡ drops_oldest = sym (c.emit_case.ensures s stands) ∙ ap case_of c.in-DropsOldest.is in
+      let left : is_exhausted s ≡ false = not_exhausted c.args.self.now s stands c.in-Ok-append-2.ensures.1 in
+      let all : emit c.args.value s ≡ answer Done (drop_oldest (append c.args.value s)) = emits_in c.args.value s drops_oldest kind ∙ issued_now s _ left in (
+        sym (ap (λ a. reply_by reply.Emitted a.reply) all),
+        subst (λ t. StandsFor c.drop_oldest.new.self t) (sym (ap (λ a. a.after) all)) (c.drop_oldest.ensures (append c.args.value s) (c.in-Ok-append-2.ensures.2 s stands)),
+      ),
+  tt,
+)

@@ -1,5 +1,4 @@
-use Rattle.std.proofs.Common.{◌≡◌, ◌∙◌, ◌-◌, sym, ap, subst, take, drop, List, length, arith}
-use Rattle.std.proofs.lemmas.Grind.{common_steps}
+use Rattle.std.proofs.Common.{◌∙◌, sym, ap, subst, drop}
 use Rattle.flow_law.specs.declared.call.SharedReply.TheVariants as reply
 use Rattle.flow_law.specs.Standing.{StandsFor}
 use Rattle.flow_law.proofs.StandingLemmas.{same_cache}
@@ -9,11 +8,14 @@ use Rattle.flow_core.proofs.shared.SharedCore.replay_cache.Goals as goal
 
 pub returns-in-Ok : goal.returns-in-Ok
 returns-in-Ok g c = record {
-  documented = (λ s stands.
-      let within : StandsFor (kept c.self.inside) s = subst (λ k. StandsFor k s) (sym c.self.view_is) stands in
-      let all = c.in-Ok.ensures.copies ∙ rest_whole c.cache_start.result c.as_slice.result.now
-      ∙ ap (drop c.cache_start.result) c.as_slice.ensures.value
-      ∙ ap (λ n. drop n c.self.inside.values.items) (c.cache_start.ensures.start s stands)
-      ∙ same_cache (kept c.self.inside) s within c.self.invariant.reset_mark (sym c.self.inside.values.ok.0) in
-      (ap reply.Cached all, stands), tt);
+  documented = (
+    λ s stands.
+        let within : StandsFor (kept c.self.inside) s = subst (λ k. StandsFor k s) (sym c.self.view_is) stands in
+        let all = c.in-Ok.ensures.copies ∙ rest_whole c.cache_start.result c.as_slice.result.now
+        ∙ ap (drop c.cache_start.result) c.as_slice.ensures.value
+        ∙ ap (λ n. drop n c.self.inside.values.items) (c.cache_start.ensures.start s stands)
+        ∙ same_cache (kept c.self.inside) s within c.self.invariant.reset_mark (sym c.self.inside.values.ok.0) in
+        (ap reply.Cached all, stands),
+    tt,
+  );
 }

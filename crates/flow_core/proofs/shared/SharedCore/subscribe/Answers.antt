@@ -1,4 +1,4 @@
-use Rattle.std.proofs.Common.{◌≡◌, ◌∙◌, ◌+◌, ◌∷◌, ◌++◌, [], false, sym, ap, subst, arith}
+use Rattle.std.proofs.Common.{◌≡◌, ◌∙◌, ◌+◌, false, sym, ap, subst, arith}
 use Rattle.flow_law.specs.declared.call.SharedReply.TheVariants as reply
 use Rattle.flow_law.specs.SharedFlow.{answer, is_exhausted}
 use Rattle.flow_law.specs.SharedStep.{subscribe, enroll}
@@ -20,12 +20,16 @@ invariant_of-self g c = record {
 
 pub returns-in-Ok : goal.returns-in-Ok
 returns-in-Ok g c = record {
-  documented = λ name. (λ s stands.
-      let within : StandsFor (kept c.self.inside) s = subst (λ k. StandsFor k s) (sym c.self.view_is) stands in
-      let left : is_exhausted s ≡ false = not_exhausted (kept c.self.inside) s within c.if-self.false in
-      let all : subscribe s ≡ answer (s.issued + 1) (enroll s) = issued_now s _ left in
-      (ap (λ n. reply.Subscribed (n + 1)) within.issued ∙ sym (ap (λ a. reply_by reply.Subscribed a.reply) all),
-        subst (λ t. StandsFor (record (kept c.self.inside) { subscribers = c.push.new.self; issued = c.self.inside.issued + 1 }) t) (sym (ap (λ a. a.after) all))
-        (subst (λ us. StandsFor (record (kept c.self.inside) { subscribers = us; issued = c.self.inside.issued + 1 }) (enroll s)) (sym c.in-Ok.ensures.pushed)
-        (stands-enroll (kept c.self.inside) s c.entry-position.result within (c.entry-position.ensures s stands)))), tt);
+  documented = λ name. (
+    λ s stands.
+        let within : StandsFor (kept c.self.inside) s = subst (λ k. StandsFor k s) (sym c.self.view_is) stands in
+        let left : is_exhausted s ≡ false = not_exhausted (kept c.self.inside) s within c.if-self.false in
+        let all : subscribe s ≡ answer (s.issued + 1) (enroll s) = issued_now s _ left in (
+          ap (λ n. reply.Subscribed (n + 1)) within.issued ∙ sym (ap (λ a. reply_by reply.Subscribed a.reply) all),
+          subst (λ t. StandsFor (record (kept c.self.inside) { subscribers = c.push.new.self; issued = c.self.inside.issued + 1 }) t) (sym (ap (λ a. a.after) all))
+              (subst (λ us. StandsFor (record (kept c.self.inside) { subscribers = us; issued = c.self.inside.issued + 1 }) (enroll s)) (sym c.in-Ok.ensures.pushed)
+              (stands-enroll (kept c.self.inside) s c.entry-position.result within (c.entry-position.ensures s stands))),
+        ),
+    tt,
+  );
 }

@@ -2,7 +2,7 @@
 use Rattle.std.proofs.Common.{◌≡◌, ℕ, false, not, ◌==◌, cond, List, [], ◌∷◌, ◌++◌, Option, Some, None, refl, sym, ap, ◌∙◌, subst, arith}
 use Rattle.std.proofs.lemmas.Bool.{cond_both, cond-true, cond-false}
 use Rattle.std.proofs.lemmas.Bool.Decides.{Decides-eqb, nat_tests}
-use Rattle.flow_law.specs.StateFlow.{StateSubscriber, last_of, with_last, without_reader}
+use Rattle.flow_law.specs.StateFlow.{StateSubscriber, last_of, with_last, without_subscriber}
 use Rattle.flow_law.proofs.Rows.{split}
 
 module _ {T : Type 0} where
@@ -31,16 +31,16 @@ module _ {T : Type 0} where
       cond-false (u.number == number) (Some (Some q)) (last_of number us) not_it ∙ sym (cond-false (u.number == number) (Some u.last) (last_of number us) not_it))
       (λ _. ap (λ o. cond (u.number == number) (Some u.last) o) (last-with_other number other q us f))
 
-  pub last-without : (number : ℕ) (us : List (StateSubscriber T)) → last_of number (without_reader number us) ≡ None
+  pub last-without : (number : ℕ) (us : List (StateSubscriber T)) → last_of number (without_subscriber number us) ≡ None
   last-without number [] = refl
-  last-without number (u ∷ us) = split (u.number == number) (λ t. last_of number (cond (not t) (u ∷ without_reader number us) (without_reader number us)) ≡ None)
+  last-without number (u ∷ us) = split (u.number == number) (λ t. last_of number (cond (not t) (u ∷ without_subscriber number us) (without_subscriber number us)) ≡ None)
       (λ t. last-without number us)
-      (λ t. cond-false (u.number == number) (Some u.last) (last_of number (without_reader number us)) t ∙ last-without number us)
+      (λ t. cond-false (u.number == number) (Some u.last) (last_of number (without_subscriber number us)) t ∙ last-without number us)
 
-  pub last-without_other : (number other : ℕ) (us : List (StateSubscriber T)) → (other == number) ≡ false → last_of number (without_reader other us) ≡ last_of number us
+  pub last-without_other : (number other : ℕ) (us : List (StateSubscriber T)) → (other == number) ≡ false → last_of number (without_subscriber other us) ≡ last_of number us
   last-without_other number other [] f = refl
   last-without_other number other (u ∷ us) f = split (u.number == other)
-      (λ t. last_of number (cond (not t) (u ∷ without_reader other us) (without_reader other us)) ≡ last_of number (u ∷ us))
+      (λ t. last_of number (cond (not t) (u ∷ without_subscriber other us) (without_subscriber other us)) ≡ last_of number (u ∷ us))
       (λ t. last-without_other number other us f
       ∙ sym (cond-false (u.number == number) (Some u.last) (last_of number us) (subst (λ n. (n == number) ≡ false) (sym ((Decides-eqb u.number other).0 t)) f)))
       (λ t. ap (λ o. cond (u.number == number) (Some u.last) o) (last-without_other number other us f))

@@ -1,0 +1,44 @@
+-- What contracts see of a state core, and the results of its calls as the replies of a history.
+use Rattle.std.specs.Prelude.{List, map, Result, Ok, Err}
+use Rattle.flow_law.specs.declared.fault.FlowFault.{FlowFault}
+use Rattle.flow_law.specs.declared.outcome.Next.{Next}
+use Rattle.flow_law.specs.declared.call.StateReply.{StateReply}
+use Rattle.flow_law.specs.declared.call.StateReply.TheVariants as reply
+use Rattle.flow_law.specs.StateFlow.{StateFlowState, StateSubscriber}
+use Rattle.flow_core.specs.declared.sub_id.SubId.{SubId}
+use Rattle.flow_core.specs.declared.state.Row.{Row}
+use Rattle.flow_core.specs.declared.state.StateCore.TheInside.{Inside}
+use Rattle.flow_core.specs.SubId.{number_of}
+
+module _ {T : Type 0} where
+  abbrev pub got : Result T FlowFault → StateReply T
+  got (Ok value) = reply.Got value
+  got (Err fault) = reply.Refused fault
+
+  abbrev pub subscribed : Result SubId FlowFault → StateReply T
+  subscribed (Ok id) = reply.Subscribed (number_of id)
+  subscribed (Err fault) = reply.Refused fault
+
+  abbrev pub received : Result (Next T) FlowFault → StateReply T
+  received (Ok next) = reply.Received next
+  received (Err fault) = reply.Refused fault
+
+  abbrev pub cached : {V : Type 0} → (V → List T) → Result V FlowFault → StateReply T
+  cached items (Ok values) = reply.Cached (items values)
+  cached items (Err fault) = reply.Refused fault
+
+  -- a state flow's cache is never reset: `Ok` would be no reply of it
+  abbrev pub reset : Result (Unit {0}) FlowFault → StateReply T
+  reset (Ok none) = reply.Done
+  reset (Err fault) = reply.Refused fault
+
+  abbrev pub subscriber_of : Row T → StateSubscriber T
+  subscriber_of row = record { number = row.number; last = row.last }
+
+  abbrev pub kept : {A : Type 0} → Inside T A → StateFlowState T
+  kept c = record {
+    limit = c.limit;
+    value = c.value;
+    subscribers = map subscriber_of c.rows.items;
+    issued = c.issued;
+  }

@@ -1,0 +1,196 @@
+//! A state flow for one thread.
+ghost use Rattle.std.specs.Prelude.{◌≡◌, ◌↔◌, ◌==◌, ℕ, List, Some, Ok, Err, IsTrue, IfOk, IfErr};
+ghost use Rattle.std.specs.List.{position};
+ghost use Rattle.flow_law.specs.StateFlow as flow;
+ghost use Rattle.flow_law.specs.Standing.{StateConforms};
+ghost use Rattle.flow_law.specs.declared.call.StateCall.TheVariants as call;
+ghost use Rattle.flow_law.specs.declared.call.StateReply.TheVariants as reply;
+ghost use Rattle.flow_core.specs.SubId.{number_of};
+ghost use Rattle.flow_core.specs.StateCore.{got, subscribed, received, cached, reset};
+
+use crate::sub_id::SubId;
+use flow_law::{FlowFault, FlowValue, Next};
+use std::alloc::{Allocator, Global};
+use std::marker::Model;
+
+/// A subscriber's number, and the last value that it got.
+#[derive(Drop)]
+struct Row<T: FlowValue> {
+    number: u64,
+    last: Option<T>,
+}
+
+/// A state flow (`MutableStateFlow`) for one thread: one current value, of which each subscriber gets the most recent
+/// that it has not got already.
+///
+/// It is a conflated flow: `law_conflated` of flow_law says which shared flow it is. A subscription that is only
+/// forgotten stays and costs one value; it blocks nobody.
+#[derive(Drop)]
+pub struct StateCore<T: FlowValue, A: Allocator + Copy = Global> {
+    alloc: A,
+    value: T,
+    rows: Vec<Row<T>, A>,
+    issued: u64,
+    limit: u64,
+}
+
+impl<T: FlowValue, A: Allocator + Copy> Model for StateCore<T, A> {
+    ghost use Rattle.std.specs.Prelude.{◌≤◌};
+    ghost use Rattle.flow_law.specs.StateFlow.{StateFlowState};
+
+    ghost Value = { StateFlowState T };
+
+    ghost use Rattle.flow_core.specs.StateCore.{kept};
+
+    ghost view = { kept };
+
+    ghost invariant = { λ c. c.issued ≤ c.limit };
+}
+
+/// The place of a subscriber's row.
+fn place_of<T: FlowValue>(rows: &[Row<T>], number: u64) -> Option<usize>
+    ensures { result ≡ position (λ row. row.number == number) rows.now }
+{
+    rows.iter().position(|row| row.number == number)
+}
+
+/// Whether the last value that a subscriber got is this one.
+fn has_got<T: FlowValue>(last: &Option<T>, value: &T) -> bool
+    ensures { IsTrue result ↔ (last.now ≡ Some value.now) }
+{
+    match last {
+        None => false,
+        Some(last) => last.same(value),
+    }
+}
+
+impl<T: FlowValue, A: Allocator + Copy> StateCore<T, A> {
+    /// A state flow with this value, which issues at most `limit` numbers to subscribers. It takes no memory.
+    pub fn new(alloc: A, initial: T, limit: u64) -> Self
+        ensures { result ≡ flow.first_state_flow limit initial }
+    {
+        StateCore {
+            alloc,
+            value: initial,
+            rows: Vec::new(alloc),
+            issued: 0,
+            limit,
+        }
+    }
+
+    /// A copy of the current value.
+    pub fn value(&self) -> Result<T, FlowFault>
+        ensures documented { StateConforms self.now call.GetValue (got result) self.now }
+    {
+        match self.value.try_copy() {
+            Ok(copy) => Ok(copy),
+            Err(fault) => Err(fault),
+        }
+    }
+
+    /// Makes this the current value. Setting the same value does nothing.
+    pub fn set(&mut self, value: T)
+        ensures documented { StateConforms self.old (call.Set value) reply.Done self.new }
+    {
+        self.value = value;
+    }
+
+    /// The same as `set`. A state flow always has room.
+    pub fn try_emit(&mut self, value: T) -> bool
+        ensures documented { StateConforms self.old (call.TryEmit value) (reply.Answered result) self.new }
+    {
+        self.set(value);
+        true
+    }
+
+    /// Makes `update` the current value where the current one is `expect`, and answers whether it was. At `false`
+    /// `update` is dropped. Where both are the current value the answer is `true`.
+    pub fn compare_and_set(&mut self, expect: &T, update: T) -> bool
+        ensures documented { StateConforms self.old (call.CompareAndSet expect.now update) (reply.Answered result) self.new }
+    {
+        if self.value.same(expect) {
+            self.value = update;
+            true
+        } else {
+            false
+        }
+    }
+
+    /// A new subscriber, who gets the current value first.
+    pub fn subscribe(&mut self) -> Result<SubId, FlowFault>
+        ensures documented { (name : List ℕ) → StateConforms self.old (call.Subscribe name) (subscribed result) self.new }
+    {
+        if self.issued == self.limit {
+            return Err(FlowFault::Exhausted);
+        }
+        let number = self.issued + 1;
+        match self.rows.push(Row { number, last: None }) {
+            Ok(()) => {
+                self.issued = number;
+                Ok(SubId { number })
+            }
+            Err(_refused) => Err(FlowFault::OutOfMemory),
+        }
+    }
+
+    /// The current value, if it is not the one that the subscriber got last.
+    pub fn next(&mut self, id: SubId) -> Result<Next<T>, FlowFault>
+        ensures documented { StateConforms self.old (call.TakeNext (number_of id)) (received result) self.new }
+    {
+        let Some(place) = place_of(self.rows.as_slice(), id.number) else {
+            return Ok(Next::Gone);
+        };
+        if has_got(&self.rows[place].last, &self.value) {
+            return Ok(Next::Empty);
+        }
+        match self.value.try_copy() {
+            Err(fault) => Err(fault),
+            Ok(last) => match self.value.try_copy() {
+                Err(fault) => Err(fault),
+                Ok(value) => {
+                    self.rows[place].last = Some(last);
+                    Ok(Next::Value(value))
+                }
+            },
+        }
+    }
+
+    /// Ends a subscription, and answers whether it was there.
+    pub fn unsubscribe(&mut self, id: SubId) -> bool
+        ensures documented { StateConforms self.old (call.Unsubscribe (number_of id)) (reply.Answered result) self.new }
+    {
+        let was_there = place_of(self.rows.as_slice(), id.number).is_some();
+        self.rows.retain(|row| row.number != id.number);
+        was_there
+    }
+
+    /// The current value alone: that is a state flow's replay cache.
+    pub fn replay_cache(&self) -> Result<Vec<T, A>, FlowFault>
+        ensures documented { StateConforms self.now call.ReplayCache (cached (λ values. values.items) result) self.now }
+    {
+        match self.value.try_copy() {
+            Err(fault) => Err(fault),
+            Ok(value) => {
+                let mut cache = Vec::new(self.alloc);
+                match cache.push(value) {
+                    Ok(()) => Ok(cache),
+                    Err(_refused) => Err(FlowFault::OutOfMemory),
+                }
+            }
+        }
+    }
+
+    /// Always refused as `Unsupported`: a state flow has a value at any time.
+    pub fn reset_replay_cache(&mut self) -> Result<(), FlowFault>
+        ensures documented { StateConforms self.old call.ResetReplayCache (reset result) self.new }
+    {
+        Err(FlowFault::Unsupported)
+    }
+
+    /// How many subscribers there are.
+    pub fn subscription_count(&self) -> u64
+        ensures documented { StateConforms self.now call.SubscriptionCount (reply.Counted result) self.now }
+    {
+        self.rows.len() as u64
+    }
+}

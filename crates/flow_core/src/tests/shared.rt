@@ -1,0 +1,72 @@
+use crate::SharedCore;
+use flow_law::{Config, Emit, FlowFault, Next, Overflow};
+use std::test::Fail;
+
+fn config(replay: u32, extra: u32, overflow: Overflow) -> Config {
+    Config {
+        replay,
+        extra,
+        overflow,
+        limit: u64::MAX,
+    }
+}
+
+#[test]
+fn a_new_subscriber_gets_the_cache(rt: HostRuntime) -> Result<(), Fail> {
+    let mut flow = SharedCore::<i64>::new(rt.alloc(), config(2, 0, Overflow::Suspend))?;
+    for value in [1, 2, 3] {
+        assert_eq!(rt; flow.try_emit(value)?, true);
+    }
+    assert_eq!(rt; flow.replay_cache()?.as_slice(), [2, 3].as_slice());
+    let a = flow.subscribe()?;
+    assert_eq!(rt; a.number(), 4);
+    assert_eq!(rt; flow.subscription_count(), 1);
+    assert_eq!(rt; flow.next(a)?, Next::Value(2));
+    flow.reset_replay_cache();
+    assert_eq!(rt; flow.replay_cache()?.as_slice(), [].as_slice());
+    assert_eq!(rt; flow.next(a)?, Next::Value(3));
+    assert_eq!(rt; flow.next(a)?, Next::Empty);
+    assert!(rt; flow.unsubscribe(a));
+    assert_eq!(rt; flow.next(a)?, Next::Gone);
+    Ok(())
+}
+
+#[test]
+fn two_emissions_without_a_buffer_wait_for_each_other(rt: HostRuntime) -> Result<(), Fail> {
+    let mut flow = SharedCore::<i64>::new(rt.alloc(), config(0, 0, Overflow::Suspend))?;
+    let a = flow.subscribe()?;
+    assert_eq!(rt; flow.emit(7)?, Emit::Queued(2));
+    assert_eq!(rt; flow.emit(8)?, Emit::Queued(3));
+    assert!(rt; flow.poll(2));
+    assert_eq!(rt; flow.next(a)?, Next::Value(7));
+    assert!(rt; !flow.poll(2));
+    assert!(rt; flow.poll(3));
+    assert_eq!(rt; flow.next(a)?, Next::Value(8));
+    assert!(rt; !flow.poll(3));
+    assert_eq!(rt; flow.next(a)?, Next::Empty);
+    Ok(())
+}
+
+#[test]
+fn a_cancelled_emission_leaves_the_middle_of_the_queue(rt: HostRuntime) -> Result<(), Fail> {
+    let mut flow = SharedCore::<i64>::new(rt.alloc(), config(1, 0, Overflow::Suspend))?;
+    let a = flow.subscribe()?;
+    assert_eq!(rt; flow.emit(1)?, Emit::Done);
+    assert_eq!(rt; flow.emit(2)?, Emit::Queued(3));
+    assert_eq!(rt; flow.emit(3)?, Emit::Queued(4));
+    assert_eq!(rt; flow.emit(4)?, Emit::Queued(5));
+    assert!(rt; flow.cancel(4));
+    assert!(rt; !flow.cancel(4));
+    for value in [1, 2, 4] {
+        assert_eq!(rt; flow.next(a)?, Next::Value(value));
+    }
+    assert_eq!(rt; flow.next(a)?, Next::Empty);
+    Ok(())
+}
+
+#[test]
+fn a_strategy_that_drops_needs_a_buffer(rt: HostRuntime) -> Result<(), Fail> {
+    let refused = SharedCore::<i64>::new(rt.alloc(), config(0, 0, Overflow::DropLatest));
+    assert_eq!(rt; refused.err(), Some(FlowFault::NeedsBuffer));
+    Ok(())
+}

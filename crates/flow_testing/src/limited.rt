@@ -1,0 +1,85 @@
+//! A value of which one copy is refused.
+ghost use Rattle.std.specs.Prelude.{◌≡◌};
+ghost use Rattle.std.specs.Ordering.{int_eq};
+ghost use Rattle.std.proofs.Common.{rules};
+
+use flow_law::{FlowFault, FlowValue};
+use std::cell::Cell;
+use std::marker::Model;
+
+/// A number that counts its copies. Two of them are the same value where their numbers are, whatever they count.
+#[derive(Drop)]
+pub struct CopyLimited<'a> {
+    number: i64,
+    copies: &'a Cell<u64>,
+}
+
+impl<'a> Model for CopyLimited<'a> {
+    ghost use Rattle.std.specs.Prelude.{ℤ};
+
+    ghost Value = { ℤ };
+
+    ghost view = { λ value. value.number };
+}
+
+/// Whether this one is refused.
+fn refuses(copies: &Cell<u64>) -> bool {
+    let left = copies.get();
+    if left > 0 {
+        copies.set(left - 1);
+    }
+    left == 1
+}
+
+impl<'a> CopyLimited<'a> {
+    /// The copy that takes `copies` from 1 to 0 is refused, and no later one is. With 0 none is refused.
+    pub fn new(number: i64, copies: &'a Cell<u64>) -> CopyLimited<'a>
+        ensures { result ≡ number }
+    {
+        CopyLimited { number, copies }
+    }
+
+    /// What the value means.
+    pub fn number(&self) -> i64
+        ensures { result ≡ self.now }
+    {
+        self.number
+    }
+}
+
+impl FlowValue for CopyLimited<'_> {
+    ghost is_same = { int_eq };
+
+    fn try_copy(&self) -> Result<Self, FlowFault> {
+        if refuses(self.copies) {
+            return Err(FlowFault::OutOfMemory);
+        }
+        Ok(CopyLimited {
+            number: self.number,
+            copies: self.copies,
+        })
+    }
+
+    fn same(&self, other: &Self) -> bool {
+        self.number == other.number
+    }
+
+    ghost is_same_exact = { Prim.search rules };
+}
+
+#[cfg(test)]
+mod tests {
+    use super::*;
+    use std::test::Fail;
+
+    #[test]
+    fn one_copy_is_refused(rt: HostRuntime) -> Result<(), Fail> {
+        let copies = Cell::new(2);
+        let other = Cell::new(0);
+        let value = CopyLimited::new(7, &copies);
+        assert_eq!(rt; value.try_copy()?.number(), 7);
+        assert_eq!(rt; value.try_copy().err(), Some(FlowFault::OutOfMemory));
+        assert!(rt; value.try_copy()?.same(&CopyLimited::new(7, &other)));
+        Ok(())
+    }
+}
