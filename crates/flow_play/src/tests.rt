@@ -9,6 +9,7 @@ use std::test::Fail;
 mod chains;
 mod refused;
 mod shared;
+mod state;
 mod streams;
 
 /// Plays a text, and compares the status and what was printed.

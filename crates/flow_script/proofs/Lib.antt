@@ -5,3 +5,4 @@ pub mod CallLemmas
 pub mod PlayLemmas
 pub mod MeaningLemmas
 pub mod ChainLemmas
+pub mod StateLemmas

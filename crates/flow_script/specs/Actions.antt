@@ -5,7 +5,7 @@ use Rattle.flow_script.specs.declared.script.Step.TheVariants as step
 use Rattle.flow_script.specs.declared.script.ScriptFlow.{ScriptFlow}
 use Rattle.flow_script.specs.declared.script.ScriptFlow.TheVariants as flow
 use Rattle.flow_script.specs.ChainFormat.{Build}
-use Rattle.flow_script.specs.Format.{Head, no_flow, shared_flow}
+use Rattle.flow_script.specs.Format.{Head, no_flow, shared_flow, state_flow}
 use Rattle.flow_script.specs.Chains.{build_of}
 
 pub data Action : Type 0 where
@@ -19,12 +19,15 @@ pub data Action : Type 0 where
   cache : Action
   count : Action
   reset : Action
+  value : Action
+  set : ℤ → Action
+  compare_and_set : ℤ → ℤ → Action
   collect : Build → Action
 
 -- what a step that was read is
 abbrev pub action_of : Step → Action
-action_of (step.TryEmit value) = try_emit value
-action_of (step.Emit value) = emit value
+action_of (step.TryEmit x) = try_emit x
+action_of (step.Emit x) = emit x
 action_of (step.Poll place) = poll place
 action_of (step.Cancel place) = cancel place
 action_of step.Subscribe = subscribe
@@ -33,6 +36,9 @@ action_of (step.Unsubscribe place) = unsubscribe place
 action_of step.Cache = cache
 action_of step.Count = count
 action_of step.Reset = reset
+action_of step.Value = value
+action_of (step.Set x) = set x
+action_of (step.CompareAndSet expect update) = compare_and_set expect update
 action_of (step.Collect build) = collect (build_of build)
 
 abbrev pub actions_of : List Step → List Action
@@ -42,3 +48,4 @@ actions_of steps = map action_of steps
 abbrev pub head_of_flow : ScriptFlow → Head
 head_of_flow flow.Absent = no_flow
 head_of_flow (flow.Shared config) = shared_flow config
+head_of_flow (flow.State initial limit) = state_flow initial limit

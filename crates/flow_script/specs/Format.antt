@@ -11,7 +11,7 @@ use Rattle.flow_law.specs.declared.config.Config.{Config}
 use Rattle.flow_law.specs.declared.config.Overflow.{Overflow}
 use Rattle.flow_law.specs.declared.config.Overflow.TheVariants.{Suspend, DropOldest, DropLatest}
 use Rattle.flow_script.specs.declared.verb.Verb.{Verb}
-use Rattle.flow_script.specs.declared.verb.Verb.TheVariants.{TryEmit, Emit, Poll, Cancel, Subscribe, Next, Unsubscribe, Cache, Count, Reset, Collect}
+use Rattle.flow_script.specs.declared.verb.Verb.TheVariants.{TryEmit, Emit, Poll, Cancel, Subscribe, Next, Unsubscribe, Cache, Count, Reset, Collect, Value, Set, CompareAndSet}
 use Rattle.flow_script.specs.declared.verb.Kind.{Kind}
 use Rattle.flow_script.specs.declared.verb.Kind.TheVariants as kind
 
@@ -74,15 +74,23 @@ config_of d =
 pub data Head : Type 0 where
   no_flow : Head
   shared_flow : Config → Head
+  -- with the first value, and the most numbers that it issues
+  state_flow : ℤ → ℕ → Head
 
 abbrev pub kind_of : Head → Kind
 kind_of no_flow = kind.Absent
 kind_of (shared_flow config) = kind.Shared
+kind_of (state_flow initial limit) = kind.State
+
+abbrev pub state_of : Data → Option Head
+state_of d = option_and_then (λ initial. option_and_then (λ limit. where_true (has_members (with_limit 2 d) d) (Some (state_flow initial limit)))
+    (limit_at d)) (i64_at (codes "initial") d)
 
 abbrev pub flow_named : List ℕ → Data → Option Head
 flow_named kind d =
     if bytes_eq kind (codes "none") then where_true (has_members 1 d) (Some no_flow)
-    else (if bytes_eq kind (codes "shared") then option_map shared_flow (config_of d) else None)
+    else (if bytes_eq kind (codes "shared") then option_map shared_flow (config_of d)
+    else (if bytes_eq kind (codes "state") then state_of d else None))
 
 abbrev pub flow_of : Data → Option Head
 flow_of d = option_and_then (λ kind. flow_named kind d) (text_at (codes "kind") d)
@@ -109,7 +117,10 @@ verb_named text =
     else (if bytes_eq text (codes "cache") then Some Cache
     else (if bytes_eq text (codes "count") then Some Count
     else (if bytes_eq text (codes "reset") then Some Reset
-    else (if bytes_eq text (codes "collect") then Some Collect else None))))))))))
+    else (if bytes_eq text (codes "collect") then Some Collect
+    else (if bytes_eq text (codes "value") then Some Value
+    else (if bytes_eq text (codes "set") then Some Set
+    else (if bytes_eq text (codes "compare_and_set") then Some CompareAndSet else None)))))))))))))
 
 -- how many keys a step has, `do` among them
 abbrev pub key_count : Verb → ℕ
@@ -117,16 +128,44 @@ key_count Emit = 3
 key_count Cache = 1
 key_count Count = 1
 key_count Reset = 1
+key_count Value = 1
+key_count CompareAndSet = 3
 key_count _ = 2
 
-abbrev pub is_collect : Verb → Bool
-is_collect Collect = true
-is_collect _ = false
+abbrev pub is_flow : Kind → Bool
+is_flow kind.Absent = false
+is_flow _ = true
 
--- the steps that each kind of flow allows
+-- a flow into which the script emits
+abbrev pub is_mutable : Kind → Bool
+is_mutable kind.Shared = true
+is_mutable kind.State = true
+is_mutable _ = false
+
+abbrev pub is_shared : Kind → Bool
+is_shared kind.Shared = true
+is_shared _ = false
+
+abbrev pub is_state : Kind → Bool
+is_state kind.State = true
+is_state _ = false
+
+-- the kinds of flow that allow a step
 abbrev pub is_allowed : Kind → Verb → Bool
-is_allowed kind.Absent verb = is_collect verb
-is_allowed kind.Shared verb = true
+is_allowed kind Collect = true
+is_allowed kind TryEmit = is_mutable kind
+is_allowed kind Reset = is_mutable kind
+is_allowed kind Emit = is_shared kind
+is_allowed kind Poll = is_shared kind
+is_allowed kind Cancel = is_shared kind
+is_allowed kind Subscribe = is_flow kind
+is_allowed kind Next = is_flow kind
+is_allowed kind Unsubscribe = is_flow kind
+is_allowed kind Cache = is_flow kind
+is_allowed kind Count = is_flow kind
+is_allowed kind Value = is_state kind
+is_allowed kind Set = is_state kind
+is_allowed kind CompareAndSet = is_state kind
 
 -- what a step does, if the flow allows it and it has as many keys as it needs
 abbrev pub verb_of : Kind → Data → Option Verb

@@ -6,6 +6,8 @@ pub mod Checks
 pub mod Names
 pub mod Chains
 pub mod Lines
+pub mod Turns
+pub mod StateMeaning
 pub mod ScriptMeaning
 pub mod Playing
 pub mod Watching

@@ -10,6 +10,9 @@ use Rattle.flow_law.specs.declared.chain.ChainFault.TheVariants as chain_fault
 use Rattle.flow_law.specs.declared.chain.End.{End}
 use Rattle.flow_law.specs.declared.chain.End.TheVariants.{Completed, Failed}
 use Rattle.flow_law.specs.ChainRun.{items, ending}
+use Rattle.flow_law.specs.declared.call.StateCall.{StateCall}
+use Rattle.flow_law.specs.declared.call.StateReply.{StateReply}
+use Rattle.flow_law.specs.declared.call.StateReply.TheVariants as state
 use Rattle.flow_script.specs.ChainFormat.{Build}
 use Rattle.flow_law.specs.declared.outcome.Emit.TheVariants.{Done, Queued}
 use Rattle.flow_law.specs.declared.outcome.Next.{Next}
@@ -86,3 +89,14 @@ line_of call (Received next) = next_text next
 line_of call (Cached values) = list_text values
 line_of call Reset = codes "reset"
 line_of call (Counted count) = decimal count
+
+-- a call of a state flow, and its reply
+abbrev pub state_line_of : StateCall ℤ → StateReply ℤ → List ℕ
+state_line_of call (state.Refused fault) = refusal_text fault
+state_line_of call state.Done = codes "set"
+state_line_of call (state.Got value) = signed_decimal value
+state_line_of call (state.Answered test) = test_text test
+state_line_of call (state.Subscribed u) = codes "subscribed"
+state_line_of call (state.Received next) = next_text next
+state_line_of call (state.Counted count) = decimal count
+state_line_of call (state.Cached values) = list_text values

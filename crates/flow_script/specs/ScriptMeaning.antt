@@ -12,11 +12,13 @@ use Rattle.flow_law.specs.declared.call.SharedReply.TheVariants.{Emitted, Subscr
 use Rattle.flow_law.specs.SharedFlow.{SharedFlowState, first_state, config_fault}
 use Rattle.flow_law.specs.SharedHistory as history
 use Rattle.flow_script.specs.declared.fault.ScriptFault.{ScriptFault}
-use Rattle.flow_script.specs.Format.{Head, no_flow, shared_flow}
+use Rattle.flow_script.specs.Format.{Head, no_flow, shared_flow, state_flow}
 use Rattle.flow_script.specs.Actions.{Action}
 use Rattle.flow_script.specs.Actions as action
 use Rattle.flow_script.specs.Checks.{result_map, read_script}
 use Rattle.flow_script.specs.Lines.{lined, line_of, refusal_text, collection_text, not_allowed}
+use Rattle.flow_script.specs.StateMeaning.{StatePlay, first_state_play, state_turn}
+pub use Rattle.flow_script.specs.Turns.{Turn, number_at, line_without_call}
 
 -- ---- players
 
@@ -30,14 +32,11 @@ pub record SharedPlay : Type 0 where
 pub data Player : Type 0 where
   idle : Player
   shared : SharedPlay → Player
+  state : StatePlay → Player
 
 -- before the first step
 abbrev pub first_play : Config → SharedPlay
 first_play config = record { flow = first_state config; emissions = []; subscribers = [] }
-
--- the number that the name at a place stands for
-abbrev pub number_at : ℕ → List (Option ℕ) → Option ℕ
-number_at place numbers = option_and_then (λ number. number) (slice_get numbers place)
 
 -- ---- the documented reply, and the state after it
 
@@ -61,15 +60,7 @@ call_of (action.unsubscribe place) p = option_map call.Unsubscribe (number_at pl
 call_of action.cache p = Some call.ReplayCache
 call_of action.count p = Some call.SubscriptionCount
 call_of action.reset p = Some call.ResetReplayCache
-call_of (action.collect build) p = None
-
--- An emission that was done at once, or refused, waits for nobody. A subscription that was refused is gone
-abbrev pub line_without_call : Action → List ℕ
-line_without_call (action.poll place) = codes "done"
-line_without_call (action.next place) = codes "gone"
-line_without_call (action.cancel place) = codes "false"
-line_without_call (action.unsubscribe place) = codes "false"
-line_without_call _ = not_allowed
+call_of _ p = None
 
 -- the number that a name stands for from then on
 abbrev pub emission_number : SharedReply ℤ → Option ℕ
@@ -85,11 +76,6 @@ with_name (action.emit value) reply p = record p { emissions = p.emissions ++ em
 with_name action.subscribe reply p = record p { subscribers = p.subscribers ++ subscriber_number reply ∷ [] }
 with_name _ reply p = p
 
--- a step's line, and what is played on after it
-pub record Turn (P : Type 0) : Type 0 where
-  pub line : List ℕ
-  pub after : P
-
 abbrev pub called : Action → SharedPlay → SharedCall ℤ → Turn SharedPlay
 called action p call = record {
   line = line_of call (reply_to call p.flow);
@@ -104,9 +90,13 @@ shared_turn action p = option_map_or (called action p) (call_of action p) (recor
 abbrev pub on_shared : Turn SharedPlay → Turn Player
 on_shared t = record { line = t.line; after = shared t.after }
 
+abbrev pub on_state : Turn StatePlay → Turn Player
+on_state t = record { line = t.line; after = state t.after }
+
 abbrev pub flow_turn : Action → Player → Turn Player
 flow_turn action idle = record { line = not_allowed; after = idle }
 flow_turn action (shared p) = on_shared (shared_turn action p)
+flow_turn action (state p) = on_state (state_turn action p)
 
 -- a collection is about no flow
 abbrev pub turn : Action → Player → Turn Player
@@ -123,6 +113,7 @@ lines_from p (action ∷ rest) = lined (turn action p).line ++ lines_from (turn 
 abbrev pub player_of : Head → Result Player FlowFault
 player_of no_flow = Ok idle
 player_of (shared_flow config) = option_map_or (λ fault. Err fault) (config_fault config) (Ok (shared (first_play config)))
+player_of (state_flow initial limit) = Ok (state (first_state_play limit initial))
 
 abbrev pub text_by : List Action → Result Player FlowFault → List ℕ
 text_by steps (Ok p) = lines_from p steps

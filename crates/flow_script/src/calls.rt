@@ -3,7 +3,8 @@ ghost use Rattle.std.specs.Prelude.{◌≡◌, [], ℤ, OnOk, IfOk, IfErr, strin
 ghost use Rattle.flow_law.specs.SharedFlow.{SharedFlowState};
 ghost use Rattle.flow_law.specs.Standing.{StandsFor, Conforms};
 ghost use Rattle.flow_law.specs.declared.call.SharedCall.TheVariants as call;
-ghost use Rattle.flow_core.specs.SharedCore.{number_of, subscribed};
+ghost use Rattle.flow_core.specs.SharedCore.{subscribed};
+ghost use Rattle.flow_core.specs.SubId.{number_of};
 ghost use Rattle.flow_script.specs.ScriptMeaning.{reply_to, emission_number, subscriber_number};
 ghost use Rattle.flow_script.specs.Shown.{Writes};
 

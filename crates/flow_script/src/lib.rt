@@ -21,6 +21,8 @@ mod read_source;
 mod read_step;
 mod script;
 mod shared_player;
+mod state_calls;
+mod state_player;
 mod transfer;
 mod verb;
 mod watched;

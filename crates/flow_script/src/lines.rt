@@ -1,13 +1,11 @@
 //! Writing lines.
 ghost use Rattle.std.specs.Prelude.{◌≡◌, ◌≢◌, ◌++◌, OnOk, IfErr, string_bytes, decimal};
+ghost use Rattle.std.specs.Fmt.{signed_decimal};
 ghost use Rattle.flow_script.specs.Lines as lines;
 
 use crate::fault::ScriptFault;
 use flow_law::{FlowFault, Next};
 use std::alloc::AllocError;
-
-/// The line of a step that the flow does not allow. No script that is read has one.
-pub const NOT_ALLOWED: &str = "not allowed";
 
 pub fn add_line(text: &mut String, line: &str) -> Result<(), AllocError>
     ensures { OnOk result (string_bytes text.new ≡ string_bytes text.old ++ lines.lined line.now) }
@@ -74,10 +72,25 @@ pub fn add_next(text: &mut String, next: Next<i64>) -> Result<(), AllocError>
     }
 }
 
+pub fn add_value(text: &mut String, value: i64) -> Result<(), AllocError>
+    ensures { OnOk result (string_bytes text.new ≡ string_bytes text.old ++ lines.lined (signed_decimal value)) }
+{
+    writeln!(text, "{value}")
+}
+
 pub fn add_count(text: &mut String, count: u64) -> Result<(), AllocError>
     ensures { OnOk result (string_bytes text.new ≡ string_bytes text.old ++ lines.lined (decimal count)) }
 {
     writeln!(text, "{count}")
+}
+
+/// The line of a step that the flow does not allow. No script that is read has one.
+pub fn add_not_allowed(text: &mut String) -> Result<(), ScriptFault>
+    ensures line { OnOk result (string_bytes text.new ≡ string_bytes text.old ++ lines.lined lines.not_allowed) }
+    ensures refused { IfErr result (λ refused. refused ≡ ScriptFault.OutOfMemory) }
+{
+    add_line(text, "not allowed")?;
+    Ok(())
 }
 
 /// The line of a refused call. Want of memory has none: it ends the script.

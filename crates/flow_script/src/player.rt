@@ -6,9 +6,10 @@ ghost use Rattle.flow_script.specs.Shown.{Plays, PlaysFlow, Shows};
 
 use crate::collect::add_collection;
 use crate::fault::ScriptFault;
-use crate::lines::{NOT_ALLOWED, add_line, add_refusal};
+use crate::lines::{add_not_allowed, add_refusal};
 use crate::script::{Script, ScriptFlow, Step};
 use crate::shared_player::SharedPlayer;
+use crate::state_player::StatePlayer;
 use flow_law::FlowFault;
 use std::alloc::Global;
 
@@ -17,21 +18,25 @@ use std::alloc::Global;
 pub enum Player {
     Idle,
     Shared(SharedPlayer),
+    State(StatePlayer),
 }
 
 impl Player {
     /// Before the first step.
-    fn new(alloc: Global, flow: ScriptFlow) -> Result<Self, FlowFault>
+    fn new(alloc: Global, flow: &ScriptFlow) -> Result<Self, FlowFault>
         ensures { MatchResult result
-            (λ player. (p : meaning.Player) × (meaning.player_of (head_of_flow flow) ≡ Ok p) × Shows player p)
-            (λ fault. meaning.player_of (head_of_flow flow) ≡ Err fault) }
+            (λ player. (p : meaning.Player) × (meaning.player_of (head_of_flow flow.now) ≡ Ok p) × Shows player p)
+            (λ fault. meaning.player_of (head_of_flow flow.now) ≡ Err fault) }
     {
         match flow {
             ScriptFlow::Absent => Ok(Player::Idle),
-            ScriptFlow::Shared(config) => match SharedPlayer::new(alloc, config) {
+            ScriptFlow::Shared(config) => match SharedPlayer::new(alloc, *config) {
                 Ok(player) => Ok(Player::Shared(player)),
                 Err(fault) => Err(fault),
             },
+            ScriptFlow::State { initial, limit } => {
+                Ok(Player::State(StatePlayer::new(alloc, *initial, *limit)))
+            }
         }
     }
 
@@ -51,11 +56,9 @@ impl Player {
         ensures fault { IfErr result (λ fault. fault ≡ ScriptFault.OutOfMemory) }
     {
         match self {
-            Player::Idle => {
-                add_line(text, NOT_ALLOWED)?;
-                Ok(())
-            }
+            Player::Idle => add_not_allowed(text),
             Player::Shared(player) => player.step(text, step),
+            Player::State(player) => player.step(text, step),
         }
     }
 }
@@ -67,7 +70,7 @@ pub fn text_of(alloc: Global, script: Script) -> Result<String, ScriptFault>
 {
     let Script { flow, steps } = script;
     let mut text = String::new(alloc);
-    let mut player = match Player::new(alloc, flow) {
+    let mut player = match Player::new(alloc, &flow) {
         Ok(player) => player,
         Err(fault) => {
             add_refusal(&mut text, fault)?;

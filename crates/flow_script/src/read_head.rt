@@ -5,7 +5,7 @@ ghost use Rattle.serde_json.specs.View.{view, items_view};
 ghost use Rattle.flow_script.specs.Format as format;
 ghost use Rattle.flow_script.specs.Actions.{head_of_flow};
 
-use crate::members::{has_members, text_at, u32_at, u64_at};
+use crate::members::{has_members, i64_at, text_at, u32_at, u64_at};
 use crate::script::ScriptFlow;
 use crate::verb::Kind;
 use flow_law::{Config, Overflow};
@@ -72,6 +72,18 @@ fn config_of(flow: &Value) -> Option<Config>
     })
 }
 
+/// A state flow.
+fn state_of(flow: &Value) -> Option<ScriptFlow>
+    ensures { option_map head_of_flow result ≡ format.state_of (view flow.now) }
+{
+    let initial = i64_at(flow, "initial")?;
+    let limit = limit_at(flow)?;
+    if !has_members(flow, with_limit(2, flow)) {
+        return None;
+    }
+    Some(ScriptFlow::State { initial, limit })
+}
+
 /// The flow that a head names by its kind.
 fn flow_named(kind: &str, flow: &Value) -> Option<ScriptFlow>
     ensures { option_map head_of_flow result ≡ format.flow_named kind.now (view flow.now) }
@@ -85,6 +97,9 @@ fn flow_named(kind: &str, flow: &Value) -> Option<ScriptFlow>
     }
     if kind == "shared" {
         return Some(ScriptFlow::Shared(config_of(flow)?));
+    }
+    if kind == "state" {
+        return state_of(flow);
     }
     None
 }
@@ -103,6 +118,7 @@ pub fn kind_of(flow: &ScriptFlow) -> Kind
     match flow {
         ScriptFlow::Absent => Kind::Absent,
         ScriptFlow::Shared(_) => Kind::Shared,
+        ScriptFlow::State { .. } => Kind::State,
     }
 }
 

@@ -86,6 +86,24 @@ fn subscribe_step<'a>(names: &mut Names<'a>, at: u64, step: &'a Value) -> Result
     Ok(Step::Subscribe)
 }
 
+/// What is expected, and what it is replaced by.
+fn pair_of(step: &Value) -> Option<(i64, i64)>
+    ensures { result ≡ checks.pair_of (view step.now) }
+{
+    let expect = i64_at(step, "expect")?;
+    let update = i64_at(step, "update")?;
+    Some((expect, update))
+}
+
+fn compare_and_set_step(at: u64, step: &Value) -> Result<Step, ScriptFault>
+    ensures { (names : checks.NameLists) → checks.Gives (checks.step_by Verb.CompareAndSet at names (view step.now)) (checks.named_result result names) }
+{
+    match pair_of(step) {
+        Some((expect, update)) => Ok(Step::CompareAndSet(expect, update)),
+        None => Err(ScriptFault::BadShape(at)),
+    }
+}
+
 /// The chain of a step that collects it.
 fn collected_in(alloc: Global, at: u64, step: &Value) -> Result<Build, ScriptFault>
     ensures { checks.Gives (checks.collected_in at (view step.now)) (build_result result) }
@@ -120,6 +138,9 @@ pub fn step_of<'a>(
         Verb::Cache => Ok(Step::Cache),
         Verb::Count => Ok(Step::Count),
         Verb::Reset => Ok(Step::Reset),
+        Verb::Value => Ok(Step::Value),
+        Verb::Set => Ok(Step::Set(value_in(at, step)?)),
+        Verb::CompareAndSet => compare_and_set_step(at, step),
         Verb::Collect => Ok(Step::Collect(collected_in(alloc, at, step)?)),
     }
 }

@@ -26,6 +26,10 @@ pub enum Step {
     Cache,
     Count,
     Reset,
+    Value,
+    Set(i64),
+    /// With the value that is expected, and the new one.
+    CompareAndSet(i64, i64),
     Collect(Build),
 }
 
@@ -35,6 +39,7 @@ pub enum ScriptFlow {
     /// There is none: the steps only collect chains.
     Absent,
     Shared(Config),
+    State { initial: i64, limit: u64 },
 }
 
 /// A script that was checked. The flow itself may still be refused when it is made.

@@ -1,7 +1,7 @@
 //! A shared flow, and the steps of a script on it.
 ghost use Rattle.std.specs.Prelude.{◌≡◌, Some, None, MatchResult, OnOk, IfOk, IfErr, string_bytes, option_map};
 ghost use Rattle.flow_law.specs.SharedFlow.{config_fault};
-ghost use Rattle.flow_core.specs.SharedCore.{number_of};
+ghost use Rattle.flow_core.specs.SubId.{number_of};
 ghost use Rattle.flow_script.specs.Actions.{action_of};
 ghost use Rattle.flow_script.specs.Actions as action;
 ghost use Rattle.flow_script.specs.ScriptMeaning as meaning;
@@ -9,7 +9,7 @@ ghost use Rattle.flow_script.specs.Shown.{PlaysShared, ShowsShared, numbers_of};
 
 use crate::calls;
 use crate::fault::ScriptFault;
-use crate::lines::{NOT_ALLOWED, add_line};
+use crate::lines::{add_line, add_not_allowed};
 use crate::script::Step;
 use flow_core::{SharedCore, SubId};
 use flow_law::{Config, FlowFault};
@@ -152,10 +152,10 @@ impl SharedPlayer {
             Step::Cache => calls::replay_cache(&self.core, text),
             Step::Count => calls::subscription_count(&self.core, text),
             Step::Reset => calls::reset_replay_cache(&mut self.core, text),
-            Step::Collect(_) => {
-                add_line(text, NOT_ALLOWED)?;
-                Ok(())
-            }
+            Step::Value => add_not_allowed(text),
+            Step::Set(_) => add_not_allowed(text),
+            Step::CompareAndSet(_, _) => add_not_allowed(text),
+            Step::Collect(_) => add_not_allowed(text),
         }
     }
 }

@@ -7,6 +7,7 @@ ghost use Rattle.flow_script.specs.Format as format;
 pub enum Kind {
     Absent,
     Shared,
+    State,
 }
 
 /// What a step does.
@@ -23,6 +24,9 @@ pub enum Verb {
     Count,
     Reset,
     Collect,
+    Value,
+    Set,
+    CompareAndSet,
 }
 
 pub fn verb_named(text: &str) -> Option<Verb>
@@ -50,6 +54,12 @@ pub fn verb_named(text: &str) -> Option<Verb>
         Some(Verb::Reset)
     } else if text == "collect" {
         Some(Verb::Collect)
+    } else if text == "value" {
+        Some(Verb::Value)
+    } else if text == "set" {
+        Some(Verb::Set)
+    } else if text == "compare_and_set" {
+        Some(Verb::CompareAndSet)
     } else {
         None
     }
@@ -61,6 +71,7 @@ pub fn key_count(verb: Verb) -> usize
 {
     match verb {
         Verb::Emit => 3,
+        Verb::CompareAndSet => 3,
         Verb::TryEmit => 2,
         Verb::Poll => 2,
         Verb::Cancel => 2,
@@ -70,7 +81,9 @@ pub fn key_count(verb: Verb) -> usize
         Verb::Cache => 1,
         Verb::Count => 1,
         Verb::Reset => 1,
+        Verb::Value => 1,
         Verb::Collect => 2,
+        Verb::Set => 2,
     }
 }
 
@@ -78,17 +91,52 @@ pub fn key_count(verb: Verb) -> usize
 pub fn is_allowed(kind: Kind, verb: Verb) -> bool
     ensures { result ≡ format.is_allowed kind verb }
 {
-    match kind {
-        Kind::Absent => is_collect(verb),
-        Kind::Shared => true,
+    match verb {
+        Verb::Collect => true,
+        Verb::TryEmit | Verb::Reset => kind.is_mutable(),
+        Verb::Emit | Verb::Poll | Verb::Cancel => kind.is_shared(),
+        Verb::Subscribe | Verb::Next | Verb::Unsubscribe | Verb::Cache | Verb::Count => {
+            kind.is_flow()
+        }
+        Verb::Value | Verb::Set | Verb::CompareAndSet => kind.is_state(),
     }
 }
 
-fn is_collect(verb: Verb) -> bool
-    ensures { result ≡ format.is_collect verb }
-{
-    match verb {
-        Verb::Collect => true,
-        _ => false,
+impl Kind {
+    fn is_flow(self) -> bool
+        ensures { result ≡ format.is_flow self }
+    {
+        match self {
+            Kind::Absent => false,
+            _ => true,
+        }
+    }
+
+    /// A flow into which the script emits.
+    fn is_mutable(self) -> bool
+        ensures { result ≡ format.is_mutable self }
+    {
+        match self {
+            Kind::Shared | Kind::State => true,
+            _ => false,
+        }
+    }
+
+    fn is_shared(self) -> bool
+        ensures { result ≡ format.is_shared self }
+    {
+        match self {
+            Kind::Shared => true,
+            _ => false,
+        }
+    }
+
+    fn is_state(self) -> bool
+        ensures { result ≡ format.is_state self }
+    {
+        match self {
+            Kind::State => true,
+            _ => false,
+        }
     }
 }
