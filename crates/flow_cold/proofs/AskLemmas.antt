@@ -1,5 +1,5 @@
 -- How an item shortens what is left of a run.
-use Rattle.std.proofs.Common.{◌≡◌, ◌<◌, arith}
+use Rattle.std.proofs.Common.{◌<◌, arith}
 use Rattle.flow_law.specs.ChainRun.{ChainRun, asks}
 use Rattle.flow_cold.specs.declared.cold.Asked.{Asked}
 use Rattle.flow_cold.specs.declared.cold.Asked.TheVariants.{Item, Pending, End, Fault}

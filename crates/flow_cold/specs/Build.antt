@@ -12,7 +12,6 @@ use Rattle.flow_cold.specs.declared.script_chain.op.Source.{Source}
 use Rattle.flow_cold.specs.declared.script_chain.op.Source.TheVariants as source
 use Rattle.flow_cold.specs.declared.script_chain.ScriptChain.{ScriptChain}
 use Rattle.flow_cold.specs.Numbers.{computed, joined, passes, sums, spread_run}
-use Rattle.flow_cold.specs.Operators.{operator_whole, operator_rest}
 use Rattle.flow_cold.specs.ScriptChain.{node_whole, node_rest}
 use Rattle.flow_cold.specs.Sources.{range_run, scripted_run}
 

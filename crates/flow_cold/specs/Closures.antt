@@ -1,6 +1,7 @@
--- What a caller's closure answers. It has one answer for each argument, which the caller states as a function, its meaning;
--- want of memory may come in place of it.
-use Rattle.std.specs.Prelude.{◌≡◌, ◌⊎◌, Bool, Result, Ok, Err}
+-- What a caller's closure answers. It has one answer for each argument, which the caller states as a function, its meaning.
+-- Want of memory may come in place of any answer, at one call and not at another. It is never what is meant: the answers
+-- that count are the others.
+use Rattle.std.specs.Prelude.{◌≡◌, ◌≢◌, ◌⊎◌, Bool, Result, Ok, Err}
 use Rattle.flow_law.specs.declared.chain.ChainFault.{ChainFault}
 use Rattle.flow_law.specs.declared.chain.ChainFault.TheVariants.{OutOfMemory}
 
@@ -17,6 +18,7 @@ FollowsBy view meant (Err fault) = (meant ≡ Err fault) ⊎ (fault ≡ OutOfMem
 -- each possible answer of the closure follows its meaning
 pub record Computes {A B : Type 0} (post : A → Result B ChainFault → Type 0) (meaning : A → Result B ChainFault) : Type 0 where
   pub at : (x : A) (r : Result B ChainFault) → post x r → Follows (meaning x) r
+  pub counts : (x : A) → meaning x ≢ Err OutOfMemory
 
 -- each possible answer of the test is the one that is meant
 pub record Decides {A : Type 0} (post : A → Bool → Type 0) (meaning : A → Bool) : Type 0 where
@@ -24,3 +26,4 @@ pub record Decides {A : Type 0} (post : A → Bool → Type 0) (meaning : A → 
 
 pub record ComputesBy {A S P : Type 0} (view : S → P) (post : A → Result S ChainFault → Type 0) (meaning : A → Result P ChainFault) : Type 0 where
   pub at : (x : A) (r : Result S ChainFault) → post x r → FollowsBy view (meaning x) r
+  pub counts : (x : A) → meaning x ≢ Err OutOfMemory

@@ -4,6 +4,7 @@ pub mod Closures
 pub mod Sources
 pub mod Numbers
 pub mod Operators
+pub mod Pairing
 pub mod Part
 pub mod ScriptChain
 pub mod Streams

@@ -1,13 +1,17 @@
 -- The operators on whole numbers, in the state that each keeps. No public clause cites this module but by `node_whole`.
-use Rattle.std.specs.Prelude.{◌≡◌, ◌≢◌, ℕ, ◌≤◌, ◌==◌, ℤ, ◌+ℤ◌, Bool, true, false, cond, ◌||◌, List, [], ◌∷◌, length, drop, replicate, Option, None}
+use Rattle.std.specs.Prelude.{◌≡◌, ◌≢◌, ◌==◌, ℤ, ◌+ℤ◌, Bool, true, false, cond, ◌||◌, List, [], ◌∷◌, drop, replicate, None}
 use Rattle.std.specs.Ordering.{int_eq}
 use Rattle.flow_law.specs.declared.chain.End.TheVariants.{Completed, Failed}
-use Rattle.flow_law.specs.ChainRun.{ChainRun, gives, pends, ends, list_run, unless_ended}
+use Rattle.flow_law.specs.ChainRun.{ChainRun, gives, ends, list_run, unless_ended}
 use Rattle.flow_law.specs.OperatorRuns.{continued, map_run, filter_run, take_while_run, take_run, drop_run, distinct_run, scan_run, transform_run, followed, flat_map_run}
 use Rattle.flow_cold.specs.declared.script_chain.op.Spread.TheVariants as spread
 use Rattle.flow_cold.specs.declared.script_chain.operator.Operator.{Operator}
 use Rattle.flow_cold.specs.declared.script_chain.operator.Operator.TheVariants.{Map, Filter, TakeWhile, Transform, Take, DropFirst, Scan, FlatMapRange, FlatMapRepeat, Distinct}
 use Rattle.flow_cold.specs.declared.script_chain.node.Stage.{Stage}
+use Rattle.flow_cold.specs.declared.script_chain.state.Adding.{Adding}
+use Rattle.flow_cold.specs.declared.script_chain.state.Following.{Following}
+use Rattle.flow_cold.specs.declared.script_chain.state.Repeating.{Repeating}
+use Rattle.flow_cold.specs.declared.script_chain.state.Scanning.{Scanning}
 use Rattle.flow_cold.specs.declared.script_chain.operator.Step.{Step}
 use Rattle.flow_cold.specs.declared.script_chain.operator.Step.TheVariants.{Item, Nothing, End, Fault}
 use Rattle.flow_cold.specs.Numbers.{computed, passes, sums, ranged, spread_run}
@@ -30,17 +34,29 @@ abbrev pub with_sums : ℤ → List ℤ → ChainRun ℤ → ChainRun ℤ
 with_sums x [] r = r
 with_sums x (d ∷ ds) r = continued (ranged (x +ℤ d)) (λ y. gives y (with_sums x ds r))
 
--- where r is what the upstream has left
+-- what each operator has left, where r is what the upstream has left
+abbrev pub adding_rest : Adding → ChainRun ℤ → ChainRun ℤ
+adding_rest s r = with_sums s.item (drop s.at s.entries.items) (transform_run (sums s.entries.items) r)
+
+abbrev pub scanning_rest : Scanning → ChainRun ℤ → ChainRun ℤ
+scanning_rest s r = cond s.begun (scan_run (computed s.by) s.last r) (gives s.initial (scan_run (computed s.by) s.initial r))
+
+abbrev pub following_rest : Following → ChainRun ℤ → ChainRun ℤ
+following_rest s r = followed (unless_ended s.closed (range_run s.next s.last)) (flat_map_run (spread_run spread.Range s.count) r)
+
+abbrev pub repeating_rest : Repeating → ChainRun ℤ → ChainRun ℤ
+repeating_rest s r = followed (list_run (replicate s.left s.item)) (flat_map_run (spread_run spread.Repeat s.count) r)
+
 abbrev pub operator_rest : Operator → ChainRun ℤ → ChainRun ℤ
 operator_rest (Map s) r = map_run (λ x. computed s.by (x, s.k)) r
 operator_rest (Filter test) r = filter_run (passes test) r
 operator_rest (TakeWhile test) r = take_while_run (passes test) r
-operator_rest (Transform s) r = with_sums s.item (drop s.at s.entries.items) (transform_run (sums s.entries.items) r)
+operator_rest (Transform s) r = adding_rest s r
 operator_rest (Take s) r = take_run s.left r
 operator_rest (DropFirst s) r = drop_run r s.left
-operator_rest (Scan s) r = cond s.begun (scan_run (computed s.by) s.last r) (gives s.initial (scan_run (computed s.by) s.initial r))
-operator_rest (FlatMapRange s) r = followed (unless_ended s.closed (range_run s.next s.last)) (flat_map_run (spread_run spread.Range s.count) r)
-operator_rest (FlatMapRepeat s) r = followed (list_run (replicate s.left s.item)) (flat_map_run (spread_run spread.Repeat s.count) r)
+operator_rest (Scan s) r = scanning_rest s r
+operator_rest (FlatMapRange s) r = following_rest s r
+operator_rest (FlatMapRepeat s) r = repeating_rest s r
 operator_rest (Distinct s) r = distinct_run int_eq s.last r
 
 -- the next answer comes of the upstream's

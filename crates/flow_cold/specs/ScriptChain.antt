@@ -1,10 +1,11 @@
 -- Chains of whole numbers that are built at run time: how deep they are, and what they mean.
 use Rattle.std.specs.Prelude.{◌≡◌, ℕ, ◌+◌, ◌≤◌, max, ℤ, true, length, drop}
 use Rattle.flow_law.specs.ChainRun.{ChainRun, list_run, unless_ended}
-use Rattle.flow_law.specs.OperatorRuns.{zip_run, with_kept}
+use Rattle.flow_law.specs.OperatorRuns.{zip_run}
 use Rattle.flow_cold.specs.declared.script_chain.node.Node.{Node, List, Range, Script, On', Zip'}
 use Rattle.flow_cold.specs.Numbers.{joined}
 use Rattle.flow_cold.specs.Operators.{operator_whole, stage_rest, is_over}
+use Rattle.flow_cold.specs.Pairing.{pairing_rest}
 use Rattle.flow_cold.specs.Sources.{range_run, scripted_run}
 
 -- a source is 1 deep, an operator one deeper than its deeper side
@@ -29,7 +30,7 @@ node_rest (List source) = list_run (drop source.at source.items.items)
 node_rest (Range source) = unless_ended source.ended (range_run source.next source.last)
 node_rest (Script source) = scripted_run (drop source.at source.entries.items)
 node_rest (On' p upstream stage) = stage_rest stage (node_rest upstream)
-node_rest (Zip' p left q right pairing) = unless_ended pairing.ended (zip_run (joined pairing.by) (with_kept pairing.kept (node_rest left)) (node_rest right))
+node_rest (Zip' p left q right pairing) = pairing_rest pairing (node_rest left) (node_rest right)
 
 -- a take is over as soon as it has given its last item
 abbrev pub IsNodeOver : Node → Type 0

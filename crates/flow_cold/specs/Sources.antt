@@ -26,5 +26,5 @@ scripted_run (Item x ∷ es) = gives x (scripted_run es)
 scripted_run (Pending ∷ es) = pends (scripted_run es)
 scripted_run (Fault number ∷ es) = ends (Failed (Source number))
 
-abbrev pub scripted_rest : {T : Type 0} → Scripted T → ChainRun T
+abbrev pub scripted_rest : {T A : Type 0} → Scripted T A → ChainRun T
 scripted_rest s = scripted_run (drop s.at s.entries.items)

@@ -1,4 +1,5 @@
--- What a chain gives as a stream.
+-- What a chain gives as a stream: its items, then a fault as the last item. `xs` is what the stream gave so far, and `last`
+-- what it gives next.
 use Rattle.std.specs.Prelude.{◌≡◌, ◌⊎◌, List, [], ◌∷◌, Option, Some, None, Result, Ok, Err}
 use Rattle.flow_law.specs.declared.chain.ChainFault.{ChainFault}
 use Rattle.flow_law.specs.declared.chain.ChainFault.TheVariants.{OutOfMemory}
@@ -23,7 +24,7 @@ module _ {T : Type 0} where
 
   -- the items of a run, and its fault as the last; want of memory may come in place of an answer
   abbrev pub Streams : ChainRun T → List (Result T ChainFault) → Option (Result T ChainFault) → Type 0
-  Streams (gives x p) xs last = First x (Streams p) xs last ⊎ Last (Err OutOfMemory) xs last
-  Streams (pends p) xs last = Streams p xs last ⊎ Last (Err OutOfMemory) xs last
+  Streams (gives x r) xs last = First x (Streams r) xs last ⊎ Last (Err OutOfMemory) xs last
+  Streams (pends r) xs last = Streams r xs last ⊎ Last (Err OutOfMemory) xs last
   Streams (ends Completed) xs last = Over xs last ⊎ Last (Err OutOfMemory) xs last
-  Streams (ends (Failed f)) xs last = Last (Err f) xs last ⊎ Last (Err OutOfMemory) xs last
+  Streams (ends (Failed fault)) xs last = Last (Err fault) xs last ⊎ Last (Err OutOfMemory) xs last

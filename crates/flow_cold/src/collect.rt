@@ -4,17 +4,20 @@ ghost use Rattle.flow_law.specs.ChainRun.{Collects};
 
 use crate::cold::{Asked, Cold};
 use flow_law::{ChainFault, End};
-use std::alloc::Global;
+use std::alloc::{Allocator, Global};
 
 /// What a collection gave.
 #[derive(Debug, Drop)]
-pub struct Collected<T> {
-    pub items: Vec<T>,
+pub struct Collected<T, A: Allocator = Global> {
+    pub items: Vec<T, A>,
     pub end: End,
 }
 
 /// Rewinds the chain, and asks it to its end.
-pub fn collect_all<C: Cold>(alloc: Global, chain: &mut C) -> Result<Collected<C::Item>, ChainFault>
+pub fn collect_all<C: Cold, A: Allocator>(
+    alloc: A,
+    chain: &mut C,
+) -> Result<Collected<C::Item, A>, ChainFault>
     requires { C.sound chain.old }
     ensures sound { C.sound chain.new }
     ensures keeps { C.whole chain.new ≡ C.whole chain.old }

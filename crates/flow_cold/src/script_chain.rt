@@ -7,6 +7,7 @@ mod node;
 mod numbers;
 mod op;
 mod operator;
+mod pairing;
 mod stage;
 mod state;
 

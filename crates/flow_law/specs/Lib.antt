@@ -9,6 +9,8 @@ pub mod StateFlow
 pub mod Conflation
 pub mod Growth
 pub mod Standing
+pub mod Sharing
+pub mod TurnAccount
 pub mod ChainRun
 pub mod OperatorRuns
 pub mod Chain

@@ -12,6 +12,7 @@ mod fault;
 mod history;
 mod laws;
 mod outcome;
+mod sharing;
 mod value;
 
 pub use call::{SharedCall, SharedReply, StateCall, StateReply};
@@ -19,6 +20,7 @@ pub use chain::{ChainFault, End};
 pub use config::{Config, Overflow};
 pub use fault::{FlowFault, Refused};
 pub use history::{Event, Said};
-pub use laws::{law_conflated, law_delivered, law_no_idle_queue};
+pub use laws::{law_conflated, law_delivered, law_idle_since, law_no_idle_queue};
 pub use outcome::{Emit, Next};
+pub use sharing::{Command, SharingObservation, Started};
 pub use value::FlowValue;

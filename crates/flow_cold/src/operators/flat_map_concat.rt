@@ -98,7 +98,7 @@ where
     M: InnerMeaning<C::Item, U>,
     F: Fn(C::Item) -> Result<Scripted<U>, ChainFault>,
 {
-    /// InnerMeaning a chain at each item, by a closure that opens what `meaning` says.
+    /// Opens a chain at each item, by a closure that opens what `meaning` says.
     #[tactic(auto, using(flow_law::proofs::ChainLemmas::flat_map_means))]
     pub fn new(upstream: C, meaning: M, closure: F) -> Self
         requires sound { C.sound upstream }

@@ -8,9 +8,10 @@ ghost use Rattle.flow_cold.specs.ScriptChain.{IsNodeOver, node_depth, node_rest,
 
 use crate::cold::{Asked, Cold};
 use crate::script_chain::ScriptChain;
-use crate::script_chain::node::{Node, Pairing, Stage, ask_node, rewind_node};
+use crate::script_chain::node::{Node, Stage, ask_node, rewind_node};
 use crate::script_chain::op::{Joining, Op, Source, Spread};
 use crate::script_chain::operator::Operator;
+use crate::script_chain::pairing::Pairing;
 use crate::script_chain::state::{
     Adding, Comparing, Counting, Following, Mapping, Repeating, Scanning,
 };

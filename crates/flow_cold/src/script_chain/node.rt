@@ -1,12 +1,12 @@
 //! A chain of whole numbers as a tree: sources at its leaves, operators above them.
-ghost use Rattle.std.specs.Prelude.{◌≡◌, ◌≤◌, None, false};
+ghost use Rattle.std.specs.Prelude.{◌≡◌, ◌≤◌};
 ghost use Rattle.flow_cold.specs.declared.script_chain.node.Node.{size-Node};
 ghost use Rattle.flow_cold.specs.Asking.{AskGives, IsFinal};
 ghost use Rattle.flow_cold.specs.ScriptChain.{IsNodeOver, node_depth, node_rest, node_whole};
 
 use crate::cold::{Asked, Cold};
-use crate::script_chain::op::Joining;
 use crate::script_chain::operator::Operator;
+use crate::script_chain::pairing::Pairing;
 use crate::sources::{OfList, OfRange, Scripted};
 
 /// An operator in a chain, and whether it has ended.
@@ -14,26 +14,6 @@ use crate::sources::{OfList, OfRange, Scripted};
 pub struct Stage {
     pub operator: Operator,
     pub ended: bool,
-}
-
-/// `kept` is a left item whose right one is still to come.
-#[derive(Drop)]
-pub struct Pairing {
-    pub by: Joining,
-    pub kept: Option<i64>,
-    pub ended: bool,
-}
-
-impl Pairing {
-    pub fn new(by: Joining) -> Pairing
-        ensures { result ≡ record { by = by; kept = None; ended = false } }
-    {
-        Pairing {
-            by,
-            kept: None,
-            ended: false,
-        }
-    }
 }
 
 #[derive(Drop)]
@@ -81,39 +61,11 @@ pub fn ask_node(node: &mut Node) -> Asked<i64>
                 Some(item) => item,
                 None => match ask_node(left) {
                     Asked::Item(item) => item,
-                    Asked::Pending => return Asked::Pending,
-                    Asked::End => {
-                        pairing.ended = true;
-                        return Asked::End;
-                    }
-                    Asked::Fault(fault) => {
-                        pairing.ended = true;
-                        return Asked::Fault(fault);
-                    }
+                    asked => return pairing.without_item(asked),
                 },
             };
-            pairing.kept = None;
-            match ask_node(right) {
-                Asked::Item(second) => match pairing.by.join(first, second) {
-                    Ok(item) => Asked::Item(item),
-                    Err(fault) => {
-                        pairing.ended = true;
-                        Asked::Fault(fault)
-                    }
-                },
-                Asked::Pending => {
-                    pairing.kept = Some(first);
-                    Asked::Pending
-                }
-                Asked::End => {
-                    pairing.ended = true;
-                    Asked::End
-                }
-                Asked::Fault(fault) => {
-                    pairing.ended = true;
-                    Asked::Fault(fault)
-                }
-            }
+            let asked = ask_node(right);
+            pairing.on_right(first, asked)
         }
     }
 }

@@ -74,7 +74,10 @@ impl Operator {
                     Step::End
                 }
             }
-            Operator::Map(state) => state.on_item(item),
+            Operator::Map(state) => match state.by.compute(item, state.k) {
+                Ok(image) => Step::Item(image),
+                Err(fault) => Step::Fault(fault),
+            },
             Operator::Transform(state) => state.on_item(item),
             Operator::Take(state) => state.take(item),
             Operator::DropFirst(state) => state.drop_first(item),

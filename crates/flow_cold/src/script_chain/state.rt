@@ -1,8 +1,9 @@
 //! What each operator with one upstream keeps while its chain is asked, and its steps.
-ghost use Rattle.std.specs.Prelude.{◌≡◌, ℤ};
+ghost use Rattle.std.specs.Ordering.{int_eq};
+ghost use Rattle.std.specs.Prelude.{◌≡◌, ◌≢◌, ℤ, true, [], drop};
 ghost use Rattle.flow_law.specs.ChainRun.{ChainRun, gives};
-ghost use Rattle.flow_cold.specs.declared.script_chain.operator.Operator.{Operator};
-ghost use Rattle.flow_cold.specs.Operators.{IsReady, OnNothing, StepGives, operator_rest};
+ghost use Rattle.flow_law.specs.OperatorRuns.{distinct_run, drop_run, take_run};
+ghost use Rattle.flow_cold.specs.Operators.{OnNothing, StepGives, adding_rest, following_rest, repeating_rest, scanning_rest};
 
 use crate::script_chain::numbers::{all_sums_fit, last_of};
 use crate::script_chain::op::Arithmetic;
@@ -16,18 +17,6 @@ pub struct Mapping {
     pub k: i64,
 }
 
-impl Mapping {
-    pub fn on_item(&mut self, item: i64) -> Step
-        ensures same { self.new ≡ self.old }
-        ensures gives { (r : ChainRun ℤ) → StepGives (operator_rest (Operator.Map self.old) (gives item r)) result (operator_rest (Operator.Map self.new) r) }
-    {
-        match self.by.compute(item, self.k) {
-            Ok(image) => Step::Item(image),
-            Err(fault) => Step::Fault(fault),
-        }
-    }
-}
-
 /// `left` is how many items may still be given, or have still to be dropped.
 #[derive(Drop)]
 pub struct Counting {
@@ -38,8 +27,8 @@ pub struct Counting {
 impl Counting {
     /// The end, where nothing may be given any more.
     pub fn first(&self) -> Step
-        ensures gives { (r : ChainRun ℤ) → StepGives (operator_rest (Operator.Take self.now) r) result (operator_rest (Operator.Take self.now) r) }
-        ensures ready { OnNothing result (IsReady (Operator.Take self.now)) }
+        ensures gives { (r : ChainRun ℤ) → StepGives (take_run self.now.left r) result (take_run self.now.left r) }
+        ensures ready { OnNothing result (self.now.left ≢ 0) }
     {
         if self.left == 0 {
             Step::End
@@ -49,9 +38,9 @@ impl Counting {
     }
 
     pub fn take(&mut self, item: i64) -> Step
-        requires { IsReady (Operator.Take self.old) }
+        requires { self.old.left ≢ 0 }
         ensures count { self.new.count ≡ self.old.count }
-        ensures gives { (r : ChainRun ℤ) → StepGives (operator_rest (Operator.Take self.old) (gives item r)) result (operator_rest (Operator.Take self.new) r) }
+        ensures gives { (r : ChainRun ℤ) → StepGives (take_run self.old.left (gives item r)) result (take_run self.new.left r) }
     {
         self.left -= 1;
         Step::Item(item)
@@ -59,7 +48,7 @@ impl Counting {
 
     pub fn drop_first(&mut self, item: i64) -> Step
         ensures count { self.new.count ≡ self.old.count }
-        ensures gives { (r : ChainRun ℤ) → StepGives (operator_rest (Operator.DropFirst self.old) (gives item r)) result (operator_rest (Operator.DropFirst self.new) r) }
+        ensures gives { (r : ChainRun ℤ) → StepGives (drop_run (gives item r) self.old.left) result (drop_run r self.new.left) }
     {
         if self.left == 0 {
             return Step::Item(item);
@@ -80,7 +69,7 @@ pub struct Adding {
 impl Adding {
     pub fn new(entries: Vec<i64>) -> Adding
         ensures entries { result.entries ≡ entries }
-        ensures none { IsReady (Operator.Transform result) }
+        ensures none { drop result.at result.entries.items ≡ [] }
     {
         let at = entries.len();
         Adding {
@@ -93,8 +82,8 @@ impl Adding {
     /// The next sum, if one is left.
     pub fn first(&mut self) -> Step
         ensures entries { self.new.entries ≡ self.old.entries }
-        ensures gives { (r : ChainRun ℤ) → StepGives (operator_rest (Operator.Transform self.old) r) result (operator_rest (Operator.Transform self.new) r) }
-        ensures ready { OnNothing result (IsReady (Operator.Transform self.new)) }
+        ensures gives { (r : ChainRun ℤ) → StepGives (adding_rest self.old r) result (adding_rest self.new r) }
+        ensures ready { OnNothing result (drop self.new.at self.new.entries.items ≡ []) }
     {
         if self.at >= self.entries.len() {
             return Step::Nothing;
@@ -109,9 +98,9 @@ impl Adding {
 
     /// Begins the sums of an item, unless one of them is out of range.
     pub fn on_item(&mut self, item: i64) -> Step
-        requires { IsReady (Operator.Transform self.old) }
+        requires { drop self.old.at self.old.entries.items ≡ [] }
         ensures entries { self.new.entries ≡ self.old.entries }
-        ensures gives { (r : ChainRun ℤ) → StepGives (operator_rest (Operator.Transform self.old) (gives item r)) result (operator_rest (Operator.Transform self.new) r) }
+        ensures gives { (r : ChainRun ℤ) → StepGives (adding_rest self.old (gives item r)) result (adding_rest self.new r) }
     {
         if !all_sums_fit(&self.entries, item) {
             return Step::Fault(ChainFault::Overflow);
@@ -136,8 +125,8 @@ impl Scanning {
     pub fn first(&mut self) -> Step
         ensures by { self.new.by ≡ self.old.by }
         ensures initial { self.new.initial ≡ self.old.initial }
-        ensures gives { (r : ChainRun ℤ) → StepGives (operator_rest (Operator.Scan self.old) r) result (operator_rest (Operator.Scan self.new) r) }
-        ensures ready { OnNothing result (IsReady (Operator.Scan self.new)) }
+        ensures gives { (r : ChainRun ℤ) → StepGives (scanning_rest self.old r) result (scanning_rest self.new r) }
+        ensures ready { OnNothing result (self.new.begun ≡ true) }
     {
         if self.begun {
             return Step::Nothing;
@@ -148,10 +137,10 @@ impl Scanning {
     }
 
     pub fn on_item(&mut self, item: i64) -> Step
-        requires { IsReady (Operator.Scan self.old) }
+        requires { self.old.begun ≡ true }
         ensures by { self.new.by ≡ self.old.by }
         ensures initial { self.new.initial ≡ self.old.initial }
-        ensures gives { (r : ChainRun ℤ) → StepGives (operator_rest (Operator.Scan self.old) (gives item r)) result (operator_rest (Operator.Scan self.new) r) }
+        ensures gives { (r : ChainRun ℤ) → StepGives (scanning_rest self.old (gives item r)) result (scanning_rest self.new r) }
     {
         match self.by.compute(self.last, item) {
             Ok(result) => {
@@ -175,7 +164,7 @@ pub struct Following {
 impl Following {
     pub fn new(count: u64) -> Following
         ensures count { result.count ≡ count }
-        ensures none { IsReady (Operator.FlatMapRange result) }
+        ensures none { result.closed ≡ true }
     {
         Following {
             count,
@@ -188,8 +177,8 @@ impl Following {
     /// The next number, if one is left.
     pub fn first(&mut self) -> Step
         ensures count { self.new.count ≡ self.old.count }
-        ensures gives { (r : ChainRun ℤ) → StepGives (operator_rest (Operator.FlatMapRange self.old) r) result (operator_rest (Operator.FlatMapRange self.new) r) }
-        ensures ready { OnNothing result (IsReady (Operator.FlatMapRange self.new)) }
+        ensures gives { (r : ChainRun ℤ) → StepGives (following_rest self.old r) result (following_rest self.new r) }
+        ensures ready { OnNothing result (self.new.closed ≡ true) }
     {
         if self.closed {
             return Step::Nothing;
@@ -209,9 +198,9 @@ impl Following {
 
     /// Begins the numbers that follow an item, unless the last of them is out of range.
     pub fn on_item(&mut self, item: i64) -> Step
-        requires { IsReady (Operator.FlatMapRange self.old) }
+        requires { self.old.closed ≡ true }
         ensures count { self.new.count ≡ self.old.count }
-        ensures gives { (r : ChainRun ℤ) → StepGives (operator_rest (Operator.FlatMapRange self.old) (gives item r)) result (operator_rest (Operator.FlatMapRange self.new) r) }
+        ensures gives { (r : ChainRun ℤ) → StepGives (following_rest self.old (gives item r)) result (following_rest self.new r) }
     {
         if self.count == 0 {
             return Step::Nothing;
@@ -239,7 +228,7 @@ pub struct Repeating {
 impl Repeating {
     pub fn new(count: u64) -> Repeating
         ensures count { result.count ≡ count }
-        ensures none { IsReady (Operator.FlatMapRepeat result) }
+        ensures none { result.left ≡ 0 }
     {
         Repeating {
             count,
@@ -251,8 +240,8 @@ impl Repeating {
     /// The item once more, if it is to be given once more.
     pub fn first(&mut self) -> Step
         ensures count { self.new.count ≡ self.old.count }
-        ensures gives { (r : ChainRun ℤ) → StepGives (operator_rest (Operator.FlatMapRepeat self.old) r) result (operator_rest (Operator.FlatMapRepeat self.new) r) }
-        ensures ready { OnNothing result (IsReady (Operator.FlatMapRepeat self.new)) }
+        ensures gives { (r : ChainRun ℤ) → StepGives (repeating_rest self.old r) result (repeating_rest self.new r) }
+        ensures ready { OnNothing result (self.new.left ≡ 0) }
     {
         if self.left == 0 {
             return Step::Nothing;
@@ -262,9 +251,9 @@ impl Repeating {
     }
 
     pub fn on_item(&mut self, item: i64) -> Step
-        requires { IsReady (Operator.FlatMapRepeat self.old) }
+        requires { self.old.left ≡ 0 }
         ensures count { self.new.count ≡ self.old.count }
-        ensures gives { (r : ChainRun ℤ) → StepGives (operator_rest (Operator.FlatMapRepeat self.old) (gives item r)) result (operator_rest (Operator.FlatMapRepeat self.new) r) }
+        ensures gives { (r : ChainRun ℤ) → StepGives (repeating_rest self.old (gives item r)) result (repeating_rest self.new r) }
     {
         self.item = item;
         self.left = self.count;
@@ -280,7 +269,7 @@ pub struct Comparing {
 
 impl Comparing {
     pub fn on_item(&mut self, item: i64) -> Step
-        ensures { (r : ChainRun ℤ) → StepGives (operator_rest (Operator.Distinct self.old) (gives item r)) result (operator_rest (Operator.Distinct self.new) r) }
+        ensures { (r : ChainRun ℤ) → StepGives (distinct_run int_eq self.old.last (gives item r)) result (distinct_run int_eq self.new.last r) }
     {
         if self.last == Some(item) {
             return Step::Nothing;

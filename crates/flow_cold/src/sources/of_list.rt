@@ -4,24 +4,25 @@ ghost use Rattle.flow_law.specs.ChainRun.{ChainRun, list_run};
 
 use crate::cold::{Asked, Cold};
 use flow_law::{ChainFault, FlowValue};
+use std::alloc::{Allocator, Global};
 
 /// The items of a list, then the end.
 #[derive(Drop)]
-pub struct OfList<T> {
-    items: Vec<T>,
+pub struct OfList<T, A: Allocator = Global> {
+    items: Vec<T, A>,
     at: usize,
 }
 
-impl<T: FlowValue> OfList<T> {
-    pub fn new(items: Vec<T>) -> Self
-        ensures whole { ⟦<OfList<T> as Cold>⟧.whole result ≡ list_run items.items }
-        ensures rest { ⟦<OfList<T> as Cold>⟧.rest result ≡ list_run items.items }
+impl<T: FlowValue, A: Allocator> OfList<T, A> {
+    pub fn new(items: Vec<T, A>) -> Self
+        ensures whole { ⟦<OfList<T, A> as Cold>⟧.whole result ≡ list_run items.items }
+        ensures rest { ⟦<OfList<T, A> as Cold>⟧.rest result ≡ list_run items.items }
     {
         OfList { items, at: 0 }
     }
 }
 
-impl<T: FlowValue> Cold for OfList<T> {
+impl<T: FlowValue, A: Allocator> Cold for OfList<T, A> {
     type Item = T;
 
     ghost sound = { λ _. ⊤ };

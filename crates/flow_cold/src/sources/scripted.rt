@@ -3,6 +3,7 @@ ghost use Rattle.std.specs.Prelude.{◌≡◌, ◌≤◌, drop, length, ⊤};
 
 use crate::cold::{Asked, Cold};
 use flow_law::{ChainFault, FlowValue};
+use std::alloc::{Allocator, Global};
 
 /// An entry of a scripted source.
 #[derive(Debug, Drop)]
@@ -16,23 +17,23 @@ pub enum Entry<T> {
 
 /// Items, turns that pend, and faults, in order. It ends at its first fault, or after its last entry.
 #[derive(Drop)]
-pub struct Scripted<T> {
-    entries: Vec<Entry<T>>,
+pub struct Scripted<T, A: Allocator = Global> {
+    entries: Vec<Entry<T>, A>,
     at: usize,
 }
 
-impl<T: FlowValue> Scripted<T> {
+impl<T: FlowValue, A: Allocator> Scripted<T, A> {
     ghost use Rattle.flow_cold.specs.Sources.{scripted_run};
 
-    pub fn new(entries: Vec<Entry<T>>) -> Self
-        ensures whole { ⟦<Scripted<T> as Cold>⟧.whole result ≡ scripted_run entries.items }
-        ensures rest { ⟦<Scripted<T> as Cold>⟧.rest result ≡ scripted_run entries.items }
+    pub fn new(entries: Vec<Entry<T>, A>) -> Self
+        ensures whole { ⟦<Scripted<T, A> as Cold>⟧.whole result ≡ scripted_run entries.items }
+        ensures rest { ⟦<Scripted<T, A> as Cold>⟧.rest result ≡ scripted_run entries.items }
     {
         Scripted { entries, at: 0 }
     }
 }
 
-impl<T: FlowValue> Cold for Scripted<T> {
+impl<T: FlowValue, A: Allocator> Cold for Scripted<T, A> {
     ghost use Rattle.flow_cold.specs.Sources.{scripted_run};
 
     type Item = T;

@@ -1,0 +1,9 @@
+-- What a zip of whole numbers has left, of what its sides have left.
+use Rattle.std.specs.Prelude.{ℤ}
+use Rattle.flow_law.specs.ChainRun.{ChainRun, unless_ended}
+use Rattle.flow_law.specs.OperatorRuns.{zip_run, with_kept}
+use Rattle.flow_cold.specs.declared.script_chain.pairing.Pairing.{Pairing}
+use Rattle.flow_cold.specs.Numbers.{joined}
+
+abbrev pub pairing_rest : Pairing → ChainRun ℤ → ChainRun ℤ → ChainRun ℤ
+pairing_rest pairing left right = unless_ended pairing.ended (zip_run (joined pairing.by) (with_kept pairing.kept left) right)

@@ -1,0 +1,79 @@
+//! The two sides of a zip.
+ghost use Rattle.std.specs.Prelude.{◌≡◌, ℤ, true, false, None};
+ghost use Rattle.flow_law.specs.ChainRun.{ChainRun, gives};
+ghost use Rattle.flow_law.specs.OperatorRuns.{zip_run};
+ghost use Rattle.flow_cold.specs.Asking.{AskGives, IsFinal, IsItem};
+ghost use Rattle.flow_cold.specs.Numbers.{joined};
+ghost use Rattle.flow_cold.specs.Pairing.{pairing_rest};
+
+use crate::cold::Asked;
+use crate::script_chain::op::Joining;
+
+/// `kept` is a left item whose right one is still to come.
+#[derive(Drop)]
+pub struct Pairing {
+    pub by: Joining,
+    pub kept: Option<i64>,
+    pub ended: bool,
+}
+
+impl Pairing {
+    pub fn new(by: Joining) -> Pairing
+        ensures { result ≡ record { by = by; kept = None; ended = false } }
+    {
+        Pairing {
+            by,
+            kept: None,
+            ended: false,
+        }
+    }
+
+    /// What is made of a left side that gave no item. The right side is not asked.
+    pub fn without_item(&mut self, asked: Asked<i64>) -> Asked<i64>
+        requires runs { self.old.ended ≡ false }
+        requires none { self.old.kept ≡ None }
+        requires no_item { ¬ IsItem asked }
+        ensures by { self.new.by ≡ self.old.by }
+        ensures gives { (before after right : ChainRun ℤ) → AskGives before asked after → AskGives (pairing_rest self.old before right) result (pairing_rest self.new after right) }
+        ensures over { IsFinal result → self.new.ended ≡ true }
+    {
+        match &asked {
+            Asked::Item(_) => {}
+            Asked::Pending => {}
+            Asked::End => self.ended = true,
+            Asked::Fault(_) => self.ended = true,
+        }
+        asked
+    }
+
+    /// What is made of a left item and the right side's answer.
+    pub fn on_right(&mut self, first: i64, asked: Asked<i64>) -> Asked<i64>
+        requires { self.old.ended ≡ false }
+        ensures by { self.new.by ≡ self.old.by }
+        ensures gives { (left before after : ChainRun ℤ) → AskGives before asked after → AskGives (zip_run (joined self.old.by) (gives first left) before) result (pairing_rest self.new left after) }
+        ensures over { IsFinal result → self.new.ended ≡ true }
+    {
+        self.kept = None;
+        match asked {
+            Asked::Item(second) => match self.by.join(first, second) {
+                Ok(item) => Asked::Item(item),
+                Err(fault) => {
+                    self.ended = true;
+                    Asked::Fault(fault)
+                }
+            },
+            Asked::Pending => {
+                self.kept = Some(first);
+                Asked::Pending
+            }
+            Asked::End => {
+                self.ended = true;
+                Asked::End
+            }
+            Asked::Fault(fault) => {
+                self.ended = true;
+                Asked::Fault(fault)
+            }
+        }
+    }
+}

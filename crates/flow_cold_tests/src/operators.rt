@@ -1,0 +1,142 @@
+//! Each operator once, with closures of the caller's.
+ghost use Rattle.std.specs.Prelude.{◌≡◌};
+ghost use Rattle.flow_cold_tests.specs.Meanings.{GivesTwice, OpensTwice, add, add_one, is_above_one, twice, twice_run};
+
+use flow_cold::{
+    ChainFault, Distinct, DropFirst, End, Entry, Filter, FlatMapConcat, InnerMeaning, ItemMeaning,
+    ListMeaning, Map, OfList, OfRange, PairMeaning, Scripted, Take, TakeWhile, TestMeaning,
+    Transform, Zip, collect_all,
+};
+use std::alloc::Global;
+use std::test::Fail;
+
+#[derive(Drop)]
+pub struct AddOne;
+
+impl ItemMeaning<i64, i64> for AddOne {
+    ghost image = { λ _. add_one };
+}
+
+#[derive(Drop)]
+pub struct Add;
+
+impl PairMeaning<i64, i64, i64> for Add {
+    ghost image = { λ _. add };
+}
+
+#[derive(Drop)]
+pub struct IsAboveOne;
+
+impl TestMeaning<i64> for IsAboveOne {
+    ghost passes = { λ _. is_above_one };
+}
+
+#[derive(Drop)]
+pub struct Twice;
+
+impl ListMeaning<i64, i64> for Twice {
+    ghost images = { λ _. twice };
+}
+
+#[derive(Drop)]
+pub struct TwiceRun;
+
+impl InnerMeaning<i64, i64> for TwiceRun {
+    ghost inner = { λ _. twice_run };
+}
+
+pub fn increased(x: i64) -> Result<i64, ChainFault>
+    ensures { result ≡ add_one x }
+{
+    sum(x, 1)
+}
+
+pub fn sum(x: i64, y: i64) -> Result<i64, ChainFault>
+    ensures { result ≡ add (x, y) }
+{
+    match x.checked_add(y) {
+        Some(sum) => Ok(sum),
+        None => Err(ChainFault::Overflow),
+    }
+}
+
+#[test]
+fn items_are_mapped_and_tested(rt: HostRuntime) -> Result<(), Fail> {
+    let alloc = rt.alloc();
+    let source = OfList::new([0i64, 1, i64::MAX, 2].to_vec(alloc)?);
+    let mut chain = Filter::new(Map::new(source, AddOne, increased), IsAboveOne, |x| *x > 1);
+    let got = collect_all(alloc, &mut chain)?;
+    assert_eq!(rt; got.items.as_slice(), [2].as_slice());
+    assert_eq!(rt; got.end, End::Failed(ChainFault::Overflow));
+    Ok(())
+}
+
+#[test]
+fn items_are_taken_and_dropped(rt: HostRuntime) -> Result<(), Fail> {
+    let alloc = rt.alloc();
+    let source = OfList::new([7i64, 3, 3, 2, 1, 5].to_vec(alloc)?);
+    let dropped = DropFirst::new(Distinct::new(source), 1);
+    let mut chain = Take::new(TakeWhile::new(dropped, IsAboveOne, |x| *x > 1), 5)?;
+    let got = collect_all(alloc, &mut chain)?;
+    assert_eq!(rt; got.items.as_slice(), [3, 2].as_slice());
+    assert_eq!(rt; got.end, End::Completed);
+    assert!(rt;
+        matches!(
+            Take::new(OfRange::new(1, 5), 0),
+            Err(ChainFault::NotPositive)
+        )
+    );
+    Ok(())
+}
+
+#[test]
+fn pairs_are_made(rt: HostRuntime) -> Result<(), Fail> {
+    let alloc = rt.alloc();
+    let left = OfList::new([1i64, 2].to_vec(alloc)?);
+    let right = OfList::new([10i64, 20, 30].to_vec(alloc)?);
+    let mut chain = Zip::new(left, right, Add, sum);
+    let got = collect_all(alloc, &mut chain)?;
+    assert_eq!(rt; got.items.as_slice(), [11, 22].as_slice());
+    assert_eq!(rt; got.end, End::Completed);
+    Ok(())
+}
+
+fn listed(alloc: Global, x: i64) -> Result<Vec<i64>, ChainFault>
+    ensures { GivesTwice x result }
+{
+    let mut items = Vec::new(alloc);
+    if items.push(x).is_err() {
+        return Err(ChainFault::OutOfMemory);
+    }
+    if items.push(x).is_err() {
+        return Err(ChainFault::OutOfMemory);
+    }
+    Ok(items)
+}
+
+fn opened(alloc: Global, x: i64) -> Result<Scripted<i64>, ChainFault>
+    ensures { OpensTwice x result }
+{
+    let mut entries = Vec::new(alloc);
+    if entries.push(Entry::Item(x)).is_err() {
+        return Err(ChainFault::OutOfMemory);
+    }
+    if entries.push(Entry::Item(x)).is_err() {
+        return Err(ChainFault::OutOfMemory);
+    }
+    Ok(Scripted::new(entries))
+}
+
+#[test]
+fn items_become_several(rt: HostRuntime) -> Result<(), Fail> {
+    let alloc = rt.alloc();
+    let source = OfList::new([1i64, 2].to_vec(alloc)?);
+    let mut chain = Transform::new(source, Twice, |x: i64| listed(alloc, x));
+    let got = collect_all(alloc, &mut chain)?;
+    assert_eq!(rt; got.items.as_slice(), [1, 1, 2, 2].as_slice());
+    let source = OfList::new([1i64, 2].to_vec(alloc)?);
+    let mut chain = FlatMapConcat::new(source, TwiceRun, |x: i64| opened(alloc, x));
+    let got = collect_all(alloc, &mut chain)?;
+    assert_eq!(rt; got.items.as_slice(), [1, 1, 2, 2].as_slice());
+    Ok(())
+}

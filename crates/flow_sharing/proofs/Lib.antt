@@ -1,0 +1,5 @@
+pub mod AfterCommandLemmas
+pub mod AccountLemmas
+pub mod TurnLemmas
+pub mod OverCoreLemmas
+pub mod OverStateCoreLemmas

@@ -1,0 +1,43 @@
+-- What each call of a sharing does to a `SharedCore`. Begin with `CoreHubDoes`.
+use Rattle.std.specs.Prelude.{◌≡◌, ℕ, Bool, true, false, if◌then◌else◌, Option, Some, None, is_some}
+use Rattle.flow_law.specs.declared.call.SharedCall.TheVariants as call
+use Rattle.flow_law.specs.declared.call.SharedReply.TheVariants as reply
+use Rattle.flow_law.specs.declared.outcome.Emit.TheVariants.{Done, Queued}
+use Rattle.flow_law.specs.Standing.{Core, Conforms}
+use Rattle.flow_sharing.specs.declared.core_hub.CoreHub.{CoreHub}
+use Rattle.flow_sharing.specs.Hub.{HubCall, HubReply, counts, puts, polls, cancels, counted, answered, refused}
+
+-- an emission that waits no more is forgotten
+abbrev pub still : Bool → ℕ → Option ℕ
+still waits number = if waits then Some number else None
+
+module _ {T A : Type 0} where
+  -- the core, as contracts see it
+  abbrev pub core_of : CoreHub T A → Core T
+  core_of hub = hub.core
+
+  -- the hub has an emission that waited when it was last asked
+  abbrev pub is_waiting : CoreHub T A → Bool
+  is_waiting hub = is_some hub.emission
+
+  abbrev pub PollDoes : Option ℕ → CoreHub T A → Bool → CoreHub T A → Type 0
+  PollDoes None old waits new = (waits ≡ false) × (new ≡ old)
+  PollDoes (Some number) old waits new =
+      Conforms old.core (call.Poll number) (reply.Tested waits) new.core × (new.emission ≡ still waits number)
+
+  abbrev pub CancelDoes : Option ℕ → CoreHub T A → Bool → CoreHub T A → Type 0
+  CancelDoes None old waited new = (waited ≡ false) × (new ≡ old)
+  CancelDoes (Some number) old waited new =
+      Conforms old.core (call.Cancel number) (reply.Tested waited) new.core × (new.emission ≡ None)
+
+  -- A put is an `emit` of the core; where it queues, its number is kept, and polls and cancels are of that number.
+  -- Without such an emission they do nothing. Only a put can be refused.
+  abbrev pub CoreHubDoes : CoreHub T A → HubCall T → HubReply → CoreHub T A → Type 0
+  CoreHubDoes old counts (counted count) new = Conforms old.core call.SubscriptionCount (reply.Counted count) new.core × (new.emission ≡ old.emission)
+  CoreHubDoes old (puts x) (answered false) new = Conforms old.core (call.Emit x) (reply.Emitted Done) new.core × (new.emission ≡ None)
+  CoreHubDoes old (puts x) (answered true) new =
+      (number : ℕ) × Conforms old.core (call.Emit x) (reply.Emitted (Queued number)) new.core × (new.emission ≡ Some number)
+  CoreHubDoes old (puts x) (refused fault) new = Conforms old.core (call.Emit x) (reply.Refused fault) new.core × (new.emission ≡ None)
+  CoreHubDoes old polls (answered waits) new = PollDoes old.emission old waits new
+  CoreHubDoes old cancels (answered waited) new = CancelDoes old.emission old waited new
+  CoreHubDoes old call reply new = ⊥

@@ -1,0 +1,14 @@
+pub mod CoreHub
+pub mod CoreLending
+pub mod Hub
+pub mod Lending
+pub mod OverCore
+pub mod OverStateCore
+pub mod Policy
+pub mod ShareIn
+pub mod SharingState
+pub mod StateHub
+pub mod StateLending
+pub mod Turn
+pub mod TurnMeaning
+pub mod TurnClauses

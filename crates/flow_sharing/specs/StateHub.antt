@@ -1,0 +1,25 @@
+-- What each call of a sharing does to a `StateCore`. Begin with `StateHubDoes`.
+use Rattle.std.specs.Prelude.{◌≡◌, Bool, false}
+use Rattle.flow_law.specs.declared.call.StateCall.TheVariants as call
+use Rattle.flow_law.specs.declared.call.StateReply.TheVariants as reply
+use Rattle.flow_law.specs.StateFlow.{StateFlowState}
+use Rattle.flow_law.specs.Standing.{StateConforms}
+use Rattle.flow_sharing.specs.declared.state_hub.StateHub.{StateHub}
+use Rattle.flow_sharing.specs.Hub.{HubCall, HubReply, counts, puts, polls, cancels, counted, answered}
+
+module _ {T A : Type 0} where
+  -- the core, as contracts see it: the documented state
+  abbrev pub state_core_of : StateHub T A → StateFlowState T
+  state_core_of hub = hub.core
+
+  -- nothing waits in a state flow
+  abbrev pub never_waits : StateHub T A → Bool
+  never_waits hub = false
+
+  -- A put is a `set` of the core. Polls and cancels do nothing, and nothing is refused.
+  abbrev pub StateHubDoes : StateHub T A → HubCall T → HubReply → StateHub T A → Type 0
+  StateHubDoes old counts (counted count) new = StateConforms old.core call.SubscriptionCount (reply.Counted count) new.core
+  StateHubDoes old (puts x) (answered false) new = StateConforms old.core (call.Set x) reply.Done new.core
+  StateHubDoes old polls (answered false) new = new ≡ old
+  StateHubDoes old cancels (answered false) new = new ≡ old
+  StateHubDoes old call reply new = ⊥

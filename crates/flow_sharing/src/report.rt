@@ -1,0 +1,45 @@
+//! What a turn of a sharing reports.
+ghost use Rattle.std.specs.Prelude.{◌≡◌};
+
+use flow_law::{ChainFault, Command, FlowFault};
+
+/// What a turn came to.
+#[derive(Clone, Copy, Debug, PartialEq, Eq)]
+pub enum Event {
+    /// Another caller was inside the flow at that moment. The next turn goes on there.
+    Busy,
+    /// The sharing does not run.
+    Idle,
+    /// The flow accepted an item, and nothing waits.
+    Put,
+    /// The flow accepted an item, and its emission waits for subscribers.
+    Queued,
+    /// The emission of an earlier turn still waits.
+    Waiting,
+    /// The chain has no item yet.
+    Pending,
+    /// The chain has ended normally. It is asked again only after a stop and a start.
+    Completed,
+}
+
+/// What a turn observed and did.
+#[derive(Clone, Copy, Debug, PartialEq, Eq)]
+pub struct Report {
+    /// What the number of subscribers asked for.
+    pub command: Command,
+    pub event: Event,
+}
+
+/// Why a turn was refused, or no sharing was made.
+#[derive(Clone, Copy, Debug, PartialEq, Eq)]
+pub enum ShareFault {
+    /// The moment is before the last one, which it carries. Nothing has changed.
+    Backwards(u64),
+    /// A turn before has answered a fault of the chain. Nothing has changed.
+    Ended,
+    /// The chain failed. It is told once, and the sharing has ended.
+    Chain(ChainFault),
+    /// The flow refused a call. The command of the observation stands, though no report carries it, and the next turn
+    /// goes on there.
+    Flow(FlowFault),
+}
