@@ -32,7 +32,8 @@ impl<I> Watched<I> {
     pub fn failed(&self) -> bool
         ensures { result ≡ has_failed self.now }
     {
-        self.failed
+        let Watched { failed, .. } = self;
+        *failed
     }
 }
 
