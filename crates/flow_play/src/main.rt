@@ -1,0 +1,28 @@
+//! Plays a flow script from standard input to standard output.
+#![tactic(auto)]
+
+mod program;
+#[cfg(test)]
+mod tests;
+
+use flow_script::Watched;
+use program::{run, usage};
+use std::env::args;
+use std::io;
+use std::process::ExitCode;
+
+/// The arguments without the program's name.
+fn arguments(rt: &HostRuntime) -> io::Result<Vec<String>> {
+    let words = args(rt)?.skip(1).collect(rt.alloc())?;
+    Ok(words)
+}
+
+fn main(rt: HostRuntime) -> ExitCode {
+    let mut input = Watched::new(rt.stdin());
+    let mut output = Watched::new(rt.stdout());
+    let status = match arguments(&rt) {
+        Ok(words) => run(rt.alloc(), words.as_slice(), &mut input, &mut output),
+        Err(_) => usage(&mut output),
+    };
+    ExitCode::from(status)
+}

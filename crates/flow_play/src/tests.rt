@@ -1,0 +1,50 @@
+//! Whole runs of the program over memory: worked examples of the documented flows, refused scripts, and streams that
+//! give or take little.
+use crate::program::run;
+use flow_script::Watched;
+use std::alloc::Global;
+use std::process::Abort;
+use std::test::Fail;
+
+mod chains;
+mod refused;
+mod shared;
+mod state;
+mod streams;
+
+/// Plays a text, and compares the status and what was printed.
+pub fn expect(
+    rt: &impl Abort,
+    alloc: Global,
+    script: &[u8],
+    status: u8,
+    lines: &str,
+) -> Result<(), Fail> {
+    let mut printed = Vec::new(alloc);
+    let mut input = Watched::new(script);
+    let mut output = Watched::new(&mut printed);
+    let answered = run(alloc, &[], &mut input, &mut output);
+    assert_eq!(rt; printed.as_slice(), lines.as_bytes(), "of {lines:?}");
+    assert_eq!(rt; answered, status, "of {lines:?}");
+    Ok(())
+}
+
+/// Plays steps over a flow, each with the line that it is to print.
+pub fn plays(
+    rt: &impl Abort,
+    alloc: Global,
+    flow: &str,
+    steps: &[(&str, &str)],
+) -> Result<(), Fail> {
+    let mut script = String::new(alloc);
+    let mut lines = String::new(alloc);
+    write!(script, "{{\"version\":1,\"flow\":{{{flow}}},\"steps\":[")?;
+    let mut separator = "";
+    for (step, line) in steps {
+        write!(script, "{separator}{{{step}}}")?;
+        writeln!(lines, "{line}")?;
+        separator = ",";
+    }
+    script.push_str("]}")?;
+    expect(rt, alloc, script.as_bytes(), 0, lines.as_str())
+}

@@ -1,0 +1,166 @@
+//! Readers and writers that give or take little, or fail.
+use crate::program::run;
+use flow_script::Watched;
+use std::alloc::Global;
+use std::io;
+use std::io::{Read, Write};
+use std::test::Fail;
+
+const SCRIPT: &str =
+    r#"{"version":1,"flow":{"kind":"shared","replay":2,"extra":0,"overflow":"suspend"},"steps":[{"do":"try_emit","value":1},{"do":"try_emit","value":2},{"do":"try_emit","value":3},{"do":"cache"},{"do":"subscribe","name":"a"},{"do":"next","name":"a"},{"do":"next","name":"a"},{"do":"next","name":"a"}]}"#;
+
+const LINES: &str = "true\ntrue\ntrue\n[2, 3]\nsubscribed\nvalue 2\nvalue 3\nempty\n";
+
+/// Gives one byte at a time, and fails once it has given `left` bytes.
+#[derive(Drop)]
+struct Trickle<'a> {
+    bytes: &'a [u8],
+    left: usize,
+}
+
+impl<'a> Read for Trickle<'a> {
+    fn read(&mut self, buf: &mut [u8]) -> io::Result<usize> {
+        if self.left == 0 {
+            return Err(io::Error::from(io::ErrorKind::Other));
+        }
+        let Some((first, rest)) = self.bytes.split_first() else {
+            return Ok(0);
+        };
+        if buf.is_empty() {
+            return Ok(0);
+        }
+        buf[0] = *first;
+        self.bytes = rest;
+        self.left -= 1;
+        Ok(1)
+    }
+}
+
+/// Gives spaces for ever, and counts them.
+#[derive(Drop)]
+struct Endless<'a> {
+    given: &'a mut usize,
+}
+
+impl<'a> Read for Endless<'a> {
+    fn read(&mut self, buf: &mut [u8]) -> io::Result<usize> {
+        for byte in buf.iter_mut() {
+            *byte = b' ';
+        }
+        *self.given = self.given.saturating_add(buf.len());
+        Ok(buf.len())
+    }
+}
+
+/// Takes one byte at a time, and none once it has taken `left` bytes; then it fails, or takes no more.
+#[derive(Drop)]
+struct Sluggish<'a> {
+    taken: &'a mut Vec<u8>,
+    left: usize,
+    fails: bool,
+}
+
+impl<'a> Write for Sluggish<'a> {
+    fn write(&mut self, buf: &[u8]) -> io::Result<usize> {
+        let Some(first) = buf.first() else {
+            return Ok(0);
+        };
+        if self.left == 0 {
+            return if self.fails {
+                Err(io::Error::from(io::ErrorKind::Other))
+            } else {
+                Ok(0)
+            };
+        }
+        self.left -= 1;
+        match self.taken.push(*first) {
+            Ok(()) => Ok(1),
+            Err(_) => Err(io::Error::from(io::ErrorKind::OutOfMemory)),
+        }
+    }
+
+    fn flush(&mut self) -> io::Result<()> {
+        Ok(())
+    }
+}
+
+/// Plays from a reader that fails after so many bytes.
+fn play_from(alloc: Global, left: usize, printed: &mut Vec<u8>) -> u8 {
+    let mut input = Watched::new(Trickle {
+        bytes: SCRIPT.as_bytes(),
+        left,
+    });
+    let mut output = Watched::new(printed);
+    run(alloc, &[], &mut input, &mut output)
+}
+
+/// Plays to a writer that stops after so many bytes.
+fn play_to(alloc: Global, left: usize, fails: bool, taken: &mut Vec<u8>) -> u8 {
+    let mut input = Watched::new(SCRIPT.as_bytes());
+    let mut output = Watched::new(Sluggish { taken, left, fails });
+    run(alloc, &[], &mut input, &mut output)
+}
+
+#[test]
+fn a_slow_reader_and_a_slow_writer_change_nothing(rt: HostRuntime) -> Result<(), Fail> {
+    let mut printed = Vec::new(rt.alloc());
+    assert_eq!(rt; play_from(rt.alloc(), usize::MAX, &mut printed), 0);
+    assert_eq!(rt; printed.as_slice(), LINES.as_bytes());
+    let mut taken = Vec::new(rt.alloc());
+    assert_eq!(rt; play_to(rt.alloc(), usize::MAX, true, &mut taken), 0);
+    assert_eq!(rt; taken.as_slice(), LINES.as_bytes());
+    Ok(())
+}
+
+#[test]
+fn a_reader_that_fails_prints_its_line_alone(rt: HostRuntime) -> Result<(), Fail> {
+    for left in 0..=SCRIPT.len() {
+        let mut printed = Vec::new(rt.alloc());
+        assert_eq!(rt;
+            play_from(rt.alloc(), left, &mut printed),
+            3,
+            "after {left} bytes"
+        );
+        assert_eq!(rt;
+            printed.as_slice(),
+            b"read failed\n".as_slice(),
+            "after {left} bytes"
+        );
+    }
+    Ok(())
+}
+
+#[test]
+fn a_writer_that_stops_has_the_first_bytes(rt: HostRuntime) -> Result<(), Fail> {
+    for left in 0..LINES.len() {
+        for fails in [true, false] {
+            let mut taken = Vec::new(rt.alloc());
+            assert_eq!(rt;
+                play_to(rt.alloc(), left, fails, &mut taken),
+                3,
+                "after {left} bytes"
+            );
+            assert_eq!(rt;
+                taken.as_slice(),
+                &LINES.as_bytes()[..left],
+                "after {left} bytes"
+            );
+        }
+    }
+    Ok(())
+}
+
+#[test]
+fn a_reader_without_end_is_left(rt: HostRuntime) -> Result<(), Fail> {
+    let mut given = 0;
+    let mut printed = Vec::new(rt.alloc());
+    let mut input = Watched::new(Endless { given: &mut given });
+    let mut output = Watched::new(&mut printed);
+    assert_eq!(rt; run(rt.alloc(), &[], &mut input, &mut output), 2);
+    assert_eq!(rt;
+        printed.as_slice(),
+        b"script refused 8 TooLarge at step 0\n".as_slice()
+    );
+    assert_eq!(rt; given, 1_048_577);
+    Ok(())
+}

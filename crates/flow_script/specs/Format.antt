@@ -1,0 +1,172 @@
+-- What the JSON text of a script says: its head, and the keys of each step.
+-- Begin with `head_of` and `verb_of`. What is refused, and in which order, is in Checks.
+use Rattle.std.specs.Prelude.{◌≡◌, ℕ, ◌+◌, ◌^◌, ◌-◌, Bool, true, false, ◌&&◌, ◌||◌, ◌==◌, nat_lt, nat_le, if◌then◌else◌, ℤ, List, length, Option, Some, None, option_map, option_and_then, is_some, codes}
+use Rattle.std.specs.Option.{option_map_or}
+use Rattle.std.specs.List.{list_all}
+use Rattle.std.specs.Str.{bytes_eq}
+use Rattle.serde_json.specs.Data.{Data, Items}
+use Rattle.serde_json.specs.Events.{members_len}
+use Rattle.serde_json.specs.Find.{get, as_number, as_u64, as_i64, as_str, as_array, as_object}
+use Rattle.flow_law.specs.declared.config.Config.{Config}
+use Rattle.flow_law.specs.declared.config.Overflow.{Overflow}
+use Rattle.flow_law.specs.declared.config.Overflow.TheVariants.{Suspend, DropOldest, DropLatest}
+use Rattle.flow_script.specs.declared.verb.Verb.{Verb}
+use Rattle.flow_script.specs.declared.verb.Verb.TheVariants.{TryEmit, Emit, Poll, Cancel, Subscribe, Next, Unsubscribe, Cache, Count, Reset, Collect, Value, Set, CompareAndSet}
+use Rattle.flow_script.specs.declared.verb.Kind.{Kind}
+use Rattle.flow_script.specs.declared.verb.Kind.TheVariants as kind
+
+-- ---- members of an object
+
+abbrev pub u64_at : List ℕ → Data → Option ℕ
+u64_at key d = option_and_then as_u64 (option_and_then as_number (get key d))
+
+abbrev pub u32_at : List ℕ → Data → Option ℕ
+u32_at key d = option_and_then (λ n. if nat_lt n (2 ^ 32) then Some n else None) (u64_at key d)
+
+abbrev pub i64_at : List ℕ → Data → Option ℤ
+i64_at key d = option_and_then as_i64 (option_and_then as_number (get key d))
+
+abbrev pub text_at : List ℕ → Data → Option (List ℕ)
+text_at key d = option_and_then as_str (get key d)
+
+-- An object of so many members. Where that many keys were found in it, it has no other
+abbrev pub has_members : ℕ → Data → Bool
+has_members count d = option_map_or (λ ms. members_len ms == count) (as_object d) false
+
+-- the shape, if the test passes
+abbrev pub where_true : {A : Type 0} → Bool → Option A → Option A
+where_true test o = if test then o else None
+
+-- a to z, 0 to 9, and _
+abbrev pub is_name_byte : ℕ → Bool
+is_name_byte b = (nat_le 97 b && nat_le b 122) || (nat_le 48 b && nat_le b 57) || (b == 95)
+
+abbrev pub is_name : List ℕ → Bool
+is_name bs = nat_lt 0 (length bs) && nat_le (length bs) 32 && list_all is_name_byte bs
+
+abbrev pub name_at : Data → Option (List ℕ)
+name_at d = option_and_then (λ name. where_true (is_name name) (Some name)) (text_at (codes "name") d)
+
+-- ---- the head
+
+abbrev pub overflow_named : List ℕ → Option Overflow
+overflow_named text =
+    if bytes_eq text (codes "suspend") then Some Suspend
+    else (if bytes_eq text (codes "drop_oldest") then Some DropOldest
+    else (if bytes_eq text (codes "drop_latest") then Some DropLatest else None))
+
+-- an absent limit is the greatest one
+abbrev pub limit_at : Data → Option ℕ
+limit_at d = option_map_or (λ l. option_and_then as_u64 (as_number l)) (get (codes "limit") d) (Some (2 ^ 64 - 1))
+
+-- how many keys a flow has that may have a limit, beside it
+abbrev pub with_limit : ℕ → Data → ℕ
+with_limit keys d = if is_some (get (codes "limit") d) then keys + 1 else keys
+
+abbrev pub config_of : Data → Option Config
+config_of d =
+    option_and_then (λ replay. option_and_then (λ extra. option_and_then (λ overflow. option_and_then (λ limit.
+    where_true (has_members (with_limit 4 d) d)
+    (Some (record { replay = replay; extra = extra; overflow = overflow; limit = limit })))
+    (limit_at d)) (option_and_then overflow_named (text_at (codes "overflow") d))) (u32_at (codes "extra") d)) (u32_at (codes "replay") d)
+
+-- what a head says of its flow
+pub data Head : Type 0 where
+  no_flow : Head
+  shared_flow : Config → Head
+  -- with the first value, and the most numbers that it issues
+  state_flow : ℤ → ℕ → Head
+
+abbrev pub kind_of : Head → Kind
+kind_of no_flow = kind.Absent
+kind_of (shared_flow config) = kind.Shared
+kind_of (state_flow initial limit) = kind.State
+
+abbrev pub state_of : Data → Option Head
+state_of d = option_and_then (λ initial. option_and_then (λ limit. where_true (has_members (with_limit 2 d) d) (Some (state_flow initial limit)))
+    (limit_at d)) (i64_at (codes "initial") d)
+
+abbrev pub flow_named : List ℕ → Data → Option Head
+flow_named kind d =
+    if bytes_eq kind (codes "none") then where_true (has_members 1 d) (Some no_flow)
+    else (if bytes_eq kind (codes "shared") then option_map shared_flow (config_of d)
+    else (if bytes_eq kind (codes "state") then state_of d else None))
+
+abbrev pub flow_of : Data → Option Head
+flow_of d = option_and_then (λ kind. flow_named kind d) (text_at (codes "kind") d)
+
+abbrev pub has_version : Data → Bool
+has_version d = option_map_or (λ version. version == 1) (u64_at (codes "version") d) false
+
+-- the flow and the steps of a head of the right shape
+abbrev pub head_of : Data → Option (Head × Items)
+head_of d = where_true (has_members 3 d) (option_and_then (λ flow. option_map (λ steps. (flow, steps))
+    (option_and_then as_array (get (codes "steps") d))) (option_and_then flow_of (get (codes "flow") d)))
+
+-- ---- steps
+
+abbrev pub verb_named : List ℕ → Option Verb
+verb_named text =
+    if bytes_eq text (codes "try_emit") then Some TryEmit
+    else (if bytes_eq text (codes "emit") then Some Emit
+    else (if bytes_eq text (codes "poll") then Some Poll
+    else (if bytes_eq text (codes "cancel") then Some Cancel
+    else (if bytes_eq text (codes "subscribe") then Some Subscribe
+    else (if bytes_eq text (codes "next") then Some Next
+    else (if bytes_eq text (codes "unsubscribe") then Some Unsubscribe
+    else (if bytes_eq text (codes "cache") then Some Cache
+    else (if bytes_eq text (codes "count") then Some Count
+    else (if bytes_eq text (codes "reset") then Some Reset
+    else (if bytes_eq text (codes "collect") then Some Collect
+    else (if bytes_eq text (codes "value") then Some Value
+    else (if bytes_eq text (codes "set") then Some Set
+    else (if bytes_eq text (codes "compare_and_set") then Some CompareAndSet else None)))))))))))))
+
+-- how many keys a step has, `do` among them
+abbrev pub key_count : Verb → ℕ
+key_count Emit = 3
+key_count Cache = 1
+key_count Count = 1
+key_count Reset = 1
+key_count Value = 1
+key_count CompareAndSet = 3
+key_count _ = 2
+
+abbrev pub is_flow : Kind → Bool
+is_flow kind.Absent = false
+is_flow _ = true
+
+-- a flow into which the script emits
+abbrev pub is_mutable : Kind → Bool
+is_mutable kind.Shared = true
+is_mutable kind.State = true
+is_mutable _ = false
+
+abbrev pub is_shared : Kind → Bool
+is_shared kind.Shared = true
+is_shared _ = false
+
+abbrev pub is_state : Kind → Bool
+is_state kind.State = true
+is_state _ = false
+
+-- the kinds of flow that allow a step
+abbrev pub is_allowed : Kind → Verb → Bool
+is_allowed kind Collect = true
+is_allowed kind TryEmit = is_mutable kind
+is_allowed kind Reset = is_mutable kind
+is_allowed kind Emit = is_shared kind
+is_allowed kind Poll = is_shared kind
+is_allowed kind Cancel = is_shared kind
+is_allowed kind Subscribe = is_flow kind
+is_allowed kind Next = is_flow kind
+is_allowed kind Unsubscribe = is_flow kind
+is_allowed kind Cache = is_flow kind
+is_allowed kind Count = is_flow kind
+is_allowed kind Value = is_state kind
+is_allowed kind Set = is_state kind
+is_allowed kind CompareAndSet = is_state kind
+
+-- what a step does, if the flow allows it and it has as many keys as it needs
+abbrev pub verb_of : Kind → Data → Option Verb
+verb_of kind d = option_and_then (λ verb. where_true (is_allowed kind verb && has_members (key_count verb) d) (Some verb)) (option_and_then verb_named (text_at (codes "do") d))

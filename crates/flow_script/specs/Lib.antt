@@ -1,0 +1,14 @@
+pub mod Results
+pub mod Format
+pub mod ChainFormat
+pub mod Actions
+pub mod Checks
+pub mod Names
+pub mod Chains
+pub mod Lines
+pub mod Turns
+pub mod StateMeaning
+pub mod ScriptMeaning
+pub mod Playing
+pub mod Watching
+pub mod Shown

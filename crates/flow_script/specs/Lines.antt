@@ -1,0 +1,102 @@
+-- The lines that a script writes, by the documented reply to each call.
+-- Begin with `line_of`.
+use Rattle.std.specs.Prelude.{ℕ, ℤ, Bool, true, false, List, [], ◌∷◌, ◌++◌, if◌then◌else◌, Ok, Err, codes, decimal}
+use Rattle.std.specs.Fmt.{signed_decimal}
+use Rattle.std.specs.List.{flat_map}
+use Rattle.flow_law.specs.declared.fault.FlowFault.{FlowFault}
+use Rattle.flow_law.specs.declared.fault.FlowFault.TheVariants.{OutOfMemory, TooLarge, NeedsBuffer, Exhausted, Unsupported, Busy}
+use Rattle.flow_law.specs.declared.chain.ChainFault.{ChainFault}
+use Rattle.flow_law.specs.declared.chain.ChainFault.TheVariants as chain_fault
+use Rattle.flow_law.specs.declared.chain.End.{End}
+use Rattle.flow_law.specs.declared.chain.End.TheVariants.{Completed, Failed}
+use Rattle.flow_law.specs.ChainRun.{items, ending}
+use Rattle.flow_law.specs.declared.call.StateCall.{StateCall}
+use Rattle.flow_law.specs.declared.call.StateReply.{StateReply}
+use Rattle.flow_law.specs.declared.call.StateReply.TheVariants as state
+use Rattle.flow_script.specs.ChainFormat.{Build}
+use Rattle.flow_law.specs.declared.outcome.Emit.TheVariants.{Done, Queued}
+use Rattle.flow_law.specs.declared.outcome.Next.{Next}
+use Rattle.flow_law.specs.declared.outcome.Next.TheVariants.{Value, Empty, Gone}
+use Rattle.flow_law.specs.declared.call.SharedCall.{SharedCall}
+use Rattle.flow_law.specs.declared.call.SharedCall.TheVariants.{Poll}
+use Rattle.flow_law.specs.declared.call.SharedReply.{SharedReply}
+use Rattle.flow_law.specs.declared.call.SharedReply.TheVariants.{Emitted, Tested, Subscribed, Received, Cached, Reset, Counted, Refused}
+
+-- each line ends with one line feed
+abbrev pub lined : List ℕ → List ℕ
+lined text = text ++ 10 ∷ []
+
+-- the items after the first, each after a comma and a space
+abbrev pub more_items : List ℤ → List ℕ
+more_items xs = flat_map (λ x. codes ", " ++ signed_decimal x) xs
+
+abbrev pub list_text : List ℤ → List ℕ
+list_text [] = codes "[]"
+list_text (x ∷ xs) = codes "[" ++ signed_decimal x ++ more_items xs ++ codes "]"
+
+abbrev pub refusal_text : FlowFault → List ℕ
+refusal_text OutOfMemory = codes "refused 1 OutOfMemory"
+refusal_text TooLarge = codes "refused 2 TooLarge"
+refusal_text NeedsBuffer = codes "refused 3 NeedsBuffer"
+refusal_text Exhausted = codes "refused 4 Exhausted"
+refusal_text Unsupported = codes "refused 5 Unsupported"
+refusal_text Busy = codes "refused 6 Busy"
+
+abbrev pub test_text : Bool → List ℕ
+test_text test = if test then codes "true" else codes "false"
+
+abbrev pub wait_text : Bool → List ℕ
+wait_text waits = if waits then codes "waiting" else codes "done"
+
+abbrev pub next_text : Next ℤ → List ℕ
+next_text (Value value) = codes "value " ++ signed_decimal value
+next_text Empty = codes "empty"
+next_text Gone = codes "gone"
+
+-- ---- chains
+
+abbrev pub chain_fault_text : ChainFault → List ℕ
+chain_fault_text chain_fault.OutOfMemory = codes "1 OutOfMemory"
+chain_fault_text chain_fault.Overflow = codes "2 Overflow"
+chain_fault_text chain_fault.NotPositive = codes "3 NotPositive"
+chain_fault_text (chain_fault.Source number) = codes "4 Source " ++ decimal number
+chain_fault_text chain_fault.TooDeep = codes "5 TooDeep"
+
+abbrev pub end_text : End → List ℕ
+end_text Completed = codes " completed"
+end_text (Failed fault) = codes " failed " ++ chain_fault_text fault
+
+-- what a collection gives, or why the chain could not be built
+abbrev pub collection_text : Build → List ℕ
+collection_text (Ok chain) = list_text (items chain.run) ++ end_text (ending chain.run)
+collection_text (Err fault) = codes "refused " ++ chain_fault_text fault
+
+-- ---- calls of a flow
+
+-- the line of a step that the flow does not allow. No script that is read has one
+abbrev pub not_allowed : List ℕ
+not_allowed = codes "not allowed"
+
+-- a call of a shared flow, and its reply
+abbrev pub line_of : SharedCall ℤ → SharedReply ℤ → List ℕ
+line_of call (Refused fault) = refusal_text fault
+line_of (Poll e) (Tested waits) = wait_text waits
+line_of call (Tested test) = test_text test
+line_of call (Emitted Done) = codes "done"
+line_of call (Emitted (Queued e)) = codes "queued"
+line_of call (Subscribed u) = codes "subscribed"
+line_of call (Received next) = next_text next
+line_of call (Cached values) = list_text values
+line_of call Reset = codes "reset"
+line_of call (Counted count) = decimal count
+
+-- a call of a state flow, and its reply
+abbrev pub state_line_of : StateCall ℤ → StateReply ℤ → List ℕ
+state_line_of call (state.Refused fault) = refusal_text fault
+state_line_of call state.Done = codes "set"
+state_line_of call (state.Got value) = signed_decimal value
+state_line_of call (state.Answered test) = test_text test
+state_line_of call (state.Subscribed u) = codes "subscribed"
+state_line_of call (state.Received next) = next_text next
+state_line_of call (state.Counted count) = decimal count
+state_line_of call (state.Cached values) = list_text values

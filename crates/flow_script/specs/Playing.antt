@@ -1,0 +1,59 @@
+-- What a run over a reader and a writer tells of a script's meaning.
+-- Begin with `Plays`.
+use Rattle.std.specs.Prelude.{◌≡◌, ◌⊎◌, ◌≤◌, ◌+◌, ℕ, Bool, true, false, not, ◌&&◌, ◌==◌, List, length, take, Option, Result, Ok, Err, IfSome, String, string_bytes}
+use Rattle.std.specs.declared.alloc.Global.{Global}
+use Rattle.std.specs.Io.KnownBytes.{Appends, Keeps, Consumes}
+use Rattle.flow_script.specs.declared.fault.ScriptFault.{ScriptFault}
+use Rattle.flow_script.specs.declared.fault.ScriptFault.TheVariants.{OutOfMemory, ReadFailed, WriteFailed, NotJson, BadVersion, BadShape, UnknownName, DuplicateName, TooLarge}
+use Rattle.flow_script.specs.Checks.{result_map, most_bytes}
+use Rattle.flow_script.specs.ScriptMeaning.{meaning}
+
+-- ---- readers and writers that failed
+
+-- a write that failed, or that took none of some bytes
+abbrev pub took_none : {E : Type 0} → Result ℕ E → List ℕ → Bool
+took_none (Ok count) bytes = (count == 0) && not (length bytes == 0)
+took_none (Err e) bytes = true
+
+abbrev pub IsReadFault : ScriptFault → Type 0
+IsReadFault fault = (fault ≡ OutOfMemory) ⊎ (fault ≡ ReadFailed)
+
+abbrev pub read_failed : ScriptFault → Bool
+read_failed ReadFailed = true
+read_failed _ = false
+
+abbrev pub is_read_failed : {A : Type 0} → Result A ScriptFault → Bool
+is_read_failed (Ok a) = false
+is_read_failed (Err fault) = read_failed fault
+
+abbrev pub is_write_failed : {A : Type 0} → Result A ScriptFault → Bool
+is_write_failed (Err WriteFailed) = true
+is_write_failed _ = false
+
+-- ---- runs
+
+abbrev pub text_result : Result (String Global) ScriptFault → Result (List ℕ) ScriptFault
+text_result r = result_map string_bytes r
+
+-- the bytes that were taken off a reader are at most one more than a script may have
+abbrev pub TakesWithin : Option (List ℕ) → Option (List ℕ) → Type 0
+TakesWithin old new = (taken : List ℕ) × Consumes old new taken × (length taken ≤ most_bytes + 1)
+
+-- the reader's bytes, if it tells them, are refused by this fault
+abbrev pub Refuses : Option (List ℕ) → ScriptFault → Type 0
+Refuses known fault = IfSome known (λ bytes. meaning bytes ≡ Err fault)
+
+-- Where the reader tells its bytes, a run that ends well wrote what they mean, and a script is refused as they say.
+-- After a write that failed, the front of that text was written; after any other fault nothing.
+abbrev pub Plays : Option (List ℕ) → Option (List ℕ) → Option (List ℕ) → Result (Unit {0}) ScriptFault → Type 0
+Plays known old new (Ok u) = IfSome known (λ bytes. (text : List ℕ) × (meaning bytes ≡ Ok text) × Appends old new text)
+Plays known old new (Err WriteFailed) =
+    IfSome known (λ bytes. (text : List ℕ) × (count : ℕ) × (meaning bytes ≡ Ok text) × Appends old new (take count text))
+Plays known old new (Err OutOfMemory) = Keeps old new
+Plays known old new (Err ReadFailed) = Keeps old new
+Plays known old new (Err NotJson) = Refuses known NotJson × Keeps old new
+Plays known old new (Err BadVersion) = Refuses known BadVersion × Keeps old new
+Plays known old new (Err (BadShape at)) = Refuses known (BadShape at) × Keeps old new
+Plays known old new (Err (UnknownName at)) = Refuses known (UnknownName at) × Keeps old new
+Plays known old new (Err (DuplicateName at)) = Refuses known (DuplicateName at) × Keeps old new
+Plays known old new (Err (TooLarge at)) = Refuses known (TooLarge at) × Keeps old new

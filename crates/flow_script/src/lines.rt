@@ -1,0 +1,111 @@
+//! Writing lines.
+ghost use Rattle.std.specs.Prelude.{◌≡◌, ◌≢◌, ◌++◌, OnOk, IfErr, string_bytes, decimal};
+ghost use Rattle.std.specs.Fmt.{signed_decimal};
+ghost use Rattle.flow_script.specs.Lines as lines;
+
+use crate::fault::ScriptFault;
+use flow_law::{FlowFault, Next};
+use std::alloc::AllocError;
+
+pub fn add_line(text: &mut String, line: &str) -> Result<(), AllocError>
+    ensures { OnOk result (string_bytes text.new ≡ string_bytes text.old ++ lines.lined line.now) }
+{
+    text.push_str(line)?;
+    text.push('\n')
+}
+
+fn add_more_items(text: &mut String, values: &[i64]) -> Result<(), AllocError>
+    ensures { OnOk result (string_bytes text.new ≡ string_bytes text.old ++ lines.more_items values.now) }
+{
+    for value in values {
+        write!(text, ", {value}")?;
+    }
+    Ok(())
+}
+
+/// A list, in a line that is not ended.
+pub fn add_items(text: &mut String, values: &[i64]) -> Result<(), AllocError>
+    ensures { OnOk result (string_bytes text.new ≡ string_bytes text.old ++ lines.list_text values.now) }
+{
+    let Some((first, more)) = values.split_first() else {
+        return text.push_str("[]");
+    };
+    write!(text, "[{first}")?;
+    add_more_items(text, more)?;
+    text.push(']')
+}
+
+pub fn add_list(text: &mut String, values: &[i64]) -> Result<(), AllocError>
+    ensures { OnOk result (string_bytes text.new ≡ string_bytes text.old ++ lines.lined (lines.list_text values.now)) }
+{
+    add_items(text, values)?;
+    text.push('\n')
+}
+
+pub fn add_test(text: &mut String, test: bool) -> Result<(), AllocError>
+    ensures { OnOk result (string_bytes text.new ≡ string_bytes text.old ++ lines.lined (lines.test_text test)) }
+{
+    if test {
+        add_line(text, "true")
+    } else {
+        add_line(text, "false")
+    }
+}
+
+pub fn add_wait(text: &mut String, waits: bool) -> Result<(), AllocError>
+    ensures { OnOk result (string_bytes text.new ≡ string_bytes text.old ++ lines.lined (lines.wait_text waits)) }
+{
+    if waits {
+        add_line(text, "waiting")
+    } else {
+        add_line(text, "done")
+    }
+}
+
+pub fn add_next(text: &mut String, next: Next<i64>) -> Result<(), AllocError>
+    ensures { OnOk result (string_bytes text.new ≡ string_bytes text.old ++ lines.lined (lines.next_text next)) }
+{
+    match next {
+        Next::Value(value) => writeln!(text, "value {value}"),
+        Next::Empty => add_line(text, "empty"),
+        Next::Gone => add_line(text, "gone"),
+    }
+}
+
+pub fn add_value(text: &mut String, value: i64) -> Result<(), AllocError>
+    ensures { OnOk result (string_bytes text.new ≡ string_bytes text.old ++ lines.lined (signed_decimal value)) }
+{
+    writeln!(text, "{value}")
+}
+
+pub fn add_count(text: &mut String, count: u64) -> Result<(), AllocError>
+    ensures { OnOk result (string_bytes text.new ≡ string_bytes text.old ++ lines.lined (decimal count)) }
+{
+    writeln!(text, "{count}")
+}
+
+/// The line of a step that the flow does not allow. No script that is read has one.
+pub fn add_not_allowed(text: &mut String) -> Result<(), ScriptFault>
+    ensures line { OnOk result (string_bytes text.new ≡ string_bytes text.old ++ lines.lined lines.not_allowed) }
+    ensures refused { IfErr result (λ refused. refused ≡ ScriptFault.OutOfMemory) }
+{
+    add_line(text, "not allowed")?;
+    Ok(())
+}
+
+/// The line of a refused call. Want of memory has none: it ends the script.
+pub fn add_refusal(text: &mut String, fault: FlowFault) -> Result<(), ScriptFault>
+    ensures memory { OnOk result (fault ≢ FlowFault.OutOfMemory) }
+    ensures line { OnOk result (string_bytes text.new ≡ string_bytes text.old ++ lines.lined (lines.refusal_text fault)) }
+    ensures refused { IfErr result (λ refused. refused ≡ ScriptFault.OutOfMemory) }
+{
+    match fault {
+        FlowFault::OutOfMemory => return Err(ScriptFault::OutOfMemory),
+        FlowFault::TooLarge => add_line(text, "refused 2 TooLarge")?,
+        FlowFault::NeedsBuffer => add_line(text, "refused 3 NeedsBuffer")?,
+        FlowFault::Exhausted => add_line(text, "refused 4 Exhausted")?,
+        FlowFault::Unsupported => add_line(text, "refused 5 Unsupported")?,
+        FlowFault::Busy => add_line(text, "refused 6 Busy")?,
+    }
+    Ok(())
+}

@@ -1,0 +1,50 @@
+//! A script that was read and checked.
+
+use flow_cold::{ChainFault, ScriptChain};
+use flow_law::Config;
+
+/// A chain of a script, or why it could not be built. That is no fault of the script, but what its collection tells.
+pub type Build = Result<ScriptChain, ChainFault>;
+
+/// A step. A name is known by how many names of its kind were introduced before it: emissions and subscribers are
+/// counted apart.
+#[derive(Drop)]
+pub enum Step {
+    TryEmit(i64),
+    /// It introduces an emission.
+    Emit(i64),
+    /// With the emission.
+    Poll(usize),
+    /// With the emission.
+    Cancel(usize),
+    /// It introduces a subscriber.
+    Subscribe,
+    /// With the subscriber.
+    Next(usize),
+    /// With the subscriber.
+    Unsubscribe(usize),
+    Cache,
+    Count,
+    Reset,
+    Value,
+    Set(i64),
+    /// With the value that is expected, and the new one.
+    CompareAndSet(i64, i64),
+    Collect(Build),
+}
+
+/// The flow that the steps of a script are about.
+#[derive(Drop)]
+pub enum ScriptFlow {
+    /// There is none: the steps only collect chains.
+    Absent,
+    Shared(Config),
+    State { initial: i64, limit: u64 },
+}
+
+/// A script that was checked. The flow itself may still be refused when it is made.
+#[derive(Drop)]
+pub struct Script {
+    pub flow: ScriptFlow,
+    pub steps: Vec<Step>,
+}
