@@ -1,7 +1,5 @@
 -- What the reading functions find, in the terms of the definitions.
-use Rattle.std.proofs.Common.{◌≡◌, ℕ, suc, ◌+◌, ◌<◌, ◌≤◌, Bool, true, false, cond, not, nat_lt, if◌then◌else◌, List, [], ◌∷◌, ◌++◌, length, map, drop, get_or, Option, Some, None, Result, Ok, Err, String, Global, refl, sym, ap, ◌∙◌, append_assoc, add-one, arith}
-use Rattle.std.specs.List.{position_from}
-use Rattle.std.specs.Option.{option_map_or}
+use Rattle.std.proofs.Common.{◌≡◌, ℕ, suc, ◌+◌, ◌<◌, ◌≤◌, true, false, not, nat_lt, if◌then◌else◌, List, [], ◌∷◌, ◌++◌, length, drop, get_or, Some, Result, Ok, Err, String, Global, refl, sym, ap, ◌∙◌, append_assoc, add-one, arith}
 use Rattle.std.proofs.Math.Seq.{drop-cons}
 use Rattle.serde_json.specs.Data.{Data, Items}
 use Rattle.serde_json.specs.Events.{members_len, items_len}

@@ -1,6 +1,5 @@
-use Rattle.std.proofs.Common.{◌++◌, [], string_bytes, sym, ap, ◌∙◌, append-nil}
+use Rattle.std.proofs.Common.{◌++◌, string_bytes, sym, ap, ◌∙◌, append-nil}
 use Rattle.flow_script.specs.Actions.{action_of, actions_of}
-use Rattle.flow_script.specs.Lines.{lined, refusal_text}
 use Rattle.flow_script.specs.ScriptMeaning.{lines_from, text_by, turn}
 use Rattle.flow_script.proofs.PlayLemmas.{next_lines, none-left}
 use Rattle.flow_script.proofs.player.text_of.Goals as goal
