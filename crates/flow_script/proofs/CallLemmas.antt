@@ -3,13 +3,12 @@ use Rattle.std.proofs.Common.{◌≡◌, ◌≢◌, ℤ, List, ◌++◌, refl, s
 use Rattle.flow_law.specs.declared.fault.FlowFault.{FlowFault}
 use Rattle.flow_law.specs.declared.fault.FlowFault.TheVariants.{OutOfMemory, TooLarge, NeedsBuffer, Exhausted, Unsupported, Busy}
 use Rattle.flow_law.specs.declared.call.SharedCall.{SharedCall}
-use Rattle.flow_law.specs.declared.call.SharedReply.{SharedReply}
 use Rattle.flow_law.specs.declared.call.SharedReply.TheVariants.{Refused}
 use Rattle.flow_law.specs.SharedFlow.{SharedFlowState}
 use Rattle.flow_law.specs.SharedHistory as history
 use Rattle.flow_law.specs.Standing.{Core, StandsFor, Conforms}
 use Rattle.flow_script.specs.Lines.{lined, line_of}
-use Rattle.flow_script.specs.ScriptMeaning.{reply_to, state_after}
+use Rattle.flow_script.specs.ScriptMeaning.{reply_to}
 use Rattle.flow_script.specs.Shown.{Writes}
 
 -- a refusal that is not for want of memory is the documented one

@@ -1,9 +1,7 @@
 -- What the reading functions find, in the terms of the definitions.
-use Rattle.std.proofs.Common.{◌≡◌, ℕ, suc, ◌+◌, ◌<◌, ◌≤◌, Bool, true, false, cond, not, nat_lt, if◌then◌else◌, List, [], ◌∷◌, ◌++◌, length, map, drop, get_or, Option, Some, None, Result, Ok, Err, String, Global, refl, sym, ap, ◌∙◌, append_assoc, add-one, arith}
-use Rattle.std.specs.List.{position_from}
-use Rattle.std.specs.Option.{option_map_or}
+use Rattle.std.proofs.Common.{◌≡◌, ℕ, suc, ◌+◌, ◌<◌, ◌≤◌, true, false, nat_lt, if◌then◌else◌, List, [], ◌∷◌, ◌++◌, length, drop, get_or, Result, Ok, Err, String, Global, refl, sym, ap, ◌∙◌, append_assoc, add-one, arith}
 use Rattle.std.proofs.Math.Seq.{drop-cons}
-use Rattle.serde_json.specs.Data.{Data, Items}
+use Rattle.serde_json.specs.Data.{Data}
 use Rattle.serde_json.specs.Events.{members_len, items_len}
 use Rattle.serde_json.specs.View.{view, items_view, members_view}
 use Rattle.serde_json.specs.declared.value.Value.{Value}
@@ -11,10 +9,8 @@ use Rattle.flow_script.specs.declared.verb.Kind.{Kind}
 use Rattle.flow_script.specs.Actions.{Action}
 use Rattle.flow_script.specs.declared.fault.ScriptFault.{ScriptFault}
 use Rattle.flow_script.specs.declared.fault.ScriptFault.TheVariants.{OutOfMemory, ReadFailed, WriteFailed, NotJson, BadVersion, BadShape, UnknownName, DuplicateName, TooLarge}
-use Rattle.std.specs.Option.{is_some}
 use Rattle.std.specs.Str.{is_utf8}
 use Rattle.std.proofs.lemmas.Bool.Decides.{nat_tests}
-use Rattle.serde_json.specs.Find.{as_object}
 use Rattle.serde_json.specs.Read.{read}
 use Rattle.flow_script.specs.Checks.{NameLists, no_names, or_fault, Gives, checked, json_of, most_bytes, most_steps, read_script, result_map, result_then, script_of, step_of, steps_of}
 use Rattle.flow_script.specs.Heads.{Head, kind_of}

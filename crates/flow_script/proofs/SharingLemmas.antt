@@ -1,5 +1,5 @@
 -- A turn of a sharing over a core, as the documented turn.
-use Rattle.std.proofs.Common.{◌≡◌, ◌≢◌, ◌⊎◌, ℕ, ℤ, ◌<◌, ◌≤◌, Bool, true, false, nat_lt, if◌then◌else◌, List, [], ◌∷◌, ◌++◌, length, Option, Some, None, Result, Ok, Err, Global, refl, sym, ap, subst, ◌∙◌, inl, inr, arith}
+use Rattle.std.proofs.Common.{◌≡◌, ◌≢◌, ◌⊎◌, ℕ, ℤ, Bool, true, false, nat_lt, if◌then◌else◌, List, [], ◌∷◌, ◌++◌, length, Some, None, Result, Ok, Err, Global, refl, sym, ap, subst, ◌∙◌, inl, inr, arith}
 use Rattle.std.proofs.lemmas.Bool.Decides.{nat_tests}
 use Rattle.flow_law.specs.declared.fault.FlowFault.{FlowFault}
 use Rattle.flow_law.specs.declared.fault.FlowFault.TheVariants as flow_fault
@@ -10,14 +10,13 @@ use Rattle.flow_law.specs.declared.call.SharedCall.TheVariants.{Emit}
 use Rattle.flow_law.specs.declared.call.SharedReply.TheVariants.{Refused, Emitted}
 use Rattle.flow_law.specs.SharedHistory.{reply_by}
 use Rattle.flow_script.proofs.CallLemmas.{refused}
-use Rattle.flow_law.specs.declared.outcome.Emit.TheVariants as emission
 use Rattle.flow_law.specs.declared.chain.End.TheVariants.{Completed as AtEnd, Failed}
 use Rattle.flow_law.specs.declared.sharing.Started.{Started}
 use Rattle.flow_law.specs.declared.sharing.Command.{Command}
 use Rattle.flow_law.specs.declared.sharing.Command.TheVariants.{Start, Stop, Keep}
 use Rattle.flow_law.specs.declared.sharing.SharingObservation.{SharingObservation}
 use Rattle.flow_law.specs.Sharing.{newest_command, last_moment, is_running}
-use Rattle.flow_law.specs.ChainRun.{ChainRun, gives, pends, ends}
+use Rattle.flow_law.specs.ChainRun.{ChainRun, ends}
 use Rattle.flow_law.specs.SharedFlow.{SharedFlowState}
 use Rattle.flow_law.specs.SharedStep as shared
 use Rattle.flow_law.specs.Standing.{StandsFor}
@@ -32,7 +31,7 @@ use Rattle.flow_sharing.specs.Hub.{HubCall, HubReply, HubStep}
 use Rattle.flow_sharing.specs.TurnMeaning.{OutcomeMeans, TurnMeans, since_start}
 use Rattle.flow_sharing.specs.Turn.{NextItem, reported}
 use Rattle.flow_sharing.specs.OverCore.{after_stop, LawTurnOverCore, OutcomeOverCore, EventOverCore, TurnOverCore, MaySend, has_ended, backwards, observed}
-use Rattle.flow_script.specs.SharingMeaning.{Accepting, accepted, accepting, Target, shared_target, SharedChain, Outcome, outcome, sent, next_entry, send, run, goes_on, do_command, SharingTurn, told_turn, observing, sharing_turn, IsToldFault, IsTold}
+use Rattle.flow_script.specs.SharingMeaning.{accepting, shared_target, SharedChain, Outcome, outcome, sent, next_entry, send, run, goes_on, do_command, SharingTurn, told_turn, observing, sharing_turn, IsTold}
 use Rattle.flow_script.specs.Shown.{seen_as, sharing_state, ShowsShare, numbers_of}
 use Rattle.flow_script.specs.SharingMeaning.{SharePlay, turn_at}
 use Rattle.flow_script.specs.declared.share_player.SharePlayer.{SharePlayer}

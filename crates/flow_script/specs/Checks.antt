@@ -1,8 +1,7 @@
 -- Why a script is refused, and in which order: the first fault that is found is the script's.
 -- Begin with `read_script`. The forms are in Format.
-use Rattle.std.specs.Prelude.{◌≡◌, ℕ, ◌+◌, Bool, not, ◌||◌, nat_lt, if◌then◌else◌, ℤ, codes, List, [], ◌∷◌, ◌++◌, length, position, Option, Some, None, is_some, Result, Ok, Err, Vec}
+use Rattle.std.specs.Prelude.{◌≡◌, ℕ, ◌+◌, Bool, not, ◌||◌, nat_lt, if◌then◌else◌, ℤ, codes, List, [], ◌∷◌, ◌++◌, length, position, Option, is_some, Result, Ok, Err, Vec}
 use Rattle.std.specs.Prelude.{option_map, option_and_then}
-use Rattle.std.specs.Option.{option_map_or}
 use Rattle.std.specs.List.{list_any}
 use Rattle.std.specs.Str.{is_utf8, bytes_eq}
 use Rattle.std.specs.declared.alloc.Global.{Global}

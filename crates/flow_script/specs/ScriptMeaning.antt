@@ -1,16 +1,8 @@
 -- What a script means: the text that it writes, or the fault that it is refused by.
 -- Begin with `meaning`: the checks of Checks, then the steps over the documented flow, each with its line.
-use Rattle.std.specs.Prelude.{◌≡◌, ℕ, ℤ, List, [], ◌∷◌, ◌++◌, slice_get, Option, Some, None, option_map, option_and_then, Result, Ok, Err, codes}
+use Rattle.std.specs.Prelude.{ℕ, List, [], ◌∷◌, ◌++◌, Result, Ok, Err}
 use Rattle.std.specs.Option.{option_map_or}
-use Rattle.flow_law.specs.declared.config.Config.{Config}
-use Rattle.flow_law.specs.declared.fault.FlowFault.{FlowFault}
-use Rattle.flow_law.specs.declared.outcome.Emit.TheVariants.{Queued}
-use Rattle.flow_law.specs.declared.call.SharedCall.{SharedCall}
-use Rattle.flow_law.specs.declared.call.SharedCall.TheVariants as call
-use Rattle.flow_law.specs.declared.call.SharedReply.{SharedReply}
-use Rattle.flow_law.specs.declared.call.SharedReply.TheVariants.{Emitted, Subscribed}
-use Rattle.flow_law.specs.SharedFlow.{SharedFlowState, first_state, config_fault}
-use Rattle.flow_law.specs.SharedHistory as history
+use Rattle.flow_law.specs.SharedFlow.{config_fault}
 use Rattle.flow_script.specs.declared.fault.ScriptFault.{ScriptFault}
 use Rattle.flow_script.specs.Heads.{Head, no_flow, shared_flow, state_flow, shared_chain}
 use Rattle.flow_script.specs.Actions.{Action}

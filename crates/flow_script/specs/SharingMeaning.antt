@@ -1,6 +1,6 @@
 -- A turn of a documented sharing (`shareIn`, `stateIn`), want of memory aside.
 -- Begin with `sharing_turn`. When the chain runs, and the command, are those of flow_law's `Sharing`.
-use Rattle.std.specs.Prelude.{ℕ, ◌+◌, ℤ, Bool, true, false, nat_lt, if◌then◌else◌, List, [], ◌∷◌, length, Option, Some, None, Result, Ok, Err}
+use Rattle.std.specs.Prelude.{ℕ, ℤ, Bool, true, false, nat_lt, if◌then◌else◌, List, [], ◌∷◌, length, Option, Some, None, Result, Ok, Err}
 use Rattle.std.specs.Prelude.{◌++◌, option_map}
 use Rattle.std.specs.Option.{option_map_or}
 use Rattle.flow_law.specs.declared.config.Config.{Config}
@@ -17,7 +17,6 @@ use Rattle.flow_script.specs.SharedMeaning.{reply_to, state_after, subscriber_nu
 use Rattle.flow_law.specs.declared.fault.FlowFault.{FlowFault}
 use Rattle.flow_law.specs.declared.outcome.Emit.{Emit}
 use Rattle.flow_law.specs.declared.outcome.Emit.TheVariants as emission
-use Rattle.flow_law.specs.declared.chain.End.{End}
 use Rattle.flow_law.specs.declared.chain.End.TheVariants.{Completed as AtEnd, Failed}
 use Rattle.flow_law.specs.declared.sharing.Started.{Started}
 use Rattle.flow_law.specs.declared.sharing.Command.{Command}
@@ -25,7 +24,7 @@ use Rattle.flow_law.specs.declared.sharing.Command.TheVariants.{Start, Stop, Kee
 use Rattle.flow_law.specs.declared.sharing.SharingObservation.{SharingObservation}
 use Rattle.flow_law.specs.Sharing.{newest_command, last_moment, is_running}
 use Rattle.flow_law.specs.ChainRun.{ChainRun, gives, pends, ends}
-use Rattle.flow_law.specs.SharedFlow.{SharedFlowState, Answer, first_state}
+use Rattle.flow_law.specs.SharedFlow.{SharedFlowState, first_state}
 use Rattle.flow_law.specs.SharedStep as shared
 use Rattle.flow_law.specs.StateFlow.{StateFlowState}
 use Rattle.flow_sharing.specs.declared.report.Event.{Event}

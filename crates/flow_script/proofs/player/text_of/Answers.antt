@@ -1,7 +1,6 @@
-use Rattle.std.proofs.Common.{◌++◌, [], string_bytes, subst, sym, ap, ◌∙◌, append-nil}
+use Rattle.std.proofs.Common.{◌++◌, string_bytes, subst, sym, ap, ◌∙◌, append-nil}
 use Rattle.flow_script.specs.Actions.{action_of, actions_of, head_of_flow}
 use Rattle.flow_script.specs.Shown.{Begins}
-use Rattle.flow_script.specs.Lines.{lined, refusal_text}
 use Rattle.flow_script.specs.ScriptMeaning.{lines_from, text_by, turn}
 use Rattle.flow_script.proofs.PlayLemmas.{next_lines, none-left}
 use Rattle.flow_script.proofs.player.text_of.Goals as goal
