@@ -8,6 +8,7 @@ use std::test::Fail;
 
 mod chains;
 mod refused;
+mod share;
 mod shared;
 mod state;
 mod streams;

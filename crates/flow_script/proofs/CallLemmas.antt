@@ -3,17 +3,16 @@ use Rattle.std.proofs.Common.{◌≡◌, ◌≢◌, ℤ, List, ◌++◌, refl, s
 use Rattle.flow_law.specs.declared.fault.FlowFault.{FlowFault}
 use Rattle.flow_law.specs.declared.fault.FlowFault.TheVariants.{OutOfMemory, TooLarge, NeedsBuffer, Exhausted, Unsupported, Busy}
 use Rattle.flow_law.specs.declared.call.SharedCall.{SharedCall}
-use Rattle.flow_law.specs.declared.call.SharedReply.{SharedReply}
 use Rattle.flow_law.specs.declared.call.SharedReply.TheVariants.{Refused}
 use Rattle.flow_law.specs.SharedFlow.{SharedFlowState}
 use Rattle.flow_law.specs.SharedHistory as history
 use Rattle.flow_law.specs.Standing.{Core, StandsFor, Conforms}
 use Rattle.flow_script.specs.Lines.{lined, line_of}
-use Rattle.flow_script.specs.ScriptMeaning.{reply_to, state_after}
+use Rattle.flow_script.specs.ScriptMeaning.{reply_to}
 use Rattle.flow_script.specs.Shown.{Writes}
 
 -- a refusal that is not for want of memory is the documented one
-refused : (call : SharedCall ℤ) (fault : FlowFault) (s : SharedFlowState ℤ) → fault ≢ OutOfMemory → history.Replies s call (Refused fault) → Refused fault ≡ reply_to call s
+pub refused : (call : SharedCall ℤ) (fault : FlowFault) (s : SharedFlowState ℤ) → fault ≢ OutOfMemory → history.Replies s call (Refused fault) → Refused fault ≡ reply_to call s
 refused call OutOfMemory s other is = absurd (other refl)
 refused call TooLarge s other is = is
 refused call NeedsBuffer s other is = is

@@ -6,3 +6,4 @@ pub mod PlayLemmas
 pub mod MeaningLemmas
 pub mod ChainLemmas
 pub mod StateLemmas
+pub mod SharingLemmas

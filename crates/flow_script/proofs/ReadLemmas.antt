@@ -1,9 +1,7 @@
 -- What the reading functions find, in the terms of the definitions.
-use Rattle.std.proofs.Common.{◌≡◌, ℕ, suc, ◌+◌, ◌<◌, ◌≤◌, Bool, true, false, cond, not, nat_lt, if◌then◌else◌, List, [], ◌∷◌, ◌++◌, length, map, drop, get_or, Option, Some, None, Result, Ok, Err, String, Global, refl, sym, ap, ◌∙◌, append_assoc, add-one, arith}
-use Rattle.std.specs.List.{position_from}
-use Rattle.std.specs.Option.{option_map_or}
+use Rattle.std.proofs.Common.{◌≡◌, ℕ, suc, ◌+◌, ◌<◌, ◌≤◌, true, false, nat_lt, if◌then◌else◌, List, [], ◌∷◌, ◌++◌, length, drop, get_or, Result, Ok, Err, String, Global, refl, sym, ap, ◌∙◌, append_assoc, add-one, arith}
 use Rattle.std.proofs.Math.Seq.{drop-cons}
-use Rattle.serde_json.specs.Data.{Data, Items}
+use Rattle.serde_json.specs.Data.{Data}
 use Rattle.serde_json.specs.Events.{members_len, items_len}
 use Rattle.serde_json.specs.View.{view, items_view, members_view}
 use Rattle.serde_json.specs.declared.value.Value.{Value}
@@ -11,13 +9,11 @@ use Rattle.flow_script.specs.declared.verb.Kind.{Kind}
 use Rattle.flow_script.specs.Actions.{Action}
 use Rattle.flow_script.specs.declared.fault.ScriptFault.{ScriptFault}
 use Rattle.flow_script.specs.declared.fault.ScriptFault.TheVariants.{OutOfMemory, ReadFailed, WriteFailed, NotJson, BadVersion, BadShape, UnknownName, DuplicateName, TooLarge}
-use Rattle.std.specs.Option.{is_some}
 use Rattle.std.specs.Str.{is_utf8}
 use Rattle.std.proofs.lemmas.Bool.Decides.{nat_tests}
-use Rattle.serde_json.specs.Find.{as_object}
 use Rattle.serde_json.specs.Read.{read}
 use Rattle.flow_script.specs.Checks.{NameLists, no_names, or_fault, Gives, checked, json_of, most_bytes, most_steps, read_script, result_map, result_then, script_of, step_of, steps_of}
-use Rattle.flow_script.specs.Format.{Head, kind_of, head_of, has_version}
+use Rattle.flow_script.specs.Heads.{Head, kind_of}
 
 pub members_len_is : (es : List (String Global × Value)) → members_len (members_view es) ≡ length es
 members_len_is [] = refl
@@ -69,12 +65,6 @@ steps_err kind steps i value names done whole f here is read before =
     sym before
     ∙ ap (λ l. result_map (λ rest. done ++ rest) (steps_of kind (i + 1) names (items_view l))) (rest_from steps i value here is)
     ∙ ap (λ r. result_map (λ rest. done ++ rest) (result_then (λ named. result_map (λ s. named.step ∷ s) (steps_of kind (i + 1 + 1) named.names (items_view (drop (i + 1) steps)))) r)) read
-
-pub script_is : (d : Data) (head : Head × Items) → is_some (as_object d) ≡ true → has_version d ≡ true → head_of d ≡ Some head → script_of d ≡ checked head
-script_is d head object version shape =
-    ap (λ t. if not t then Err (BadShape 0) else (if not (has_version d) then Err BadVersion else result_then checked (or_fault (BadShape 0) (head_of d)))) object
-    ∙ ap (λ t. if not t then Err BadVersion else result_then checked (or_fault (BadShape 0) (head_of d))) version
-    ∙ ap (λ o. result_then checked (or_fault (BadShape 0) o)) shape
 
 pub json_is : (bytes : List ℕ) → is_utf8 bytes ≡ true → json_of bytes ≡ or_fault NotJson (read bytes)
 json_is bytes text = ap (λ t. if t then or_fault NotJson (read bytes) else Err NotJson) text

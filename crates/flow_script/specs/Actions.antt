@@ -5,7 +5,7 @@ use Rattle.flow_script.specs.declared.script.Step.TheVariants as step
 use Rattle.flow_script.specs.declared.script.ScriptFlow.{ScriptFlow}
 use Rattle.flow_script.specs.declared.script.ScriptFlow.TheVariants as flow
 use Rattle.flow_script.specs.ChainFormat.{Build}
-use Rattle.flow_script.specs.Format.{Head, no_flow, shared_flow, state_flow}
+use Rattle.flow_script.specs.Heads.{Head, no_flow, shared_flow, state_flow, shared_chain}
 use Rattle.flow_script.specs.Chains.{build_of}
 
 pub data Action : Type 0 where
@@ -22,6 +22,7 @@ pub data Action : Type 0 where
   value : Action
   set : ℤ → Action
   compare_and_set : ℤ → ℤ → Action
+  turn : ℕ → Action
   collect : Build → Action
 
 -- what a step that was read is
@@ -39,6 +40,7 @@ action_of step.Reset = reset
 action_of step.Value = value
 action_of (step.Set x) = set x
 action_of (step.CompareAndSet expect update) = compare_and_set expect update
+action_of (step.Turn now) = turn now
 action_of (step.Collect build) = collect (build_of build)
 
 abbrev pub actions_of : List Step → List Action
@@ -49,3 +51,4 @@ abbrev pub head_of_flow : ScriptFlow → Head
 head_of_flow flow.Absent = no_flow
 head_of_flow (flow.Shared config) = shared_flow config
 head_of_flow (flow.State initial limit) = state_flow initial limit
+head_of_flow (flow.Share chain started replay limit) = shared_chain (build_of chain) started replay limit

@@ -1,5 +1,5 @@
 -- What the reader's chains are in the definitions' terms. No public clause cites this module.
-use Rattle.std.specs.Prelude.{ℕ, ◌==◌, ℤ, Bool, false, List, Result, Ok, Err, Vec}
+use Rattle.std.specs.Prelude.{◌==◌, ℤ, Bool, false, List, Result, Ok, Err, Vec}
 use Rattle.std.specs.declared.alloc.Global.{Global}
 use Rattle.flow_law.specs.declared.chain.ChainFault.{ChainFault}
 use Rattle.flow_law.specs.ChainRun.{ChainRun}

@@ -1,8 +1,7 @@
 -- Why a script is refused, and in which order: the first fault that is found is the script's.
 -- Begin with `read_script`. The forms are in Format.
-use Rattle.std.specs.Prelude.{◌≡◌, ℕ, ◌+◌, Bool, not, ◌||◌, nat_lt, if◌then◌else◌, ℤ, codes, List, [], ◌∷◌, ◌++◌, length, position, Option, Some, None, is_some, Result, Ok, Err, Vec}
+use Rattle.std.specs.Prelude.{◌≡◌, ℕ, ◌+◌, Bool, not, ◌||◌, nat_lt, if◌then◌else◌, ℤ, codes, List, [], ◌∷◌, ◌++◌, length, position, Option, is_some, Result, Ok, Err, Vec}
 use Rattle.std.specs.Prelude.{option_map, option_and_then}
-use Rattle.std.specs.Option.{option_map_or}
 use Rattle.std.specs.List.{list_any}
 use Rattle.std.specs.Str.{is_utf8, bytes_eq}
 use Rattle.std.specs.declared.alloc.Global.{Global}
@@ -21,10 +20,11 @@ use Rattle.flow_script.specs.Actions.{Action, action_of, actions_of, head_of_flo
 use Rattle.flow_script.specs.Actions as action
 use Rattle.flow_script.specs.ChainFormat.{Build, chain_in}
 use Rattle.flow_script.specs.declared.verb.Verb.{Verb}
-use Rattle.flow_script.specs.declared.verb.Verb.TheVariants.{TryEmit, Emit, Poll, Cancel, Subscribe, Next, Unsubscribe, Cache, Count, Reset, Collect, Set, CompareAndSet}
+use Rattle.flow_script.specs.declared.verb.Verb.TheVariants.{TryEmit, Emit, Poll, Cancel, Subscribe, Next, Unsubscribe, Cache, Count, Reset, Collect, Set, CompareAndSet, Turn}
 use Rattle.flow_script.specs.declared.verb.Verb.TheVariants as verbs
 use Rattle.flow_script.specs.declared.verb.Kind.{Kind}
-use Rattle.flow_script.specs.Format.{Head, kind_of, i64_at, name_at, verb_of, head_of, has_version}
+use Rattle.flow_script.specs.Format.{u64_at, i64_at, name_at, verb_of, has_version}
+use Rattle.flow_script.specs.Heads.{Head, kind_of, head_in}
 
 -- the most bytes, and the most steps
 abbrev pub most_bytes : ℕ
@@ -81,6 +81,9 @@ subscriber_in at names d = result_then (λ name. or_fault (UnknownName at) (plac
 abbrev pub named : NameLists → Action → Named
 named names step = record { step = step; names = names }
 
+abbrev pub moment_in : ℕ → Data → Result ℕ ScriptFault
+moment_in at d = or_fault (BadShape at) (u64_at (codes "at") d)
+
 -- what is expected, and what it is replaced by
 abbrev pub pair_of : Data → Option (ℤ × ℤ)
 pair_of d = option_and_then (λ expect. option_map (λ update. (expect, update)) (i64_at (codes "update") d)) (i64_at (codes "expect") d)
@@ -102,6 +105,7 @@ step_by Reset at names d = Ok (named names action.reset)
 step_by verbs.Value at names d = Ok (named names action.value)
 step_by Set at names d = result_map (λ value. named names (action.set value)) (value_in at d)
 step_by CompareAndSet at names d = result_map (λ pair. named names (action.compare_and_set pair.0 pair.1)) (or_fault (BadShape at) (pair_of d))
+step_by Turn at names d = result_map (λ now. named names (action.turn now)) (moment_in at d)
 step_by Collect at names d = result_map (λ build. named names (action.collect build)) (collected_in at d)
 
 abbrev pub step_of : Kind → ℕ → NameLists → Data → Result Named ScriptFault
@@ -129,7 +133,7 @@ checked head =
 abbrev pub script_of : Data → Result Checked ScriptFault
 script_of d =
     if not (is_some (as_object d)) then Err (BadShape 0)
-    else (if not (has_version d) then Err BadVersion else result_then checked (or_fault (BadShape 0) (head_of d)))
+    else (if not (has_version d) then Err BadVersion else result_then checked (head_in d))
 
 -- the data that the bytes are the JSON text of
 abbrev pub json_of : List ℕ → Result Data ScriptFault

@@ -1,17 +1,17 @@
 -- What the JSON text of a script says: its head, and the keys of each step.
--- Begin with `head_of` and `verb_of`. What is refused, and in which order, is in Checks.
-use Rattle.std.specs.Prelude.{◌≡◌, ℕ, ◌+◌, ◌^◌, ◌-◌, Bool, true, false, ◌&&◌, ◌||◌, ◌==◌, nat_lt, nat_le, if◌then◌else◌, ℤ, List, length, Option, Some, None, option_map, option_and_then, is_some, codes}
+-- Begin with `config_of` and `verb_of`. The head is in Heads. What is refused, and in which order, is in Checks.
+use Rattle.std.specs.Prelude.{ℕ, ◌+◌, ◌^◌, ◌-◌, Bool, true, false, ◌&&◌, ◌||◌, ◌==◌, nat_lt, nat_le, if◌then◌else◌, ℤ, List, length, Option, Some, None, option_and_then, is_some, codes}
 use Rattle.std.specs.Option.{option_map_or}
 use Rattle.std.specs.List.{list_all}
 use Rattle.std.specs.Str.{bytes_eq}
-use Rattle.serde_json.specs.Data.{Data, Items}
+use Rattle.serde_json.specs.Data.{Data}
 use Rattle.serde_json.specs.Events.{members_len}
-use Rattle.serde_json.specs.Find.{get, as_number, as_u64, as_i64, as_str, as_array, as_object}
+use Rattle.serde_json.specs.Find.{get, as_number, as_u64, as_i64, as_str, as_object}
 use Rattle.flow_law.specs.declared.config.Config.{Config}
 use Rattle.flow_law.specs.declared.config.Overflow.{Overflow}
 use Rattle.flow_law.specs.declared.config.Overflow.TheVariants.{Suspend, DropOldest, DropLatest}
 use Rattle.flow_script.specs.declared.verb.Verb.{Verb}
-use Rattle.flow_script.specs.declared.verb.Verb.TheVariants.{TryEmit, Emit, Poll, Cancel, Subscribe, Next, Unsubscribe, Cache, Count, Reset, Collect, Value, Set, CompareAndSet}
+use Rattle.flow_script.specs.declared.verb.Verb.TheVariants.{TryEmit, Emit, Poll, Cancel, Subscribe, Next, Unsubscribe, Cache, Count, Reset, Collect, Value, Set, CompareAndSet, Turn}
 use Rattle.flow_script.specs.declared.verb.Kind.{Kind}
 use Rattle.flow_script.specs.declared.verb.Kind.TheVariants as kind
 
@@ -70,38 +70,8 @@ config_of d =
     (Some (record { replay = replay; extra = extra; overflow = overflow; limit = limit })))
     (limit_at d)) (option_and_then overflow_named (text_at (codes "overflow") d))) (u32_at (codes "extra") d)) (u32_at (codes "replay") d)
 
--- what a head says of its flow
-pub data Head : Type 0 where
-  no_flow : Head
-  shared_flow : Config → Head
-  -- with the first value, and the most numbers that it issues
-  state_flow : ℤ → ℕ → Head
-
-abbrev pub kind_of : Head → Kind
-kind_of no_flow = kind.Absent
-kind_of (shared_flow config) = kind.Shared
-kind_of (state_flow initial limit) = kind.State
-
-abbrev pub state_of : Data → Option Head
-state_of d = option_and_then (λ initial. option_and_then (λ limit. where_true (has_members (with_limit 2 d) d) (Some (state_flow initial limit)))
-    (limit_at d)) (i64_at (codes "initial") d)
-
-abbrev pub flow_named : List ℕ → Data → Option Head
-flow_named kind d =
-    if bytes_eq kind (codes "none") then where_true (has_members 1 d) (Some no_flow)
-    else (if bytes_eq kind (codes "shared") then option_map shared_flow (config_of d)
-    else (if bytes_eq kind (codes "state") then state_of d else None))
-
-abbrev pub flow_of : Data → Option Head
-flow_of d = option_and_then (λ kind. flow_named kind d) (text_at (codes "kind") d)
-
 abbrev pub has_version : Data → Bool
 has_version d = option_map_or (λ version. version == 1) (u64_at (codes "version") d) false
-
--- the flow and the steps of a head of the right shape
-abbrev pub head_of : Data → Option (Head × Items)
-head_of d = where_true (has_members 3 d) (option_and_then (λ flow. option_map (λ steps. (flow, steps))
-    (option_and_then as_array (get (codes "steps") d))) (option_and_then flow_of (get (codes "flow") d)))
 
 -- ---- steps
 
@@ -120,7 +90,8 @@ verb_named text =
     else (if bytes_eq text (codes "collect") then Some Collect
     else (if bytes_eq text (codes "value") then Some Value
     else (if bytes_eq text (codes "set") then Some Set
-    else (if bytes_eq text (codes "compare_and_set") then Some CompareAndSet else None)))))))))))))
+    else (if bytes_eq text (codes "compare_and_set") then Some CompareAndSet
+    else (if bytes_eq text (codes "turn") then Some Turn else None))))))))))))))
 
 -- how many keys a step has, `do` among them
 abbrev pub key_count : Verb → ℕ
@@ -130,6 +101,7 @@ key_count Count = 1
 key_count Reset = 1
 key_count Value = 1
 key_count CompareAndSet = 3
+key_count Turn = 2
 key_count _ = 2
 
 abbrev pub is_flow : Kind → Bool
@@ -150,6 +122,11 @@ abbrev pub is_state : Kind → Bool
 is_state kind.State = true
 is_state _ = false
 
+-- a flow into which a chain is shared
+abbrev pub is_sharing : Kind → Bool
+is_sharing kind.Share = true
+is_sharing _ = false
+
 -- the kinds of flow that allow a step
 abbrev pub is_allowed : Kind → Verb → Bool
 is_allowed kind Collect = true
@@ -166,6 +143,7 @@ is_allowed kind Count = is_flow kind
 is_allowed kind Value = is_state kind
 is_allowed kind Set = is_state kind
 is_allowed kind CompareAndSet = is_state kind
+is_allowed kind Turn = is_sharing kind
 
 -- what a step does, if the flow allows it and it has as many keys as it needs
 abbrev pub verb_of : Kind → Data → Option Verb

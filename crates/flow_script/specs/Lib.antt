@@ -1,6 +1,7 @@
 pub mod Results
 pub mod Format
 pub mod ChainFormat
+pub mod Heads
 pub mod Actions
 pub mod Checks
 pub mod Names
@@ -8,7 +9,10 @@ pub mod Chains
 pub mod Lines
 pub mod Turns
 pub mod StateMeaning
+pub mod SharedMeaning
+pub mod SharingMeaning
 pub mod ScriptMeaning
 pub mod Playing
 pub mod Watching
 pub mod Shown
+pub mod HeadViews

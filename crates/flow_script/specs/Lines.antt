@@ -1,6 +1,6 @@
 -- The lines that a script writes, by the documented reply to each call.
 -- Begin with `line_of`.
-use Rattle.std.specs.Prelude.{ℕ, ℤ, Bool, true, false, List, [], ◌∷◌, ◌++◌, if◌then◌else◌, Ok, Err, codes, decimal}
+use Rattle.std.specs.Prelude.{ℕ, ℤ, Bool, List, [], ◌∷◌, ◌++◌, if◌then◌else◌, Result, Ok, Err, codes, decimal}
 use Rattle.std.specs.Fmt.{signed_decimal}
 use Rattle.std.specs.List.{flat_map}
 use Rattle.flow_law.specs.declared.fault.FlowFault.{FlowFault}
@@ -13,6 +13,13 @@ use Rattle.flow_law.specs.ChainRun.{items, ending}
 use Rattle.flow_law.specs.declared.call.StateCall.{StateCall}
 use Rattle.flow_law.specs.declared.call.StateReply.{StateReply}
 use Rattle.flow_law.specs.declared.call.StateReply.TheVariants as state
+use Rattle.flow_law.specs.declared.sharing.Command.{Command}
+use Rattle.flow_law.specs.declared.sharing.Command.TheVariants as command
+use Rattle.flow_sharing.specs.declared.report.Event.{Event}
+use Rattle.flow_sharing.specs.declared.report.Event.TheVariants as event
+use Rattle.flow_sharing.specs.declared.report.Report.{Report}
+use Rattle.flow_sharing.specs.declared.report.ShareFault.{ShareFault}
+use Rattle.flow_sharing.specs.declared.report.ShareFault.TheVariants as share_fault
 use Rattle.flow_script.specs.ChainFormat.{Build}
 use Rattle.flow_law.specs.declared.outcome.Emit.TheVariants.{Done, Queued}
 use Rattle.flow_law.specs.declared.outcome.Next.{Next}
@@ -41,6 +48,14 @@ refusal_text NeedsBuffer = codes "refused 3 NeedsBuffer"
 refusal_text Exhausted = codes "refused 4 Exhausted"
 refusal_text Unsupported = codes "refused 5 Unsupported"
 refusal_text Busy = codes "refused 6 Busy"
+
+abbrev pub flow_fault_text : FlowFault → List ℕ
+flow_fault_text OutOfMemory = codes "1 OutOfMemory"
+flow_fault_text TooLarge = codes "2 TooLarge"
+flow_fault_text NeedsBuffer = codes "3 NeedsBuffer"
+flow_fault_text Exhausted = codes "4 Exhausted"
+flow_fault_text Unsupported = codes "5 Unsupported"
+flow_fault_text Busy = codes "6 Busy"
 
 abbrev pub test_text : Bool → List ℕ
 test_text test = if test then codes "true" else codes "false"
@@ -100,3 +115,29 @@ state_line_of call (state.Subscribed u) = codes "subscribed"
 state_line_of call (state.Received next) = next_text next
 state_line_of call (state.Counted count) = decimal count
 state_line_of call (state.Cached values) = list_text values
+
+-- ---- turns of a sharing
+
+abbrev pub command_text : Command → List ℕ
+command_text command.Start = codes "start"
+command_text command.Stop = codes "stop"
+command_text command.Keep = codes "keep"
+
+abbrev pub event_text : Event → List ℕ
+event_text event.Busy = codes "busy"
+event_text event.Idle = codes "idle"
+event_text event.Put = codes "put"
+event_text event.Queued = codes "queued"
+event_text event.Waiting = codes "waiting"
+event_text event.Pending = codes "pending"
+event_text event.Completed = codes "completed"
+
+abbrev pub share_fault_text : ShareFault → List ℕ
+share_fault_text (share_fault.Backwards last) = codes "refused 1 Backwards " ++ decimal last
+share_fault_text share_fault.Ended = codes "refused 2 Ended"
+share_fault_text (share_fault.Chain fault) = codes "refused 3 Chain " ++ chain_fault_text fault
+share_fault_text (share_fault.Flow fault) = codes "refused 4 Flow " ++ flow_fault_text fault
+
+abbrev pub turn_text : Result Report ShareFault → List ℕ
+turn_text (Ok report) = command_text report.command ++ codes " " ++ event_text report.event
+turn_text (Err fault) = share_fault_text fault

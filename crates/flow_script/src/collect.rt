@@ -9,7 +9,7 @@ use crate::script::Build;
 use flow_cold::{ChainFault, End, ScriptChain, collect_all};
 use std::alloc::{AllocError, Global};
 
-fn add_chain_fault(text: &mut String, fault: ChainFault) -> Result<(), AllocError>
+pub fn add_chain_fault(text: &mut String, fault: ChainFault) -> Result<(), AllocError>
     ensures { OnOk result (string_bytes text.new ≡ string_bytes text.old ++ lines.lined (lines.chain_fault_text fault)) }
 {
     match fault {

@@ -20,6 +20,8 @@ mod read_op;
 mod read_source;
 mod read_step;
 mod script;
+mod share_lines;
+mod share_player;
 mod shared_player;
 mod state_calls;
 mod state_player;

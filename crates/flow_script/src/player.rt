@@ -1,16 +1,21 @@
 //! Playing the steps of a script.
 ghost use Rattle.std.specs.Prelude.{◌≡◌, OnOk, IfOk, IfErr, MatchResult, Ok, Err, string_bytes};
 ghost use Rattle.flow_script.specs.Actions.{action_of, actions_of, head_of_flow};
+ghost use Rattle.flow_script.specs.Chains.{build_of};
+ghost use Rattle.flow_script.specs.Heads.{shared_chain};
 ghost use Rattle.flow_script.specs.ScriptMeaning as meaning;
-ghost use Rattle.flow_script.specs.Shown.{Plays, PlaysFlow, Shows};
+ghost use Rattle.flow_script.specs.Shown.{Begins, Plays, PlaysFlow};
 
 use crate::collect::add_collection;
 use crate::fault::ScriptFault;
 use crate::lines::{add_not_allowed, add_refusal};
-use crate::script::{Script, ScriptFlow, Step};
+use crate::script::{Build, Script, ScriptFlow, Step};
+use crate::share_lines::add_share_fault;
+use crate::share_player::SharePlayer;
 use crate::shared_player::SharedPlayer;
 use crate::state_player::StatePlayer;
-use flow_law::FlowFault;
+use flow_law::Started;
+use flow_sharing::ShareFault;
 use std::alloc::Global;
 
 /// What the steps of a script are played on.
@@ -19,23 +24,60 @@ pub enum Player {
     Idle,
     Shared(SharedPlayer),
     State(StatePlayer),
+    Share(SharePlayer),
 }
 
 impl Player {
-    /// Before the first step.
-    fn new(alloc: Global, flow: &ScriptFlow) -> Result<Self, FlowFault>
+    /// Before the first step, or nothing where the flow itself is refused, with the line of that.
+    fn new(alloc: Global, text: &mut String, flow: ScriptFlow) -> Result<Option<Self>, ScriptFault>
         ensures { MatchResult result
-            (λ player. (p : meaning.Player) × (meaning.player_of (head_of_flow flow.now) ≡ Ok p) × Shows player p)
-            (λ fault. meaning.player_of (head_of_flow flow.now) ≡ Err fault) }
+            (Begins (head_of_flow flow) (string_bytes text.old) (string_bytes text.new))
+            (λ fault. fault ≡ ScriptFault.OutOfMemory) }
     {
         match flow {
-            ScriptFlow::Absent => Ok(Player::Idle),
-            ScriptFlow::Shared(config) => match SharedPlayer::new(alloc, *config) {
-                Ok(player) => Ok(Player::Shared(player)),
-                Err(fault) => Err(fault),
+            ScriptFlow::Absent => Ok(Some(Player::Idle)),
+            ScriptFlow::Shared(config) => match SharedPlayer::new(alloc, config) {
+                Ok(player) => Ok(Some(Player::Shared(player))),
+                Err(fault) => {
+                    add_refusal(text, fault)?;
+                    Ok(None)
+                }
             },
             ScriptFlow::State { initial, limit } => {
-                Ok(Player::State(StatePlayer::new(alloc, *initial, *limit)))
+                Ok(Some(Player::State(StatePlayer::new(alloc, initial, limit))))
+            }
+            ScriptFlow::Share {
+                chain,
+                started,
+                replay,
+                limit,
+            } => Player::share(alloc, text, chain, started, replay, limit),
+        }
+    }
+
+    fn share(
+        alloc: Global,
+        text: &mut String,
+        chain: Build,
+        started: Started,
+        replay: u32,
+        limit: u64,
+    ) -> Result<Option<Self>, ScriptFault>
+        ensures { MatchResult result
+            (Begins (shared_chain (build_of chain) started replay limit) (string_bytes text.old) (string_bytes text.new))
+            (λ fault. fault ≡ ScriptFault.OutOfMemory) }
+    {
+        match chain {
+            Ok(chain) => match SharePlayer::new(alloc, chain, started, replay, limit) {
+                Ok(player) => Ok(Some(Player::Share(player))),
+                Err(fault) => {
+                    add_share_fault(text, fault)?;
+                    Ok(None)
+                }
+            },
+            Err(fault) => {
+                add_share_fault(text, ShareFault::Chain(fault))?;
+                Ok(None)
             }
         }
     }
@@ -59,6 +101,7 @@ impl Player {
             Player::Idle => add_not_allowed(text),
             Player::Shared(player) => player.step(text, step),
             Player::State(player) => player.step(text, step),
+            Player::Share(player) => player.step(text, step),
         }
     }
 }
@@ -70,12 +113,12 @@ pub fn text_of(alloc: Global, script: Script) -> Result<String, ScriptFault>
 {
     let Script { flow, steps } = script;
     let mut text = String::new(alloc);
-    let mut player = match Player::new(alloc, &flow) {
-        Ok(player) => player,
-        Err(fault) => {
-            add_refusal(&mut text, fault)?;
-            return Ok(text);
-        }
+    let made = match Player::new(alloc, &mut text, flow) {
+        Ok(made) => made,
+        Err(fault) => return Err(fault),
+    };
+    let Some(mut player) = made else {
+        return Ok(text);
     };
     for step in steps {
         player.step(alloc, &mut text, step)?;

@@ -7,7 +7,7 @@ ghost use Rattle.flow_script.specs.Actions.{head_of_flow};
 
 use crate::fault::ScriptFault;
 use crate::names::Names;
-use crate::read_head::{has_version, head_of, kind_of};
+use crate::read_head::{has_version, head_in, kind_of};
 use crate::read_step::step_of;
 use crate::script::{Script, ScriptFlow, Step};
 use crate::verb::Kind;
@@ -58,9 +58,9 @@ fn script_of(alloc: Global, value: &Value) -> Result<Script, ScriptFault>
     if !has_version(value) {
         return Err(ScriptFault::BadVersion);
     }
-    match head_of(value) {
-        Some((flow, steps)) => checked(alloc, flow, steps.as_slice()),
-        None => Err(ScriptFault::BadShape(0)),
+    match head_in(alloc, value) {
+        Ok((flow, steps)) => checked(alloc, flow, steps.as_slice()),
+        Err(fault) => Err(fault),
     }
 }
 

@@ -1,15 +1,21 @@
 //! Reading a script's head.
-ghost use Rattle.std.specs.Prelude.{◌≡◌, ◌+◌, ◌<◌, ◌^◌, codes, option_map, option_and_then};
-ghost use Rattle.serde_json.specs.Find.{get, as_array};
+ghost use Rattle.std.specs.Prelude.{◌≡◌, ◌+◌, ◌<◌, ◌^◌, codes, Ok, Err, option_map, option_and_then};
 ghost use Rattle.serde_json.specs.View.{view, items_view};
 ghost use Rattle.flow_script.specs.Format as format;
 ghost use Rattle.flow_script.specs.Actions.{head_of_flow};
+ghost use Rattle.flow_script.specs.Heads as heads;
+ghost use Rattle.flow_script.specs.Results.{or_fault};
+ghost use Rattle.flow_script.specs.Checks.{Gives};
+ghost use Rattle.flow_script.specs.HeadViews.{parts_of, flow_result, head_result};
 
+use crate::fault::ScriptFault;
 use crate::members::{has_members, i64_at, text_at, u32_at, u64_at};
+use crate::read_chain::chain_in;
 use crate::script::ScriptFlow;
 use crate::verb::Kind;
-use flow_law::{Config, Overflow};
+use flow_law::{Config, Overflow, Started};
 use serde_json::Value;
+use std::alloc::Global;
 
 fn overflow_named(text: &str) -> Option<Overflow>
     ensures { result ≡ format.overflow_named text.now }
@@ -74,7 +80,7 @@ fn config_of(flow: &Value) -> Option<Config>
 
 /// A state flow.
 fn state_of(flow: &Value) -> Option<ScriptFlow>
-    ensures { option_map head_of_flow result ≡ format.state_of (view flow.now) }
+    ensures { option_map head_of_flow result ≡ heads.state_of (view flow.now) }
 {
     let initial = i64_at(flow, "initial")?;
     let limit = limit_at(flow)?;
@@ -84,41 +90,147 @@ fn state_of(flow: &Value) -> Option<ScriptFlow>
     Some(ScriptFlow::State { initial, limit })
 }
 
-/// The flow that a head names by its kind.
-fn flow_named(kind: &str, flow: &Value) -> Option<ScriptFlow>
-    ensures { option_map head_of_flow result ≡ format.flow_named kind.now (view flow.now) }
+fn started_named(text: &str) -> Option<Started>
+    ensures { result ≡ heads.started_named text.now }
 {
-    if kind == "none" {
-        return if has_members(flow, 1) {
-            Some(ScriptFlow::Absent)
-        } else {
-            None
-        };
+    if text == "eagerly" {
+        Some(Started::Eagerly)
+    } else if text == "lazily" {
+        Some(Started::Lazily)
+    } else {
+        None
     }
-    if kind == "shared" {
-        return Some(ScriptFlow::Shared(config_of(flow)?));
-    }
-    if kind == "state" {
-        return state_of(flow);
-    }
-    None
 }
 
-fn flow_of(flow: &Value) -> Option<ScriptFlow>
-    ensures { option_map head_of_flow result ≡ format.flow_of (view flow.now) }
+/// A word, or an object with the key `stop` alone.
+fn started_of(value: &Value) -> Option<Started>
+    ensures { result ≡ heads.started_of (view value.now) }
 {
-    let kind = text_at(flow, "kind")?;
-    flow_named(kind, flow)
+    if let Some(text) = value.as_str() {
+        return started_named(text);
+    }
+    if !has_members(value, 1) {
+        return None;
+    }
+    let stop = u64_at(value, "stop")?;
+    Some(Started::WhileSubscribed { stop })
+}
+
+fn started_at(flow: &Value) -> Option<Started>
+    ensures { result ≡ heads.started_at (view flow.now) }
+{
+    match flow.get("started") {
+        Some(value) => started_of(value),
+        None => None,
+    }
+}
+
+/// What a shared chain is made of.
+#[derive(Clone, Copy)]
+struct ShareParts<'a> {
+    chain: &'a Value,
+    started: Started,
+    replay: u32,
+    limit: u64,
+}
+
+fn share_parts(flow: &Value) -> Option<ShareParts<'_>>
+    ensures { option_map parts_of result ≡ heads.share_parts (view flow.now) }
+{
+    let chain = flow.get("chain")?;
+    let started = started_at(flow)?;
+    let replay = u32_at(flow, "replay")?;
+    let limit = limit_at(flow)?;
+    if !has_members(flow, with_limit(4, flow)) {
+        return None;
+    }
+    Some(ShareParts {
+        chain,
+        started,
+        replay,
+        limit,
+    })
+}
+
+/// A chain that is shared by a shared flow.
+fn share_in(alloc: Global, flow: &Value) -> Result<ScriptFlow, ScriptFault>
+    ensures { Gives (heads.share_in (view flow.now)) (flow_result result) }
+{
+    let Some(parts) = share_parts(flow) else {
+        return Err(ScriptFault::BadShape(0));
+    };
+    let chain = chain_in(alloc, 0, parts.chain)?;
+    Ok(ScriptFlow::Share {
+        chain,
+        started: parts.started,
+        replay: parts.replay,
+        limit: parts.limit,
+    })
+}
+
+fn none_of(flow: &Value) -> Option<ScriptFlow>
+    ensures { option_map head_of_flow result ≡ heads.none_of (view flow.now) }
+{
+    if has_members(flow, 1) {
+        Some(ScriptFlow::Absent)
+    } else {
+        None
+    }
+}
+
+fn shared_of(flow: &Value) -> Option<ScriptFlow>
+    ensures { option_map head_of_flow result ≡ option_map heads.shared_flow (format.config_of (view flow.now)) }
+{
+    Some(ScriptFlow::Shared(config_of(flow)?))
+}
+
+/// The flow, if the form is right.
+fn formed(flow: Option<ScriptFlow>) -> Result<ScriptFlow, ScriptFault>
+    ensures { Gives (or_fault (ScriptFault.BadShape 0) (option_map head_of_flow flow)) (flow_result result) }
+{
+    match flow {
+        Some(flow) => Ok(flow),
+        None => Err(ScriptFault::BadShape(0)),
+    }
+}
+
+/// The flow that a head names by its kind.
+fn flow_named(alloc: Global, kind: &str, flow: &Value) -> Result<ScriptFlow, ScriptFault>
+    ensures { Gives (heads.flow_named kind.now (view flow.now)) (flow_result result) }
+{
+    if kind == "none" {
+        return formed(none_of(flow));
+    }
+    if kind == "shared" {
+        return formed(shared_of(flow));
+    }
+    if kind == "state" {
+        return formed(state_of(flow));
+    }
+    if kind == "share" {
+        return share_in(alloc, flow);
+    }
+    Err(ScriptFault::BadShape(0))
+}
+
+fn flow_in(alloc: Global, flow: &Value) -> Result<ScriptFlow, ScriptFault>
+    ensures { Gives (heads.flow_in (view flow.now)) (flow_result result) }
+{
+    match text_at(flow, "kind") {
+        Some(kind) => flow_named(alloc, kind, flow),
+        None => Err(ScriptFault::BadShape(0)),
+    }
 }
 
 /// The kind of a flow, which says what steps there may be.
 pub fn kind_of(flow: &ScriptFlow) -> Kind
-    ensures { result ≡ format.kind_of (head_of_flow flow.now) }
+    ensures { result ≡ heads.kind_of (head_of_flow flow.now) }
 {
     match flow {
         ScriptFlow::Absent => Kind::Absent,
         ScriptFlow::Shared(_) => Kind::Shared,
         ScriptFlow::State { .. } => Kind::State,
+        ScriptFlow::Share { .. } => Kind::Share,
     }
 }
 
@@ -131,29 +243,27 @@ pub fn has_version(value: &Value) -> bool
     }
 }
 
-fn flow_in(value: &Value) -> Option<ScriptFlow>
-    ensures { option_map head_of_flow result ≡ option_and_then format.flow_of (get (codes "flow") (view value.now)) }
-{
-    match value.get("flow") {
-        Some(flow) => flow_of(flow),
-        None => None,
-    }
-}
-
 fn steps_in(value: &Value) -> Option<&Vec<Value>>
-    ensures { option_map (λ steps. items_view steps.now.items) result ≡ option_and_then as_array (get (codes "steps") (view value.now)) }
-{
-    value.get("steps").and_then(Value::as_array)
-}
-
-/// The flow and the steps of a head of the right shape.
-pub fn head_of(value: &Value) -> Option<(ScriptFlow, &Vec<Value>)>
-    ensures { option_map (λ head. (head_of_flow head.0, items_view head.1.now.items)) result ≡ format.head_of (view value.now) }
+    ensures { option_map (λ steps. items_view steps.now.items) result ≡ heads.steps_in (view value.now) }
 {
     if !has_members(value, 3) {
         return None;
     }
-    let flow = flow_in(value)?;
-    let steps = steps_in(value)?;
-    Some((flow, steps))
+    value.get("steps").and_then(Value::as_array)
+}
+
+/// The flow and the steps of a head. A bad form comes before a limit, so the steps are looked at first.
+pub fn head_in(alloc: Global, value: &Value) -> Result<(ScriptFlow, &Vec<Value>), ScriptFault>
+    ensures { Gives (heads.head_in (view value.now)) (head_result result) }
+{
+    let Some(steps) = steps_in(value) else {
+        return Err(ScriptFault::BadShape(0));
+    };
+    let Some(flow) = value.get("flow") else {
+        return Err(ScriptFault::BadShape(0));
+    };
+    match flow_in(alloc, flow) {
+        Ok(flow) => Ok((flow, steps)),
+        Err(fault) => Err(fault),
+    }
 }

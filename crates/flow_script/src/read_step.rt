@@ -7,7 +7,7 @@ ghost use Rattle.flow_script.specs.Names.{lists_of};
 ghost use Rattle.flow_script.specs.Chains.{build_result};
 
 use crate::fault::ScriptFault;
-use crate::members::{has_members, i64_at, name_at, text_at};
+use crate::members::{has_members, i64_at, name_at, text_at, u64_at};
 use crate::names::Names;
 use crate::read_chain::chain_in;
 use crate::script::{Build, Step};
@@ -86,6 +86,16 @@ fn subscribe_step<'a>(names: &mut Names<'a>, at: u64, step: &'a Value) -> Result
     Ok(Step::Subscribe)
 }
 
+/// The moment of a turn.
+fn moment_in(at: u64, step: &Value) -> Result<u64, ScriptFault>
+    ensures { checks.Gives (checks.moment_in at (view step.now)) result }
+{
+    match u64_at(step, "at") {
+        Some(now) => Ok(now),
+        None => Err(ScriptFault::BadShape(at)),
+    }
+}
+
 /// What is expected, and what it is replaced by.
 fn pair_of(step: &Value) -> Option<(i64, i64)>
     ensures { result ≡ checks.pair_of (view step.now) }
@@ -141,6 +151,7 @@ pub fn step_of<'a>(
         Verb::Value => Ok(Step::Value),
         Verb::Set => Ok(Step::Set(value_in(at, step)?)),
         Verb::CompareAndSet => compare_and_set_step(at, step),
+        Verb::Turn => Ok(Step::Turn(moment_in(at, step)?)),
         Verb::Collect => Ok(Step::Collect(collected_in(alloc, at, step)?)),
     }
 }

@@ -1,7 +1,7 @@
 //! A script that was read and checked.
 
 use flow_cold::{ChainFault, ScriptChain};
-use flow_law::Config;
+use flow_law::{Config, Started};
 
 /// A chain of a script, or why it could not be built. That is no fault of the script, but what its collection tells.
 pub type Build = Result<ScriptChain, ChainFault>;
@@ -30,6 +30,8 @@ pub enum Step {
     Set(i64),
     /// With the value that is expected, and the new one.
     CompareAndSet(i64, i64),
+    /// At a moment.
+    Turn(u64),
     Collect(Build),
 }
 
@@ -39,7 +41,17 @@ pub enum ScriptFlow {
     /// There is none: the steps only collect chains.
     Absent,
     Shared(Config),
-    State { initial: i64, limit: u64 },
+    State {
+        initial: i64,
+        limit: u64,
+    },
+    /// A chain that is shared (`shareIn`).
+    Share {
+        chain: Build,
+        started: Started,
+        replay: u32,
+        limit: u64,
+    },
 }
 
 /// A script that was checked. The flow itself may still be refused when it is made.

@@ -155,6 +155,7 @@ impl SharedPlayer {
             Step::Value => add_not_allowed(text),
             Step::Set(_) => add_not_allowed(text),
             Step::CompareAndSet(_, _) => add_not_allowed(text),
+            Step::Turn(_) => add_not_allowed(text),
             Step::Collect(_) => add_not_allowed(text),
         }
     }

@@ -107,6 +107,7 @@ impl StatePlayer {
                 Ok(())
             }
             Step::Emit(_) => add_not_allowed(text),
+            Step::Turn(_) => add_not_allowed(text),
             Step::Collect(_) => add_not_allowed(text),
         }
     }

@@ -8,6 +8,7 @@ pub enum Kind {
     Absent,
     Shared,
     State,
+    Share,
 }
 
 /// What a step does.
@@ -27,6 +28,7 @@ pub enum Verb {
     Value,
     Set,
     CompareAndSet,
+    Turn,
 }
 
 pub fn verb_named(text: &str) -> Option<Verb>
@@ -60,6 +62,8 @@ pub fn verb_named(text: &str) -> Option<Verb>
         Some(Verb::Set)
     } else if text == "compare_and_set" {
         Some(Verb::CompareAndSet)
+    } else if text == "turn" {
+        Some(Verb::Turn)
     } else {
         None
     }
@@ -84,6 +88,7 @@ pub fn key_count(verb: Verb) -> usize
         Verb::Value => 1,
         Verb::Collect => 2,
         Verb::Set => 2,
+        Verb::Turn => 2,
     }
 }
 
@@ -99,6 +104,7 @@ pub fn is_allowed(kind: Kind, verb: Verb) -> bool
             kind.is_flow()
         }
         Verb::Value | Verb::Set | Verb::CompareAndSet => kind.is_state(),
+        Verb::Turn => kind.is_sharing(),
     }
 }
 
@@ -136,6 +142,16 @@ impl Kind {
     {
         match self {
             Kind::State => true,
+            _ => false,
+        }
+    }
+
+    /// A flow into which a chain is shared.
+    fn is_sharing(self) -> bool
+        ensures { result ≡ format.is_sharing self }
+    {
+        match self {
+            Kind::Share => true,
             _ => false,
         }
     }

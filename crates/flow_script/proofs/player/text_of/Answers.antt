@@ -1,17 +1,17 @@
-use Rattle.std.proofs.Common.{◌++◌, [], string_bytes, sym, ap, ◌∙◌, append-nil}
-use Rattle.flow_script.specs.Actions.{action_of, actions_of}
-use Rattle.flow_script.specs.Lines.{lined, refusal_text}
+use Rattle.std.proofs.Common.{◌++◌, string_bytes, subst, sym, ap, ◌∙◌, append-nil}
+use Rattle.flow_script.specs.Actions.{action_of, actions_of, head_of_flow}
+use Rattle.flow_script.specs.Shown.{Begins}
 use Rattle.flow_script.specs.ScriptMeaning.{lines_from, text_by, turn}
 use Rattle.flow_script.proofs.PlayLemmas.{next_lines, none-left}
 use Rattle.flow_script.proofs.player.text_of.Goals as goal
 
 pub loop-step-init : goal.loop-step-init
 loop-step-init c =
-    let begun = c.in-Ok.ensures in
+    let begun = subst (Begins (head_of_flow c.args.script.flow) (string_bytes c.new-text.result) (string_bytes c.new.new.text)) c.in-Some.is c.in-Ok.ensures in
     let steps = c.into_iter-step-iterator.ensures.into_iter_gives.0 in (
       begun.0,
       begun.2,
-      ap (λ l. l ++ lines_from begun.0 (actions_of c.into_iter-step-iterator.result.rest.items)) c.new-text.ensures.bytes
+      ap (λ l. l ++ lines_from begun.0 (actions_of c.into_iter-step-iterator.result.rest.items)) (begun.3 ∙ c.new-text.ensures.bytes)
           ∙ ap (λ l. lines_from begun.0 (actions_of l)) steps ∙ ap (text_by (actions_of c.args.script.steps.items)) (sym begun.1),
     )
 
@@ -19,7 +19,7 @@ pub loop-step-preserved : goal.loop-step-preserved
 loop-step-preserved c =
     let before = c.loop-step.invariant in
     let done = c.in_ok-step.ensures.plays before.0 before.1 in
-    ((turn (action_of c.in-Some.step) before.0).after, done.0, next_lines before.0 c.in-Some.step _ _ _ _ _ c.in-Some.ensures.steps.0 done.1 before.2)
+    ((turn (action_of c.in-Some-step.step) before.0).after, done.0, next_lines before.0 c.in-Some-step.step _ _ _ _ _ c.in-Some-step.ensures.steps.0 done.1 before.2)
 
 pub returns-clause-text : goal.returns-clause-text
 returns-clause-text c =

@@ -1,4 +1,4 @@
-use Rattle.std.proofs.Common.{◌≡◌, Ok, Err, List, ap, sym, subst, ◌∙◌}
+use Rattle.std.proofs.Common.{◌≡◌, Ok, Err, List, ap, subst, ◌∙◌}
 use Rattle.serde_json.specs.View.{items_view}
 use Rattle.flow_script.specs.Actions.{Action, actions_of, head_of_flow}
 use Rattle.flow_script.specs.Checks.{Checked, no_names, result_map, steps_of}

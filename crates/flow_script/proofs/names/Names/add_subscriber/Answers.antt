@@ -1,4 +1,4 @@
-use Rattle.std.proofs.Common.{◌||◌, ◌++◌, [], ◌∷◌, if◌then◌else◌, Ok, Err, sym, ap, ◌∙◌}
+use Rattle.std.proofs.Common.{◌++◌, [], ◌∷◌, if◌then◌else◌, Ok, Err, sym, ap, ◌∙◌}
 use Rattle.flow_script.specs.declared.fault.ScriptFault.TheVariants.{DuplicateName}
 use Rattle.flow_script.proofs.NameLemmas.{known-is, has_text, texts, added, second-false}
 use Rattle.flow_script.proofs.names.Names.add_subscriber.Goals as goal

@@ -1,0 +1,197 @@
+//! Worked examples of chains that are shared.
+use crate::tests::{expect, plays};
+use std::test::Fail;
+
+#[test]
+fn a_chain_runs_while_it_has_subscribers(rt: HostRuntime) -> Result<(), Fail> {
+    plays(
+        &rt,
+        rt.alloc(),
+        r#""kind":"share","chain":{"from":{"of":[10,20,30,40]},"ops":[]},"started":{"stop":100},"replay":0"#,
+        &[
+            (r#""do":"subscribe","name":"a""#, "subscribed"),
+            (r#""do":"turn","at":0"#, "start put"),
+            (r#""do":"unsubscribe","name":"a""#, "true"),
+            (r#""do":"turn","at":50"#, "keep put"),
+            (r#""do":"turn","at":149"#, "keep put"),
+            (r#""do":"subscribe","name":"b""#, "subscribed"),
+            (r#""do":"turn","at":149"#, "keep put"),
+            (r#""do":"next","name":"b""#, "value 40"),
+            (r#""do":"unsubscribe","name":"b""#, "true"),
+            (r#""do":"turn","at":200"#, "keep completed"),
+            (r#""do":"turn","at":300"#, "stop idle"),
+            (r#""do":"subscribe","name":"c""#, "subscribed"),
+            (r#""do":"turn","at":301"#, "start put"),
+            (r#""do":"next","name":"c""#, "value 10"),
+            (r#""do":"turn","at":300"#, "refused 1 Backwards 301"),
+        ],
+    )
+}
+
+#[test]
+fn a_slow_subscriber_holds_the_chain(rt: HostRuntime) -> Result<(), Fail> {
+    plays(
+        &rt,
+        rt.alloc(),
+        r#""kind":"share","chain":{"from":{"range":[1,66]},"ops":[]},"started":"eagerly","replay":0"#,
+        &[
+            (r#""do":"subscribe","name":"a""#, "subscribed"),
+            (r#""do":"turn","at":0"#, "start put"),
+            (r#""do":"turn","at":1"#, "keep put"),
+            (r#""do":"turn","at":2"#, "keep put"),
+            (r#""do":"turn","at":3"#, "keep put"),
+            (r#""do":"turn","at":4"#, "keep put"),
+            (r#""do":"turn","at":5"#, "keep put"),
+            (r#""do":"turn","at":6"#, "keep put"),
+            (r#""do":"turn","at":7"#, "keep put"),
+            (r#""do":"turn","at":8"#, "keep put"),
+            (r#""do":"turn","at":9"#, "keep put"),
+            (r#""do":"turn","at":10"#, "keep put"),
+            (r#""do":"turn","at":11"#, "keep put"),
+            (r#""do":"turn","at":12"#, "keep put"),
+            (r#""do":"turn","at":13"#, "keep put"),
+            (r#""do":"turn","at":14"#, "keep put"),
+            (r#""do":"turn","at":15"#, "keep put"),
+            (r#""do":"turn","at":16"#, "keep put"),
+            (r#""do":"turn","at":17"#, "keep put"),
+            (r#""do":"turn","at":18"#, "keep put"),
+            (r#""do":"turn","at":19"#, "keep put"),
+            (r#""do":"turn","at":20"#, "keep put"),
+            (r#""do":"turn","at":21"#, "keep put"),
+            (r#""do":"turn","at":22"#, "keep put"),
+            (r#""do":"turn","at":23"#, "keep put"),
+            (r#""do":"turn","at":24"#, "keep put"),
+            (r#""do":"turn","at":25"#, "keep put"),
+            (r#""do":"turn","at":26"#, "keep put"),
+            (r#""do":"turn","at":27"#, "keep put"),
+            (r#""do":"turn","at":28"#, "keep put"),
+            (r#""do":"turn","at":29"#, "keep put"),
+            (r#""do":"turn","at":30"#, "keep put"),
+            (r#""do":"turn","at":31"#, "keep put"),
+            (r#""do":"turn","at":32"#, "keep put"),
+            (r#""do":"turn","at":33"#, "keep put"),
+            (r#""do":"turn","at":34"#, "keep put"),
+            (r#""do":"turn","at":35"#, "keep put"),
+            (r#""do":"turn","at":36"#, "keep put"),
+            (r#""do":"turn","at":37"#, "keep put"),
+            (r#""do":"turn","at":38"#, "keep put"),
+            (r#""do":"turn","at":39"#, "keep put"),
+            (r#""do":"turn","at":40"#, "keep put"),
+            (r#""do":"turn","at":41"#, "keep put"),
+            (r#""do":"turn","at":42"#, "keep put"),
+            (r#""do":"turn","at":43"#, "keep put"),
+            (r#""do":"turn","at":44"#, "keep put"),
+            (r#""do":"turn","at":45"#, "keep put"),
+            (r#""do":"turn","at":46"#, "keep put"),
+            (r#""do":"turn","at":47"#, "keep put"),
+            (r#""do":"turn","at":48"#, "keep put"),
+            (r#""do":"turn","at":49"#, "keep put"),
+            (r#""do":"turn","at":50"#, "keep put"),
+            (r#""do":"turn","at":51"#, "keep put"),
+            (r#""do":"turn","at":52"#, "keep put"),
+            (r#""do":"turn","at":53"#, "keep put"),
+            (r#""do":"turn","at":54"#, "keep put"),
+            (r#""do":"turn","at":55"#, "keep put"),
+            (r#""do":"turn","at":56"#, "keep put"),
+            (r#""do":"turn","at":57"#, "keep put"),
+            (r#""do":"turn","at":58"#, "keep put"),
+            (r#""do":"turn","at":59"#, "keep put"),
+            (r#""do":"turn","at":60"#, "keep put"),
+            (r#""do":"turn","at":61"#, "keep put"),
+            (r#""do":"turn","at":62"#, "keep put"),
+            (r#""do":"turn","at":63"#, "keep put"),
+            (r#""do":"turn","at":64"#, "keep queued"),
+            (r#""do":"turn","at":65"#, "keep waiting"),
+            (r#""do":"next","name":"a""#, "value 1"),
+            (r#""do":"turn","at":66"#, "keep queued"),
+        ],
+    )
+}
+
+#[test]
+fn a_failed_chain_ends_its_sharing(rt: HostRuntime) -> Result<(), Fail> {
+    plays(
+        &rt,
+        rt.alloc(),
+        r#""kind":"share","chain":{"from":{"script":["pending",1,{"fault":7}]},"ops":[]},"started":"lazily","replay":1"#,
+        &[
+            (r#""do":"turn","at":5"#, "keep idle"),
+            (r#""do":"subscribe","name":"a""#, "subscribed"),
+            (r#""do":"turn","at":5"#, "start pending"),
+            (r#""do":"turn","at":6"#, "keep put"),
+            (r#""do":"turn","at":7"#, "refused 3 Chain 4 Source 7"),
+            (r#""do":"turn","at":8"#, "refused 2 Ended"),
+            (r#""do":"cache""#, "[1]"),
+            (r#""do":"next","name":"a""#, "value 1"),
+        ],
+    )
+}
+
+#[test]
+fn a_stop_may_never_come(rt: HostRuntime) -> Result<(), Fail> {
+    plays(
+        &rt,
+        rt.alloc(),
+        r#""kind":"share","chain":{"from":{"of":[1,2,3]},"ops":[]},"started":{"stop":18446744073709551615},"replay":0"#,
+        &[
+            (r#""do":"subscribe","name":"a""#, "subscribed"),
+            (r#""do":"turn","at":0"#, "start put"),
+            (r#""do":"unsubscribe","name":"a""#, "true"),
+            (r#""do":"turn","at":0"#, "keep put"),
+            (r#""do":"turn","at":18446744073709551615"#, "keep put"),
+        ],
+    )
+}
+
+#[test]
+fn a_lazy_sharing_waits_for_a_subscriber(rt: HostRuntime) -> Result<(), Fail> {
+    plays(
+        &rt,
+        rt.alloc(),
+        r#""kind":"share","chain":{"from":{"of":[5,6]},"ops":[]},"started":"lazily","replay":1"#,
+        &[
+            (r#""do":"turn","at":0"#, "keep idle"),
+            (r#""do":"subscribe","name":"a""#, "subscribed"),
+            (r#""do":"turn","at":1"#, "start put"),
+            (r#""do":"turn","at":1"#, "keep put"),
+            (r#""do":"turn","at":2"#, "keep completed"),
+            (r#""do":"next","name":"a""#, "value 5"),
+            (r#""do":"cache""#, "[6]"),
+            (r#""do":"turn","at":1"#, "refused 1 Backwards 2"),
+        ],
+    )
+}
+
+#[test]
+fn a_sharing_may_be_refused(rt: HostRuntime) -> Result<(), Fail> {
+    for (script, status, line) in [
+        (
+            r#"{"version":1,"flow":{"kind":"share","chain":{"from":{"of":[1]},"ops":[{"op":"take","n":0}]},"started":"eagerly","replay":0},"steps":[{"do":"count"}]}"#,
+            0,
+            "refused 3 Chain 3 NotPositive\n",
+        ),
+        (
+            r#"{"version":1,"flow":{"kind":"share","chain":{"from":{"of":[1]},"ops":[]},"started":"eagerly","replay":65537},"steps":[]}"#,
+            0,
+            "refused 4 Flow 2 TooLarge\n",
+        ),
+        (
+            r#"{"version":1,"flow":{"kind":"share","chain":{"from":{"range":[1,10001]},"ops":[]},"started":"eagerly","replay":0},"steps":[]}"#,
+            2,
+            "script refused 8 TooLarge at step 0\n",
+        ),
+        (
+            r#"{"version":1,"flow":{"kind":"share","chain":{"from":{"range":[1,10001]},"ops":[]},"started":"eagerly","replay":0},"steps":{}}"#,
+            2,
+            "script refused 5 BadShape at step 0\n",
+        ),
+        (
+            r#"{"version":1,"flow":{"kind":"share","chain":{"from":{"of":[1]},"ops":[]},"started":"eagerly","replay":0},"steps":[{"do":"reset"}]}"#,
+            2,
+            "script refused 5 BadShape at step 1\n",
+        ),
+    ] {
+        expect(&rt, rt.alloc(), script.as_bytes(), status, line)?;
+    }
+    Ok(())
+}

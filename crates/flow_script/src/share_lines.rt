@@ -1,0 +1,90 @@
+//! The lines of turns.
+ghost use Rattle.std.specs.Prelude.{◌≡◌, ◌++◌, false, Ok, OnOk, IfErr, string_bytes};
+ghost use Rattle.flow_script.specs.Lines as lines;
+ghost use Rattle.flow_script.specs.SharingMeaning.{IsToldFault};
+
+use crate::collect::add_chain_fault;
+use crate::fault::ScriptFault;
+use flow_law::{ChainFault, Command, FlowFault};
+use flow_sharing::{Event, Report, ShareFault};
+use std::alloc::AllocError;
+
+fn add_command(text: &mut String, command: Command) -> Result<(), AllocError>
+    ensures { OnOk result (string_bytes text.new ≡ string_bytes text.old ++ lines.command_text command) }
+{
+    match command {
+        Command::Start => text.push_str("start"),
+        Command::Stop => text.push_str("stop"),
+        Command::Keep => text.push_str("keep"),
+    }
+}
+
+fn add_event(text: &mut String, event: Event) -> Result<(), AllocError>
+    ensures { OnOk result (string_bytes text.new ≡ string_bytes text.old ++ lines.lined (lines.event_text event)) }
+{
+    match event {
+        Event::Busy => writeln!(text, "busy"),
+        Event::Idle => writeln!(text, "idle"),
+        Event::Put => writeln!(text, "put"),
+        Event::Queued => writeln!(text, "queued"),
+        Event::Waiting => writeln!(text, "waiting"),
+        Event::Pending => writeln!(text, "pending"),
+        Event::Completed => writeln!(text, "completed"),
+    }
+}
+
+pub fn add_report(text: &mut String, report: Report) -> Result<(), AllocError>
+    ensures { OnOk result (string_bytes text.new ≡ string_bytes text.old ++ lines.lined (lines.turn_text (Ok report))) }
+{
+    add_command(text, report.command)?;
+    text.push(' ')?;
+    add_event(text, report.event)
+}
+
+fn add_flow_fault(text: &mut String, fault: FlowFault) -> Result<(), AllocError>
+    ensures { OnOk result (string_bytes text.new ≡ string_bytes text.old ++ lines.lined (lines.flow_fault_text fault)) }
+{
+    match fault {
+        FlowFault::OutOfMemory => writeln!(text, "1 OutOfMemory"),
+        FlowFault::TooLarge => writeln!(text, "2 TooLarge"),
+        FlowFault::NeedsBuffer => writeln!(text, "3 NeedsBuffer"),
+        FlowFault::Exhausted => writeln!(text, "4 Exhausted"),
+        FlowFault::Unsupported => writeln!(text, "5 Unsupported"),
+        FlowFault::Busy => writeln!(text, "6 Busy"),
+    }
+}
+
+/// Whether a refusal is for want of memory.
+fn is_memory(fault: ShareFault) -> bool
+    ensures { result ≡ false → IsToldFault fault }
+{
+    match fault {
+        ShareFault::Chain(ChainFault::OutOfMemory) => true,
+        ShareFault::Flow(FlowFault::OutOfMemory) => true,
+        _ => false,
+    }
+}
+
+/// The line of a refusal. Want of memory has none: it ends the script.
+pub fn add_share_fault(text: &mut String, fault: ShareFault) -> Result<(), ScriptFault>
+    ensures told { OnOk result (IsToldFault fault) }
+    ensures line { OnOk result (string_bytes text.new ≡ string_bytes text.old ++ lines.lined (lines.share_fault_text fault)) }
+    ensures refused { IfErr result (λ refused. refused ≡ ScriptFault.OutOfMemory) }
+{
+    if is_memory(fault) {
+        return Err(ScriptFault::OutOfMemory);
+    }
+    match fault {
+        ShareFault::Backwards(last) => writeln!(text, "refused 1 Backwards {last}")?,
+        ShareFault::Ended => writeln!(text, "refused 2 Ended")?,
+        ShareFault::Chain(fault) => {
+            text.push_str("refused 3 Chain ")?;
+            add_chain_fault(text, fault)?;
+        }
+        ShareFault::Flow(fault) => {
+            text.push_str("refused 4 Flow ")?;
+            add_flow_fault(text, fault)?;
+        }
+    }
+    Ok(())
+}
