@@ -232,36 +232,36 @@ turn-core started f acc seen now s result all t (observed event e le a ev r) sta
 
 -- ---- the account after a turn
 
-event-account : {H : Type 0} (does : H → HubCall ℤ → HubReply → H → Type 0) (waits : H → Bool) (before : ChainRun ℤ) (acc : List ℤ) (event : Event) (t : SharingState ℤ H)
-    → OutcomeMeans does waits before acc (Ok event) t → (more : List ℤ) × HasAccount more t
-event-account does waits before acc Put t o = (acc ++ o.0 ∷ [], λ _ _. o.2)
-event-account does waits before acc Queued t o = (acc ++ o.0 ∷ [], λ _ _. o.2)
-event-account does waits before acc Busy t o = (acc, o.0)
-event-account does waits before acc Idle t o = ([], λ runs _. let both : true ≡ false = sym runs ∙ o.0 in (cc))
-event-account does waits before acc Waiting t o = (acc, λ _ _. o.0)
-event-account does waits before acc Pending t o = (acc, λ _ _. o.0)
-event-account does waits before acc Completed t o = (acc, λ _ _. o.0)
+event-account : {H : Type 0} (does : H → HubCall ℤ → HubReply → H → Type 0) (before : ChainRun ℤ) (acc : List ℤ) (event : Event) (t : SharingState ℤ H)
+    → OutcomeMeans does before acc (Ok event) t → (more : List ℤ) × HasAccount more t
+event-account does before acc Put t o = (acc ++ o.0 ∷ [], λ _ _. o.2)
+event-account does before acc Queued t o = (acc ++ o.0 ∷ [], λ _ _. o.2)
+event-account does before acc Busy t o = (acc, o.0)
+event-account does before acc Idle t o = ([], λ runs _. let both : true ≡ false = sym runs ∙ o.0 in (cc))
+event-account does before acc Waiting t o = (acc, λ _ _. o.0)
+event-account does before acc Pending t o = (acc, λ _ _. o.0)
+event-account does before acc Completed t o = (acc, λ _ _. o.0)
 
 -- the items that the flow has accepted are accounted for after a turn, too
-pub turn-account : {H : Type 0} (does : H → HubCall ℤ → HubReply → H → Type 0) (waits : H → Bool) (acc : List ℤ) (s : SharingState ℤ H) (result : Result Report ShareFault) (t : SharingState ℤ H)
-    → TurnMeans does waits acc s result t → HasAccount acc s → (more : List ℤ) × HasAccount more t
-turn-account does waits acc s (Ok report) t o has =
-    event-account does waits (commanded report.command s).rest (since_start report.command acc) report.event t o
-turn-account does waits acc s (Err Ended) t o has = (acc, subst (HasAccount acc) (sym o.1) has)
-turn-account does waits acc s (Err (Backwards last)) t o has = (acc, subst (HasAccount acc) (sym o.2) has)
-turn-account does waits acc s (Err (Chain fault)) t (inl o) has = ([], λ _ on. let both : true ≡ false = sym o.1 ∙ on in (cc))
-turn-account does waits acc s (Err (Chain fault)) t (inr o) has = ([], λ _ on. let both : true ≡ false = sym o.1 ∙ on in (cc))
-turn-account does waits acc s (Err (Flow fault)) t (inl o) has = (acc, o.0)
-turn-account does waits acc s (Err (Flow fault)) t (inr o) has = ([], o.0)
+pub turn-account : {H : Type 0} (does : H → HubCall ℤ → HubReply → H → Type 0) (acc : List ℤ) (s : SharingState ℤ H) (result : Result Report ShareFault) (t : SharingState ℤ H)
+    → TurnMeans does acc s result t → HasAccount acc s → (more : List ℤ) × HasAccount more t
+turn-account does acc s (Ok report) t o has =
+    event-account does (commanded report.command s).rest (since_start report.command acc) report.event t o
+turn-account does acc s (Err Ended) t o has = (acc, subst (HasAccount acc) (sym o.1) has)
+turn-account does acc s (Err (Backwards last)) t o has = (acc, subst (HasAccount acc) (sym o.2) has)
+turn-account does acc s (Err (Chain fault)) t (inl o) has = ([], λ _ on. let both : true ≡ false = sym o.1 ∙ on in (cc))
+turn-account does acc s (Err (Chain fault)) t (inr o) has = ([], λ _ on. let both : true ≡ false = sym o.1 ∙ on in (cc))
+turn-account does acc s (Err (Flow fault)) t (inl o) has = (acc, o.0)
+turn-account does acc s (Err (Flow fault)) t (inr o) has = ([], o.0)
 
 -- a turn of the player's sharing is the documented turn
 pub share-turned : (now : ℕ) (result : Result Report ShareFault) (old new : SharePlayer) (p : SharePlay) → ShowsShare old p → new.subscribers ≡ old.subscribers → LawTurnOverCore ℤ Global
     → ((started : Started) (seen : List SharingObservation) → HasObserved started old.sharing seen
     → (all : List SharingObservation) × HasObserved started new.sharing all × TurnStep (HubStep CoreHubDoes is_waiting) started seen now (sharing_state old.sharing) result all (sharing_state new.sharing))
-    → ((started : Started) (seen : List SharingObservation) (acc : List ℤ) → HasObserved started old.sharing seen → BetweenTurns is_waiting (sharing_state old.sharing)
-    → HasAccount acc (sharing_state old.sharing) → TurnMeans (HubStep CoreHubDoes is_waiting) is_waiting acc (sharing_state old.sharing) result (sharing_state new.sharing))
-    → ((started : Started) (seen : List SharingObservation) → HasObserved started old.sharing seen → BetweenTurns is_waiting (sharing_state old.sharing)
-    → BetweenTurns is_waiting (sharing_state new.sharing))
+    → ((started : Started) (seen : List SharingObservation) (acc : List ℤ) → HasObserved started old.sharing seen → BetweenTurns (sharing_state old.sharing)
+    → HasAccount acc (sharing_state old.sharing) → TurnMeans (HubStep CoreHubDoes is_waiting) acc (sharing_state old.sharing) result (sharing_state new.sharing))
+    → ((started : Started) (seen : List SharingObservation) → HasObserved started old.sharing seen → BetweenTurns (sharing_state old.sharing)
+    → BetweenTurns (sharing_state new.sharing))
     → IsTold result → ShowsShare new (turn_at now p).after × (turn_text (sharing_turn shared_target p.started now p.chain).result ≡ turn_text result)
 share-turned now result old new p shows same law turn means between told =
     let s = sharing_state old.sharing in
@@ -279,7 +279,7 @@ share-turned now result old new p shows same law turn means between told =
       observed = observed.1;
       chain = refl;
       flow = core.1;
-      account = turn-account (HubStep CoreHubDoes is_waiting) is_waiting acc s result t (means p.started seen acc shows.observed shows.between shows.account.1) shows.account.1;
+      account = turn-account (HubStep CoreHubDoes is_waiting) acc s result t (means p.started seen acc shows.observed shows.between shows.account.1) shows.account.1;
       between = between p.started seen shows.observed shows.between;
       no_cancel = over.1;
       subscribers = ap (λ ids. numbers_of ids.items) same ∙ shows.subscribers;

@@ -75,7 +75,7 @@ pub record ShowsShare (player : SharePlayer) (p : SharePlay) : Type 0 where
   pub chain : seen_as p.chain.seen (sharing_state player.sharing) p.chain.flow ≡ p.chain
   pub flow : StandsFor player.sharing.hub.core p.chain.flow
   pub account : (accepted : List ℤ) × HasAccount accepted (sharing_state player.sharing)
-  pub between : BetweenTurns is_waiting (sharing_state player.sharing)
+  pub between : BetweenTurns (sharing_state player.sharing)
   pub no_cancel : player.sharing.cancel_due ≡ false
   pub subscribers : numbers_of player.subscribers.items ≡ p.subscribers
 
