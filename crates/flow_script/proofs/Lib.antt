@@ -7,3 +7,4 @@ pub mod MeaningLemmas
 pub mod ChainLemmas
 pub mod StateLemmas
 pub mod SharingLemmas
+pub mod StateInLemmas

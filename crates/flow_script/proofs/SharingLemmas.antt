@@ -74,7 +74,7 @@ told-flow flow_fault.Exhausted told = λ e. (cc)
 told-flow flow_fault.Unsupported told = λ e. (cc)
 told-flow flow_fault.Busy told = λ e. (cc)
 
-told-chain : (fault : ChainFault) → IsTold {R = Event} (Err (Chain fault)) → fault ≢ chain_fault.OutOfMemory
+pub told-chain : (fault : ChainFault) → IsTold {R = Event} (Err (Chain fault)) → fault ≢ chain_fault.OutOfMemory
 told-chain chain_fault.OutOfMemory told = absurd told
 told-chain chain_fault.Overflow told = λ e. (cc)
 told-chain chain_fault.NotPositive told = λ e. (cc)
@@ -189,7 +189,7 @@ later started now p =
     if nat_lt now (last_moment p.seen) then record { result = Err (Backwards (last_moment p.seen)); after = p }
     else observing shared_target started (record { moment = now; count = length p.flow.subscribers } ∷ p.seen) p
 
-told-back : (command : Command) (event : Result Event ShareFault) → IsTold (reported command event) → IsTold event
+pub told-back : (command : Command) (event : Result Event ShareFault) → IsTold (reported command event) → IsTold event
 told-back command (Ok event) told = tt
 told-back command (Err fault) told = told
 

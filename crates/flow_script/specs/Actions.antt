@@ -5,7 +5,7 @@ use Rattle.flow_script.specs.declared.script.Step.TheVariants as step
 use Rattle.flow_script.specs.declared.script.ScriptFlow.{ScriptFlow}
 use Rattle.flow_script.specs.declared.script.ScriptFlow.TheVariants as flow
 use Rattle.flow_script.specs.ChainFormat.{Build}
-use Rattle.flow_script.specs.Heads.{Head, no_flow, shared_flow, state_flow, shared_chain}
+use Rattle.flow_script.specs.Heads.{Head, no_flow, shared_flow, state_flow, shared_chain, state_chain}
 use Rattle.flow_script.specs.Chains.{build_of}
 
 pub data Action : Type 0 where
@@ -52,3 +52,4 @@ head_of_flow flow.Absent = no_flow
 head_of_flow (flow.Shared config) = shared_flow config
 head_of_flow (flow.State initial limit) = state_flow initial limit
 head_of_flow (flow.Share chain started replay limit) = shared_chain (build_of chain) started replay limit
+head_of_flow (flow.StateIn chain started initial limit) = state_chain (build_of chain) started initial limit

@@ -122,9 +122,16 @@ abbrev pub is_state : Kind → Bool
 is_state kind.State = true
 is_state _ = false
 
+-- a flow with one current value
+abbrev pub has_value : Kind → Bool
+has_value kind.State = true
+has_value kind.StateIn = true
+has_value _ = false
+
 -- a flow into which a chain is shared
 abbrev pub is_sharing : Kind → Bool
 is_sharing kind.Share = true
+is_sharing kind.StateIn = true
 is_sharing _ = false
 
 -- the kinds of flow that allow a step
@@ -140,7 +147,7 @@ is_allowed kind Next = is_flow kind
 is_allowed kind Unsubscribe = is_flow kind
 is_allowed kind Cache = is_flow kind
 is_allowed kind Count = is_flow kind
-is_allowed kind Value = is_state kind
+is_allowed kind Value = has_value kind
 is_allowed kind Set = is_state kind
 is_allowed kind CompareAndSet = is_state kind
 is_allowed kind Turn = is_sharing kind

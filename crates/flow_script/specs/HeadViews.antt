@@ -8,6 +8,7 @@ use Rattle.serde_json.specs.declared.value.Value.{Value}
 use Rattle.flow_script.specs.declared.fault.ScriptFault.{ScriptFault}
 use Rattle.flow_script.specs.declared.script.ScriptFlow.{ScriptFlow}
 use Rattle.flow_script.specs.declared.read_head.ShareParts.{ShareParts}
+use Rattle.flow_script.specs.declared.read_head.StateInParts.{StateInParts}
 use Rattle.flow_script.specs.Results.{result_map}
 use Rattle.flow_script.specs.Actions.{head_of_flow}
 use Rattle.flow_script.specs.Heads.{Head}
@@ -15,6 +16,9 @@ use Rattle.flow_script.specs.Heads as heads
 
 abbrev pub parts_of : ShareParts → heads.ShareParts
 parts_of parts = record { chain = view parts.chain.now; started = parts.started; replay = parts.replay; limit = parts.limit }
+
+abbrev pub state_in_parts_of : StateInParts → heads.StateInParts
+state_in_parts_of parts = record { chain = view parts.chain.now; started = parts.started; initial = parts.initial; limit = parts.limit }
 
 abbrev pub flow_result : Result ScriptFlow ScriptFault → Result Head ScriptFault
 flow_result r = result_map head_of_flow r

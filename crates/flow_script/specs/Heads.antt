@@ -24,12 +24,15 @@ pub data Head : Type 0 where
   state_flow : ℤ → ℕ → Head
   -- with the chain, when it runs, how many values are replayed, and the most numbers
   shared_chain : Build → Started → ℕ → ℕ → Head
+  -- with the chain, when it runs, the first value, and the most numbers
+  state_chain : Build → Started → ℤ → ℕ → Head
 
 abbrev pub kind_of : Head → Kind
 kind_of no_flow = kind.Absent
 kind_of (shared_flow config) = kind.Shared
 kind_of (state_flow initial limit) = kind.State
 kind_of (shared_chain build started replay limit) = kind.Share
+kind_of (state_chain build started initial limit) = kind.StateIn
 
 abbrev pub state_of : Data → Option Head
 state_of d = option_and_then (λ initial. option_and_then (λ limit. where_true (has_members (with_limit 2 d) d) (Some (state_flow initial limit)))
@@ -60,6 +63,21 @@ share_parts d =
 abbrev pub share_in : Data → Result Head ScriptFault
 share_in d = result_then (λ parts. result_map (λ build. shared_chain build parts.started parts.replay parts.limit) (chain_in 0 parts.chain)) (or_fault (BadShape 0) (share_parts d))
 
+pub record StateInParts : Type 0 where
+  pub chain : Data
+  pub started : Started
+  pub initial : ℤ
+  pub limit : ℕ
+
+abbrev pub state_in_parts : Data → Option StateInParts
+state_in_parts d =
+    option_and_then (λ chain. option_and_then (λ started. option_and_then (λ initial. option_and_then (λ limit.
+    where_true (has_members (with_limit 4 d) d) (Some (record { chain = chain; started = started; initial = initial; limit = limit })))
+    (limit_at d)) (i64_at (codes "initial") d)) (started_at d)) (get (codes "chain") d)
+
+abbrev pub state_in : Data → Result Head ScriptFault
+state_in d = result_then (λ parts. result_map (λ build. state_chain build parts.started parts.initial parts.limit) (chain_in 0 parts.chain)) (or_fault (BadShape 0) (state_in_parts d))
+
 abbrev pub none_of : Data → Option Head
 none_of d = where_true (has_members 1 d) (Some no_flow)
 
@@ -68,7 +86,8 @@ flow_named kind d =
     if bytes_eq kind (codes "none") then or_fault (BadShape 0) (none_of d)
     else (if bytes_eq kind (codes "shared") then or_fault (BadShape 0) (option_map shared_flow (config_of d))
     else (if bytes_eq kind (codes "state") then or_fault (BadShape 0) (state_of d)
-    else (if bytes_eq kind (codes "share") then share_in d else Err (BadShape 0))))
+    else (if bytes_eq kind (codes "share") then share_in d
+    else (if bytes_eq kind (codes "state_in") then state_in d else Err (BadShape 0)))))
 
 abbrev pub flow_in : Data → Result Head ScriptFault
 flow_in d = result_then (λ kind. flow_named kind d) (or_fault (BadShape 0) (text_at (codes "kind") d))

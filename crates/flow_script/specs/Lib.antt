@@ -11,6 +11,7 @@ pub mod Turns
 pub mod StateMeaning
 pub mod SharedMeaning
 pub mod SharingMeaning
+pub mod StateInMeaning
 pub mod ScriptMeaning
 pub mod Playing
 pub mod Watching

@@ -4,7 +4,7 @@ use Rattle.std.specs.Prelude.{ℕ, List, [], ◌∷◌, ◌++◌, Result, Ok, Er
 use Rattle.std.specs.Option.{option_map_or}
 use Rattle.flow_law.specs.SharedFlow.{config_fault}
 use Rattle.flow_script.specs.declared.fault.ScriptFault.{ScriptFault}
-use Rattle.flow_script.specs.Heads.{Head, no_flow, shared_flow, state_flow, shared_chain}
+use Rattle.flow_script.specs.Heads.{Head, no_flow, shared_flow, state_flow, shared_chain, state_chain}
 use Rattle.flow_script.specs.Actions.{Action}
 use Rattle.flow_script.specs.Actions as action
 use Rattle.flow_script.specs.Checks.{result_map, read_script}
@@ -15,6 +15,7 @@ use Rattle.flow_script.specs.StateMeaning.{StatePlay, first_state_play, state_tu
 pub use Rattle.flow_script.specs.Turns.{Turn, number_at, line_without_call}
 pub use Rattle.flow_script.specs.SharedMeaning.{SharedPlay, first_play, reply_to, state_after, emission_number, subscriber_number, shared_turn}
 use Rattle.flow_script.specs.SharingMeaning.{SharePlay, first_share_play, share_turn}
+use Rattle.flow_script.specs.StateInMeaning.{StateInPlay, first_state_in_play, state_in_turn}
 
 -- ---- players
 
@@ -24,6 +25,7 @@ pub data Player : Type 0 where
   shared : SharedPlay → Player
   state : StatePlay → Player
   share : SharePlay → Player
+  state_in : StateInPlay → Player
 
 -- ---- steps
 
@@ -36,11 +38,15 @@ on_state t = record { line = t.line; after = state t.after }
 abbrev pub on_share : Turn SharePlay → Turn Player
 on_share t = record { line = t.line; after = share t.after }
 
+abbrev pub on_state_in : Turn StateInPlay → Turn Player
+on_state_in t = record { line = t.line; after = state_in t.after }
+
 abbrev pub flow_turn : Action → Player → Turn Player
 flow_turn action idle = record { line = not_allowed; after = idle }
 flow_turn action (shared p) = on_shared (shared_turn action p)
 flow_turn action (state p) = on_state (state_turn action p)
 flow_turn action (share p) = on_share (share_turn action p)
+flow_turn action (state_in p) = on_state_in (state_in_turn action p)
 
 -- a collection is about no flow
 abbrev pub turn : Action → Player → Turn Player
@@ -62,6 +68,8 @@ player_of (shared_chain (Err fault) started replay limit) = Err (share_fault_tex
 player_of (shared_chain (Ok chain) started replay limit) =
     option_map_or (λ fault. Err (share_fault_text (Flow fault))) (config_fault (share_config replay limit))
     (Ok (share (first_share_play chain.run started (share_config replay limit))))
+player_of (state_chain (Err fault) started initial limit) = Err (share_fault_text (Chain fault))
+player_of (state_chain (Ok chain) started initial limit) = Ok (state_in (first_state_in_play chain.run started limit initial))
 
 abbrev pub text_by : List Action → Result Player (List ℕ) → List ℕ
 text_by steps (Ok p) = lines_from p steps

@@ -7,7 +7,7 @@ use Rattle.flow_core.specs.declared.sub_id.SubId.{SubId}
 use Rattle.flow_core.specs.SubId.{number_of}
 use Rattle.flow_script.specs.declared.shared_player.SharedPlayer.{SharedPlayer}
 use Rattle.flow_script.specs.declared.player.Player.{Player}
-use Rattle.flow_script.specs.declared.player.Player.TheVariants.{Idle, Shared, State, Share}
+use Rattle.flow_script.specs.declared.player.Player.TheVariants.{Idle, Shared, State, Share, StateIn}
 use Rattle.flow_script.specs.Actions.{Action}
 use Rattle.flow_law.specs.declared.call.StateCall.{StateCall}
 use Rattle.flow_law.specs.StateFlow.{StateFlowState}
@@ -26,6 +26,9 @@ use Rattle.flow_sharing.specs.declared.report.ShareFault.TheVariants.{Flow}
 use Rattle.flow_sharing.specs.CoreHub.{is_waiting}
 use Rattle.flow_sharing.specs.SharingState.{SharingState, state_of, HasObserved, HasAccount, BetweenTurns}
 use Rattle.flow_script.specs.declared.share_player.SharePlayer.{SharePlayer}
+use Rattle.flow_sharing.specs.declared.state_hub.StateHub.{StateHub}
+use Rattle.flow_script.specs.declared.state_in_player.StateInPlayer.{StateInPlayer}
+use Rattle.flow_script.specs.StateInMeaning.{StateInPlay, state_in_call_turn, state_in_turn}
 use Rattle.flow_script.specs.Heads.{Head}
 use Rattle.flow_script.specs.SharingMeaning.{SharedChain, SharePlay, share_call_turn, share_turn}
 use Rattle.flow_script.specs.Lines.{lined, line_of, state_line_of}
@@ -93,11 +96,38 @@ PlaysShare action old new before after =
 abbrev pub RefusesShare : Option FlowFault → ShareFault → Type 0
 RefusesShare refusal fault = (flow : FlowFault) × (refusal ≡ Some flow) × (fault ≡ Flow flow)
 
+-- the same over a state core
+abbrev pub state_sharing : Sharing ScriptChain (StateHub ℤ Global) ℤ → SharingState ℤ (StateHub ℤ Global)
+state_sharing sharing = state_of (λ chain. node_whole chain.node) (λ chain. node_rest chain.node) sharing
+
+-- nothing waits in a state flow
+abbrev pub state_seen_as : List SharingObservation → SharingState ℤ (StateHub ℤ Global) → SharedChain (StateFlowState ℤ)
+state_seen_as seen s = record { seen = seen; whole = s.whole; rest = s.rest; kept = s.kept; completed = s.completed; ended = s.ended; waiting = None; flow = s.hub.core }
+
+pub record ShowsStateIn (player : StateInPlayer) (p : StateInPlay) : Type 0 where
+  pub observed : HasObserved p.started player.sharing p.chain.seen
+  pub chain : state_seen_as p.chain.seen (state_sharing player.sharing) ≡ p.chain
+  pub account : (accepted : List ℤ) × HasAccount accepted (state_sharing player.sharing)
+  pub between : BetweenTurns (state_sharing player.sharing)
+  pub no_cancel : player.sharing.cancel_due ≡ false
+  pub subscribers : numbers_of player.subscribers.items ≡ p.subscribers
+
+-- the call of a step is made on the state flow of a sharing, and its line is written
+abbrev pub PlaysStateInCall : Action → StateInPlayer → StateInPlayer → List ℕ → List ℕ → Type 0
+PlaysStateInCall action old new before after =
+    (p : StateInPlay) → ShowsStateIn old p → ShowsStateIn new (state_in_call_turn action p).after × (after ≡ before ++ lined (state_in_call_turn action p).line)
+
+-- the step is played on a chain that a state flow shares, and its line is written
+abbrev pub PlaysStateIn : Action → StateInPlayer → StateInPlayer → List ℕ → List ℕ → Type 0
+PlaysStateIn action old new before after =
+    (p : StateInPlay) → ShowsStateIn old p → ShowsStateIn new (state_in_turn action p).after × (after ≡ before ++ lined (state_in_turn action p).line)
+
 abbrev pub Shows : Player → player.Player → Type 0
 Shows Idle player.idle = Unit {0}
 Shows (Shared core) (player.shared p) = ShowsShared core p
 Shows (State core) (player.state p) = ShowsState core p
 Shows (Share core) (player.share p) = ShowsShare core p
+Shows (StateIn core) (player.state_in p) = ShowsStateIn core p
 Shows _ _ = ⊥
 
 -- the step is played, and its line is written

@@ -24,6 +24,7 @@ mod share_lines;
 mod share_player;
 mod shared_player;
 mod state_calls;
+mod state_in_player;
 mod state_player;
 mod transfer;
 mod verb;

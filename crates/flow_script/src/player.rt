@@ -2,7 +2,7 @@
 ghost use Rattle.std.specs.Prelude.{◌≡◌, OnOk, IfOk, IfErr, MatchResult, Ok, Err, string_bytes};
 ghost use Rattle.flow_script.specs.Actions.{action_of, actions_of, head_of_flow};
 ghost use Rattle.flow_script.specs.Chains.{build_of};
-ghost use Rattle.flow_script.specs.Heads.{shared_chain};
+ghost use Rattle.flow_script.specs.Heads.{shared_chain, state_chain};
 ghost use Rattle.flow_script.specs.ScriptMeaning as meaning;
 ghost use Rattle.flow_script.specs.Shown.{Begins, Plays, PlaysFlow};
 
@@ -13,6 +13,7 @@ use crate::script::{Build, Script, ScriptFlow, Step};
 use crate::share_lines::add_share_fault;
 use crate::share_player::SharePlayer;
 use crate::shared_player::SharedPlayer;
+use crate::state_in_player::StateInPlayer;
 use crate::state_player::StatePlayer;
 use flow_law::Started;
 use flow_sharing::ShareFault;
@@ -25,6 +26,7 @@ pub enum Player {
     Shared(SharedPlayer),
     State(StatePlayer),
     Share(SharePlayer),
+    StateIn(StateInPlayer),
 }
 
 impl Player {
@@ -52,6 +54,12 @@ impl Player {
                 replay,
                 limit,
             } => Player::share(alloc, text, chain, started, replay, limit),
+            ScriptFlow::StateIn {
+                chain,
+                started,
+                initial,
+                limit,
+            } => Player::state_in(alloc, text, chain, started, initial, limit),
         }
     }
 
@@ -82,6 +90,30 @@ impl Player {
         }
     }
 
+    fn state_in(
+        alloc: Global,
+        text: &mut String,
+        chain: Build,
+        started: Started,
+        initial: i64,
+        limit: u64,
+    ) -> Result<Option<Self>, ScriptFault>
+        ensures { MatchResult result
+            (Begins (state_chain (build_of chain) started initial limit) (string_bytes text.old) (string_bytes text.new))
+            (λ fault. fault ≡ ScriptFault.OutOfMemory) }
+    {
+        match chain {
+            Ok(chain) => match StateInPlayer::new(alloc, chain, started, initial, limit) {
+                Ok(player) => Ok(Some(Player::StateIn(player))),
+                Err(_) => Err(ScriptFault::OutOfMemory),
+            },
+            Err(fault) => {
+                add_share_fault(text, ShareFault::Chain(fault))?;
+                Ok(None)
+            }
+        }
+    }
+
     fn step(&mut self, alloc: Global, text: &mut String, step: Step) -> Result<(), ScriptFault>
         ensures plays { OnOk result (Plays (action_of step) self.old self.new (string_bytes text.old) (string_bytes text.new)) }
         ensures fault { IfErr result (λ fault. fault ≡ ScriptFault.OutOfMemory) }
@@ -102,6 +134,7 @@ impl Player {
             Player::Shared(player) => player.step(text, step),
             Player::State(player) => player.step(text, step),
             Player::Share(player) => player.step(text, step),
+            Player::StateIn(player) => player.step(text, step),
         }
     }
 }

@@ -6,7 +6,7 @@ ghost use Rattle.flow_script.specs.Actions.{head_of_flow};
 ghost use Rattle.flow_script.specs.Heads as heads;
 ghost use Rattle.flow_script.specs.Results.{or_fault};
 ghost use Rattle.flow_script.specs.Checks.{Gives};
-ghost use Rattle.flow_script.specs.HeadViews.{parts_of, flow_result, head_result};
+ghost use Rattle.flow_script.specs.HeadViews.{parts_of, state_in_parts_of, flow_result, head_result};
 
 use crate::fault::ScriptFault;
 use crate::members::{has_members, i64_at, text_at, u32_at, u64_at};
@@ -168,6 +168,49 @@ fn share_in(alloc: Global, flow: &Value) -> Result<ScriptFlow, ScriptFault>
     })
 }
 
+/// What a chain that a state flow shares is made of.
+#[derive(Clone, Copy)]
+struct StateInParts<'a> {
+    chain: &'a Value,
+    started: Started,
+    initial: i64,
+    limit: u64,
+}
+
+fn state_in_parts(flow: &Value) -> Option<StateInParts<'_>>
+    ensures { option_map state_in_parts_of result ≡ heads.state_in_parts (view flow.now) }
+{
+    let chain = flow.get("chain")?;
+    let started = started_at(flow)?;
+    let initial = i64_at(flow, "initial")?;
+    let limit = limit_at(flow)?;
+    if !has_members(flow, with_limit(4, flow)) {
+        return None;
+    }
+    Some(StateInParts {
+        chain,
+        started,
+        initial,
+        limit,
+    })
+}
+
+/// A chain that is shared by a state flow.
+fn state_in(alloc: Global, flow: &Value) -> Result<ScriptFlow, ScriptFault>
+    ensures { Gives (heads.state_in (view flow.now)) (flow_result result) }
+{
+    let Some(parts) = state_in_parts(flow) else {
+        return Err(ScriptFault::BadShape(0));
+    };
+    let chain = chain_in(alloc, 0, parts.chain)?;
+    Ok(ScriptFlow::StateIn {
+        chain,
+        started: parts.started,
+        initial: parts.initial,
+        limit: parts.limit,
+    })
+}
+
 fn none_of(flow: &Value) -> Option<ScriptFlow>
     ensures { option_map head_of_flow result ≡ heads.none_of (view flow.now) }
 {
@@ -210,6 +253,9 @@ fn flow_named(alloc: Global, kind: &str, flow: &Value) -> Result<ScriptFlow, Scr
     if kind == "share" {
         return share_in(alloc, flow);
     }
+    if kind == "state_in" {
+        return state_in(alloc, flow);
+    }
     Err(ScriptFault::BadShape(0))
 }
 
@@ -231,6 +277,7 @@ pub fn kind_of(flow: &ScriptFlow) -> Kind
         ScriptFlow::Shared(_) => Kind::Shared,
         ScriptFlow::State { .. } => Kind::State,
         ScriptFlow::Share { .. } => Kind::Share,
+        ScriptFlow::StateIn { .. } => Kind::StateIn,
     }
 }
 

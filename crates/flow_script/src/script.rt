@@ -52,6 +52,13 @@ pub enum ScriptFlow {
         replay: u32,
         limit: u64,
     },
+    /// A chain that is shared by a state flow (`stateIn`).
+    StateIn {
+        chain: Build,
+        started: Started,
+        initial: i64,
+        limit: u64,
+    },
 }
 
 /// A script that was checked. The flow itself may still be refused when it is made.

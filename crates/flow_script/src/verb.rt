@@ -9,6 +9,7 @@ pub enum Kind {
     Shared,
     State,
     Share,
+    StateIn,
 }
 
 /// What a step does.
@@ -103,7 +104,8 @@ pub fn is_allowed(kind: Kind, verb: Verb) -> bool
         Verb::Subscribe | Verb::Next | Verb::Unsubscribe | Verb::Cache | Verb::Count => {
             kind.is_flow()
         }
-        Verb::Value | Verb::Set | Verb::CompareAndSet => kind.is_state(),
+        Verb::Value => kind.has_value(),
+        Verb::Set | Verb::CompareAndSet => kind.is_state(),
         Verb::Turn => kind.is_sharing(),
     }
 }
@@ -146,12 +148,22 @@ impl Kind {
         }
     }
 
+    /// A flow with one current value.
+    fn has_value(self) -> bool
+        ensures { result ≡ format.has_value self }
+    {
+        match self {
+            Kind::State | Kind::StateIn => true,
+            _ => false,
+        }
+    }
+
     /// A flow into which a chain is shared.
     fn is_sharing(self) -> bool
         ensures { result ≡ format.is_sharing self }
     {
         match self {
-            Kind::Share => true,
+            Kind::Share | Kind::StateIn => true,
             _ => false,
         }
     }
