@@ -1,5 +1,5 @@
 -- A turn of a sharing over a state core, as the documented turn.
-use Rattle.std.proofs.Common.{◌≡◌, ◌⊎◌, ℕ, ℤ, true, false, nat_lt, if◌then◌else◌, List, [], ◌∷◌, length, Some, None, Result, Ok, Err, Global, refl, sym, ap, subst, ◌∙◌, inl, inr, arith}
+use Rattle.std.proofs.Common.{◌≡◌, ◌⊎◌, ℕ, ℤ, true, false, nat_lt, if◌then◌else◌, List, [], ◌∷◌, length, None, Result, Ok, Err, Global, refl, sym, ap, subst, ◌∙◌, inl, inr, arith}
 use Rattle.std.proofs.lemmas.Bool.Decides.{nat_tests}
 use Rattle.flow_law.specs.declared.chain.ChainFault.{ChainFault}
 use Rattle.flow_law.specs.declared.chain.ChainFault.TheVariants as chain_fault
@@ -20,7 +20,7 @@ use Rattle.flow_sharing.specs.declared.report.ShareFault.TheVariants.{Backwards,
 use Rattle.flow_sharing.specs.SharingState.{SharingState, commanded, HasAccount, HasObserved, BetweenTurns}
 use Rattle.flow_sharing.specs.Hub.{HubStep}
 use Rattle.flow_sharing.specs.TurnMeaning.{TurnMeans}
-use Rattle.flow_sharing.specs.Turn.{NextItem, reported}
+use Rattle.flow_sharing.specs.Turn.{NextItem}
 use Rattle.flow_sharing.specs.Turn.{Turn as TurnStep}
 use Rattle.flow_sharing.specs.OverStateCore.{Goes, LawTurnOverStateCore, OutcomeOverStateCore, EventOverStateCore, TurnOverStateCore, has_ended, backwards, observed}
 use Rattle.flow_sharing.specs.StateHub.{StateHubDoes, never_waits}

@@ -23,7 +23,6 @@ use Rattle.flow_sharing.specs.declared.sharing.Sharing.{Sharing}
 use Rattle.flow_sharing.specs.declared.core_hub.CoreHub.{CoreHub}
 use Rattle.flow_sharing.specs.declared.report.ShareFault.{ShareFault}
 use Rattle.flow_sharing.specs.declared.report.ShareFault.TheVariants.{Flow}
-use Rattle.flow_sharing.specs.CoreHub.{is_waiting}
 use Rattle.flow_sharing.specs.SharingState.{SharingState, state_of, HasObserved, HasAccount, BetweenTurns}
 use Rattle.flow_script.specs.declared.share_player.SharePlayer.{SharePlayer}
 use Rattle.flow_sharing.specs.declared.state_hub.StateHub.{StateHub}

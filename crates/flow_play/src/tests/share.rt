@@ -163,6 +163,27 @@ fn a_lazy_sharing_waits_for_a_subscriber(rt: HostRuntime) -> Result<(), Fail> {
 }
 
 #[test]
+fn a_state_flow_has_the_newest_item(rt: HostRuntime) -> Result<(), Fail> {
+    plays(
+        &rt,
+        rt.alloc(),
+        r#""kind":"state_in","chain":{"from":{"of":[3,3,4]},"ops":[]},"started":"eagerly","initial":0"#,
+        &[
+            (r#""do":"turn","at":0"#, "start put"),
+            (r#""do":"value""#, "3"),
+            (r#""do":"subscribe","name":"a""#, "subscribed"),
+            (r#""do":"next","name":"a""#, "value 3"),
+            (r#""do":"turn","at":1"#, "keep put"),
+            (r#""do":"next","name":"a""#, "empty"),
+            (r#""do":"turn","at":2"#, "keep put"),
+            (r#""do":"next","name":"a""#, "value 4"),
+            (r#""do":"turn","at":3"#, "keep completed"),
+            (r#""do":"turn","at":4"#, "keep completed"),
+        ],
+    )
+}
+
+#[test]
 fn a_sharing_may_be_refused(rt: HostRuntime) -> Result<(), Fail> {
     for (script, status, line) in [
         (

@@ -1,4 +1,4 @@
-use Rattle.std.proofs.Common.{Ok, Err, refl, ap, subst}
+use Rattle.std.proofs.Common.{refl, ap, subst}
 use Rattle.std.proofs.Math.Facts.{to_z-of_z}
 use Rattle.flow_sharing.specs.declared.report.ShareFault.TheVariants.{Chain}
 use Rattle.flow_script.specs.Chains.{build_of, built_of}
