@@ -17,8 +17,8 @@ use Rattle.flow_law.specs.Standing.{Core, StandsFor}
 use Rattle.flow_core.specs.declared.shared.SharedCore.TheInside.{Inside}
 use Rattle.flow_core.specs.declared.sub_id.SubId.{SubId}
 use Rattle.flow_core.specs.SubId.{number_of}
-use Rattle.flow_core.specs.declared.shared.EmitCase.{EmitCase}
-use Rattle.flow_core.specs.declared.shared.EmitCase.TheVariants.{Appends, Offers, Queues, DropsLatest, DropsOldest}
+use Rattle.flow_core.specs.declared.shared.emission.EmitCase.{EmitCase}
+use Rattle.flow_core.specs.declared.shared.emission.EmitCase.TheVariants.{Appends, Offers, Queues, DropsLatest, DropsOldest}
 
 -- ---- replies
 

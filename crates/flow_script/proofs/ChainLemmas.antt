@@ -12,7 +12,8 @@ use Rattle.flow_cold.specs.declared.script_chain.op.Joining.{Joining}
 use Rattle.flow_script.specs.declared.fault.ScriptFault.{ScriptFault}
 use Rattle.flow_script.specs.declared.fault.ScriptFault.TheVariants.{BadShape}
 use Rattle.flow_script.specs.Results.{result_then, or_fault}
-use Rattle.flow_script.specs.ChainFormat.{all_of, bounds_of, Build, Operator, operator_in, operator_where, zip_parts, zipped, plain, parts_of, source_in, start_of, ops_on, operator_at, chain_at, joined_to}
+use Rattle.flow_script.specs.SourceFormat.{all_of, bounds_of, source_in}
+use Rattle.flow_script.specs.ChainFormat.{Build, Operator, operator_in, operator_where, zip_parts, zipped, plain, parts_of, start_of, ops_on, operator_at, chain_at, joined_to}
 
 pub bounds-none : (vs : List Value) → length vs ≢ 2 → None ≡ bounds_of (items_view vs)
 bounds-none [] other = refl

@@ -7,8 +7,8 @@ use Rattle.serde_json.specs.View.{view, items_view}
 use Rattle.serde_json.specs.declared.value.Value.{Value}
 use Rattle.flow_script.specs.declared.fault.ScriptFault.{ScriptFault}
 use Rattle.flow_script.specs.declared.script.ScriptFlow.{ScriptFlow}
-use Rattle.flow_script.specs.declared.read_head.ShareParts.{ShareParts}
-use Rattle.flow_script.specs.declared.read_head.StateInParts.{StateInParts}
+use Rattle.flow_script.specs.declared.read_share.ShareParts.{ShareParts}
+use Rattle.flow_script.specs.declared.read_share.StateInParts.{StateInParts}
 use Rattle.flow_script.specs.Results.{result_map}
 use Rattle.flow_script.specs.Actions.{head_of_flow}
 use Rattle.flow_script.specs.Heads.{Head}

@@ -1,5 +1,6 @@
 pub mod Results
 pub mod Format
+pub mod SourceFormat
 pub mod ChainFormat
 pub mod Heads
 pub mod Actions

@@ -17,6 +17,7 @@ mod read;
 mod read_chain;
 mod read_head;
 mod read_op;
+mod read_share;
 mod read_source;
 mod read_step;
 mod script;

@@ -70,3 +70,25 @@ pub fn name_at<'a>(value: &'a Value) -> Option<&'a str>
     let name = text_at(value, "name")?;
     if is_name(name) { Some(name) } else { None }
 }
+
+/// How many numbers a flow issues, which it may leave out.
+pub fn limit_at(flow: &Value) -> Option<u64>
+    ensures { result ≡ format.limit_at (view flow.now) }
+{
+    match flow.get("limit") {
+        Some(limit) => limit.as_u64(),
+        None => Some(u64::MAX),
+    }
+}
+
+/// How many keys a flow has, beside which it may have a limit.
+pub fn with_limit(keys: usize, flow: &Value) -> usize
+    requires { keys + 1 < 2 ^ 64 }
+    ensures { result ≡ format.with_limit keys (view flow.now) }
+{
+    if flow.get("limit").is_some() {
+        keys + 1
+    } else {
+        keys
+    }
+}

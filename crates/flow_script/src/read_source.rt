@@ -3,7 +3,7 @@ ghost use Rattle.std.specs.Prelude.{◌≡◌, Ok, Err, ℤ, List, option_map};
 ghost use Rattle.serde_json.specs.View.{view, items_view};
 ghost use Rattle.flow_script.specs.Checks.{Gives};
 ghost use Rattle.flow_script.specs.Results.{result_map, or_fault};
-ghost use Rattle.flow_script.specs.ChainFormat as chains;
+ghost use Rattle.flow_script.specs.SourceFormat as sources;
 ghost use Rattle.flow_script.specs.Chains.{numbers_result, entries_result, source_result};
 
 use crate::fault::ScriptFault;
@@ -21,7 +21,7 @@ pub fn numbers_in(
     most: usize,
     list: &Value,
 ) -> Result<Vec<i64>, ScriptFault>
-    ensures { Gives (chains.numbers_in at most (view list.now)) (numbers_result result) }
+    ensures { Gives (sources.numbers_in at most (view list.now)) (numbers_result result) }
 {
     let Some(values) = list.as_array() else {
         return Err(ScriptFault::BadShape(at));
@@ -34,7 +34,7 @@ pub fn numbers_in(
 }
 
 fn whole_numbers(alloc: Global, at: u64, values: &[Value]) -> Result<Vec<i64>, ScriptFault>
-    ensures { Gives (or_fault (ScriptFault.BadShape at) (chains.whole_numbers (items_view values.now))) (numbers_result result) }
+    ensures { Gives (or_fault (ScriptFault.BadShape at) (sources.whole_numbers (items_view values.now))) (numbers_result result) }
 {
     let mut numbers = Vec::new(alloc);
     for value in values {
@@ -50,7 +50,7 @@ fn whole_numbers(alloc: Global, at: u64, values: &[Value]) -> Result<Vec<i64>, S
 
 /// An item, one turn that pends, or a fault.
 fn entry_of(value: &Value) -> Option<Entry<i64>>
-    ensures { result ≡ chains.entry_of (view value.now) }
+    ensures { result ≡ sources.entry_of (view value.now) }
 {
     if let Some(item) = value.as_i64() {
         return Some(Entry::Item(item));
@@ -70,7 +70,7 @@ fn entry_of(value: &Value) -> Option<Entry<i64>>
 }
 
 fn entries_of(alloc: Global, at: u64, values: &[Value]) -> Result<Vec<Entry<i64>>, ScriptFault>
-    ensures { Gives (or_fault (ScriptFault.BadShape at) (chains.entries_of (items_view values.now))) (entries_result result) }
+    ensures { Gives (or_fault (ScriptFault.BadShape at) (sources.entries_of (items_view values.now))) (entries_result result) }
 {
     let mut entries = Vec::new(alloc);
     for value in values {
@@ -85,7 +85,7 @@ fn entries_of(alloc: Global, at: u64, values: &[Value]) -> Result<Vec<Entry<i64>
 }
 
 fn list_source(alloc: Global, at: u64, list: &Value) -> Result<Source, ScriptFault>
-    ensures { Gives (chains.list_source at (view list.now)) (source_result result) }
+    ensures { Gives (sources.list_source at (view list.now)) (source_result result) }
 {
     let numbers = numbers_in(alloc, at, MOST_ITEMS, list)?;
     Ok(Source::List(OfList::new(numbers)))
@@ -93,7 +93,7 @@ fn list_source(alloc: Global, at: u64, list: &Value) -> Result<Source, ScriptFau
 
 /// The first and the last number of a range.
 fn bounds_of(values: &[Value]) -> Option<(i64, i64)>
-    ensures { result ≡ chains.bounds_of (items_view values.now) }
+    ensures { result ≡ sources.bounds_of (items_view values.now) }
 {
     if values.len() != 2 {
         return None;
@@ -105,13 +105,13 @@ fn bounds_of(values: &[Value]) -> Option<(i64, i64)>
 
 /// Whether a range has more numbers than it may.
 fn is_too_long(first: i64, last: i64) -> bool
-    ensures { result ≡ chains.is_too_long first last }
+    ensures { result ≡ sources.is_too_long first last }
 {
     first <= last && last.abs_diff(first) >= MOST_ITEMS as u64
 }
 
 fn range_source(at: u64, range: &Value) -> Result<Source, ScriptFault>
-    ensures { Gives (chains.range_source at (view range.now)) (source_result result) }
+    ensures { Gives (sources.range_source at (view range.now)) (source_result result) }
 {
     let Some(values) = range.as_array() else {
         return Err(ScriptFault::BadShape(at));
@@ -126,7 +126,7 @@ fn range_source(at: u64, range: &Value) -> Result<Source, ScriptFault>
 }
 
 fn scripted_source(alloc: Global, at: u64, script: &Value) -> Result<Source, ScriptFault>
-    ensures { Gives (chains.scripted_source at (view script.now)) (source_result result) }
+    ensures { Gives (sources.scripted_source at (view script.now)) (source_result result) }
 {
     let Some(values) = script.as_array() else {
         return Err(ScriptFault::BadShape(at));
@@ -139,7 +139,7 @@ fn scripted_source(alloc: Global, at: u64, script: &Value) -> Result<Source, Scr
 }
 
 pub fn source_in(alloc: Global, at: u64, source: &Value) -> Result<Source, ScriptFault>
-    ensures { Gives (chains.source_in at (view source.now)) (source_result result) }
+    ensures { Gives (sources.source_in at (view source.now)) (source_result result) }
 {
     if !has_members(source, 1) {
         return Err(ScriptFault::BadShape(at));

@@ -1,7 +1,8 @@
 use Rattle.std.proofs.Common.{◌-◌, ◌∙◌, ap, subst, sym, arith}
 use Rattle.serde_json.specs.View.{view, items_view}
 use Rattle.flow_script.specs.Checks.{Gives}
-use Rattle.flow_script.specs.ChainFormat.{chain_at, operator_at, operator_in, ops_on, start_of, source_in, joined_to}
+use Rattle.flow_script.specs.SourceFormat.{source_in}
+use Rattle.flow_script.specs.ChainFormat.{chain_at, operator_at, operator_in, ops_on, start_of, joined_to}
 use Rattle.flow_script.specs.Chains.{operator_build_result}
 use Rattle.flow_script.proofs.ChainLemmas.{operator-zip, operator-plain, chain-parts, ops-more}
 use Rattle.flow_script.proofs.read_chain.+chain.Goals as goal

@@ -1,7 +1,7 @@
 use Rattle.std.proofs.Common.{sym, ap, arith}
 use Rattle.flow_script.specs.declared.fault.ScriptFault.TheVariants.{BadShape}
 use Rattle.flow_script.specs.Results.{or_fault}
-use Rattle.flow_script.specs.ChainFormat.{entry_of}
+use Rattle.flow_script.specs.SourceFormat.{entry_of}
 use Rattle.flow_script.proofs.ChainLemmas.{all-none}
 use Rattle.flow_script.proofs.read_source.entries_of.Goals as goal
 
