@@ -1,7 +1,7 @@
 -- What the JSON text of a chain says, and what the chain gives.
 -- Begin with `chain_in`. A chain of the right form within its limits may still be refused when it is built: that is no
 -- fault of the script, but what its collection tells.
-use Rattle.std.specs.Prelude.{ℕ, zero, suc, ◌+◌, Bool, false, not, ◌==◌, nat_lt, max, if◌then◌else◌, ℤ, List, [], ◌∷◌, length, Option, Some, None, option_map, option_and_then, Result, Ok, Err, codes}
+use Rattle.std.specs.Prelude.{ℕ, zero, suc, ◌+◌, Bool, false, ◌==◌, nat_lt, max, if◌then◌else◌, ℤ, List, Option, Some, None, option_map, option_and_then, Result, Ok, Err, codes}
 use Rattle.std.specs.Option.{option_map_or}
 use Rattle.std.specs.Ordering.{int_eq}
 use Rattle.std.specs.Str.{bytes_eq}
