@@ -1,8 +1,10 @@
 -- Names of seats, and how the history that a token has seen grows. They hold of any kind of flow, whatever its events say.
 -- The first seat's name is empty; the j-th seat made through a seat has that seat's name followed by j.
-use Rattle.std.specs.Prelude.{◌≡◌, ◌≢◌, ◌⊎◌, ℕ, ◌<◌, ◌≤◌, List, [], ◌∷◌, ◌++◌}
+-- Begin with `Grows`: what one call adds to the history that its token has seen.
+use Rattle.std.specs.Prelude.{◌≡◌, ◌≢◌, ◌⊎◌, ℕ, ◌+◌, ◌≤◌, List, [], ◌∷◌, ◌++◌, map}
 use Rattle.std.specs.List.{AllByRecursion}
 use Rattle.flow_law.specs.declared.history.Event.{Event}
+use Rattle.flow_law.specs.declared.history.Knowledge.{Knowledge}
 
 -- ---- names
 
@@ -12,17 +14,17 @@ child_name name j = name ++ j ∷ []
 
 -- a name that begins with this one followed by j has j from 1 to the number of seats made through its seat
 abbrev pub IsMadeBy : List ℕ → ℕ → List ℕ → Type 0
-IsMadeBy name made other = (j : ℕ) (rest : List ℕ) → other ≡ name ++ j ∷ rest → (0 < j) × (j ≤ made)
-
--- two live seats have different names, and each one's rule of names allows the other
-abbrev pub AreApart : List ℕ → ℕ → List ℕ → ℕ → Type 0
-AreApart name made other made_by_other = (name ≢ other) × IsMadeBy name made other × IsMadeBy other made_by_other name
+IsMadeBy name made other = (j : ℕ) (rest : List ℕ) → other ≡ name ++ j ∷ rest → (1 ≤ j) × (j ≤ made)
 
 -- ---- histories
 
 module _ {E : Type 0} where
   abbrev pub event : List ℕ → E → Event E
   event name what = record { name = name; what = what }
+
+  -- the events that a token of this name adds
+  abbrev pub events_of : List ℕ → List E → List (Event E)
+  events_of name added = map (event name) added
 
   -- none of the events bears the name
   abbrev pub IsSilent : List ℕ → List (Event E) → Type 0
@@ -34,12 +36,45 @@ module _ {E : Type 0} where
 
   -- the later history is the earlier one, then events of others
   abbrev pub GrowsByOthers : List ℕ → List (Event E) → List (Event E) → Type 0
-  GrowsByOthers name earlier later = (between : List (Event E)) × IsSilent name between × (later ≡ earlier ++ between)
+  GrowsByOthers name earlier later = (between : List (Event E)) × (later ≡ earlier ++ between) × IsSilent name between
 
   -- the later history is the earlier one, then events of others, then the token's own event
   abbrev pub Grows : List ℕ → List (Event E) → E → List (Event E) → Type 0
-  Grows name earlier what later = (between : List (Event E)) × IsSilent name between × (later ≡ (earlier ++ between) ++ event name what ∷ [])
+  Grows name earlier what later = (between : List (Event E)) × (later ≡ (earlier ++ between) ++ event name what ∷ []) × IsSilent name between
 
-  -- one of two histories is the other's beginning
-  abbrev pub IsOneHistory : List (Event E) → List (Event E) → Type 0
-  IsOneHistory a b = ((more : List (Event E)) × (b ≡ a ++ more)) ⊎ ((more : List (Event E)) × (a ≡ b ++ more))
+  -- ---- what a token knows
+
+  abbrev pub knowledge : List ℕ → ℕ → ℕ → List (Event E) → Knowledge E
+  knowledge name made lost seen = record { name = name; made = made; lost = lost; seen = seen }
+
+  -- of the first seat
+  abbrev pub first_knowledge : Knowledge E
+  first_knowledge = knowledge [] 0 0 []
+
+  -- the history begins with what the token has seen, the rest is by others, and it keeps the token's rule of names
+  abbrev pub Fits : List (Event E) → Knowledge E → Type 0
+  Fits history k = GrowsByOthers k.name k.seen history × NamesOnlyMade k.name k.made history
+
+  -- the other has another name, which this one's rule of names allows
+  abbrev pub IsApartFrom : Knowledge E → Knowledge E → Type 0
+  IsApartFrom k other = (k.name ≢ other.name) × IsMadeBy k.name k.made other.name
+
+  -- the token has seen this history
+  abbrev pub sees : List (Event E) → Knowledge E → Knowledge E
+  sees history k = knowledge k.name k.made k.lost history
+
+  -- it has lost an exchange
+  abbrev pub loses : Knowledge E → Knowledge E
+  loses k = knowledge k.name k.made (k.lost + 1) k.seen
+
+  -- it has added events of its own
+  abbrev pub adds : List E → Knowledge E → Knowledge E
+  adds added k = knowledge k.name k.made k.lost (k.seen ++ events_of k.name added)
+
+  -- a seat was made through it
+  abbrev pub makes : Knowledge E → Knowledge E
+  makes k = knowledge k.name (k.made + 1) k.lost k.seen
+
+  -- what that seat knows: all that its maker had seen
+  abbrev pub child : Knowledge E → Knowledge E
+  child k = knowledge (child_name k.name (k.made + 1)) 0 0 k.seen

@@ -15,3 +15,15 @@ pub struct Said<C, R> {
     pub call: C,
     pub reply: R,
 }
+
+/// What a token of a flow for several threads knows. Contracts alone speak of it; no value of this type is made.
+pub struct Knowledge<E> {
+    /// The first seat's name is empty, and the j-th that is made through a seat has that seat's name followed by j.
+    pub name: LinkedList<u64>,
+    /// How many seats were made through it.
+    pub made: u64,
+    /// How many exchanges at the gate it lost.
+    pub lost: u64,
+    /// The history that it has seen.
+    pub seen: LinkedList<Event<E>>,
+}

@@ -19,7 +19,7 @@ pub use call::{SharedCall, SharedReply, StateCall, StateReply};
 pub use chain::{ChainFault, End};
 pub use config::{Config, Overflow};
 pub use fault::{FlowFault, Refused};
-pub use history::{Event, Said};
+pub use history::{Event, Knowledge, Said};
 pub use laws::{law_conflated, law_delivered, law_idle_since, law_no_idle_queue, law_turn_account};
 pub use outcome::{Emit, Next};
 pub use sharing::{Command, SharingObservation, Started};

@@ -1,0 +1,44 @@
+-- What each step at the gate tells its caller, and how the view of the caller's seat changes by it.
+use Rattle.std.specs.Prelude.{◌≡◌, ◌≢◌, ℕ, true, false, List, [], ◌∷◌, map, Option, Some, None}
+use Rattle.std.specs.List.{AllByRecursion}
+use Rattle.atomic_table.specs.Table.{Me, Step, rest}
+use Rattle.flow_law.specs.declared.history.Event.{Event}
+use Rattle.flow_law.specs.declared.history.Knowledge.{Knowledge}
+use Rattle.flow_law.specs.Growth.{Fits, sees, loses, adds}
+use Rattle.flow_gate.specs.declared.view.SeatView.{SeatView}
+use Rattle.flow_gate.specs.View.{seat_view}
+
+module _ {E : Type 0} where
+  -- a joined view has what two tokens know. Its two parts
+  abbrev pub first_of : List (Knowledge E) → List (Knowledge E)
+  first_of [] = []
+  first_of (k ∷ ks) = k ∷ []
+
+  abbrev pub others_of : List (Knowledge E) → List (Knowledge E)
+  others_of [] = []
+  others_of (k ∷ ks) = ks
+
+  -- for which histories a state stands, where the first state may not be known
+  abbrev pub stands_from : {S F : Type 0} → (F → S → List (Event E) → Type 0) → Option F → S → List (Event E) → Type 0
+  stands_from stands (Some first) state history = stands first state history
+  stands_from stands None state history = Unit {0}
+
+  module _ {S : Type 0} (stands : S → List (Event E) → Type 0) where
+    abbrev pub Pass : Type 0
+    Pass = Me (Option S) (SeatView E)
+
+    -- the gate was free, and the seat has the state with the history that it stands for; or the exchange was lost
+    abbrev pub entered : Step (Option S) → Pass → ℕ → Pass → Type 0
+    entered step before found after =
+        (found ≡ 0 → (history : List (Event E)) × (state : S) × stands state history × AllByRecursion (Fits history) before.0.known
+        × (after ≡ (seat_view (map (sees history) before.0.known) true, (0, Some state) ∷ before.1)))
+        × (found ≢ 0 → after ≡ (seat_view (map loses before.0.known) false, before.1))
+
+    -- the history so far was seen, and some state stands for it
+    abbrev pub observed : Step (Option S) → Pass → ℕ → Pass → Type 0
+    observed step before found after =
+        (history : List (Event E)) × (state : S) × stands state history × AllByRecursion (Fits history) before.0.known × (after ≡ (seat_view (map (sees history) before.0.known) before.0.holds, before.1))
+
+  -- the state is at home, with what the seat adds
+  abbrev pub left : {S : Type 0} → List E → Step (Option S) → Me (Option S) (SeatView E) → ℕ → Me (Option S) (SeatView E) → Type 0
+  left added step before found after = after ≡ (seat_view (map (adds added) before.0.known) false, rest before.1)

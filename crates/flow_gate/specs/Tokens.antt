@@ -1,0 +1,82 @@
+-- What contracts see of a seat, of a gate and of who is inside.
+use Rattle.std.specs.Prelude.{◌≡◌, ℕ, false, true, List, [], ◌∷◌, Option, None}
+use Rattle.atomic_table.specs.Seated.{TableId}
+use Rattle.atomic_table.specs.declared.shared.Seat.{Seat as TableSeat}
+use Rattle.flow_law.specs.declared.history.Event.{Event}
+use Rattle.flow_law.specs.declared.history.Knowledge.{Knowledge}
+use Rattle.flow_law.specs.Growth.{Fits, knowledge, first_knowledge, sees}
+use Rattle.flow_gate.specs.declared.view.SeatView.{SeatView}
+use Rattle.flow_gate.specs.View.{seat_view}
+
+-- a seat: its gate, and what it knows
+pub record Token (E : Type 0) : Type 0 where
+  pub table_id : TableId
+  pub knows : Knowledge E
+
+-- a gate: which one it is, and the state that it began with
+pub record Origin (S : Type 0) : Type 0 where
+  pub table_id : TableId
+  pub first : S
+
+-- who is inside has the state too
+pub record HeldState (S E : Type 0) : Type 0 where
+  pub first : S
+  pub token : Token E
+  pub state : S
+
+abbrev pub only_known : {E : Type 0} → List (Knowledge E) → Knowledge E
+only_known [] = first_knowledge
+only_known (k ∷ ks) = k
+
+abbrev pub origin : {S : Type 0} → TableId → S → Origin S
+origin id first = record { table_id = id; first = first }
+
+module _ {E : Type 0} where
+  abbrev pub token : TableId → Knowledge E → Token E
+  token id knows = record { table_id = id; knows = knows }
+
+  -- the same seat, which knows this
+  abbrev pub knowing : Token E → Knowledge E → Token E
+  knowing t knows = token t.table_id knows
+
+module _ {S E : Type 0} where
+  abbrev pub token_of : TableSeat (Option S) (SeatView E) → Token E
+  token_of s = token s.table_id (only_known s.me.0.known)
+
+  -- the seat is one token's, and holds nothing
+  abbrev pub IsIdle : TableSeat (Option S) (SeatView E) → Type 0
+  IsIdle s = s.me ≡ (seat_view (only_known s.me.0.known ∷ []) false, [])
+
+  -- the seat is one token's, and holds the state's slot, which is empty
+  abbrev pub IsInside : TableSeat (Option S) (SeatView E) → Type 0
+  IsInside s = s.me ≡ (seat_view (only_known s.me.0.known ∷ []) true, (0, None) ∷ [])
+
+  abbrev pub held_state : S → Token E → S → HeldState S E
+  held_state first t state = record { first = first; token = t; state = state }
+
+module _ {S E : Type 0} (stands : S → S → List (Event E) → Type 0) (gate : Origin S) where
+  -- Who enters finds a state that stands for a history. It begins with all that the token had seen and goes on with
+  -- events of others, within the token's rule of names; the token has seen it from then on.
+  pub record Finds (before : Token E) (held : HeldState S E) : Type 0 where
+    pub history : List (Event E)
+    pub stood : stands gate.first held.state history
+    pub fits : Fits history before.knows
+    pub first : held.first ≡ gate.first
+    pub token : held.token ≡ knowing before (knowledge before.knows.name before.knows.made held.token.knows.lost history)
+
+  -- Two tokens meet: both have then seen one history, for which some state stood, and which fits what each had seen.
+  pub record Meets (one other one_after other_after : Token E) : Type 0 where
+    pub history : List (Event E)
+    pub stood : (state : S) × stands gate.first state history
+    pub fits_one : Fits history one.knows
+    pub fits_other : Fits history other.knows
+    pub sees_one : one_after ≡ knowing one (sees history one.knows)
+    pub sees_other : other_after ≡ knowing other (sees history other.knows)
+
+  -- the state stands for a history
+  abbrev pub StandsForSome : S → Type 0
+  StandsForSome state = (history : List (Event E)) × stands gate.first state history
+
+  -- the state stands for a history that fits what the token has seen
+  abbrev pub StandsAfter : Token E → S → Type 0
+  StandsAfter t state = (history : List (Event E)) × stands gate.first state history × Fits history t.knows

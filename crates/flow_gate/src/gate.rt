@@ -1,0 +1,160 @@
+//! The gate.
+ghost use Rattle.std.specs.Prelude.{◌≡◌, ◌≤◌, [], Some, IfOk, IfErr, IfSome};
+ghost use Rattle.flow_law.specs.Growth.{first_knowledge, loses, makes, child};
+ghost use Rattle.flow_gate.specs.Tokens.{knowing, Finds, Meets, StandsForSome, StandsAfter};
+
+use crate::held::Held;
+use crate::steps::{Enter, GateRule, Make, Meet, Observe, Part, StartsFrom};
+use crate::token::Seat;
+use crate::view::{Guarded, SeatView};
+use atomic_table::{Refused, Table};
+use std::alloc::{AllocFailed, Global};
+use std::marker::{Brand, Model};
+use std::snapshot::Snapshot;
+use std::sync::Wait;
+use std::thread;
+
+/// How often `enter` tries before it lets other threads go first.
+const TRIES: u32 = 16;
+
+/// A lock whose state stands for a history, of which each seat has seen a beginning.
+#[derive(Drop)]
+pub struct Gate<S: Guarded> {
+    pub(crate) table: Table<Option<S>, SeatView<S::Said>, Snapshot<S>, GateRule, Global>,
+}
+
+impl<S: Guarded> Model for Gate<S> {
+    ghost use Rattle.std.specs.Prelude.{◌≡◌};
+    ghost use Rattle.flow_gate.specs.Tokens.{Origin, origin};
+
+    ghost Value = { Origin S };
+
+    ghost view = { λ g. origin g.table.shared.table_id g.table.shared.key.value };
+
+    ghost invariant = { λ g. (g.table.shared.table_id.words ≡ 1) × (g.table.shared.table_id.slots ≡ 1) };
+}
+
+impl<S: Guarded + Drop> Gate<S> {
+    /// A gate with this state, and its first seat. Where memory is wanted, the state comes back.
+    pub fn new(alloc: Global, state: S) -> Result<(Gate<S>, Seat<S>), AllocFailed<S>>
+        requires { S.stands state state [] }
+        ensures made { IfOk result (λ r. (r.0.first ≡ state) × (r.1.table_id ≡ r.0.table_id) × (r.1.knows ≡ first_knowledge)) }
+        ensures handed_back { IfErr result (λ failed. failed.value ≡ state) }
+    {
+        let first = Snapshot::of(&state);
+        let mut slots = match Vec::with_capacity(alloc, 1) {
+            Ok(slots) => slots,
+            Err(_) => return Err(AllocFailed { value: state }),
+        };
+        slots.push_reserved(Some(state));
+        match Table::new(alloc, &[0], slots, &first) {
+            Ok((table, seat)) => Ok((Gate { table }, Seat { seat })),
+            Err(Refused { mut slots }) => Err(AllocFailed {
+                value: slots.pop().unwrap().unwrap(),
+            }),
+        }
+    }
+
+    fn try_enter_at<B: StartsFrom<S>>(&self, seat: Seat<S>) -> Result<Held<'_, S>, Seat<S>>
+        requires gate { seat.table_id ≡ self.now.table_id }
+        requires first { B.first ≡ Some self.now.first }
+        ensures found { IfOk result (λ held. Finds S.stands self.now seat held × (held.token.knows.lost ≡ seat.knows.lost)) }
+        ensures lost { IfErr result (λ back. back ≡ knowing seat (loses seat.knows)) }
+    {
+        let Seat { mut seat } = seat;
+        let found = self
+            .table
+            .shared
+            .compare_exchange::<Enter<B>>(&mut seat, 0, 0, 1);
+        if found == 0 {
+            let state = self.table.shared.exchange(&mut seat, 0, None).unwrap();
+            Ok(Held {
+                gate: self,
+                seat,
+                state,
+            })
+        } else {
+            Err(Seat { seat })
+        }
+    }
+
+    /// Enters, if nobody is inside. Where somebody is, the seat comes back and has counted one exchange that it lost.
+    pub fn try_enter(&self, seat: Seat<S>) -> Result<Held<'_, S>, Seat<S>>
+        requires { seat.table_id ≡ self.now.table_id }
+        ensures found { IfOk result (λ held. Finds S.stands self.now seat held × (held.token.knows.lost ≡ seat.knows.lost)) }
+        ensures lost { IfErr result (λ back. back ≡ knowing seat (loses seat.knows)) }
+    {
+        self.try_enter_at::<Brand>(seat)
+    }
+
+    /// Enters, and waits where somebody is inside: after some tries it lets other threads go first, and tries again.
+    ///
+    /// Nothing says that it ever wins: who is inside may stay, and others may be faster.
+    pub fn enter<R: Wait>(&self, rt: &R, seat: Seat<S>) -> Held<'_, S>
+        requires { seat.table_id ≡ self.now.table_id }
+        ensures found { Finds S.stands self.now seat result }
+        ensures lost { seat.knows.lost ≤ result.token.knows.lost }
+    {
+        let mut seat = seat;
+        let mut tries: u32 = 0;
+        for _ in rt.forever() {
+            match self.try_enter(seat) {
+                Ok(held) => return held,
+                Err(back) => seat = back,
+            }
+            tries += 1;
+            if tries >= TRIES {
+                tries = 0;
+                thread::yield_now();
+            }
+        }
+        unreachable!()
+    }
+
+    /// Makes a seat through another, which counts it. The new one has seen what its maker had seen.
+    pub fn seat(&self, seat: &mut Seat<S>) -> Seat<S>
+        requires { seat.old.table_id ≡ self.now.table_id }
+        ensures maker { seat.new ≡ knowing seat.old (makes seat.old.knows) }
+        ensures made { result ≡ knowing seat.old (child seat.old.knows) }
+    {
+        Seat {
+            seat: self.table.shared.split_seat::<Make>(&mut seat.seat),
+        }
+    }
+
+    fn meet_at<B: StartsFrom<S>>(&self, one: Seat<S>, other: Seat<S>) -> (Seat<S>, Seat<S>)
+        requires gate { (one.table_id ≡ self.now.table_id) × (other.table_id ≡ self.now.table_id) }
+        requires first { B.first ≡ Some self.now.first }
+        ensures { Meets S.stands self.now one other result.0 result.1 }
+    {
+        let Seat { seat: mut both } = one;
+        let Seat { seat } = other;
+        let shared = &self.table.shared;
+        shared.join_seat::<Meet>(&mut both, seat);
+        shared.load::<Observe<B>>(&mut both, 0);
+        let seat = shared.split_seat::<Part>(&mut both);
+        (Seat { seat: both }, Seat { seat })
+    }
+
+    /// Makes what two seats have seen one history: both have then seen the history so far.
+    ///
+    /// Call it where what one caller did is to count for the other, as after a thread has ended.
+    pub fn meet(&self, one: Seat<S>, other: Seat<S>) -> (Seat<S>, Seat<S>)
+        requires { (one.table_id ≡ self.now.table_id) × (other.table_id ≡ self.now.table_id) }
+        ensures { Meets S.stands self.now one other result.0 result.1 }
+    {
+        self.meet_at::<Brand>(one, other)
+    }
+
+    /// The state, or `None` where it is out because somebody who entered never left.
+    pub fn close(self) -> Option<S>
+        ensures { IfSome result (StandsForSome S.stands self) }
+    {
+        let Gate { table } = self;
+        let mut closed = table.close();
+        let is_free = closed.word(0) == 0;
+        let state = closed.take(0);
+        closed.free();
+        if is_free { state } else { None }
+    }
+}

@@ -1,0 +1,71 @@
+//! Who is inside a gate.
+ghost use Rattle.std.specs.Prelude.{◌≡◌, ◌++◌};
+ghost use Rattle.flow_law.specs.Growth.{adds, events_of};
+ghost use Rattle.flow_gate.specs.Tokens.{knowing};
+
+use crate::gate::Gate;
+use crate::steps::{Adds, Leave};
+use crate::token::Seat;
+use crate::view::{Guarded, SeatView};
+use std::marker::Model;
+
+/// Who is inside, with the state. It has no `Drop`: who entered must `leave`.
+pub struct Held<'a, S: Guarded> {
+    pub(crate) gate: &'a Gate<S>,
+    pub(crate) seat: atomic_table::Seat<Option<S>, SeatView<S::Said>>,
+    pub(crate) state: S,
+}
+
+impl<'a, S: Guarded> Model for Held<'a, S> {
+    ghost use Rattle.std.specs.Prelude.{◌≡◌};
+    ghost use Rattle.flow_gate.specs.Tokens.{HeldState, held_state, token_of, IsInside};
+
+    ghost Value = { HeldState S S.Said };
+
+    ghost view = { λ h. held_state h.gate.now.first (token_of h.seat) h.state };
+
+    ghost invariant = { λ h. IsInside h.seat × (h.seat.table_id ≡ h.gate.now.table_id) };
+}
+
+impl<'a, S: Guarded> Held<'a, S> {
+    ghost use Rattle.std.specs.Prelude.{◌≡◌, ◌++◌};
+    ghost use Rattle.std.specs.Borrow.{sem};
+    ghost use Rattle.flow_law.specs.Growth.{adds, events_of};
+    ghost use Rattle.flow_gate.specs.Tokens.{knowing};
+    ghost use Rattle.flow_gate.specs.Lending.{LendsState};
+
+    /// The state, which may be changed while it is lent.
+    pub fn state(&mut self) -> &mut S
+        ensures* writes_back { sem 𝓛 (LendsState S.row S.Said.row S.Guarded self.entry result) }
+        ensures value { result.now ≡ self.old.state }
+    {
+        &mut self.state
+    }
+
+    /// Puts the state back, where the events that were added are those of `W`, a type of one's own.
+    pub fn leave_adding<W: Adds<S::Said>>(self) -> Seat<S>
+        requires { S.stands self.first self.state (self.token.knows.seen ++ events_of self.token.knows.name W.adds) }
+        ensures { result ≡ knowing self.entry.token (adds W.adds self.entry.token.knows) }
+    {
+        let Held {
+            gate,
+            mut seat,
+            state,
+        } = self;
+        match gate.table.shared.exchange(&mut seat, 0, Some(state)) {
+            None => {}
+            Some(_) => unreachable!(),
+        }
+        gate.table.shared.store::<Leave<W>>(&mut seat, 0, 0);
+        Seat { seat }
+    }
+
+    /// Puts the state back. At `Brand` the caller's proof says which events were added; it may speak of what lies
+    /// behind `evidence`, such as the call's argument and its answer.
+    pub fn leave<W: Adds<S::Said>, X>(self, _evidence: &X) -> Seat<S>
+        requires { S.stands self.first self.state (self.token.knows.seen ++ events_of self.token.knows.name W.adds) }
+        ensures { result ≡ knowing self.entry.token (adds W.adds self.entry.token.knows) }
+    {
+        self.leave_adding::<W>()
+    }
+}

@@ -1,0 +1,92 @@
+//! The rule of the table, and what its steps tell. Nothing here runs.
+ghost use Rattle.std.specs.Prelude.{List, [], ◌++◌, map, false, Option, None};
+ghost use Rattle.flow_law.specs.Growth.{makes, child};
+ghost use Rattle.flow_gate.specs.View.{first_view, seat_view};
+ghost use Rattle.flow_gate.specs.Rule.{GateHolds};
+ghost use Rattle.flow_gate.specs.Steps.{stands_from, entered, observed, left, first_of, others_of};
+
+use crate::view::{Guarded, SeatView};
+use atomic_table::{Join, Play, Split, TableRule};
+use std::marker::{Brand, PhantomData};
+use std::snapshot::Snapshot;
+
+/// The events that a call adds to the history, for contracts alone. A call at `Brand` picks them in its proof.
+pub trait Adds<E> {
+    ghost adds: { List E };
+}
+
+impl<E> Adds<E> for Brand {
+    ghost adds = { [] };
+}
+
+/// The rule of a gate's table.
+pub struct GateRule;
+
+impl<S: Guarded> TableRule<Option<S>, SeatView<S::Said>, Snapshot<S>> for GateRule {
+    ghost holds = { λ first. GateHolds (S.stands first.value) };
+
+    ghost first = { λ _. first_view };
+}
+
+/// The state that the gate began with, which a step does not see by itself. A call at `Brand` picks it.
+pub(crate) trait StartsFrom<F> {
+    ghost first: { Option F };
+}
+
+impl<F> StartsFrom<F> for Brand {
+    ghost first = { None };
+}
+
+/// The exchange from free to taken.
+pub(crate) struct Enter<B> {
+    starts: PhantomData<B>,
+}
+
+impl<S: Guarded, B: StartsFrom<S>> Play<Option<S>, SeatView<S::Said>> for Enter<B> {
+    ghost then = { entered (stands_from S.stands B.first) };
+}
+
+/// A load, by which a joined view sees the whole history so far.
+pub(crate) struct Observe<B> {
+    starts: PhantomData<B>,
+}
+
+impl<S: Guarded, B: StartsFrom<S>> Play<Option<S>, SeatView<S::Said>> for Observe<B> {
+    ghost then = { observed (stands_from S.stands B.first) };
+}
+
+/// The store of free.
+pub struct Leave<W> {
+    adds: PhantomData<W>,
+}
+
+impl<S, E, W: Adds<E>> Play<Option<S>, SeatView<E>> for Leave<W> {
+    ghost then = { left W.adds };
+}
+
+/// A seat is made through another.
+pub struct Make;
+
+impl<E> Split<SeatView<E>> for Make {
+    ghost left = { λ v. seat_view (map makes v.known) v.holds };
+
+    ghost right = { λ v. seat_view (map child v.known) false };
+}
+
+/// Two seats meet in one view.
+pub struct Meet;
+
+impl<E> Join<SeatView<E>> for Meet {
+    ghost both = { λ v w. seat_view (v.known ++ w.known) false };
+
+    ghost spent = { seat_view [] false };
+}
+
+/// They part again.
+pub struct Part;
+
+impl<E> Split<SeatView<E>> for Part {
+    ghost left = { λ v. seat_view (first_of v.known) false };
+
+    ghost right = { λ v. seat_view (others_of v.known) false };
+}
