@@ -1,3 +1,3 @@
 pub mod Places
 pub mod Keeps
-pub mod Closing
+pub mod Opening

@@ -3,10 +3,11 @@ use mir.Syntax.{named}
 use denote.RattleType.{RattleType}
 use Rattle.std.specs.Prelude.{[]}
 use Rattle.std.specs.Borrow.{Lends, MutBor, Fml}
+use Rattle.std.specs.declared.alloc.Allocator.{Ghosts as AllocatorGhosts}
 use Rattle.flow_gate.specs.declared.view.Guarded.{Ghosts}
 use Rattle.flow_gate.specs.Tokens.{HeldState, held_state}
 use Rattle.flow_gate.specs.contracts.held.Held.{the_row}
 
 -- who is inside ends with the last value behind r. The lifetime of its gate is the second of the signature
-abbrev pub LendsState : (S E : RattleType) → Ghosts S.Denot E.Denot → MutBor (HeldState S.Denot E.Denot) → MutBor S.Denot → Fml
-LendsState S E g h r = Lends (the_row (record { mir = named 1; lft = [] }) S E g) S h r (λ w. held_state h.now.first h.now.token w)
+abbrev pub LendsState : (S A E : RattleType) → Ghosts S.Denot E.Denot → AllocatorGhosts A.Denot → MutBor (HeldState S.Denot E.Denot) → MutBor S.Denot → Fml
+LendsState S A E g a h r = Lends (the_row (record { mir = named 1; lft = [] }) S A E g a) S h r (λ w. held_state h.now.first h.now.token w)

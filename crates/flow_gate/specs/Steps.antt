@@ -1,5 +1,5 @@
 -- What each step at the gate tells its caller, and how the view of the caller's seat changes by it.
-use Rattle.std.specs.Prelude.{◌≡◌, ◌≢◌, ℕ, true, false, List, [], ◌∷◌, map, Option, Some, None}
+use Rattle.std.specs.Prelude.{◌≡◌, ◌≢◌, ℕ, true, false, List, [], ◌∷◌, map, Option, Some, None, Box}
 use Rattle.std.specs.List.{AllByRecursion}
 use Rattle.atomic_table.specs.Table.{Me, Step, rest}
 use Rattle.flow_law.specs.declared.history.Event.{Event}
@@ -17,6 +17,10 @@ module _ {E : Type 0} where
   abbrev pub others_of : List (Knowledge E) → List (Knowledge E)
   others_of [] = []
   others_of (k ∷ ks) = ks
+
+  -- the state lies in a box, so that what is moved in and out of the slot is small
+  abbrev pub boxed : {S A : Type 0} → (S → S → List (Event E) → Type 0) → S → Box S A → List (Event E) → Type 0
+  boxed stands first state history = stands first state.value history
 
   -- for which histories a state stands, where the first state may not be known
   abbrev pub stands_from : {S F : Type 0} → (F → S → List (Event E) → Type 0) → Option F → S → List (Event E) → Type 0

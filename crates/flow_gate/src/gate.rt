@@ -8,7 +8,7 @@ use crate::steps::{Enter, GateRule, Make, Meet, Observe, Part, StartsFrom};
 use crate::token::Seat;
 use crate::view::{Guarded, SeatView};
 use atomic_table::{Refused, Table};
-use std::alloc::{AllocFailed, Global};
+use std::alloc::{AllocFailed, Allocator, Global};
 use std::marker::{Brand, Model};
 use std::snapshot::Snapshot;
 use std::sync::Wait;
@@ -19,11 +19,11 @@ const TRIES: u32 = 16;
 
 /// A lock whose state stands for a history, of which each seat has seen a beginning.
 #[derive(Drop)]
-pub struct Gate<S: Guarded> {
-    pub(crate) table: Table<Option<S>, SeatView<S::Said>, Snapshot<S>, GateRule, Global>,
+pub struct Gate<S: Guarded, A: Allocator = Global> {
+    pub(crate) table: Table<Option<Box<S, A>>, SeatView<S::Said>, Snapshot<S>, GateRule, A>,
 }
 
-impl<S: Guarded> Model for Gate<S> {
+impl<S: Guarded, A: Allocator> Model for Gate<S, A> {
     ghost use Rattle.std.specs.Prelude.{◌≡◌};
     ghost use Rattle.flow_gate.specs.Tokens.{Origin, origin};
 
@@ -34,28 +34,33 @@ impl<S: Guarded> Model for Gate<S> {
     ghost invariant = { λ g. (g.table.shared.table_id.words ≡ 1) × (g.table.shared.table_id.slots ≡ 1) };
 }
 
-impl<S: Guarded + Drop> Gate<S> {
+impl<S: Guarded + Drop, A: Allocator + Copy> Gate<S, A> {
     /// A gate with this state, and its first seat. Where memory is wanted, the state comes back.
-    pub fn new(alloc: Global, state: S) -> Result<(Gate<S>, Seat<S>), AllocFailed<S>>
+    pub fn new(alloc: A, state: S) -> Result<(Gate<S, A>, Seat<S, A>), AllocFailed<S>>
         requires { S.stands state state [] }
         ensures made { IfOk result (λ r. (r.0.first ≡ state) × (r.1.table_id ≡ r.0.table_id) × (r.1.knows ≡ first_knowledge)) }
         ensures handed_back { IfErr result (λ failed. failed.value ≡ state) }
     {
         let first = Snapshot::of(&state);
+        let state = Box::new(alloc, state)?;
         let mut slots = match Vec::with_capacity(alloc, 1) {
             Ok(slots) => slots,
-            Err(_) => return Err(AllocFailed { value: state }),
+            Err(_) => {
+                return Err(AllocFailed {
+                    value: Box::into_inner(state),
+                });
+            }
         };
         slots.push_reserved(Some(state));
         match Table::new(alloc, &[0], slots, &first) {
             Ok((table, seat)) => Ok((Gate { table }, Seat { seat })),
             Err(Refused { mut slots }) => Err(AllocFailed {
-                value: slots.pop().unwrap().unwrap(),
+                value: Box::into_inner(slots.pop().unwrap().unwrap()),
             }),
         }
     }
 
-    fn try_enter_at<B: StartsFrom<S>>(&self, seat: Seat<S>) -> Result<Held<'_, S>, Seat<S>>
+    fn try_enter_at<B: StartsFrom<S>>(&self, seat: Seat<S, A>) -> Result<Held<'_, S, A>, Seat<S, A>>
         requires gate { seat.table_id ≡ self.now.table_id }
         requires first { B.first ≡ Some self.now.first }
         ensures found { IfOk result (λ held. Finds S.stands self.now seat held × (held.token.knows.lost ≡ seat.knows.lost)) }
@@ -79,7 +84,7 @@ impl<S: Guarded + Drop> Gate<S> {
     }
 
     /// Enters, if nobody is inside. Where somebody is, the seat comes back and has counted one exchange that it lost.
-    pub fn try_enter(&self, seat: Seat<S>) -> Result<Held<'_, S>, Seat<S>>
+    pub fn try_enter(&self, seat: Seat<S, A>) -> Result<Held<'_, S, A>, Seat<S, A>>
         requires { seat.table_id ≡ self.now.table_id }
         ensures found { IfOk result (λ held. Finds S.stands self.now seat held × (held.token.knows.lost ≡ seat.knows.lost)) }
         ensures lost { IfErr result (λ back. back ≡ knowing seat (loses seat.knows)) }
@@ -90,7 +95,7 @@ impl<S: Guarded + Drop> Gate<S> {
     /// Enters, and waits where somebody is inside: after some tries it lets other threads go first, and tries again.
     ///
     /// Nothing says that it ever wins: who is inside may stay, and others may be faster.
-    pub fn enter<R: Wait>(&self, rt: &R, seat: Seat<S>) -> Held<'_, S>
+    pub fn enter<R: Wait>(&self, rt: &R, seat: Seat<S, A>) -> Held<'_, S, A>
         requires { seat.table_id ≡ self.now.table_id }
         ensures found { Finds S.stands self.now seat result }
         ensures lost { seat.knows.lost ≤ result.token.knows.lost }
@@ -112,7 +117,7 @@ impl<S: Guarded + Drop> Gate<S> {
     }
 
     /// Makes a seat through another, which counts it. The new one has seen what its maker had seen.
-    pub fn seat(&self, seat: &mut Seat<S>) -> Seat<S>
+    pub fn seat(&self, seat: &mut Seat<S, A>) -> Seat<S, A>
         requires { seat.old.table_id ≡ self.now.table_id }
         ensures maker { seat.new ≡ knowing seat.old (makes seat.old.knows) }
         ensures made { result ≡ knowing seat.old (child seat.old.knows) }
@@ -122,7 +127,7 @@ impl<S: Guarded + Drop> Gate<S> {
         }
     }
 
-    fn meet_at<B: StartsFrom<S>>(&self, one: Seat<S>, other: Seat<S>) -> (Seat<S>, Seat<S>)
+    fn meet_at<B: StartsFrom<S>>(&self, one: Seat<S, A>, other: Seat<S, A>) -> (Seat<S, A>, Seat<S, A>)
         requires gate { (one.table_id ≡ self.now.table_id) × (other.table_id ≡ self.now.table_id) }
         requires first { B.first ≡ Some self.now.first }
         ensures { Meets S.stands self.now one other result.0 result.1 }
@@ -139,7 +144,7 @@ impl<S: Guarded + Drop> Gate<S> {
     /// Makes what two seats have seen one history: both have then seen the history so far.
     ///
     /// Call it where what one caller did is to count for the other, as after a thread has ended.
-    pub fn meet(&self, one: Seat<S>, other: Seat<S>) -> (Seat<S>, Seat<S>)
+    pub fn meet(&self, one: Seat<S, A>, other: Seat<S, A>) -> (Seat<S, A>, Seat<S, A>)
         requires { (one.table_id ≡ self.now.table_id) × (other.table_id ≡ self.now.table_id) }
         ensures { Meets S.stands self.now one other result.0 result.1 }
     {
@@ -155,6 +160,10 @@ impl<S: Guarded + Drop> Gate<S> {
         let is_free = closed.word(0) == 0;
         let state = closed.take(0);
         closed.free();
-        if is_free { state } else { None }
+        if is_free {
+            Some(Box::into_inner(state?))
+        } else {
+            None
+        }
     }
 }

@@ -7,27 +7,28 @@ use crate::gate::Gate;
 use crate::steps::{Adds, Leave};
 use crate::token::Seat;
 use crate::view::{Guarded, SeatView};
+use std::alloc::{Allocator, Global};
 use std::marker::Model;
 
 /// Who is inside, with the state. It has no `Drop`: who entered must `leave`.
-pub struct Held<'a, S: Guarded> {
-    pub(crate) gate: &'a Gate<S>,
-    pub(crate) seat: atomic_table::Seat<Option<S>, SeatView<S::Said>>,
-    pub(crate) state: S,
+pub struct Held<'a, S: Guarded, A: Allocator = Global> {
+    pub(crate) gate: &'a Gate<S, A>,
+    pub(crate) seat: atomic_table::Seat<Option<Box<S, A>>, SeatView<S::Said>>,
+    pub(crate) state: Box<S, A>,
 }
 
-impl<'a, S: Guarded> Model for Held<'a, S> {
+impl<'a, S: Guarded, A: Allocator> Model for Held<'a, S, A> {
     ghost use Rattle.std.specs.Prelude.{◌≡◌};
     ghost use Rattle.flow_gate.specs.Tokens.{HeldState, held_state, token_of, IsInside};
 
     ghost Value = { HeldState S S.Said };
 
-    ghost view = { λ h. held_state h.gate.now.first (token_of h.seat) h.state };
+    ghost view = { λ h. held_state h.gate.now.first (token_of h.seat) h.state.value };
 
     ghost invariant = { λ h. IsInside h.seat × (h.seat.table_id ≡ h.gate.now.table_id) };
 }
 
-impl<'a, S: Guarded> Held<'a, S> {
+impl<'a, S: Guarded, A: Allocator> Held<'a, S, A> {
     ghost use Rattle.std.specs.Prelude.{◌≡◌, ◌++◌};
     ghost use Rattle.std.specs.Borrow.{sem};
     ghost use Rattle.flow_law.specs.Growth.{adds, events_of};
@@ -36,14 +37,14 @@ impl<'a, S: Guarded> Held<'a, S> {
 
     /// The state, which may be changed while it is lent.
     pub fn state(&mut self) -> &mut S
-        ensures* writes_back { sem 𝓛 (LendsState S.row S.Said.row S.Guarded self.entry result) }
+        ensures* writes_back { sem 𝓛 (LendsState S.row A.row S.Said.row S.Guarded A.Allocator self.entry result) }
         ensures value { result.now ≡ self.old.state }
     {
-        &mut self.state
+        &mut *self.state
     }
 
     /// Puts the state back, where the events that were added are those of `W`, a type of one's own.
-    pub fn leave_adding<W: Adds<S::Said>>(self) -> Seat<S>
+    pub fn leave_adding<W: Adds<S::Said>>(self) -> Seat<S, A>
         requires { S.stands self.first self.state (self.token.knows.seen ++ events_of self.token.knows.name W.adds) }
         ensures { result ≡ knowing self.entry.token (adds W.adds self.entry.token.knows) }
     {
@@ -62,7 +63,7 @@ impl<'a, S: Guarded> Held<'a, S> {
 
     /// Puts the state back. At `Brand` the caller's proof says which events were added; it may speak of what lies
     /// behind `evidence`, such as the call's argument and its answer.
-    pub fn leave<W: Adds<S::Said>, X>(self, _evidence: &X) -> Seat<S>
+    pub fn leave<W: Adds<S::Said>, X>(self, _evidence: &X) -> Seat<S, A>
         requires { S.stands self.first self.state (self.token.knows.seen ++ events_of self.token.knows.name W.adds) }
         ensures { result ≡ knowing self.entry.token (adds W.adds self.entry.token.knows) }
     {

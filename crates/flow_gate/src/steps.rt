@@ -3,10 +3,11 @@ ghost use Rattle.std.specs.Prelude.{List, [], ◌++◌, map, false, Option, None
 ghost use Rattle.flow_law.specs.Growth.{makes, child};
 ghost use Rattle.flow_gate.specs.View.{first_view, seat_view};
 ghost use Rattle.flow_gate.specs.Rule.{GateHolds};
-ghost use Rattle.flow_gate.specs.Steps.{stands_from, entered, observed, left, first_of, others_of};
+ghost use Rattle.flow_gate.specs.Steps.{boxed, stands_from, entered, observed, left, first_of, others_of};
 
 use crate::view::{Guarded, SeatView};
 use atomic_table::{Join, Play, Split, TableRule};
+use std::alloc::Allocator;
 use std::marker::{Brand, PhantomData};
 use std::snapshot::Snapshot;
 
@@ -22,8 +23,8 @@ impl<E> Adds<E> for Brand {
 /// The rule of a gate's table.
 pub struct GateRule;
 
-impl<S: Guarded> TableRule<Option<S>, SeatView<S::Said>, Snapshot<S>> for GateRule {
-    ghost holds = { λ first. GateHolds (S.stands first.value) };
+impl<S: Guarded, A: Allocator> TableRule<Option<Box<S, A>>, SeatView<S::Said>, Snapshot<S>> for GateRule {
+    ghost holds = { λ first. GateHolds (boxed S.stands first.value) };
 
     ghost first = { λ _. first_view };
 }
@@ -42,8 +43,8 @@ pub(crate) struct Enter<B> {
     starts: PhantomData<B>,
 }
 
-impl<S: Guarded, B: StartsFrom<S>> Play<Option<S>, SeatView<S::Said>> for Enter<B> {
-    ghost then = { entered (stands_from S.stands B.first) };
+impl<S: Guarded, A: Allocator, B: StartsFrom<S>> Play<Option<Box<S, A>>, SeatView<S::Said>> for Enter<B> {
+    ghost then = { entered (stands_from (boxed S.stands) B.first) };
 }
 
 /// A load, by which a joined view sees the whole history so far.
@@ -51,8 +52,8 @@ pub(crate) struct Observe<B> {
     starts: PhantomData<B>,
 }
 
-impl<S: Guarded, B: StartsFrom<S>> Play<Option<S>, SeatView<S::Said>> for Observe<B> {
-    ghost then = { observed (stands_from S.stands B.first) };
+impl<S: Guarded, A: Allocator, B: StartsFrom<S>> Play<Option<Box<S, A>>, SeatView<S::Said>> for Observe<B> {
+    ghost then = { observed (stands_from (boxed S.stands) B.first) };
 }
 
 /// The store of free.

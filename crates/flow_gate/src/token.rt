@@ -2,17 +2,18 @@
 ghost use Rattle.flow_gate.specs.Tokens.{Token, token_of, IsIdle};
 
 use crate::view::{Guarded, SeatView};
+use std::alloc::{Allocator, Global};
 use std::marker::Model;
 
 /// A seat at a gate: who has it may enter. Contracts see its name, its counts and the history that it has seen.
 ///
 /// A seat that is dropped is lost: nobody calls under its name any more. The gate goes on.
 #[derive(Drop)]
-pub struct Seat<S: Guarded> {
-    pub(crate) seat: atomic_table::Seat<Option<S>, SeatView<S::Said>>,
+pub struct Seat<S: Guarded, A: Allocator = Global> {
+    pub(crate) seat: atomic_table::Seat<Option<Box<S, A>>, SeatView<S::Said>>,
 }
 
-impl<S: Guarded> Model for Seat<S> {
+impl<S: Guarded, A: Allocator> Model for Seat<S, A> {
     ghost Value = { Token S.Said };
 
     ghost view = { λ s. token_of s.seat };
