@@ -30,6 +30,11 @@ module _ {C R : Type 0} (owners_after : List Owner → Event (Said C R) → List
   MayCall None owners name = Unit {0}
   MayCall (Some number) owners name = owner_of number owners ≡ Some name
 
+  -- the owners that a history leads to, the latest first
+  abbrev pub owners_all : List Owner → List (Event (Said C R)) → List Owner
+  owners_all owners [] = owners
+  owners_all owners (e ∷ es) = owners_all (owners_after owners e) es
+
   abbrev pub IsOwned : List Owner → List (Event (Said C R)) → Type 0
   IsOwned owners [] = Unit {0}
   IsOwned owners (e ∷ es) = MayCall (speaks_of e.what.call) owners e.name × IsOwned (owners_after owners e) es

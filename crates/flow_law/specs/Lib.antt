@@ -8,6 +8,7 @@ pub mod Laws
 pub mod StateFlow
 pub mod Conflation
 pub mod Growth
+pub mod OneHistory
 pub mod Standing
 pub mod Sharing
 pub mod TurnAccount

@@ -1,5 +1,5 @@
 -- Histories of a shared flow.
-use Rattle.std.specs.Prelude.{◌≡◌, ℕ, IsTrue, Bool, true, false, not, ◌&&◌, if◌then◌else◌, List, [], ◌∷◌, Option, Some, None, Result, Ok, Err}
+use Rattle.std.specs.Prelude.{◌≡◌, ℕ, IsTrue, Bool, true, false, not, ◌&&◌, if◌then◌else◌, List, [], ◌∷◌, Option, Some, None, IsSome, Result, Ok, Err}
 use Rattle.flow_law.specs.declared.config.Config.{Config}
 use Rattle.flow_law.specs.declared.fault.FlowFault.{FlowFault}
 use Rattle.flow_law.specs.declared.fault.FlowFault.TheVariants.{OutOfMemory}
@@ -10,9 +10,9 @@ use Rattle.flow_law.specs.declared.call.SharedCall.{SharedCall}
 use Rattle.flow_law.specs.declared.call.SharedCall.TheVariants as call
 use Rattle.flow_law.specs.declared.call.SharedReply.{SharedReply}
 use Rattle.flow_law.specs.declared.call.SharedReply.TheVariants as reply
-use Rattle.flow_law.specs.SharedFlow.{SharedFlowState, Answer, first_state, config_fault}
+use Rattle.flow_law.specs.SharedFlow.{SharedFlowState, Answer, first_state, config_fault, position_of}
 use Rattle.flow_law.specs.SharedStep as flow
-use Rattle.flow_law.specs.History.{Owner}
+use Rattle.flow_law.specs.History.{Owner, owner_of}
 use Rattle.flow_law.specs.History as histories
 
 -- what a call replies, and the state after it
@@ -98,3 +98,15 @@ module _ {T : Type 0} where
   -- a history of a flow of this configuration
   abbrev pub IsLegal : Config → History T → Type 0
   IsLegal config h = (config_fault config ≡ None) × IsLegalFrom (first_state config) h
+
+  -- a history that a flow of this configuration may have had
+  abbrev pub IsHistory : Config → History T → Type 0
+  IsHistory config h = IsLegal config h × IsOwned h
+
+  -- the history gave this number, of a subscriber or an emission, to the token of this name
+  abbrev pub IsGiven : List ℕ → ℕ → History T → Type 0
+  IsGiven name number h = owner_of number (histories.owners_all owners_after speaks_of [] h) ≡ Some name
+
+  -- the number is a subscriber's after the history, of whichever configuration the flow is
+  abbrev pub IsSubscribed : ℕ → History T → Type 0
+  IsSubscribed number h = (config : Config) → IsLegal config h → IsSome (position_of number (state_after config h).subscribers)

@@ -1,5 +1,5 @@
 -- The documented state flow (`MutableStateFlow`) of one thread, and its histories.
-use Rattle.std.specs.Prelude.{◌≡◌, ◌≢◌, ◌⊎◌, ℕ, ◌+◌, ◌==◌, IsTrue, Bool, true, false, not, if◌then◌else◌, List, [], ◌∷◌, ◌++◌, length, filter, Option, Some, None, is_some}
+use Rattle.std.specs.Prelude.{◌≡◌, ◌≢◌, ◌⊎◌, ℕ, ◌+◌, ◌==◌, IsTrue, Bool, true, false, not, if◌then◌else◌, List, [], ◌∷◌, ◌++◌, length, filter, Option, Some, None, IsSome, is_some}
 use Rattle.flow_law.specs.declared.fault.FlowFault.TheVariants.{Exhausted, OutOfMemory, Unsupported}
 use Rattle.flow_law.specs.declared.history.Event.{Event}
 use Rattle.flow_law.specs.declared.history.Said.{Said}
@@ -8,7 +8,7 @@ use Rattle.flow_law.specs.declared.call.StateCall.{StateCall}
 use Rattle.flow_law.specs.declared.call.StateCall.TheVariants.{GetValue, Set, TryEmit, CompareAndSet, Subscribe, TakeNext, Unsubscribe, SubscriptionCount, ReplayCache, ResetReplayCache}
 use Rattle.flow_law.specs.declared.call.StateReply.{StateReply}
 use Rattle.flow_law.specs.declared.call.StateReply.TheVariants.{Done, Got, Answered, Subscribed, Received, Counted, Cached, Refused}
-use Rattle.flow_law.specs.History.{Owner}
+use Rattle.flow_law.specs.History.{Owner, owner_of}
 use Rattle.flow_law.specs.History as histories
 
 -- a subscriber's number, and the last value that it got, or none yet
@@ -112,3 +112,15 @@ module _ {T : Type 0} where
 
   abbrev pub IsOwnedState : StateHistory T → Type 0
   IsOwnedState = histories.IsOwned owners_after speaks_of []
+
+  -- a history that a flow may have had that began with this state
+  abbrev pub IsStateHistory : StateFlowState T → StateHistory T → Type 0
+  IsStateHistory first h = IsLegalState first h × IsOwnedState h
+
+  -- the history gave this subscriber's number to the token of this name
+  abbrev pub IsGiven : List ℕ → ℕ → StateHistory T → Type 0
+  IsGiven name number h = owner_of number (histories.owners_all owners_after speaks_of [] h) ≡ Some name
+
+  -- the number is a subscriber's after the history, whichever state the flow began with
+  abbrev pub IsSubscribed : ℕ → StateHistory T → Type 0
+  IsSubscribed number h = (first : StateFlowState T) → IsLegalState first h → IsSome (last_of number (state_after_all first h).subscribers)
