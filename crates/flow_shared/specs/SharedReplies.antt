@@ -1,11 +1,13 @@
 -- What the calls of a shared flow for several threads answer. `flow` is the flow: which one, and its configuration.
-use Rattle.std.specs.Prelude.{◌≡◌, ◌⊎◌, ℕ, ◌+◌, Bool, true, false, List, [], ◌∷◌, ◌++◌, Option, Some, None, Result, Ok, Err}
+use Rattle.std.specs.Prelude.{◌≡◌, ◌⊎◌, ⊤, ℕ, ◌+◌, Bool, true, false, List, [], ◌∷◌, ◌++◌, Option, Some, None, Result, Ok, Err}
 use Rattle.flow_law.specs.declared.config.Config.{Config}
 use Rattle.flow_law.specs.declared.fault.FlowFault.{FlowFault}
 use Rattle.flow_law.specs.declared.fault.FlowFault.TheVariants.{OutOfMemory, Busy}
 use Rattle.flow_law.specs.declared.history.Knowledge.{Knowledge}
 use Rattle.flow_law.specs.declared.history.Said.{Said}
 use Rattle.flow_law.specs.declared.outcome.Emit.TheVariants.{Done, Queued}
+use Rattle.flow_law.specs.declared.outcome.Next.{Next}
+use Rattle.flow_law.specs.declared.outcome.Next.TheVariants.{Gone}
 use Rattle.flow_law.specs.declared.call.SharedCall.{SharedCall}
 use Rattle.flow_law.specs.declared.call.SharedCall.TheVariants as call
 use Rattle.flow_law.specs.declared.call.SharedReply.{SharedReply}
@@ -15,6 +17,12 @@ use Rattle.flow_law.specs.SharedFlow.{config_fault}
 use Rattle.flow_law.specs.SharedHistory.{History, IsHistory, IsGiven, state_after}
 use Rattle.flow_law.specs.Standing.{Core, StandsFor}
 use Rattle.flow_gate.specs.Tokens.{Token, Origin, HeldState, knowing}
+use Rattle.flow_shared.specs.declared.answers.Emitted.{Emitted}
+use Rattle.flow_shared.specs.declared.answers.Emitted.TheVariants as emitted
+use Rattle.flow_shared.specs.declared.answers.Polled.{Polled}
+use Rattle.flow_shared.specs.declared.answers.Polled.TheVariants as polled
+use Rattle.flow_shared.specs.declared.answers.PolledNow.{PolledNow}
+use Rattle.flow_shared.specs.declared.answers.PolledNow.TheVariants as polled_now
 use Rattle.flow_shared.specs.declared.guarded.GuardedShared.{GuardedShared}
 use Rattle.flow_shared.specs.Tokens.{NumberedToken}
 use Rattle.flow_shared.specs.Calls.{CallsIn, CallsAtOnceIn, MeetsIn, SaysIn, IsBusy}
@@ -44,6 +52,86 @@ module _ {T : Type 0} where
   -- the name that the next seat gets which is made through this one
   abbrev pub subscription_name : Knowledge (Said (SharedCall T) (SharedReply T)) → List ℕ
   subscription_name k = child_name k.name (k.made + 1)
+
+-- ---- answers that hand a token over
+
+module _ {T A : Type 0} where
+  -- the reply that an answer stands for
+  abbrev pub emit_reply : Emitted T A → SharedReply T
+  emit_reply (emitted.Done t) = reply.Emitted Done
+  emit_reply (emitted.Queued e) = reply.Emitted (Queued e.number)
+  emit_reply (emitted.Refused t v fault) = reply.Refused fault
+
+  -- the token that the caller has then
+  abbrev pub emit_token : Emitted T A → SharedToken T
+  emit_token (emitted.Done t) = t
+  emit_token (emitted.Queued e) = e.token
+  emit_token (emitted.Refused t v fault) = t
+
+  abbrev pub HandsBack : T → Emitted T A → Type 0
+  HandsBack value (emitted.Refused t v fault) = v ≡ value
+  HandsBack value _ = ⊤
+
+  abbrev pub poll_reply : Polled T A → SharedReply T
+  poll_reply (polled.Done t) = reply.Tested false
+  poll_reply (polled.Waiting e) = reply.Tested true
+
+  abbrev pub poll_token : Polled T A → SharedToken T
+  poll_token (polled.Done t) = t
+  poll_token (polled.Waiting e) = e.token
+
+  abbrev pub KeepsNumber : ℕ → Polled T A → Type 0
+  KeepsNumber number (polled.Waiting e) = e.number ≡ number
+  KeepsNumber number _ = ⊤
+
+  module _ (flow : Origin Config) where
+    -- the call is one event, with the reply and the token that the answer has; at a refusal the value comes back
+    abbrev pub Emits : SharedToken T → T → Emitted T A → Type 0
+    Emits before value answer = Calls flow before (call.Emit value) (emit_reply answer) (emit_token answer) × HandsBack value answer
+
+    abbrev pub Polls : NumberedToken (Said (SharedCall T) (SharedReply T)) → Polled T A → Type 0
+    Polls e answer = Calls flow e.token (call.Poll e.number) (poll_reply answer) (poll_token answer) × KeepsNumber e.number answer
+
+    -- The subscription's seat is made through the caller's, after the event: both have seen it.
+    abbrev pub Subscribes : SharedToken T → Result (NumberedToken (Said (SharedCall T) (SharedReply T))) FlowFault → SharedToken T → Type 0
+    Subscribes before (Ok s) after =
+        (between : SharedToken T) × Calls flow before (call.Subscribe (subscription_name before.knows)) (reply.Subscribed s.number) between
+        × (after ≡ knowing between (makes between.knows)) × (s.token ≡ knowing between (child between.knows))
+    Subscribes before (Err fault) after = Calls flow before (call.Subscribe (subscription_name before.knows)) (reply.Refused fault) after
+
+    -- ---- calls that do not wait: Busy exactly where one exchange was lost
+
+    abbrev pub EmitsNow : SharedToken T → T → Emitted T A → Type 0
+    EmitsNow before value (emitted.Done t) = CallsAtOnce flow before (call.Emit value) (reply.Emitted Done) t
+    EmitsNow before value (emitted.Queued e) = CallsAtOnce flow before (call.Emit value) (reply.Emitted (Queued e.number)) e.token
+    EmitsNow before value (emitted.Refused t v Busy) = (v ≡ value) × IsBusy before t
+    EmitsNow before value (emitted.Refused t v fault) = (v ≡ value) × CallsAtOnce flow before (call.Emit value) (reply.Refused fault) t
+
+    abbrev pub PollsNow : NumberedToken (Said (SharedCall T) (SharedReply T)) → PolledNow T A → Type 0
+    PollsNow e (polled_now.Done t) = CallsAtOnce flow e.token (call.Poll e.number) (reply.Tested false) t
+    PollsNow e (polled_now.Waiting f) = (f.number ≡ e.number) × CallsAtOnce flow e.token (call.Poll e.number) (reply.Tested true) f.token
+    PollsNow e (polled_now.Busy f) = (f.number ≡ e.number) × IsBusy e.token f.token
+
+module _ {T : Type 0} (flow : Origin Config) where
+  abbrev pub NextsNow : NumberedToken (Said (SharedCall T) (SharedReply T)) → Result (Next T) FlowFault → NumberedToken (Said (SharedCall T) (SharedReply T)) → Type 0
+  NextsNow old (Ok Gone) new = ⊥
+  NextsNow old (Ok next) new = (new.number ≡ old.number) × CallsAtOnce flow old.token (call.TakeNext old.number) (reply.Received next) new.token
+  NextsNow old (Err Busy) new = (new.number ≡ old.number) × IsBusy old.token new.token
+  NextsNow old (Err fault) new = (new.number ≡ old.number) × CallsAtOnce flow old.token (call.TakeNext old.number) (reply.Refused fault) new.token
+
+  abbrev pub CountsNow : SharedToken T → Result ℕ FlowFault → SharedToken T → Type 0
+  CountsNow before (Ok count) after = CallsAtOnce flow before call.SubscriptionCount (reply.Counted count) after
+  CountsNow before (Err Busy) after = IsBusy before after
+  CountsNow before (Err fault) after = ⊥
+
+  abbrev pub ResetsNow : SharedToken T → Result (Unit {0}) FlowFault → SharedToken T → Type 0
+  ResetsNow before (Ok none) after = CallsAtOnce flow before call.ResetReplayCache reply.Reset after
+  ResetsNow before (Err Busy) after = IsBusy before after
+  ResetsNow before (Err fault) after = ⊥
+
+  abbrev pub CancelsNow : NumberedToken (Said (SharedCall T) (SharedReply T)) → Result (SharedToken T × Bool) (NumberedToken (Said (SharedCall T) (SharedReply T))) → Type 0
+  CancelsNow e (Ok ended) = CallsAtOnce flow e.token (call.Cancel e.number) (reply.Tested ended.1) ended.0
+  CancelsNow e (Err back) = (back.number ≡ e.number) × IsBusy e.token back.token
 
 -- ---- who is inside
 

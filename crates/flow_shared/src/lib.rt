@@ -1,11 +1,13 @@
 //! Flows for callers on several threads.
 #![tactic(auto)]
 
-mod inside;
+mod answers;
 mod guarded;
-mod seat;
+mod inside;
 mod shared;
+mod token;
 
+pub use answers::{Emitted, Polled, PolledNow};
 pub use guarded::GuardedShared;
-pub use seat::{FlowSeat, Seat};
 pub use shared::SharedFlow;
+pub use token::{Emission, FlowSeat, Seat, Subscription};

@@ -5,7 +5,7 @@ ghost use Rattle.flow_law.specs.SharedFlow.{config_fault};
 ghost use Rattle.flow_shared.specs.SharedReplies.{NoFlow};
 
 use crate::guarded::GuardedShared;
-use crate::seat::{FlowSeat, Seat};
+use crate::token::{FlowSeat, Seat};
 use flow_core::SharedCore;
 use flow_gate::Gate;
 use flow_law::{Config, FlowFault, FlowValue};
