@@ -1,9 +1,24 @@
 -- Legal and owned histories of a shared flow: whose a number is stays so, and a subscriber stays until its owner unsubscribes it.
-use Rattle.std.proofs.Common.{◌≡◌, ℕ, List, [], ◌∷◌, ◌++◌}
+use Rattle.std.proofs.Common.{inl, inr, ◌≡◌, ◌⊎◌, ℕ, ◌+◌, ◌≤◌, ◌<◌, ◌==◌, List, [], ◌∷◌, ◌++◌, map, filter, not, refl, sym, ap, subst, arith}
+use Rattle.std.specs.Prelude.{Err}
+use Rattle.std.proofs.lemmas.Bool.{cond_both}
 use Rattle.flow_law.specs.declared.config.Config.{Config}
-use Rattle.flow_law.specs.SharedFlow.{first_state}
-use Rattle.flow_law.specs.SharedHistory.{Replies, after, owners_after, speaks_of, History, IsLegal, IsOwned}
-use Rattle.flow_law.proofs.Owners.{legal_left, owned_left}
+use Rattle.flow_law.specs.declared.fault.FlowFault.TheVariants.{Exhausted}
+use Rattle.flow_law.specs.declared.outcome.Emit.TheVariants.{Queued}
+use Rattle.flow_law.specs.declared.history.Event.{Event}
+use Rattle.flow_law.specs.declared.history.Said.{Said}
+use Rattle.flow_law.specs.declared.call.SharedCall.{SharedCall}
+use Rattle.flow_law.specs.declared.call.SharedCall.TheVariants as call
+use Rattle.flow_law.specs.declared.call.SharedReply.{SharedReply}
+use Rattle.flow_law.specs.declared.call.SharedReply.TheVariants as reply
+use Rattle.flow_law.specs.History.{Owner}
+use Rattle.flow_law.specs.SharedFlow.{SharedFlowState, Answer, first_state, is_exhausted, is_offered_as, answer, issuing, stand_at}
+use Rattle.flow_law.specs.EmitRule.{EmitCase, appends, offers, queues, drops_latest, drops_oldest, emit_case, emit_in, append, suspend}
+use Rattle.flow_law.specs.SharedStep.{settle, withdraw, enroll, subscribe}
+use Rattle.flow_law.specs.SharedHistory.{reply_by, Replies, after, owners_after_call, owners_after, speaks_of, History, IsLegal, IsOwned, IsGiven}
+use Rattle.flow_law.proofs.Moves.{Keeps, event_keeps}
+use Rattle.flow_law.proofs.Boxes.{admit_subscribers}
+use Rattle.flow_law.proofs.Owners.{legal_left, owned_left, Gives, given_stays}
 
 module _ {T : Type 0} where
   pub legal_before : (config : Config) (h more : History T) → IsLegal config (h ++ more) → IsLegal config h
@@ -11,3 +26,24 @@ module _ {T : Type 0} where
 
   pub owned_before : (h more : History T) → IsOwned (h ++ more) → IsOwned h
   owned_before h more o = owned_left owners_after speaks_of [] h more o
+
+  -- ---- numbers
+
+  settle_issued : (s : SharedFlowState T) → (settle s).issued ≡ s.issued
+  settle_issued s = (admit_subscribers s s.queue).2
+
+  withdraw_issued : (e : ℕ) (s : SharedFlowState T) → (withdraw e s).issued ≡ s.issued
+  withdraw_issued e s = cond_both (is_offered_as e s) (record s { subscribers = map (stand_at _) s.subscribers }) (record s { queue = filter (λ q. not (q.number == e)) s.queue })
+      (λ (t : SharedFlowState T). t.issued ≡ s.issued) (λ _. refl) (λ _. refl)
+
+  issued_rises : (s : SharedFlowState T) (c : SharedCall T) (r : SharedReply T) → s.issued ≤ (after s c r).issued
+  issued_rises s c r = event_keeps (λ t. s.issued ≤ t.issued) s (omega arith) (record {
+    appends = λ v _. omega arith;
+    suspends = λ v _ _. omega arith;
+    drops = λ v _ _. omega arith;
+    withdraws = λ e. omega (arith, settle_issued (withdraw e s), withdraw_issued e s);
+    advances = λ u p v _ _. omega (arith, settle_issued (Rattle.flow_law.specs.SharedStep.advance u (p + 1) s));
+    leaves = λ u. omega (arith, settle_issued (Rattle.flow_law.specs.SharedStep.leave u s));
+    enrolls = omega arith;
+    forgets = omega arith;
+  }) c r
