@@ -1,7 +1,7 @@
 -- Legal and owned histories of a shared flow: whose a number is stays so, and a subscriber stays until its owner unsubscribes it.
-use Rattle.std.proofs.Common.{inl, inr, ◌≡◌, ◌⊎◌, ℕ, ◌+◌, ◌≤◌, ◌<◌, ◌==◌, List, [], ◌∷◌, ◌++◌, map, filter, not, refl, sym, ap, subst, arith}
-use Rattle.std.specs.Prelude.{Err}
-use Rattle.std.proofs.lemmas.Bool.{cond_both}
+use Rattle.std.proofs.Common.{inl, inr, ◌≡◌, ◌≢◌, ◌⊎◌, ℕ, ◌+◌, ◌≤◌, ◌<◌, Bool, true, false, ◌==◌, cond, List, [], ◌∷◌, ◌++◌, map, filter, not, Option, Some, None, refl, sym, ap, ◌∙◌, subst, arith, eq-eqb}
+use Rattle.std.specs.Prelude.{Err, IsSome, is_some}
+use Rattle.std.proofs.lemmas.Bool.{cond_both, cond-true}
 use Rattle.flow_law.specs.declared.config.Config.{Config}
 use Rattle.flow_law.specs.declared.fault.FlowFault.TheVariants.{Exhausted}
 use Rattle.flow_law.specs.declared.outcome.Emit.{Emit}
@@ -12,14 +12,16 @@ use Rattle.flow_law.specs.declared.call.SharedCall.{SharedCall}
 use Rattle.flow_law.specs.declared.call.SharedCall.TheVariants as call
 use Rattle.flow_law.specs.declared.call.SharedReply.{SharedReply}
 use Rattle.flow_law.specs.declared.call.SharedReply.TheVariants as reply
-use Rattle.flow_law.specs.History.{Owner}
+use Rattle.flow_law.specs.Growth.{event}
+use Rattle.flow_law.specs.History.{Owner, owner_of, owners_all}
+use Rattle.flow_law.specs.OneHistory.{said}
 use Rattle.flow_law.specs.SharedFlow.{SharedFlowState, Answer, first_state, is_exhausted, is_offered_as, answer, issuing, stand_at}
 use Rattle.flow_law.specs.EmitRule.{EmitCase, appends, offers, queues, drops_latest, drops_oldest, emit_case, emit_in, append, suspend, drop_oldest}
-use Rattle.flow_law.specs.SharedStep.{settle, withdraw, enroll, subscribe}
+use Rattle.flow_law.specs.SharedStep.{settle, withdraw, advance, leave, enroll, subscribe}
 use Rattle.flow_law.specs.SharedHistory.{reply_by, Replies, after, owners_after_call, owners_after, speaks_of, History, IsLegal, IsOwned, IsGiven}
 use Rattle.flow_law.proofs.Moves.{Keeps, event_keeps}
 use Rattle.flow_law.proofs.Boxes.{admit_subscribers}
-use Rattle.flow_law.proofs.Owners.{legal_left, owned_left, Gives, given_stays}
+use Rattle.flow_law.proofs.Owners.{legal_left, owned_left, owners_all-append, Gives, given_stays}
 
 module _ {T : Type 0} where
   pub legal_before : (config : Config) (h more : History T) → IsLegal config (h ++ more) → IsLegal config h
@@ -43,8 +45,8 @@ module _ {T : Type 0} where
     suspends = λ v _ _. omega arith;
     drops = λ v _ _. omega arith;
     withdraws = λ e. omega (arith, settle_issued (withdraw e s), withdraw_issued e s);
-    advances = λ u p v _ _. omega (arith, settle_issued (Rattle.flow_law.specs.SharedStep.advance u (p + 1) s));
-    leaves = λ u. omega (arith, settle_issued (Rattle.flow_law.specs.SharedStep.leave u s));
+    advances = λ u p v _ _. omega (arith, settle_issued (advance u (p + 1) s));
+    leaves = λ u. omega (arith, settle_issued (leave u s));
     enrolls = omega arith;
     forgets = omega arith;
   }) c r
@@ -66,3 +68,35 @@ module _ {T : Type 0} where
   -- who subscribes has the next number
   enrolls : (s : SharedFlowState T) (u : ℕ) → Enrolls u s (subscribe s)
   enrolls s u f = cond_both (is_exhausted s) (record { reply = Err Exhausted; after = s }) (answer (s.issued + 1) (enroll s)) (Enrolls u s) (λ _ f. absurd (cc)) (λ _ f. (cc, refl)) f
+
+  -- the owners stay, or there is one more with a new number
+  abbrev GivesNew : SharedFlowState T → List Owner → List ℕ → SharedCall T → SharedReply T → Type 0
+  GivesNew s owners name c r = (owners_after_call owners name c r ≡ owners)
+      ⊎ ((o : Owner) × (owners_after_call owners name c r ≡ o ∷ owners) × (s.issued < o.number) × (o.number ≤ (after s c r).issued))
+
+  gives_new : (s : SharedFlowState T) (owners : List Owner) (name : List ℕ) (c : SharedCall T) (r : SharedReply T) → Replies s c r → GivesNew s owners name c r
+  gives_new s owners name (call.Subscribe given) (reply.Subscribed u) l =
+      let found = enrolls s u l in
+      let now : (subscribe s).after.issued ≡ s.issued + 1 = ap (λ (t : SharedFlowState T). t.issued) found.1 in
+      inr (record { number = u; name = given }, refl, omega (arith, found.0), omega (arith, found.0, now))
+  gives_new s owners name (call.Emit v) (reply.Emitted (Queued e)) l =
+      let found = waits s v e (emit_case s) l in
+      inr (record { number = e; name = name }, refl, omega (arith, found.0), omega (arith, found.1))
+  gives_new s owners name c r l = inl refl
+
+  gives : (s : SharedFlowState T) (owners : List Owner) (e : Event (Said (SharedCall T) (SharedReply T))) → Replies s e.what.call e.what.reply
+      → Gives Replies after owners_after speaks_of (λ t. t.issued) s owners e
+  gives s owners e l = record { more = issued_rises s e.what.call e.what.reply; gives = gives_new s owners e.name e.what.call e.what.reply l }
+
+  pub given_grows : (config : Config) (h more : History T) (name : List ℕ) (number : ℕ) → IsLegal config (h ++ more) → IsGiven name number h → IsGiven name number (h ++ more)
+  given_grows config h more name number l g = given_stays Replies after owners_after speaks_of (λ t. t.issued) gives (first_state config) h more number name l.1 g
+
+  -- an owner that comes last is found
+  newest_owner : (h : History T) (e : Event (Said (SharedCall T) (SharedReply T))) (number : ℕ) (name : List ℕ)
+      → ((owners : List Owner) → owners_after owners e ≡ record { number = number; name = name } ∷ owners) → IsGiven name number (h ++ e ∷ [])
+  newest_owner h e number name new =
+      ap (owner_of number) (owners_all-append owners_after speaks_of [] h (e ∷ []) ∙ new (owners_all owners_after speaks_of [] h))
+      ∙ cond-true (number == number) (Some name) _ (eq-eqb number number refl)
+
+  pub emission_given : (h : History T) (name : List ℕ) (v : T) (e : ℕ) → IsGiven name e (h ++ event name (said (call.Emit v) (reply.Emitted (Queued e))) ∷ [])
+  emission_given h name v e = newest_owner h (event name (said (call.Emit v) (reply.Emitted (Queued e)))) e name (λ owners. refl)
