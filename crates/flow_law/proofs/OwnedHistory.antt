@@ -15,13 +15,39 @@ use Rattle.flow_law.specs.declared.call.SharedReply.TheVariants as reply
 use Rattle.flow_law.specs.Growth.{event}
 use Rattle.flow_law.specs.History.{Owner, owner_of, owners_all}
 use Rattle.flow_law.specs.OneHistory.{said}
-use Rattle.flow_law.specs.SharedFlow.{SharedFlowState, Answer, first_state, is_exhausted, is_offered_as, answer, issuing, stand_at}
+use Rattle.flow_law.specs.SharedFlow.{Subscriber, SharedFlowState, Answer, first_state, is_exhausted, is_offered_as, answer, issuing, position_of, stand_at, move_to}
 use Rattle.flow_law.specs.EmitRule.{EmitCase, appends, offers, queues, drops_latest, drops_oldest, emit_case, emit_in, append, suspend, drop_oldest}
 use Rattle.flow_law.specs.SharedStep.{settle, withdraw, advance, leave, enroll, subscribe}
 use Rattle.flow_law.specs.SharedHistory.{reply_by, Replies, after, owners_after_call, owners_after, speaks_of, History, IsLegal, IsOwned, IsGiven}
 use Rattle.flow_law.proofs.Moves.{Keeps, event_keeps}
 use Rattle.flow_law.proofs.Boxes.{admit_subscribers}
+use Rattle.flow_law.proofs.Rows.{split, position-without_other}
 use Rattle.flow_law.proofs.Owners.{legal_left, owned_left, owners_all-append, Gives, given_stays}
+
+-- ---- whether there is a subscriber of this number
+
+some-raised : (f : Subscriber → ℕ) (number : ℕ) (us : List Subscriber) → is_some (position_of number (map (λ u. stand_at (f u) u) us)) ≡ is_some (position_of number us)
+some-raised f number [] = refl
+some-raised f number (u ∷ us) = split (u.number == number)
+    (λ t. is_some (cond t (Some (f u)) (position_of number (map (λ u. stand_at (f u) u) us))) ≡ is_some (cond t (Some u.position) (position_of number us)))
+    (λ _. refl) (λ _. some-raised f number us)
+
+some-move_to : (number other q : ℕ) (us : List Subscriber) → is_some (position_of number (move_to other q us)) ≡ is_some (position_of number us)
+some-move_to number other q [] = refl
+some-move_to number other q (u ∷ us) = cond_both (u.number == other) (stand_at q u ∷ us) (u ∷ move_to other q us) (λ vs. is_some (position_of number vs) ≡ is_some (position_of number (u ∷ us)))
+    (λ _. split (u.number == number) (λ t. is_some (cond t (Some q) (position_of number us)) ≡ is_some (cond t (Some u.position) (position_of number us))) (λ _. refl) (λ _. refl))
+    (λ _. split (u.number == number) (λ t. is_some (cond t (Some u.position) (position_of number (move_to other q us))) ≡ is_some (cond t (Some u.position) (position_of number us)))
+    (λ _. refl) (λ _. some-move_to number other q us))
+
+some-snoc : (number : ℕ) (us : List Subscriber) (v : Subscriber) → IsSome (position_of number us) → IsSome (position_of number (us ++ v ∷ []))
+some-snoc number [] v h = absurd (cc)
+some-snoc number (u ∷ us) v h = split (u.number == number)
+    (λ t. IsSome (cond t (Some u.position) (position_of number us)) → IsSome (cond t (Some u.position) (position_of number (us ++ v ∷ []))))
+    (λ _ _. refl) (λ _ k. some-snoc number us v k) h
+
+some-last : (number : ℕ) (us : List Subscriber) (v : Subscriber) → v.number ≡ number → IsSome (position_of number (us ++ v ∷ []))
+some-last number [] v e = ap is_some (cond-true (v.number == number) (Some v.position) None (eq-eqb v.number number e))
+some-last number (u ∷ us) v e = split (u.number == number) (λ t. IsSome (cond t (Some u.position) (position_of number (us ++ v ∷ [])))) (λ _. refl) (λ _. some-last number us v e)
 
 module _ {T : Type 0} where
   pub legal_before : (config : Config) (h more : History T) → IsLegal config (h ++ more) → IsLegal config h
