@@ -1,11 +1,15 @@
 -- Legal and owned histories of a shared flow: whose a number is stays so, and a subscriber stays until its owner unsubscribes it.
-use Rattle.std.proofs.Common.{inl, inr, ◌≡◌, ◌≢◌, ◌⊎◌, ℕ, ◌+◌, ◌≤◌, ◌<◌, Bool, true, false, ◌==◌, cond, List, [], ◌∷◌, ◌++◌, map, filter, not, Option, Some, None, refl, sym, ap, ◌∙◌, subst, arith, eq-eqb}
-use Rattle.std.specs.Prelude.{Err, IsSome, is_some}
+use Rattle.std.proofs.Common.{inl, inr, ◌≡◌, ◌≢◌, ◌⊎◌, ℕ, ◌+◌, ◌-◌, ◌≤◌, ◌<◌, Bool, true, false, ◌==◌, cond, List, [], ◌∷◌, ◌++◌, length, map, filter, not, Option, Some, None, refl, sym, ap, ◌∙◌, subst, arith, eq-eqb}
+use Rattle.std.specs.Prelude.{Err, IsSome, is_some, max}
+use Rattle.std.specs.List.{slice_get}
+use Rattle.std.specs.Option.{option_map_or}
 use Rattle.std.proofs.lemmas.Bool.{cond_both, cond-true}
+use Rattle.std.proofs.lemmas.Bool.Decides.{Decides-eqb}
 use Rattle.flow_law.specs.declared.config.Config.{Config}
 use Rattle.flow_law.specs.declared.fault.FlowFault.TheVariants.{Exhausted}
 use Rattle.flow_law.specs.declared.outcome.Emit.{Emit}
 use Rattle.flow_law.specs.declared.outcome.Emit.TheVariants.{Done, Queued}
+use Rattle.flow_law.specs.declared.outcome.Next.TheVariants.{Value, Empty, Gone}
 use Rattle.flow_law.specs.declared.history.Event.{Event}
 use Rattle.flow_law.specs.declared.history.Said.{Said}
 use Rattle.flow_law.specs.declared.call.SharedCall.{SharedCall}
@@ -15,13 +19,14 @@ use Rattle.flow_law.specs.declared.call.SharedReply.TheVariants as reply
 use Rattle.flow_law.specs.Growth.{event}
 use Rattle.flow_law.specs.History.{Owner, owner_of, owners_all}
 use Rattle.flow_law.specs.OneHistory.{said}
-use Rattle.flow_law.specs.SharedFlow.{Subscriber, SharedFlowState, Answer, first_state, is_exhausted, is_offered_as, answer, issuing, position_of, stand_at, move_to}
+use Rattle.flow_law.specs.SharedFlow.{Subscriber, SharedFlowState, Answer, first_state, capacity, values, is_exhausted, is_offered_as, answer, issuing, position_of, stand_at, move_to}
 use Rattle.flow_law.specs.EmitRule.{EmitCase, appends, offers, queues, drops_latest, drops_oldest, emit_case, emit_in, append, suspend, drop_oldest}
-use Rattle.flow_law.specs.SharedStep.{settle, withdraw, advance, leave, enroll, subscribe}
-use Rattle.flow_law.specs.SharedHistory.{reply_by, Replies, after, owners_after_call, owners_after, speaks_of, History, IsLegal, IsOwned, IsGiven}
+use Rattle.flow_law.specs.SharedStep.{settle, withdraw, advance, leave, enroll, subscribe, read, next}
+use Rattle.flow_law.specs.SharedHistory.{reply_by, answer_to, is_refused, Replies, after, owners_after_call, owners_after, speaks_of, History, IsLegal, IsOwned, IsGiven}
 use Rattle.flow_law.proofs.Moves.{Keeps, event_keeps}
 use Rattle.flow_law.proofs.Boxes.{admit_subscribers}
 use Rattle.flow_law.proofs.Rows.{split, position-without_other}
+use Rattle.flow_law.proofs.Steps.{emit_split, try_emit_split}
 use Rattle.flow_law.proofs.Owners.{legal_left, owned_left, owners_all-append, Gives, given_stays}
 
 -- ---- whether there is a subscriber of this number
@@ -126,3 +131,59 @@ module _ {T : Type 0} where
 
   pub emission_given : (h : History T) (name : List ℕ) (v : T) (e : ℕ) → IsGiven name e (h ++ event name (said (call.Emit v) (reply.Emitted (Queued e))) ∷ [])
   emission_given h name v e = newest_owner h (event name (said (call.Emit v) (reply.Emitted (Queued e)))) e name (λ owners. refl)
+
+  -- ---- subscribers
+
+  abbrev Has : ℕ → SharedFlowState T → Type 0
+  Has u s = IsSome (position_of u s.subscribers)
+
+  settle_has : (u : ℕ) (s : SharedFlowState T) → Has u s → Has u (settle s)
+  settle_has u s h = ap (λ us. is_some (position_of u us)) (admit_subscribers s s.queue).0 ∙ h
+
+  raised_has : (u : ℕ) (f : Subscriber → ℕ) (s : SharedFlowState T) → Has u s → IsSome (position_of u (map (λ v. stand_at (f v) v) s.subscribers))
+  raised_has u f s h = some-raised f u s.subscribers ∙ h
+
+  withdraw_has : (u e : ℕ) (s : SharedFlowState T) → Has u s → Has u (withdraw e s)
+  withdraw_has u e s h = cond_both (is_offered_as e s) (record s { subscribers = map (stand_at (length s.emitted)) s.subscribers }) (record s { queue = filter (λ q. not (q.number == e)) s.queue })
+      (Has u) (λ _. raised_has u (λ _. length s.emitted) s h) (λ _. h)
+
+  dropped_has : (u : ℕ) (v : T) (s : SharedFlowState T) → Has u s → Has u (drop_oldest (append v s))
+  dropped_has u v s h = raised_has u (λ w. max w.position (length (append v s).emitted - capacity s)) s h
+
+  advance_has : (u n p : ℕ) (s : SharedFlowState T) → Has u s → Has u (settle (advance n p s))
+  advance_has u n p s h = settle_has u (advance n p s) (some-move_to u n p s.subscribers ∙ h)
+
+  -- another one's leaving
+  leave_has : (u n : ℕ) (s : SharedFlowState T) → ◌≢◌ {A = SharedCall T} (call.Unsubscribe n) (call.Unsubscribe u) → Has u s → Has u (settle (leave n s))
+  leave_has u n s other h = settle_has u (leave n s) (ap is_some (position-without_other u n s.subscribers apart) ∙ h)
+    where
+      apart : (n == u) ≡ false
+      apart = split (n == u) (λ t. (n == u) ≡ t → (n == u) ≡ false) (λ _ e. absurd (other (ap call.Unsubscribe ((Decides-eqb n u).0 e)))) (λ _ e. e) refl
+
+  next_has : (u n : ℕ) (s : SharedFlowState T) → Has u s → Has u (next n s).after
+  next_has u n s h = at (position_of n s.subscribers)
+    where
+      here : (p : ℕ) (o : Option T) → Has u (option_map_or (λ value. answer (Value value) (settle (advance n (p + 1) s))) o (answer Empty s)).after
+      here p None = h
+      here p (Some v) = advance_has u n (p + 1) s h
+
+      at : (o : Option ℕ) → Has u (option_map_or (λ position. read n position s) o (answer Gone s)).after
+      at None = h
+      at (Some p) = here p (slice_get (values s) p)
+
+  -- whoever calls what, a subscriber stays unless it is unsubscribed
+  answer_has : (u : ℕ) (s : SharedFlowState T) (c : SharedCall T) → c ≢ call.Unsubscribe u → Has u s → Has u (answer_to c s).after
+  answer_has u s (call.TryEmit v) other h = try_emit_split (λ a. Has u a.after) s v h (λ _. h) (λ _. dropped_has u v s h) (λ _. h)
+  answer_has u s (call.Emit v) other h = emit_split (λ a. Has u a.after) s v h (λ _ _. h) h (λ _. dropped_has u v s h) h
+  answer_has u s (call.Poll e) other h = h
+  answer_has u s (call.Cancel e) other h = settle_has u (withdraw e s) (withdraw_has u e s h)
+  answer_has u s (call.Subscribe name) other h = cond_both (is_exhausted s) (record { reply = Err Exhausted; after = s }) (answer (s.issued + 1) (enroll s)) (λ a. Has u a.after)
+      (λ _. h) (λ _. some-snoc u s.subscribers _ h)
+  answer_has u s (call.TakeNext n) other h = next_has u n s h
+  answer_has u s (call.Unsubscribe n) other h = leave_has u n s other h
+  answer_has u s call.ReplayCache other h = h
+  answer_has u s call.ResetReplayCache other h = h
+  answer_has u s call.SubscriptionCount other h = h
+
+  event_has : (u : ℕ) (s : SharedFlowState T) (c : SharedCall T) (r : SharedReply T) → c ≢ call.Unsubscribe u → Has u s → Has u (after s c r)
+  event_has u s c r other h = cond_both (is_refused r) s (answer_to c s).after (Has u) (λ _. h) (λ _. answer_has u s c other h)
