@@ -16,18 +16,20 @@ use Rattle.flow_law.specs.declared.call.SharedCall.{SharedCall}
 use Rattle.flow_law.specs.declared.call.SharedCall.TheVariants as call
 use Rattle.flow_law.specs.declared.call.SharedReply.{SharedReply}
 use Rattle.flow_law.specs.declared.call.SharedReply.TheVariants as reply
-use Rattle.flow_law.specs.Growth.{event}
+use Rattle.flow_law.specs.Growth.{event, IsSilent}
 use Rattle.flow_law.specs.History.{Owner, owner_of, owners_all}
 use Rattle.flow_law.specs.OneHistory.{said}
 use Rattle.flow_law.specs.SharedFlow.{Subscriber, SharedFlowState, Answer, first_state, capacity, values, is_exhausted, is_offered_as, answer, issuing, position_of, stand_at, move_to}
 use Rattle.flow_law.specs.EmitRule.{EmitCase, appends, offers, queues, drops_latest, drops_oldest, emit_case, emit_in, append, suspend, drop_oldest}
 use Rattle.flow_law.specs.SharedStep.{settle, withdraw, advance, leave, enroll, subscribe, read, next}
-use Rattle.flow_law.specs.SharedHistory.{reply_by, answer_to, is_refused, Replies, after, owners_after_call, owners_after, speaks_of, History, IsLegal, IsOwned, IsGiven}
+use Rattle.flow_law.specs.SharedHistory.{reply_by, answer_to, is_refused, Replies, after, owners_after_call, owners_after, speaks_of, History, IsLegal, state_after, IsOwned, IsHistory, IsGiven, IsSubscribed}
 use Rattle.flow_law.proofs.Moves.{Keeps, event_keeps}
+use Rattle.flow_law.proofs.HistoryLemmas.{after_all-snoc}
+use Rattle.flow_law.proofs.ReplyLemmas.{replies_cases}
 use Rattle.flow_law.proofs.Boxes.{admit_subscribers}
 use Rattle.flow_law.proofs.Rows.{split, position-without_other}
 use Rattle.flow_law.proofs.Steps.{emit_split, try_emit_split}
-use Rattle.flow_law.proofs.Owners.{legal_left, owned_left, owners_all-append, Gives, given_stays}
+use Rattle.flow_law.proofs.Owners.{legal_left, legal_right, owned_left, owners_all-append, Gives, given_stays, kept_in_silence}
 
 -- ---- whether there is a subscriber of this number
 
@@ -187,3 +189,66 @@ module _ {T : Type 0} where
 
   event_has : (u : ℕ) (s : SharedFlowState T) (c : SharedCall T) (r : SharedReply T) → c ≢ call.Unsubscribe u → Has u s → Has u (after s c r)
   event_has u s c r other h = cond_both (is_refused r) s (answer_to c s).after (Has u) (λ _. h) (λ _. answer_has u s c other h)
+
+  silent_has : (u : ℕ) (s : SharedFlowState T) (c : SharedCall T) (r : SharedReply T) → speaks_of c ≢ Some u → Has u s → Has u (after s c r)
+  silent_has u s c r other h = event_has u s c r (λ e. other (ap speaks_of e)) h
+
+  -- ---- what a token knows of its subscriber
+
+  -- events of others end neither
+  pub subscription_stays : (config : Config) (h between : History T) (name : List ℕ) (u : ℕ) → IsHistory config (h ++ between) → IsSilent name between → IsGiven name u h → IsSubscribed u h
+      → IsGiven name u (h ++ between) × IsSubscribed u (h ++ between)
+  subscription_stays config h between name u legal silent given there = (
+    given_grows config h between name u legal.0 given,
+    λ other l.
+    kept_in_silence Replies after owners_after speaks_of (λ t. t.issued) gives u (Has u) (silent_has u) (first_state other) h between name l.1 legal.1 silent given
+        (there other (legal_before other h between l)),
+  )
+
+  -- nor does the token's own taking of the next value
+  pub subscription_grows : (config : Config) (h between : History T) (name : List ℕ) (u : ℕ) (r : SharedReply T) → IsHistory config ((h ++ between) ++ event name (said (call.TakeNext u) r) ∷ [])
+      → IsSilent name between → IsGiven name u h → IsSubscribed u h
+      → IsGiven name u ((h ++ between) ++ event name (said (call.TakeNext u) r) ∷ []) × IsSubscribed u ((h ++ between) ++ event name (said (call.TakeNext u) r) ∷ [])
+  subscription_grows config h between name u r legal silent given there =
+      let last : Event (Said (SharedCall T) (SharedReply T)) = event name (said (call.TakeNext u) r) in
+      let before = subscription_stays config h between name u (legal_before config (h ++ between) (last ∷ []) legal.0, owned_before (h ++ between) (last ∷ []) legal.1) silent given there in (
+        given_grows config (h ++ between) (last ∷ []) name u legal.0 before.0,
+        λ other l.
+        subst (Has u) (sym (after_all-snoc Replies after (first_state other) (h ++ between) last))
+            (event_has u (state_after other (h ++ between)) (call.TakeNext u) r (λ e. absurd (cc)) (before.1 other (legal_before other (h ++ between) (last ∷ []) l))),
+      )
+
+  -- who subscribed has the number, and is a subscriber
+  pub subscription_given : (config : Config) (h : History T) (by name : List ℕ) (u : ℕ) → IsLegal config (h ++ event by (said (call.Subscribe name) (reply.Subscribed u)) ∷ [])
+      → IsGiven name u (h ++ event by (said (call.Subscribe name) (reply.Subscribed u)) ∷ []) × IsSubscribed u (h ++ event by (said (call.Subscribe name) (reply.Subscribed u)) ∷ [])
+  subscription_given config h by name u legal =
+      let last : Event (Said (SharedCall T) (SharedReply T)) = event by (said (call.Subscribe name) (reply.Subscribed u)) in (
+        newest_owner h last u name (λ owners. refl),
+        λ other l.
+        let s : SharedFlowState T = state_after other h in
+        let found = enrolls s u (legal_right Replies after (first_state other) h (last ∷ []) l.1).0 in
+        subst (Has u) (sym (after_all-snoc Replies after (first_state other) h last))
+            (subst (Has u) (sym found.1) (some-last u s.subscribers _ (sym found.0))),
+      )
+
+  -- ---- what a subscriber is told
+
+  pub never_gone : (s : SharedFlowState T) (u : ℕ) (r : SharedReply T) → IsSome (position_of u s.subscribers) → Replies s (call.TakeNext u) r → r ≢ reply.Received Gone
+  never_gone s u r h l e = not_gone (subst (Replies s (call.TakeNext u)) e l)
+    where
+      here : (p : ℕ) (o : Option T) → ◌≢◌ {A = SharedReply T} (reply.Received Gone) (reply_by reply.Received (option_map_or (λ value. answer (Value value) (settle (advance u (p + 1) s))) o (answer Empty s)).reply)
+      here p None f = cc
+      here p (Some v) f = cc
+
+      at : (o : Option ℕ) → IsSome o → ◌≢◌ {A = SharedReply T} (reply.Received Gone) (reply_by reply.Received (option_map_or (λ position. read u position s) o (answer Gone s)).reply)
+      at None some f = cc
+      at (Some p) some f = here p (slice_get (values s) p) f
+
+      not_gone : ◌≢◌ {A = SharedReply T} (reply.Received Gone) (answer_to (call.TakeNext u) s).reply
+      not_gone = at (position_of u s.subscribers) h
+
+  pub leaves_for_good : (s : SharedFlowState T) (u : ℕ) (r : SharedReply T) → IsSome (position_of u s.subscribers) → Replies s (call.Unsubscribe u) r → r ≡ reply.Tested true
+  leaves_for_good s u r h l = elim (replies_cases s (call.Unsubscribe u) r l) as (λ _. r ≡ reply.Tested true) [
+    | inl told ↦ told ∙ ap reply.Tested h
+    | inr none ↦ absurd (cc (none.1))
+  ]
