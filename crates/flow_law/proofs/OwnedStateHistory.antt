@@ -22,6 +22,27 @@ use Rattle.flow_law.proofs.StateSubscriberLemmas.{last-without_other}
 use Rattle.flow_law.proofs.Owners.{legal_left, legal_right, owned_left, owners_all-append, Gives, given_stays, kept_in_silence}
 
 module _ {T : Type 0} where
+  -- ---- whether there is a subscriber of this number
+
+  some-with_last : (number other : ℕ) (v : T) (us : List (StateSubscriber T)) → is_some (last_of number (with_last other v us)) ≡ is_some (last_of number us)
+  some-with_last number other v [] = refl
+  some-with_last number other v (u ∷ us) = cond_both (u.number == other) (record u { last = Some v } ∷ us) (u ∷ with_last other v us) (λ vs. is_some (last_of number vs) ≡ is_some (last_of number (u ∷ us)))
+      (λ _. split (u.number == number) (λ t. is_some (cond t (Some (Some v)) (last_of number us)) ≡ is_some (cond t (Some u.last) (last_of number us))) (λ _. refl) (λ _. refl))
+      (λ _. split (u.number == number) (λ t. is_some (cond t (Some u.last) (last_of number (with_last other v us))) ≡ is_some (cond t (Some u.last) (last_of number us)))
+      (λ _. refl) (λ _. some-with_last number other v us))
+
+  some-snoc : (number : ℕ) (us : List (StateSubscriber T)) (v : StateSubscriber T) → IsSome (last_of number us) → IsSome (last_of number (us ++ v ∷ []))
+  some-snoc number [] v h = absurd (cc)
+  some-snoc number (u ∷ us) v h = split (u.number == number)
+      (λ t. IsSome (cond t (Some u.last) (last_of number us)) → IsSome (cond t (Some u.last) (last_of number (us ++ v ∷ []))))
+      (λ _ _. refl) (λ _ k. some-snoc number us v k) h
+
+  some-last : (number : ℕ) (us : List (StateSubscriber T)) (v : StateSubscriber T) → v.number ≡ number → IsSome (last_of number (us ++ v ∷ []))
+  some-last number [] v e = ap is_some (cond-true (v.number == number) (Some v.last) None (eq-eqb v.number number e))
+  some-last number (u ∷ us) v e = split (u.number == number) (λ t. IsSome (cond t (Some u.last) (last_of number (us ++ v ∷ [])))) (λ _. refl) (λ _. some-last number us v e)
+
+  -- ---- histories in two parts
+
   pub legal_before : (first : StateFlowState T) (h more : StateHistory T) → IsLegalState first (h ++ more) → IsLegalState first h
   legal_before first h more l = legal_left Replies after first h more l
 
@@ -57,3 +78,86 @@ module _ {T : Type 0} where
 
   pub given_grows : (first : StateFlowState T) (h more : StateHistory T) (name : List ℕ) (number : ℕ) → IsLegalState first (h ++ more) → IsGiven name number h → IsGiven name number (h ++ more)
   given_grows first h more name number l g = given_stays Replies after owners_after speaks_of (λ t. t.issued) gives first h more number name l g
+
+  -- an owner that comes last is found
+  newest_owner : (h : StateHistory T) (e : Event (Said (StateCall T) (StateReply T))) (number : ℕ) (name : List ℕ)
+      → ((owners : List Owner) → owners_after owners e ≡ record { number = number; name = name } ∷ owners) → IsGiven name number (h ++ e ∷ [])
+  newest_owner h e number name new =
+      ap (owner_of number) (owners_all-append owners_after speaks_of [] h (e ∷ []) ∙ new (owners_all owners_after speaks_of [] h))
+      ∙ cond-true (number == number) (Some name) _ (eq-eqb number number refl)
+
+  -- ---- subscribers
+
+  abbrev Has : ℕ → StateFlowState T → Type 0
+  Has u s = IsSome (last_of u s.subscribers)
+
+  -- another one's leaving
+  leave_has : (u n : ℕ) (us : List (StateSubscriber T)) → ◌≢◌ {A = StateCall T} (call.Unsubscribe n) (call.Unsubscribe u) → IsSome (last_of u us) → IsSome (last_of u (without_subscriber n us))
+  leave_has u n us other h = ap is_some (last-without_other u n us apart) ∙ h
+    where
+      apart : (n == u) ≡ false
+      apart = split (n == u) (λ t. (n == u) ≡ t → (n == u) ≡ false) (λ _ e. absurd (other (ap call.Unsubscribe ((Decides-eqb n u).0 e)))) (λ _ e. e) refl
+
+  -- whoever calls what, a subscriber stays unless it is unsubscribed
+  event_has : (u : ℕ) (s : StateFlowState T) (c : StateCall T) (r : StateReply T) → c ≢ call.Unsubscribe u → Has u s → Has u (after s c r)
+  event_has u s (call.CompareAndSet a b) (reply.Answered true) other h = h
+  event_has u s (call.Subscribe given) (reply.Subscribed n) other h = some-snoc u s.subscribers _ h
+  event_has u s (call.TakeNext n) (reply.Received (Value x)) other h = some-with_last u n x s.subscribers ∙ h
+  event_has u s (call.Unsubscribe n) (reply.Answered b) other h = leave_has u n s.subscribers other h
+  event_has u s c r other h = h
+
+  silent_has : (u : ℕ) (s : StateFlowState T) (c : StateCall T) (r : StateReply T) → speaks_of c ≢ Some u → Has u s → Has u (after s c r)
+  silent_has u s c r other h = event_has u s c r (λ e. other (ap speaks_of e)) h
+
+  -- ---- what a token knows of its subscriber
+
+  -- events of others end neither
+  pub subscription_stays : (first : StateFlowState T) (h between : StateHistory T) (name : List ℕ) (u : ℕ) → IsStateHistory first (h ++ between) → IsSilent name between → IsGiven name u h → IsSubscribed u h
+      → IsGiven name u (h ++ between) × IsSubscribed u (h ++ between)
+  subscription_stays first h between name u legal silent given there = (
+    given_grows first h between name u legal.0 given,
+    λ other l.
+    kept_in_silence Replies after owners_after speaks_of (λ t. t.issued) gives u (Has u) (silent_has u) other h between name l legal.1 silent given
+        (there other (legal_before other h between l)),
+  )
+
+  -- nor does the token's own taking of the next value
+  pub subscription_grows : (first : StateFlowState T) (h between : StateHistory T) (name : List ℕ) (u : ℕ) (r : StateReply T) → IsStateHistory first ((h ++ between) ++ event name (said (call.TakeNext u) r) ∷ [])
+      → IsSilent name between → IsGiven name u h → IsSubscribed u h
+      → IsGiven name u ((h ++ between) ++ event name (said (call.TakeNext u) r) ∷ []) × IsSubscribed u ((h ++ between) ++ event name (said (call.TakeNext u) r) ∷ [])
+  subscription_grows first h between name u r legal silent given there =
+      let last : Event (Said (StateCall T) (StateReply T)) = event name (said (call.TakeNext u) r) in
+      let before = subscription_stays first h between name u (legal_before first (h ++ between) (last ∷ []) legal.0, owned_before (h ++ between) (last ∷ []) legal.1) silent given there in (
+        given_grows first (h ++ between) (last ∷ []) name u legal.0 before.0,
+        λ other l.
+        subst (Has u) (sym (after_all-snoc Replies after other (h ++ between) last))
+            (event_has u (state_after_all other (h ++ between)) (call.TakeNext u) r (λ e. absurd (cc)) (before.1 other (legal_before other (h ++ between) (last ∷ []) l))),
+      )
+
+  -- who subscribed has the number, and is a subscriber
+  pub subscription_given : (first : StateFlowState T) (h : StateHistory T) (by name : List ℕ) (u : ℕ) → IsLegalState first (h ++ event by (said (call.Subscribe name) (reply.Subscribed u)) ∷ [])
+      → IsGiven name u (h ++ event by (said (call.Subscribe name) (reply.Subscribed u)) ∷ []) × IsSubscribed u (h ++ event by (said (call.Subscribe name) (reply.Subscribed u)) ∷ [])
+  subscription_given first h by name u legal =
+      let last : Event (Said (StateCall T) (StateReply T)) = event by (said (call.Subscribe name) (reply.Subscribed u)) in (
+        newest_owner h last u name (λ owners. refl),
+        λ other l.
+        subst (Has u) (sym (after_all-snoc Replies after other h last)) (some-last u (state_after_all other h).subscribers (record { number = u; last = None }) refl),
+      )
+
+  -- ---- what a subscriber is told
+
+  pub never_gone : (s : StateFlowState T) (u : ℕ) (r : StateReply T) → IsSome (last_of u s.subscribers) → Replies s (call.TakeNext u) r → r ≢ reply.Received Gone
+  never_gone s u r h l e = at (last_of u s.subscribers) h (subst (Replies s (call.TakeNext u)) e l)
+    where
+      at : (o : Option (Option T)) → IsSome o → Receives s.value o (reply.Received Gone) → ⊥
+      at None some told = cc
+      at (Some last) some told = elim told as (λ _. ⊥) [
+        | inl empty ↦ absurd (cc (empty.1))
+        | inr got ↦ absurd (cc (got.1))
+      ]
+
+  pub leaves_for_good : (s : StateFlowState T) (u : ℕ) (r : StateReply T) → IsSome (last_of u s.subscribers) → Replies s (call.Unsubscribe u) r → r ≡ reply.Answered true
+  leaves_for_good s u r h l = elim (state_replies_cases s (call.Unsubscribe u) r l) as (λ _. r ≡ reply.Answered true) [
+    | inl told ↦ told ∙ ap reply.Answered h
+    | inr none ↦ absurd (cc (none.1))
+  ]
