@@ -1,5 +1,5 @@
--- Legal and owned histories of a shared flow: whose a number is stays so, and a subscriber stays until its owner unsubscribes it.
-use Rattle.std.proofs.Common.{inl, inr, ◌≡◌, ◌≢◌, ◌⊎◌, ℕ, ◌+◌, ◌-◌, ◌≤◌, ◌<◌, Bool, true, false, ◌==◌, cond, List, [], ◌∷◌, ◌++◌, length, map, filter, not, Option, Some, None, refl, sym, ap, ◌∙◌, subst, arith, eq-eqb}
+-- Legal and owned histories of a shared flow: a number stays with the token that it was given to, and a subscriber stays until its owner unsubscribes it.
+use Rattle.std.proofs.Common.{inl, inr, ◌≡◌, ◌≢◌, ◌⊎◌, ℕ, ◌+◌, ◌-◌, ◌≤◌, ◌<◌, true, false, ◌==◌, cond, List, [], ◌∷◌, ◌++◌, length, map, filter, not, Option, Some, None, refl, sym, ap, ◌∙◌, subst, arith, eq-eqb}
 use Rattle.std.specs.Prelude.{Err, IsSome, is_some, max}
 use Rattle.std.specs.List.{slice_get}
 use Rattle.std.specs.Option.{option_map_or}
@@ -23,7 +23,7 @@ use Rattle.flow_law.specs.SharedFlow.{Subscriber, SharedFlowState, Answer, first
 use Rattle.flow_law.specs.EmitRule.{EmitCase, appends, offers, queues, drops_latest, drops_oldest, emit_case, emit_in, append, suspend, drop_oldest}
 use Rattle.flow_law.specs.SharedStep.{settle, withdraw, advance, leave, enroll, subscribe, read, next}
 use Rattle.flow_law.specs.SharedHistory.{reply_by, answer_to, is_refused, Replies, after, owners_after_call, owners_after, speaks_of, History, IsLegal, state_after, IsOwned, IsHistory, IsGiven, IsSubscribed}
-use Rattle.flow_law.proofs.Moves.{Keeps, event_keeps}
+use Rattle.flow_law.proofs.Moves.{event_keeps}
 use Rattle.flow_law.proofs.HistoryLemmas.{after_all-snoc}
 use Rattle.flow_law.proofs.ReplyLemmas.{replies_cases}
 use Rattle.flow_law.proofs.Boxes.{admit_subscribers}
@@ -69,7 +69,7 @@ module _ {T : Type 0} where
   settle_issued s = (admit_subscribers s s.queue).2
 
   withdraw_issued : (e : ℕ) (s : SharedFlowState T) → (withdraw e s).issued ≡ s.issued
-  withdraw_issued e s = cond_both (is_offered_as e s) (record s { subscribers = map (stand_at _) s.subscribers }) (record s { queue = filter (λ q. not (q.number == e)) s.queue })
+  withdraw_issued e s = cond_both (is_offered_as e s) (record s { subscribers = map (stand_at (length s.emitted)) s.subscribers }) (record s { queue = filter (λ q. not (q.number == e)) s.queue })
       (λ (t : SharedFlowState T). t.issued ≡ s.issued) (λ _. refl) (λ _. refl)
 
   issued_rises : (s : SharedFlowState T) (c : SharedCall T) (r : SharedReply T) → s.issued ≤ (after s c r).issued
@@ -87,13 +87,16 @@ module _ {T : Type 0} where
   abbrev Waits : ℕ → SharedFlowState T → Answer Emit T → Type 0
   Waits e s a = ◌≡◌ {A = SharedReply T} (reply.Emitted (Queued e)) (reply_by reply.Emitted a.reply) → (e ≡ s.issued + 1) × (e ≡ a.after.issued)
 
+  issuing_waits : (e : ℕ) (s : SharedFlowState T) (a : Answer Emit T) → Waits e s a → Waits e s (issuing s a)
+  issuing_waits e s a w f = cond_both (is_exhausted s) (record { reply = Err Exhausted; after = s }) a (Waits e s) (λ _ f. absurd (cc)) (λ _. w) f
+
   -- who waits has the next number
   waits : (s : SharedFlowState T) (v : T) (e : ℕ) (m : EmitCase) → Waits e s (emit_in m v s)
-  waits s v e appends f = cond_both (is_exhausted s) (record { reply = Err Exhausted; after = s }) (answer Done (append v s)) (Waits e s) (λ _ f. absurd (cc)) (λ _ f. absurd (cc)) f
-  waits s v e offers f = cond_both (is_exhausted s) (record { reply = Err Exhausted; after = s }) (answer (Queued (s.issued + 1)) (append v s)) (Waits e s) (λ _ f. absurd (cc)) (λ _ f. (cc, cc)) f
-  waits s v e queues f = cond_both (is_exhausted s) (record { reply = Err Exhausted; after = s }) (answer (Queued (s.issued + 1)) (suspend v s)) (Waits e s) (λ _ f. absurd (cc)) (λ _ f. (cc, cc)) f
+  waits s v e appends f = issuing_waits e s (answer Done (append v s)) (λ f. absurd (cc)) f
+  waits s v e offers f = issuing_waits e s (answer (Queued (s.issued + 1)) (append v s)) (λ f. (cc, cc)) f
+  waits s v e queues f = issuing_waits e s (answer (Queued (s.issued + 1)) (suspend v s)) (λ f. (cc, cc)) f
   waits s v e drops_latest f = absurd (cc)
-  waits s v e drops_oldest f = cond_both (is_exhausted s) (record { reply = Err Exhausted; after = s }) (answer Done (drop_oldest (append v s))) (Waits e s) (λ _ f. absurd (cc)) (λ _ f. absurd (cc)) f
+  waits s v e drops_oldest f = issuing_waits e s (answer Done (drop_oldest (append v s))) (λ f. absurd (cc)) f
 
   abbrev Enrolls : ℕ → SharedFlowState T → Answer ℕ T → Type 0
   Enrolls u s a = ◌≡◌ {A = SharedReply T} (reply.Subscribed u) (reply_by reply.Subscribed a.reply) → (u ≡ s.issued + 1) × (a.after ≡ enroll s)
@@ -195,17 +198,17 @@ module _ {T : Type 0} where
 
   -- ---- what a token knows of its subscriber
 
-  -- events of others end neither
+  -- it stays the token's and subscribed, whatever others do
   pub subscription_stays : (config : Config) (h between : History T) (name : List ℕ) (u : ℕ) → IsHistory config (h ++ between) → IsSilent name between → IsGiven name u h → IsSubscribed u h
       → IsGiven name u (h ++ between) × IsSubscribed u (h ++ between)
   subscription_stays config h between name u legal silent given there = (
     given_grows config h between name u legal.0 given,
     λ other l.
-    kept_in_silence Replies after owners_after speaks_of (λ t. t.issued) gives u (Has u) (silent_has u) (first_state other) h between name l.1 legal.1 silent given
+        kept_in_silence Replies after owners_after speaks_of (λ t. t.issued) gives u (Has u) (silent_has u) (first_state other) h between name l.1 legal.1 silent given
         (there other (legal_before other h between l)),
   )
 
-  -- nor does the token's own taking of the next value
+  -- and where the token takes the next value
   pub subscription_grows : (config : Config) (h between : History T) (name : List ℕ) (u : ℕ) (r : SharedReply T) → IsHistory config ((h ++ between) ++ event name (said (call.TakeNext u) r) ∷ [])
       → IsSilent name between → IsGiven name u h → IsSubscribed u h
       → IsGiven name u ((h ++ between) ++ event name (said (call.TakeNext u) r) ∷ []) × IsSubscribed u ((h ++ between) ++ event name (said (call.TakeNext u) r) ∷ [])
@@ -214,20 +217,20 @@ module _ {T : Type 0} where
       let before = subscription_stays config h between name u (legal_before config (h ++ between) (last ∷ []) legal.0, owned_before (h ++ between) (last ∷ []) legal.1) silent given there in (
         given_grows config (h ++ between) (last ∷ []) name u legal.0 before.0,
         λ other l.
-        subst (Has u) (sym (after_all-snoc Replies after (first_state other) (h ++ between) last))
+            subst (Has u) (sym (after_all-snoc Replies after (first_state other) (h ++ between) last))
             (event_has u (state_after other (h ++ between)) (call.TakeNext u) r (λ e. absurd (cc)) (before.1 other (legal_before other (h ++ between) (last ∷ []) l))),
       )
 
-  -- who subscribed has the number, and is a subscriber
+  -- of a subscription, the name has the number, and the number is a subscriber's
   pub subscription_given : (config : Config) (h : History T) (by name : List ℕ) (u : ℕ) → IsLegal config (h ++ event by (said (call.Subscribe name) (reply.Subscribed u)) ∷ [])
       → IsGiven name u (h ++ event by (said (call.Subscribe name) (reply.Subscribed u)) ∷ []) × IsSubscribed u (h ++ event by (said (call.Subscribe name) (reply.Subscribed u)) ∷ [])
   subscription_given config h by name u legal =
       let last : Event (Said (SharedCall T) (SharedReply T)) = event by (said (call.Subscribe name) (reply.Subscribed u)) in (
         newest_owner h last u name (λ owners. refl),
         λ other l.
-        let s : SharedFlowState T = state_after other h in
-        let found = enrolls s u (legal_right Replies after (first_state other) h (last ∷ []) l.1).0 in
-        subst (Has u) (sym (after_all-snoc Replies after (first_state other) h last))
+            let s : SharedFlowState T = state_after other h in
+            let found = enrolls s u (legal_right Replies after (first_state other) h (last ∷ []) l.1).0 in
+            subst (Has u) (sym (after_all-snoc Replies after (first_state other) h last))
             (subst (Has u) (sym found.1) (some-last u s.subscribers _ (sym found.0))),
       )
 

@@ -1,5 +1,5 @@
--- Legal and owned histories of a state flow: whose a number is stays so, and a subscriber stays until its owner unsubscribes it.
-use Rattle.std.proofs.Common.{inl, inr, ◌≡◌, ◌≢◌, ◌⊎◌, ℕ, ◌+◌, ◌≤◌, ◌<◌, Bool, true, false, ◌==◌, cond, List, [], ◌∷◌, ◌++◌, Option, Some, None, refl, sym, ap, ◌∙◌, subst, arith, eq-eqb}
+-- Legal and owned histories of a state flow: a number stays with the token that it was given to, and a subscriber stays until its owner unsubscribes it.
+use Rattle.std.proofs.Common.{inl, inr, ◌≡◌, ◌≢◌, ◌⊎◌, ℕ, ◌+◌, ◌≤◌, ◌<◌, true, false, ◌==◌, cond, List, [], ◌∷◌, ◌++◌, Option, Some, None, refl, sym, ap, ◌∙◌, subst, arith, eq-eqb}
 use Rattle.std.specs.Prelude.{IsSome, is_some}
 use Rattle.std.proofs.lemmas.Bool.{cond_both, cond-true}
 use Rattle.std.proofs.lemmas.Bool.Decides.{Decides-eqb}
@@ -19,7 +19,7 @@ use Rattle.flow_law.proofs.HistoryLemmas.{after_all-snoc}
 use Rattle.flow_law.proofs.ReplyLemmas.{state_replies_cases}
 use Rattle.flow_law.proofs.Rows.{split}
 use Rattle.flow_law.proofs.StateSubscriberLemmas.{last-without_other}
-use Rattle.flow_law.proofs.Owners.{legal_left, legal_right, owned_left, owners_all-append, Gives, given_stays, kept_in_silence}
+use Rattle.flow_law.proofs.Owners.{legal_left, owned_left, owners_all-append, Gives, given_stays, kept_in_silence}
 
 module _ {T : Type 0} where
   -- ---- whether there is a subscriber of this number
@@ -111,17 +111,17 @@ module _ {T : Type 0} where
 
   -- ---- what a token knows of its subscriber
 
-  -- events of others end neither
+  -- it stays the token's and subscribed, whatever others do
   pub subscription_stays : (first : StateFlowState T) (h between : StateHistory T) (name : List ℕ) (u : ℕ) → IsStateHistory first (h ++ between) → IsSilent name between → IsGiven name u h → IsSubscribed u h
       → IsGiven name u (h ++ between) × IsSubscribed u (h ++ between)
   subscription_stays first h between name u legal silent given there = (
     given_grows first h between name u legal.0 given,
     λ other l.
-    kept_in_silence Replies after owners_after speaks_of (λ t. t.issued) gives u (Has u) (silent_has u) other h between name l legal.1 silent given
+        kept_in_silence Replies after owners_after speaks_of (λ t. t.issued) gives u (Has u) (silent_has u) other h between name l legal.1 silent given
         (there other (legal_before other h between l)),
   )
 
-  -- nor does the token's own taking of the next value
+  -- and where the token takes the next value
   pub subscription_grows : (first : StateFlowState T) (h between : StateHistory T) (name : List ℕ) (u : ℕ) (r : StateReply T) → IsStateHistory first ((h ++ between) ++ event name (said (call.TakeNext u) r) ∷ [])
       → IsSilent name between → IsGiven name u h → IsSubscribed u h
       → IsGiven name u ((h ++ between) ++ event name (said (call.TakeNext u) r) ∷ []) × IsSubscribed u ((h ++ between) ++ event name (said (call.TakeNext u) r) ∷ [])
@@ -130,18 +130,18 @@ module _ {T : Type 0} where
       let before = subscription_stays first h between name u (legal_before first (h ++ between) (last ∷ []) legal.0, owned_before (h ++ between) (last ∷ []) legal.1) silent given there in (
         given_grows first (h ++ between) (last ∷ []) name u legal.0 before.0,
         λ other l.
-        subst (Has u) (sym (after_all-snoc Replies after other (h ++ between) last))
+            subst (Has u) (sym (after_all-snoc Replies after other (h ++ between) last))
             (event_has u (state_after_all other (h ++ between)) (call.TakeNext u) r (λ e. absurd (cc)) (before.1 other (legal_before other (h ++ between) (last ∷ []) l))),
       )
 
-  -- who subscribed has the number, and is a subscriber
+  -- of a subscription, the name has the number, and the number is a subscriber's
   pub subscription_given : (first : StateFlowState T) (h : StateHistory T) (by name : List ℕ) (u : ℕ) → IsLegalState first (h ++ event by (said (call.Subscribe name) (reply.Subscribed u)) ∷ [])
       → IsGiven name u (h ++ event by (said (call.Subscribe name) (reply.Subscribed u)) ∷ []) × IsSubscribed u (h ++ event by (said (call.Subscribe name) (reply.Subscribed u)) ∷ [])
   subscription_given first h by name u legal =
       let last : Event (Said (StateCall T) (StateReply T)) = event by (said (call.Subscribe name) (reply.Subscribed u)) in (
         newest_owner h last u name (λ owners. refl),
         λ other l.
-        subst (Has u) (sym (after_all-snoc Replies after other h last)) (some-last u (state_after_all other h).subscribers (record { number = u; last = None }) refl),
+            subst (Has u) (sym (after_all-snoc Replies after other h last)) (some-last u (state_after_all other h).subscribers (record { number = u; last = None }) refl),
       )
 
   -- ---- what a subscriber is told

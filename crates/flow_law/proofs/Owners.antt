@@ -1,5 +1,5 @@
 -- A history of any kind of flow in two parts: what holds of each, and to whom a number belongs after it.
-use Rattle.std.proofs.Common.{inl, inr, ◌≡◌, ◌≢◌, ◌⊎◌, ℕ, ◌≤◌, ◌<◌, ◌==◌, List, [], ◌∷◌, ◌++◌, Option, Some, None, refl, sym, ap, ◌∙◌, subst, arith}
+use Rattle.std.proofs.Common.{inl, inr, ◌≡◌, ◌≢◌, ◌⊎◌, ℕ, ◌≤◌, ◌<◌, ◌==◌, List, [], ◌∷◌, ◌++◌, Option, Some, refl, sym, ap, ◌∙◌, subst, arith}
 use Rattle.std.proofs.lemmas.Bool.{cond_both}
 use Rattle.std.proofs.lemmas.Bool.Decides.{Decides-eqb}
 use Rattle.flow_law.specs.declared.history.Event.{Event}
@@ -50,13 +50,13 @@ owned_up_to n number name [] h e = absurd (cc)
 owned_up_to n number name (o ∷ os) h e = cond_both (o.number == number) (Some o.name) (owner_of number os) (λ x. x ≡ Some name → number ≤ n)
     (λ t _. omega (arith, h.0, (Decides-eqb o.number number).0 t)) (λ _ e. owned_up_to n number name os h.1 e) e
 
--- an owner of a number that had none takes nobody's
+-- a new owner, of a greater number, takes no older number away
 pub owner_of_older : (number : ℕ) (name : List ℕ) (o : Owner) (owners : List Owner) → number < o.number → owner_of number owners ≡ Some name → owner_of number (o ∷ owners) ≡ Some name
 owner_of_older number name o owners l e = cond_both (o.number == number) (Some o.name) (owner_of number owners) (λ x. x ≡ Some name)
     (λ t. absurd (omega (arith, l, (Decides-eqb o.number number).0 t))) (λ _. e)
 
 module _ {S C R : Type 0} (Replies : S → C → R → Type 0) (after : S → C → R → S) (owners_after : List Owner → Event (Said C R) → List Owner) (speaks_of : C → Option ℕ) (issued : S → ℕ) where
-  -- an event gives nobody a number, or one that was not issued before it and was after it
+  -- an event gives no number, or one that was not issued before it and is issued after it
   pub record Gives (s : S) (owners : List Owner) (e : Event (Said C R)) : Type 0 where
     pub more : issued s ≤ issued (after s e.what.call e.what.reply)
     pub gives : (owners_after owners e ≡ owners)
@@ -103,7 +103,7 @@ module _ {S C R : Type 0} (Replies : S → C → R → Type 0) (after : S → C 
         ap (owner_of number) (owners_all-append owners_after speaks_of [] h more)
         ∙ owner_stays (after_all Replies after s h) (owners_all owners_after speaks_of [] h) more number name u (legal_right Replies after s h more l) is
 
-    -- ---- what only the owner of a number ends
+    -- ---- what only the owner of a number can end
 
     module _ (number : ℕ) (Holds : S → Type 0) (kept : (s : S) (c : C) (r : R) → speaks_of c ≢ Some number → Holds s → Holds (after s c r)) where
       -- who calls with a name that is not the owner's does not speak of the number
