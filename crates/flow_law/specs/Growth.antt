@@ -1,7 +1,7 @@
 -- Names of seats, and how the history that a token has seen grows. They hold of any kind of flow, whatever its events say.
 -- The first seat's name is empty; the j-th seat made through a seat has that seat's name followed by j.
 -- Begin with `Grows`: what one call adds to the history that its token has seen.
-use Rattle.std.specs.Prelude.{◌≡◌, ◌≢◌, ◌⊎◌, ℕ, ◌+◌, ◌≤◌, List, [], ◌∷◌, ◌++◌, map}
+use Rattle.std.specs.Prelude.{◌≡◌, ◌≢◌, ℕ, ◌+◌, ◌≤◌, List, [], ◌∷◌, ◌++◌, map}
 use Rattle.std.specs.List.{AllByRecursion}
 use Rattle.flow_law.specs.declared.history.Event.{Event}
 use Rattle.flow_law.specs.declared.history.Knowledge.{Knowledge}

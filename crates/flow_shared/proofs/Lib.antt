@@ -1,1 +1,3 @@
 pub mod OneCall
+pub mod Entered
+pub mod SharedCalls

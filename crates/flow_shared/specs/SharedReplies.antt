@@ -92,13 +92,6 @@ module _ {T A : Type 0} where
     abbrev pub Polls : NumberedToken (Said (SharedCall T) (SharedReply T)) → Polled T A → Type 0
     Polls e answer = Calls flow e.token (call.Poll e.number) (poll_reply answer) (poll_token answer) × KeepsNumber e.number answer
 
-    -- The subscription's seat is made through the caller's, after the event: both have seen it.
-    abbrev pub Subscribes : SharedToken T → Result (NumberedToken (Said (SharedCall T) (SharedReply T))) FlowFault → SharedToken T → Type 0
-    Subscribes before (Ok s) after =
-        (between : SharedToken T) × Calls flow before (call.Subscribe (subscription_name before.knows)) (reply.Subscribed s.number) between
-        × (after ≡ knowing between (makes between.knows)) × (s.token ≡ knowing between (child between.knows))
-    Subscribes before (Err fault) after = Calls flow before (call.Subscribe (subscription_name before.knows)) (reply.Refused fault) after
-
     -- ---- calls that do not wait: Busy exactly where one exchange was lost
 
     abbrev pub EmitsNow : SharedToken T → T → Emitted T A → Type 0
@@ -113,6 +106,13 @@ module _ {T A : Type 0} where
     PollsNow e (polled_now.Busy f) = (f.number ≡ e.number) × IsBusy e.token f.token
 
 module _ {T : Type 0} (flow : Origin Config) where
+  -- The subscription's seat is made through the caller's, after the event: both have seen it.
+  abbrev pub Subscribes : SharedToken T → Result (NumberedToken (Said (SharedCall T) (SharedReply T))) FlowFault → SharedToken T → Type 0
+  Subscribes before (Ok s) after =
+      (between : SharedToken T) × Calls flow before (call.Subscribe (subscription_name before.knows)) (reply.Subscribed s.number) between
+      × (after ≡ knowing between (makes between.knows)) × (s.token ≡ knowing between (child between.knows))
+  Subscribes before (Err fault) after = Calls flow before (call.Subscribe (subscription_name before.knows)) (reply.Refused fault) after
+
   abbrev pub NextsNow : NumberedToken (Said (SharedCall T) (SharedReply T)) → Result (Next T) FlowFault → NumberedToken (Said (SharedCall T) (SharedReply T)) → Type 0
   NextsNow old (Ok Gone) new = ⊥
   NextsNow old (Ok next) new = (new.number ≡ old.number) × CallsAtOnce flow old.token (call.TakeNext old.number) (reply.Received next) new.token

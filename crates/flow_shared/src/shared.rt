@@ -1,7 +1,8 @@
 //! A shared flow for several threads.
 ghost use Rattle.std.specs.Prelude.{◌≡◌, None, MatchResult};
-ghost use Rattle.flow_law.specs.Growth.{first_knowledge};
+ghost use Rattle.flow_law.specs.Growth.{first_knowledge, makes, child};
 ghost use Rattle.flow_law.specs.SharedFlow.{config_fault};
+ghost use Rattle.flow_gate.specs.Tokens.{knowing};
 ghost use Rattle.flow_shared.specs.SharedReplies.{NoFlow};
 
 use crate::guarded::GuardedShared;
@@ -9,8 +10,10 @@ use crate::token::{FlowSeat, Seat};
 use flow_core::SharedCore;
 use flow_gate::Gate;
 use flow_law::{Config, FlowFault, FlowValue};
-use std::alloc::{AllocFailed, Allocator, Global};
+use std::alloc::{Allocator, Global};
 use std::marker::Model;
+
+mod emission;
 
 /// A shared flow (`MutableSharedFlow`) for callers on several threads.
 #[derive(Drop)]
@@ -39,5 +42,17 @@ impl<T: FlowValue, A: Allocator + Copy> SharedFlow<T, A> {
             Ok((gate, seat)) => Ok((SharedFlow { gate }, FlowSeat { seat: Some(seat) })),
             Err(_failed) => Err(FlowFault::OutOfMemory),
         }
+    }
+
+    /// Makes a seat through another: for another thread, or for one more emission that may wait.
+    pub fn seat(&self, seat: &mut Seat<T, A>) -> Seat<T, A>
+        requires { seat.old.table_id ≡ self.now.table_id }
+        ensures maker { seat.new ≡ knowing seat.old (makes seat.old.knows) }
+        ensures made { result ≡ knowing seat.old (child seat.old.knows) }
+    {
+        let mut inside = seat.seat.take().unwrap();
+        let made = self.gate.seat(&mut inside);
+        seat.seat = Some(inside);
+        FlowSeat { seat: Some(made) }
     }
 }
