@@ -1,3 +1,4 @@
 pub mod OneCall
 pub mod Entered
 pub mod SharedCalls
+pub mod Subscriptions
