@@ -2,3 +2,4 @@ pub mod OneCall
 pub mod Entered
 pub mod SharedCalls
 pub mod Subscriptions
+pub mod AtOnce
