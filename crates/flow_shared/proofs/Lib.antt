@@ -1,3 +1,5 @@
 pub mod OneCall
 pub mod Entered
 pub mod SharedCalls
+pub mod OneStateCall
+pub mod StateAnswers
