@@ -1,5 +1,6 @@
 pub mod OneCall
 pub mod Entered
 pub mod SharedCalls
+pub mod Subscriptions
 pub mod OneStateCall
 pub mod StateAnswers

@@ -13,7 +13,9 @@ use flow_law::{Config, FlowFault, FlowValue};
 use std::alloc::{Allocator, Global};
 use std::marker::Model;
 
+mod cache;
 mod emission;
+mod subscriber;
 
 /// A shared flow (`MutableSharedFlow`) for callers on several threads.
 #[derive(Drop)]
