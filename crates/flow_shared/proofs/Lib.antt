@@ -4,3 +4,5 @@ pub mod SharedCalls
 pub mod Subscriptions
 pub mod OneStateCall
 pub mod StateAnswers
+pub mod StateFlowCalls
+pub mod StateSubscriptions

@@ -3,6 +3,7 @@ ghost use Rattle.std.specs.Prelude.{◌≡◌, IfOk, IfErr};
 ghost use Rattle.flow_law.specs.Growth.{first_knowledge, makes, child};
 ghost use Rattle.flow_law.specs.StateFlow.{first_state_flow};
 ghost use Rattle.flow_gate.specs.Tokens.{knowing};
+ghost use Rattle.flow_shared.specs.StateReplies.{StateMeets};
 
 use crate::token::FlowSeat;
 use flow_core::StateCore;
@@ -11,14 +12,23 @@ use flow_law::{FlowFault, FlowValue};
 use std::alloc::{Allocator, Global};
 use std::marker::Model;
 
+mod cache;
 mod guarded;
 mod inside;
+mod subscriber;
 mod token;
+mod value;
 
 pub use guarded::GuardedState;
 pub use token::{StateSeat, StateSubscription};
 
-/// A state flow (`MutableStateFlow`) for callers on several threads.
+/// A state flow (`MutableStateFlow`) for callers on several threads: one current value, which any of them may read and
+/// set, and of which each subscriber gets the most recent that it has not got already.
+///
+/// Each call but `new`, `seat` and the two that meet is one event of the flow's one history, and its contract says that
+/// the caller's token has then seen a history that the flow may have had, and that grew by exactly this call. A call
+/// that takes `rt` waits while another caller is inside the flow, and nothing says that it ever wins. A call that ends
+/// in `_now` never waits: it answers `Busy` where another caller is inside.
 #[derive(Drop)]
 pub struct StateFlow<T: FlowValue, A: Allocator + Copy = Global> {
     gate: Gate<GuardedState<T, A>, A>,
@@ -34,8 +44,16 @@ impl<T: FlowValue, A: Allocator + Copy> Model for StateFlow<T, A> {
 }
 
 impl<T: FlowValue, A: Allocator + Copy> StateFlow<T, A> {
-    /// A state flow with this value, and its first seat. It issues at most `limit` numbers to subscribers.
-    pub fn new(alloc: A, initial: T, limit: u64) -> Result<(StateFlow<T, A>, StateSeat<T, A>), FlowFault>
+    /// A state flow with this value, which nobody subscribed to, and its first seat. It issues at most `limit` numbers
+    /// to subscribers. `Err` is want of memory; the value is dropped then.
+    ///
+    /// Every other seat is made through the first one or through one that came of it: who drops the last seat of a flow
+    /// can call it no more.
+    pub fn new(
+        alloc: A,
+        initial: T,
+        limit: u64,
+    ) -> Result<(StateFlow<T, A>, StateSeat<T, A>), FlowFault>
         ensures made { IfOk result (λ made. (made.0.first ≡ first_state_flow limit initial) × (made.1.table_id ≡ made.0.table_id) × (made.1.knows ≡ first_knowledge)) }
         ensures memory { IfErr result (λ fault. fault ≡ FlowFault.OutOfMemory) }
     {
@@ -44,5 +62,55 @@ impl<T: FlowValue, A: Allocator + Copy> StateFlow<T, A> {
             Ok((gate, seat)) => Ok((StateFlow { gate }, FlowSeat { seat: Some(seat) })),
             Err(_failed) => Err(FlowFault::OutOfMemory),
         }
+    }
+
+    /// Makes a seat through another. Call it for each thread that is to call the flow, before the thread starts.
+    ///
+    /// The new seat has seen what its maker had seen, and has a name of its own. A seat that is dropped is lost: nobody
+    /// calls under its name any more, and the flow goes on.
+    pub fn seat(&self, seat: &mut StateSeat<T, A>) -> StateSeat<T, A>
+        requires { seat.old.table_id ≡ self.now.table_id }
+        ensures maker { seat.new ≡ knowing seat.old (makes seat.old.knows) }
+        ensures made { result ≡ knowing seat.old (child seat.old.knows) }
+    {
+        let mut inside = seat.seat.take().unwrap();
+        let made = self.gate.seat(&mut inside);
+        seat.seat = Some(inside);
+        FlowSeat { seat: Some(made) }
+    }
+
+    /// Makes what two seats have seen one history of the flow. Nothing is called, and nobody waits.
+    ///
+    /// Call it where what one caller did is to count for the other, as after a thread has ended and handed its seat
+    /// back. Of a seat that was dropped, no other seat learns which calls were made through it.
+    pub fn meet(&self, one: &mut StateSeat<T, A>, other: &mut StateSeat<T, A>)
+        requires { (one.old.table_id ≡ self.now.table_id) × (other.old.table_id ≡ self.now.table_id) }
+        ensures { StateMeets self.now one.old other.old one.new other.new }
+    {
+        let first = one.seat.take().unwrap();
+        let second = other.seat.take().unwrap();
+        let (first, second) = self.gate.meet(first, second);
+        one.seat = Some(first);
+        other.seat = Some(second);
+    }
+
+    /// Makes what a subscription and a seat have seen one history of the flow. The subscription keeps its number and
+    /// what it has still to receive.
+    ///
+    /// Call it as `meet`: where what a subscriber received is to count for another caller.
+    pub fn meet_subscription(
+        &self,
+        subscription: &mut StateSubscription<T, A>,
+        seat: &mut StateSeat<T, A>,
+    )
+        requires { (subscription.old.token.table_id ≡ self.now.table_id) × (seat.old.table_id ≡ self.now.table_id) }
+        ensures met { StateMeets self.now subscription.old.token seat.old subscription.new.token seat.new }
+        ensures number { subscription.new.number ≡ subscription.old.number }
+    {
+        let first = subscription.seat.take().unwrap();
+        let second = seat.seat.take().unwrap();
+        let (first, second) = self.gate.meet(first, second);
+        subscription.seat = Some(first);
+        seat.seat = Some(second);
     }
 }
