@@ -1,9 +1,8 @@
 -- What a state flow answers beyond its replies.
-use Rattle.std.proofs.Common.{inl, inr, ◌≡◌, Result, Ok, Err, ap, refl}
+use Rattle.std.proofs.Common.{inl, inr, ◌≡◌, Result, Ok, Err, ap}
 use Rattle.flow_law.specs.declared.fault.FlowFault.{FlowFault}
 use Rattle.flow_law.specs.declared.fault.FlowFault.TheVariants.{Unsupported}
 use Rattle.flow_law.specs.declared.call.StateCall.TheVariants as call
-use Rattle.flow_law.specs.declared.call.StateReply.{StateReply}
 use Rattle.flow_law.specs.declared.call.StateReply.TheVariants as reply
 use Rattle.flow_law.specs.StateFlow.{StateFlowState, Replies}
 use Rattle.flow_law.proofs.ReplyLemmas.{state_replies_cases}

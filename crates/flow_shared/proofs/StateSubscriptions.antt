@@ -1,7 +1,6 @@
 -- Subscriptions of a state flow, inside the gate and when they have left it.
 use Rattle.std.proofs.Common.{◌≡◌, ◌≢◌, ℕ, ◌+◌, ◌≤◌, Bool, true, List, [], ◌∷◌, ◌++◌, Result, Ok, sym, ap, ◌∙◌, subst, append-nil}
 use Rattle.flow_law.specs.declared.fault.FlowFault.{FlowFault}
-use Rattle.flow_law.specs.declared.history.Knowledge.{Knowledge}
 use Rattle.flow_law.specs.declared.history.Said.{Said}
 use Rattle.flow_law.specs.declared.outcome.Next.{Next}
 use Rattle.flow_law.specs.declared.outcome.Next.TheVariants.{Gone}
@@ -9,7 +8,7 @@ use Rattle.flow_law.specs.declared.call.StateCall.{StateCall}
 use Rattle.flow_law.specs.declared.call.StateCall.TheVariants as call
 use Rattle.flow_law.specs.declared.call.StateReply.{StateReply}
 use Rattle.flow_law.specs.declared.call.StateReply.TheVariants as reply
-use Rattle.flow_law.specs.Growth.{GrowsByOthers, Fits, event, adds, sees, child}
+use Rattle.flow_law.specs.Growth.{GrowsByOthers, event, adds, child}
 use Rattle.flow_law.specs.OneHistory.{said}
 use Rattle.flow_law.specs.StateFlow.{StateFlowState, StateHistory, IsStateHistory, IsLegalState, IsGiven, IsSubscribed, Replies, after, state_after_all}
 use Rattle.flow_law.proofs.Owners.{legal_right}

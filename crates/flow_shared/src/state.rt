@@ -27,8 +27,10 @@ pub use token::{StateSeat, StateSubscription};
 ///
 /// Each call but `new`, `seat` and the two that meet is one event of the flow's one history, and its contract says that
 /// the caller's token has then seen a history that the flow may have had, and that grew by exactly this call. A call
-/// that takes `rt` waits while another caller is inside the flow, and nothing says that it ever wins. A call that ends
-/// in `_now` never waits: it answers `Busy` where another caller is inside.
+/// that takes `rt` waits while another caller is inside the flow, and nothing says that it ever comes in. A call that
+/// ends in `_now` never waits: where another caller is inside it answers `Busy`, and is no event.
+///
+/// A seat that is dropped is lost, and a subscription that is dropped stays; the flow goes on either way.
 #[derive(Drop)]
 pub struct StateFlow<T: FlowValue, A: Allocator + Copy = Global> {
     gate: Gate<GuardedState<T, A>, A>,
@@ -47,8 +49,8 @@ impl<T: FlowValue, A: Allocator + Copy> StateFlow<T, A> {
     /// A state flow with this value, which nobody subscribed to, and its first seat. It issues at most `limit` numbers
     /// to subscribers. `Err` is want of memory; the value is dropped then.
     ///
-    /// Every other seat is made through the first one or through one that came of it: who drops the last seat of a flow
-    /// can call it no more.
+    /// Every other seat is made through this one, or through one that was made so. Once all seats and all subscriptions
+    /// are dropped nobody can call the flow any more.
     pub fn new(
         alloc: A,
         initial: T,
@@ -82,7 +84,8 @@ impl<T: FlowValue, A: Allocator + Copy> StateFlow<T, A> {
     /// Makes what two seats have seen one history of the flow. Nothing is called, and nobody waits.
     ///
     /// Call it where what one caller did is to count for the other, as after a thread has ended and handed its seat
-    /// back. Of a seat that was dropped, no other seat learns which calls were made through it.
+    /// back. A seat that was dropped meets no other: its calls stay in the history, but what it had seen is lost to
+    /// contracts.
     pub fn meet(&self, one: &mut StateSeat<T, A>, other: &mut StateSeat<T, A>)
         requires { (one.old.table_id ≡ self.now.table_id) × (other.old.table_id ≡ self.now.table_id) }
         ensures { StateMeets self.now one.old other.old one.new other.new }
@@ -97,7 +100,8 @@ impl<T: FlowValue, A: Allocator + Copy> StateFlow<T, A> {
     /// Makes what a subscription and a seat have seen one history of the flow. The subscription keeps its number and
     /// what it has still to receive.
     ///
-    /// Call it as `meet`: where what a subscriber received is to count for another caller.
+    /// Call it where what the subscriber received is to count for another caller, or the other way round. A
+    /// subscription that was dropped meets no seat.
     pub fn meet_subscription(
         &self,
         subscription: &mut StateSubscription<T, A>,

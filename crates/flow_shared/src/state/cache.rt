@@ -14,6 +14,8 @@ use std::sync::Wait;
 impl<T: FlowValue, A: Allocator + Copy> StateFlow<T, A> {
     /// A snapshot of the replay cache: that of a state flow is a copy of its current value alone. `Err` is want of
     /// memory.
+    ///
+    /// Call it where a state flow is used as a shared flow; `value` gives the value itself.
     pub fn replay_cache<R: Wait>(
         &self,
         rt: &R,
@@ -31,7 +33,7 @@ impl<T: FlowValue, A: Allocator + Copy> StateFlow<T, A> {
 
     /// Always refused as `Unsupported`: a state flow has a value at any time, so its replay cache cannot be reset.
     ///
-    /// It is there for callers who treat a state flow as a shared flow. To go back to the first value, `set` it.
+    /// It is there for callers who use a state flow as a shared flow. To go back to the first value, `set` it.
     pub fn reset_replay_cache<R: Wait>(
         &self,
         rt: &R,

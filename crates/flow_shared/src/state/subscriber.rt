@@ -16,8 +16,9 @@ impl<T: FlowValue, A: Allocator + Copy> StateFlow<T, A> {
     /// A new subscriber, who gets the current value first. `Err` is want of memory, or `Exhausted` where the flow has
     /// issued as many numbers as its limit allows.
     ///
-    /// The subscription has a seat of its own, which is made through this one. If it is dropped it stays: it costs the
-    /// flow one value and is counted, but it blocks nobody. To end it, `unsubscribe`.
+    /// Call it for each reader that is to follow the state. The subscription has a seat of its own, which is made
+    /// through this one. If it is dropped it stays: it costs the flow one value and is counted, but it blocks nobody. To
+    /// end it, `unsubscribe`.
     pub fn subscribe<R: Wait>(
         &self,
         rt: &R,
@@ -48,8 +49,8 @@ impl<T: FlowValue, A: Allocator + Copy> StateFlow<T, A> {
     /// The current value, if it is not equal to the one that the subscriber got last; `Empty` if it is. `Err` is want
     /// of memory: the subscriber then gets the value at a later call.
     ///
-    /// A slow subscriber skips values that were set fast, and gets the most recent one. Call it again after `Empty` to
-    /// learn of a value that was set since.
+    /// A slow subscriber skips values that were set fast, and gets the most recent one. After `Empty` call it again
+    /// later, to learn of a value that was set since.
     pub fn next<R: Wait>(
         &self,
         rt: &R,

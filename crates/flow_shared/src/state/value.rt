@@ -13,7 +13,8 @@ use std::sync::Wait;
 impl<T: FlowValue, A: Allocator + Copy> StateFlow<T, A> {
     /// A copy of the current value. `Err` is want of memory.
     ///
-    /// Another caller may set the value as soon as it is read. To set what depends on it, `compare_and_set`.
+    /// Call it to read the state at any time, without a subscription. Another caller may set the value right after; to
+    /// set what depends on the value that was read, `compare_and_set`.
     pub fn value<R: Wait>(&self, rt: &R, seat: &mut StateSeat<T, A>) -> Result<T, FlowFault>
         requires { seat.old.table_id ≡ self.now.table_id }
         ensures { StateCalls self.now seat.old call.GetValue (got result) seat.new }
@@ -28,7 +29,8 @@ impl<T: FlowValue, A: Allocator + Copy> StateFlow<T, A> {
     /// Makes this the current value. Setting a value that is equal to the current one does nothing: no subscriber gets
     /// it again.
     ///
-    /// Updates are conflated: a slow subscriber skips values that were set fast, and gets the most recent one.
+    /// Updates are conflated: a slow subscriber skips values that were set fast, and gets the most recent one. Call it
+    /// where the new value does not depend on the current one.
     pub fn set<R: Wait>(&self, rt: &R, seat: &mut StateSeat<T, A>, value: T)
         requires { seat.old.table_id ≡ self.now.table_id }
         ensures { StateCalls self.now seat.old (call.Set value) reply.Done seat.new }
@@ -66,7 +68,8 @@ impl<T: FlowValue, A: Allocator + Copy> StateFlow<T, A> {
 
     /// The same as `set`, and always `true`: a state flow takes every value without suspending.
     ///
-    /// It does wait while another caller is inside; `set_now` never waits.
+    /// Call it where a state flow is used as a shared flow. It waits while another caller is inside; `set_now` never
+    /// waits.
     pub fn try_emit<R: Wait>(&self, rt: &R, seat: &mut StateSeat<T, A>, value: T) -> bool
         requires { seat.old.table_id ≡ self.now.table_id }
         ensures { StateCalls self.now seat.old (call.TryEmit value) (reply.Answered result) seat.new }

@@ -1,4 +1,4 @@
-use Rattle.std.proofs.Common.{ap, refl}
+use Rattle.std.proofs.Common.{ap}
 use Rattle.flow_law.specs.declared.call.StateCall.TheVariants as call
 use Rattle.flow_shared.proofs.OneStateCall.{may_leave, has_said}
 use Rattle.flow_shared.proofs.state.inside.compare_and_set.Goals as goal
