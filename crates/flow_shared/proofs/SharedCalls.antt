@@ -13,13 +13,13 @@ use Rattle.flow_law.specs.OneHistory.{said}
 use Rattle.flow_law.specs.SharedHistory.{IsHistory, IsLegal, IsGiven, History}
 use Rattle.flow_law.proofs.OwnedHistory.{given_grows, emission_given}
 use Rattle.flow_core.specs.SharedCore.{emitted}
-use Rattle.flow_gate.specs.Tokens.{Origin, HeldState, Finds, origin}
+use Rattle.flow_gate.specs.Tokens.{Origin, HeldState, Finds, origin, Meets as GateMeets}
 use Rattle.flow_shared.specs.declared.answers.Emitted.{Emitted}
 use Rattle.flow_shared.specs.declared.answers.Emitted.TheVariants as answers
 use Rattle.flow_shared.specs.declared.guarded.GuardedShared.{GuardedShared}
 use Rattle.flow_shared.specs.Tokens.{NumberedToken, numbered}
 use Rattle.flow_shared.specs.Calls.{SaysIn}
-use Rattle.flow_shared.specs.SharedReplies.{SharedToken, StandsForHistory, Calls, CallsAtOnce, Says, FoundBy, Emits, HandsBack, IsGivenIfQueued, emit_reply, emit_token}
+use Rattle.flow_shared.specs.SharedReplies.{SharedToken, StandsForHistory, Calls, CallsAtOnce, Meets, Says, FoundBy, Emits, HandsBack, IsGivenIfQueued, emit_reply, emit_token}
 use Rattle.flow_shared.proofs.Entered.{found, found_name, found_grows, has_called, has_called_at_once}
 
 abbrev pub stands : {T A : Type 0} → GuardedShared T A → GuardedShared T A → History T → Type 0
@@ -90,3 +90,17 @@ module _ {T A : Type 0} (flow : Origin Config) (gate : Origin (GuardedShared T A
   pub calls_by_at_once : held.token.knows.lost ≡ s.knows.lost → CallsAtOnce flow e.token (c e.number) r' after
   calls_by_at_once lost = subst (λ (z : ℕ × SharedReply T). CallsAtOnce flow e.token (c z.0) z.1 after) (λ i. ((same i).number, reply_is i))
       (calls_at_once flow gate s e.token held (c number) r after is (ap (λ (n : NumberedToken (Said (SharedCall T) (SharedReply T))). n.token) same) f says lost)
+
+-- ---- meeting
+
+module _ {T A : Type 0} (flow : Origin Config) (gate : Origin (GuardedShared T A)) (s u t w s_after u_after : SharedToken T) (is : origin gate.table_id gate.first.core.config ≡ flow) (one : s ≡ t) (other : u ≡ w) (m : GateMeets stands gate s u s_after u_after) where
+  -- s and u are the gate's seats, t and w the callers' tokens, which are the same
+  pub meets : Meets flow t w s_after u_after
+  meets = subst (λ (z : SharedToken T × SharedToken T). Meets flow z.0 z.1 s_after u_after) (λ i. (one i, other i)) (record {
+    history = m.history;
+    is_history = subst (λ (g : Config). IsHistory g m.history) (ap (λ (o : Origin Config). o.first) is) m.stood.1.0;
+    fits_one = m.fits_one;
+    fits_other = m.fits_other;
+    sees_one = m.sees_one;
+    sees_other = m.sees_other;
+  })

@@ -2,6 +2,7 @@
 use Rattle.std.proofs.Common.{◌≡◌, ◌≢◌, ℕ, ◌+◌, ◌≤◌, Bool, true, List, [], ◌∷◌, ◌++◌, Result, Ok, sym, ap, ◌∙◌, subst, append-nil}
 use Rattle.flow_law.specs.declared.config.Config.{Config}
 use Rattle.flow_law.specs.declared.fault.FlowFault.{FlowFault}
+use Rattle.flow_law.specs.declared.history.Knowledge.{Knowledge}
 use Rattle.flow_law.specs.declared.history.Said.{Said}
 use Rattle.flow_law.specs.declared.outcome.Next.{Next}
 use Rattle.flow_law.specs.declared.outcome.Next.TheVariants.{Gone}
@@ -9,7 +10,7 @@ use Rattle.flow_law.specs.declared.call.SharedCall.{SharedCall}
 use Rattle.flow_law.specs.declared.call.SharedCall.TheVariants as call
 use Rattle.flow_law.specs.declared.call.SharedReply.{SharedReply}
 use Rattle.flow_law.specs.declared.call.SharedReply.TheVariants as reply
-use Rattle.flow_law.specs.Growth.{event, adds, child}
+use Rattle.flow_law.specs.Growth.{event, adds, child, sees, Fits}
 use Rattle.flow_law.specs.OneHistory.{said}
 use Rattle.flow_law.specs.SharedFlow.{first_state}
 use Rattle.flow_law.specs.SharedHistory.{IsHistory, IsLegal, IsGiven, IsSubscribed, History, Replies, after, state_after}
@@ -78,3 +79,9 @@ module _ {T A : Type 0} (flow : Origin Config) (gate : Origin (GuardedShared T A
       (λ i. found_name stands gate s held f i ++ (found_made stands gate s held f i + 1) ∷ []) ∙ ap (λ (z : SharedToken T). subscription_name z.knows) same in
       subst (λ (z : List ℕ × Result SubId FlowFault). Calls flow t (call.Subscribe z.0) (subscribed z.1) left) (λ i. (name i, answer_is i))
       (calls flow gate s t held (call.Subscribe (subscription_name held.token.knows)) (subscribed answer) left is same f says lost)
+
+-- a subscription that has met another token
+pub subscription_met : {T : Type 0} (config : Config) (k : Knowledge (Said (SharedCall T) (SharedReply T))) (u : ℕ) (h : History T) → IsHistory config h → Fits h k → IsSubscription k u → IsSubscription (sees h k) u
+subscription_met config k u h legal fits old =
+    let kept = subscription_stays config k.seen fits.0.0 k.name u (subst (IsHistory config) fits.0.1 legal) fits.0.2 old.0 old.1 in
+    subst (λ l. IsGiven k.name u l × IsSubscribed u l) (sym fits.0.1) kept

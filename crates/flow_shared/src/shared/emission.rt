@@ -28,7 +28,11 @@ pub(super) fn answered<T: FlowValue, A: Allocator + Copy>(
     match answer {
         Ok(Emit::Done) => Emitted::Done(FlowSeat { seat: Some(seat) }),
         Ok(Emit::Queued(number)) => Emitted::Queued(Emission { seat, number }),
-        Err(Refused { value, fault }) => Emitted::Refused(FlowSeat { seat: Some(seat) }, value, fault),
+        Err(Refused { value, fault }) => Emitted::Refused(
+            FlowSeat { seat: Some(seat) },
+            value,
+            fault,
+        ),
     }
 }
 

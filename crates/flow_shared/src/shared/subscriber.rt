@@ -64,11 +64,7 @@ impl<T: FlowValue, A: Allocator + Copy> SharedFlow<T, A> {
     }
 
     /// Ends the subscription. Emitters who waited for it alone go on. Its seat comes back, for other calls.
-    pub fn unsubscribe<R: Wait>(
-        &self,
-        rt: &R,
-        subscription: Subscription<T, A>,
-    ) -> Seat<T, A>
+    pub fn unsubscribe<R: Wait>(&self, rt: &R, subscription: Subscription<T, A>) -> Seat<T, A>
         requires { subscription.token.table_id ≡ self.now.table_id }
         ensures { Calls self.now subscription.token (call.Unsubscribe subscription.number) (reply.Tested true) result }
     {

@@ -17,8 +17,8 @@ impl<T: FlowValue, A: Allocator + Copy> StateFlow<T, A> {
     /// issued as many numbers as its limit allows.
     ///
     /// Call it for each reader that is to follow the state. The subscription has a seat of its own, which is made
-    /// through this one. If it is dropped it stays: it costs the flow one value and is counted, but it blocks nobody. To
-    /// end it, `unsubscribe`.
+    /// through this one. If it is dropped it stays: it costs the flow one value and is counted, but it blocks nobody.
+    /// To end it, `unsubscribe`.
     pub fn subscribe<R: Wait>(
         &self,
         rt: &R,
