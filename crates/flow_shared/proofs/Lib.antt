@@ -3,3 +3,7 @@ pub mod Entered
 pub mod SharedCalls
 pub mod Subscriptions
 pub mod AtOnce
+pub mod OneStateCall
+pub mod StateAnswers
+pub mod StateFlowCalls
+pub mod StateSubscriptions
