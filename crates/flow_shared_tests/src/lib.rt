@@ -1,12 +1,13 @@
-//! Callers of flows for several threads: one caller for worked examples, and tests by one caller and by several threads.
+//! Callers of flows for several threads: one caller who plays a list of steps, and tests of worked examples by one
+//! caller and by several threads.
 #![tactic(auto)]
 
 mod one_caller;
+mod play;
 
 pub use one_caller::{OneCaller, Reader, Waiting};
+pub use play::{Answer, Step, play};
 
-#[cfg(test)]
-mod emissions;
 #[cfg(test)]
 mod subscribers;
 
