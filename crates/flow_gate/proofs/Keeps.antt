@@ -1,5 +1,5 @@
 -- Each step keeps the rule of the table.
-use Rattle.std.proofs.Common.{◌≡◌, ◌≢◌, ℕ, zero, suc, ◌+◌, ◌≤◌, ◌<◌, ◌⊎◌, Bool, true, false, List, [], ◌∷◌, ◌++◌, Option, Some, None, map, length, get_or, set, refl, sym, ap, ◌∙◌, subst, inl, inr, ⊎_elim, arith, le_refl, eqb, eq-eqb, ne_eqb, length-set, get_or-set_same, true≢false}
+use Rattle.std.proofs.Common.{◌≡◌, ◌≢◌, ℕ, ◌≤◌, ◌⊎◌, Bool, true, false, List, [], ◌∷◌, ◌++◌, Option, Some, map, length, get_or, set, refl, sym, ap, ◌∙◌, subst, inl, inr, ⊎_elim, arith, le_refl, eqb, eq-eqb, ne_eqb, length-set, get_or-set_same, true≢false}
 use mathlib.Core.Option.{some, none}
 use mathlib.Core.Logic.{dite}
 use native.Mathlib.Decide.{ℕ_discrete}
@@ -12,13 +12,13 @@ use Rattle.atomic_table.proofs.Lists.{at_set, set_here, set_else}
 use Rattle.flow_law.specs.declared.history.Event.{Event}
 use Rattle.flow_law.specs.declared.history.Knowledge.{Knowledge}
 use Rattle.flow_gate.specs.declared.view.SeatView.{SeatView}
-use Rattle.flow_law.specs.Growth.{IsApartFrom, Fits, NamesOnlyMade, GrowsByOthers, knowledge, events_of}
+use Rattle.flow_law.specs.Growth.{IsApartFrom, Fits, NamesOnlyMade, events_of}
 use Rattle.flow_gate.specs.View.{seat_view}
 use Rattle.flow_gate.specs.Rule.{GateHolds, KnownAt}
 use Rattle.flow_law.specs.Growth.{sees, loses, adds, makes, child}
-use Rattle.flow_gate.specs.Steps.{stands_from, first_of, others_of, entered, observed, left}
+use Rattle.flow_gate.specs.Steps.{stands_from, entered, observed, left}
 use Rattle.flow_law.proofs.Names.{every_map, grew_refl, fits_more, fits_own, makes_fits, child_fits, child_apart, apart_child, makes_child, child_makes}
-use Rattle.flow_gate.proofs.Places.{at_only, at_two, at_none, at_inside, at_end, every_at, of_map, known_set, known_end, AllApart, ComesFrom, apart_from}
+use Rattle.flow_gate.proofs.Places.{at_only, at_two, at_none, at_end, every_at, of_map, known_set, known_end, AllApart, apart_from}
 
 off_of : (b : Bool) → (b ≡ true → ⊥) → b ≡ false
 off_of true never = absurd (never refl)

@@ -1,16 +1,14 @@
 -- Where known stand among the views.
-use Rattle.std.proofs.Common.{◌≡◌, ◌≢◌, ℕ, zero, suc, ◌+◌, ◌≤◌, ◌<◌, ◌⊎◌, Bool, List, [], ◌∷◌, ◌++◌, map, length, set, refl, sym, ap, ◌∙◌, subst, inl, inr, ⊎_elim, arith}
-use mathlib.Core.Option.{some, none, some-injective, some-ne-none}
+use Rattle.std.proofs.Common.{◌≡◌, ◌≢◌, ℕ, zero, suc, ◌≤◌, ◌<◌, ◌⊎◌, List, [], ◌∷◌, ◌++◌, map, length, set, refl, sym, ap, subst, inl, inr, ⊎_elim, arith}
+use mathlib.Core.Option.{some, some-injective, some-ne-none}
 use mathlib.Core.Logic.{dite}
 use native.Mathlib.Decide.{ℕ_discrete}
 use lib.ListN.{get_elem?}
 use Rattle.std.specs.List.{AllByRecursion}
 use Rattle.atomic_table.proofs.Lists.{at_set}
-use Rattle.flow_law.specs.declared.history.Event.{Event}
 use Rattle.flow_law.specs.declared.history.Knowledge.{Knowledge}
 use Rattle.flow_gate.specs.declared.view.SeatView.{SeatView}
-use Rattle.flow_law.specs.Growth.{IsMadeBy, IsApartFrom, Fits, knowledge}
-use Rattle.flow_gate.specs.View.{seat_view}
+use Rattle.flow_law.specs.Growth.{IsMadeBy, IsApartFrom}
 use Rattle.flow_gate.specs.Rule.{KnownAt}
 use Rattle.flow_law.proofs.Names.{numbered_more}
 

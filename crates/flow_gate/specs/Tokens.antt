@@ -1,5 +1,5 @@
 -- What contracts see of a seat, of a gate and of who is inside.
-use Rattle.std.specs.Prelude.{◌≡◌, ℕ, false, true, List, [], ◌∷◌, Option, None}
+use Rattle.std.specs.Prelude.{◌≡◌, false, true, List, [], ◌∷◌, Option, None}
 use Rattle.atomic_table.specs.Seated.{TableId}
 use Rattle.atomic_table.specs.declared.shared.Seat.{Seat as TableSeat}
 use Rattle.flow_law.specs.declared.history.Event.{Event}

@@ -127,7 +127,11 @@ impl<S: Guarded + Drop, A: Allocator + Copy> Gate<S, A> {
         }
     }
 
-    fn meet_at<B: StartsFrom<S>>(&self, one: Seat<S, A>, other: Seat<S, A>) -> (Seat<S, A>, Seat<S, A>)
+    fn meet_at<B: StartsFrom<S>>(
+        &self,
+        one: Seat<S, A>,
+        other: Seat<S, A>,
+    ) -> (Seat<S, A>, Seat<S, A>)
         requires gate { (one.table_id ≡ self.now.table_id) × (other.table_id ≡ self.now.table_id) }
         requires first { B.first ≡ Some self.now.first }
         ensures { Meets S.stands self.now one other result.0 result.1 }

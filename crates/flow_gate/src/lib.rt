@@ -17,6 +17,8 @@
 mod gate;
 mod held;
 mod steps;
+#[cfg(test)]
+mod tests;
 mod token;
 mod view;
 

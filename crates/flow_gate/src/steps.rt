@@ -23,7 +23,8 @@ impl<E> Adds<E> for Brand {
 /// The rule of a gate's table.
 pub struct GateRule;
 
-impl<S: Guarded, A: Allocator> TableRule<Option<Box<S, A>>, SeatView<S::Said>, Snapshot<S>> for GateRule {
+impl<S: Guarded, A: Allocator> TableRule<Option<Box<S, A>>, SeatView<S::Said>, Snapshot<S>>
+    for GateRule {
     ghost holds = { λ first. GateHolds (boxed S.stands first.value) };
 
     ghost first = { λ _. first_view };
@@ -43,7 +44,8 @@ pub(crate) struct Enter<B> {
     starts: PhantomData<B>,
 }
 
-impl<S: Guarded, A: Allocator, B: StartsFrom<S>> Play<Option<Box<S, A>>, SeatView<S::Said>> for Enter<B> {
+impl<S: Guarded, A: Allocator, B: StartsFrom<S>> Play<Option<Box<S, A>>, SeatView<S::Said>>
+    for Enter<B> {
     ghost then = { entered (stands_from (boxed S.stands) B.first) };
 }
 
@@ -52,7 +54,8 @@ pub(crate) struct Observe<B> {
     starts: PhantomData<B>,
 }
 
-impl<S: Guarded, A: Allocator, B: StartsFrom<S>> Play<Option<Box<S, A>>, SeatView<S::Said>> for Observe<B> {
+impl<S: Guarded, A: Allocator, B: StartsFrom<S>> Play<Option<Box<S, A>>, SeatView<S::Said>>
+    for Observe<B> {
     ghost then = { observed (stands_from (boxed S.stands) B.first) };
 }
 

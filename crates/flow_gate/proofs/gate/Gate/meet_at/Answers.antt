@@ -1,6 +1,5 @@
-use Rattle.std.proofs.Common.{rules, Some, ◌≡◌, ℕ, true, false, List, [], ◌∷◌, ◌++◌, map, refl, sym, ap, ◌∙◌, subst}
+use Rattle.std.proofs.Common.{rules, Some, ◌≡◌, false, [], ◌∷◌, ◌++◌, map, sym, ap, ◌∙◌, subst}
 use Rattle.atomic_table.specs.Table.{Splits, Joins}
-use Rattle.flow_law.specs.declared.history.Knowledge.{Knowledge}
 use Rattle.flow_gate.specs.declared.view.SeatView.{SeatView}
 use Rattle.flow_gate.specs.Rule.{GateHolds}
 use Rattle.flow_gate.specs.View.{seat_view}

@@ -1,4 +1,4 @@
-use Rattle.std.proofs.Common.{rules, ◌≡◌, [], ◌∷◌, ◌++◌, Some, sym, ap, ◌∙◌, subst}
+use Rattle.std.proofs.Common.{[], ◌∷◌, ◌++◌, Some, sym, ap, ◌∙◌, subst}
 use Rattle.flow_gate.specs.Steps.{boxed}
 use Rattle.flow_gate.proofs.Opening.{opens}
 use Rattle.flow_gate.proofs.gate.Gate.new.Goals as goal

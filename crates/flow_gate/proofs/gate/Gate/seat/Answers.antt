@@ -1,4 +1,4 @@
-use Rattle.std.proofs.Common.{rules, false, [], ◌∷◌, sym, ap, subst}
+use Rattle.std.proofs.Common.{rules, false, sym, ap, subst}
 use Rattle.atomic_table.specs.Table.{Splits}
 use Rattle.flow_gate.specs.Steps.{boxed}
 use Rattle.flow_gate.specs.declared.view.SeatView.{SeatView}

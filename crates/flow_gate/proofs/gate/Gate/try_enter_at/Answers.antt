@@ -1,4 +1,4 @@
-use Rattle.std.proofs.Common.{rules, ◌≡◌, ℕ, List, [], ◌∷◌, Some, None, ap, sym, ◌∙◌, refl}
+use Rattle.std.proofs.Common.{rules, ◌∷◌, Some, ap, sym, ◌∙◌}
 use Rattle.atomic_table.specs.Table.{rest}
 use Rattle.flow_gate.specs.Steps.{boxed}
 use Rattle.flow_gate.proofs.Keeps.{enters_from}

@@ -1,0 +1,144 @@
+//! A gate whose state counts the events of its history.
+ghost use Rattle.std.specs.Prelude.{◌≡◌, ◌%◌, ◌^◌, [], ◌∷◌, length};
+
+use crate::{Adds, Gate, Guarded, Held, Seat};
+use std::marker::Brand;
+use std::sync::Wait;
+use std::test::Fail;
+use std::thread::join;
+
+/// It begins at 0 again after 2^64 events.
+#[derive(Drop)]
+struct Count {
+    events: u64,
+}
+
+impl Guarded for Count {
+    type Said = ();
+
+    ghost stands = { λ _ count history. count.events ≡ length history % 2 ^ 64 };
+}
+
+/// One event.
+struct Once;
+
+impl Adds<()> for Once {
+    ghost adds = { tt ∷ [] };
+}
+
+/// Adds one event, and leaves.
+fn add_one(held: Held<'_, Count>) -> Seat<Count>
+    requires { held.state.events ≡ length held.token.knows.seen % 2 ^ 64 }
+    ensures { result.table_id ≡ held.entry.token.table_id }
+{
+    let mut held = held;
+    let state = held.state();
+    state.events = state.events.wrapping_add(1);
+    held.leave_adding::<Once>()
+}
+
+/// Enters 1,000 times, and adds one event each time.
+fn add_thousand<R: Wait>(rt: &R, gate: &Gate<Count>, seat: Seat<Count>) -> Seat<Count>
+    requires { seat.table_id ≡ gate.now.table_id }
+    ensures { result.table_id ≡ gate.entry.now.table_id }
+{
+    let mut seat = seat;
+    for _ in 0..1000 {
+        seat = add_one(gate.enter(rt, seat));
+    }
+    seat
+}
+
+/// Two seats that met have seen one history.
+fn meet_in_one_history(
+    gate: &Gate<Count>,
+    one: Seat<Count>,
+    other: Seat<Count>,
+) -> (Seat<Count>, Seat<Count>)
+    requires { (one.table_id ≡ gate.now.table_id) × (other.table_id ≡ gate.now.table_id) }
+    ensures gate { (result.0.table_id ≡ gate.entry.now.table_id) × (result.1.table_id ≡ gate.entry.now.table_id) }
+    ensures seen { result.0.knows.seen ≡ result.1.knows.seen }
+{
+    gate.meet(one, other)
+}
+
+#[test]
+fn who_is_inside_keeps_others_out(rt: HostRuntime) -> Result<(), Fail> {
+    let Ok((gate, mut seat)) = Gate::new(rt.alloc(), Count { events: 0 }) else {
+        panic!(rt; "a gate was made")
+    };
+    let other = gate.seat(&mut seat);
+    let mut held = gate.enter(&rt, seat);
+    let other = match gate.try_enter(other) {
+        Err(back) => back,
+        Ok(_) => panic!(rt; "somebody is inside"),
+    };
+    assert_eq!(rt; held.state().events, 0);
+    let _seat = add_one(held);
+    let Ok(mut held) = gate.try_enter(other) else {
+        panic!(rt; "nobody is inside")
+    };
+    assert_eq!(rt; held.state().events, 1);
+    let _other = add_one(held);
+    let Some(count) = gate.close() else {
+        panic!(rt; "nobody is inside")
+    };
+    assert_eq!(rt; count.events, 2);
+    Ok(())
+}
+
+#[test]
+fn a_fresh_gate_gives_its_state(rt: HostRuntime) -> Result<(), Fail> {
+    let Ok((gate, _seat)) = Gate::new(rt.alloc(), Count { events: 0 }) else {
+        panic!(rt; "a gate was made")
+    };
+    let Some(count) = gate.close() else {
+        panic!(rt; "nobody is inside")
+    };
+    assert_eq!(rt; count.events, 0);
+    Ok(())
+}
+
+#[test]
+fn two_seats_meet_and_go_on(rt: HostRuntime) -> Result<(), Fail> {
+    let Ok((gate, mut seat)) = Gate::new(rt.alloc(), Count { events: 0 }) else {
+        panic!(rt; "a gate was made")
+    };
+    let other = gate.seat(&mut seat);
+    let seat = add_one(gate.enter(&rt, seat));
+    let (seat, other) = meet_in_one_history(&gate, seat, other);
+    let other = add_one(gate.enter(&rt, other));
+    let _seat = add_one(gate.enter(&rt, seat));
+    let _other = gate.enter(&rt, other).leave::<Brand, _>(&());
+    let Some(count) = gate.close() else {
+        panic!(rt; "nobody is inside")
+    };
+    assert_eq!(rt; count.events, 3);
+    Ok(())
+}
+
+#[test]
+fn two_threads_lose_no_addition(rt: HostRuntime) -> Result<(), Fail> {
+    let Ok((gate, mut seat)) = Gate::new(rt.alloc(), Count { events: 0 }) else {
+        panic!(rt; "a gate was made")
+    };
+    let other = gate.seat(&mut seat);
+    let shared = &gate;
+    let (seat, other) = join(
+        &rt,
+        || -> Seat<Count>
+            requires { seat.table_id ≡ shared.now.table_id }
+            ensures { result.table_id ≡ shared.entry.now.table_id }
+        { add_thousand(&rt, shared, seat) },
+        || -> Seat<Count>
+            requires { other.table_id ≡ shared.now.table_id }
+            ensures { result.table_id ≡ shared.entry.now.table_id }
+        { add_thousand(&rt, shared, other) },
+    );
+    let _both = meet_in_one_history(&gate, seat, other);
+    let Some(count) = gate.close() else {
+        panic!(rt; "nobody is inside")
+    };
+    assert_eq!(rt; count.events, 2000);
+    Ok(())
+}
