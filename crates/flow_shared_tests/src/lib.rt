@@ -3,21 +3,10 @@
 #![tactic(auto)]
 
 mod one_caller;
-mod play;
+mod playing;
 
 pub use one_caller::{OneCaller, Reader, Waiting};
-pub use play::{Answer, Step, play};
+pub use playing::{Step, play};
 
 #[cfg(test)]
-mod subscribers;
-
-/// A configuration without a limit.
-#[cfg(test)]
-fn config(replay: u32, extra: u32, overflow: flow_law::Overflow) -> flow_law::Config {
-    flow_law::Config {
-        replay,
-        extra,
-        overflow,
-        limit: u64::MAX,
-    }
-}
+mod examples;

@@ -3,6 +3,7 @@ use crate::one_caller::{OneCaller, Reader, Waiting};
 use flow_law::{Config, FlowFault, Next};
 use flow_shared::SharedFlow;
 use std::alloc::Global;
+use std::fmt::{self, Write};
 use std::sync::Wait;
 
 /// A step. Emissions and subscribers are named by the order in which they came, from 0.
@@ -21,8 +22,8 @@ pub enum Step {
 }
 
 /// What a step answered.
-#[derive(Debug, PartialEq, Eq, Drop)]
-pub enum Answer {
+#[derive(Drop)]
+enum Answer {
     Tested(bool),
     Done,
     Queued,
@@ -38,6 +39,27 @@ pub enum Answer {
     Refused(FlowFault),
     /// No token is left for this step.
     Spent,
+}
+
+impl fmt::Display for Answer {
+    fn fmt<W: Write>(&self, f: &mut fmt::Formatter<W>) -> fmt::Result {
+        match self {
+            Answer::Tested(answer) => write!(f, "{answer}"),
+            Answer::Done => f.write_str("done"),
+            Answer::Queued => f.write_str("queued"),
+            Answer::Waiting => f.write_str("waiting"),
+            Answer::Value(value) => write!(f, "value {value}"),
+            Answer::Empty => f.write_str("empty"),
+            Answer::Gone => f.write_str("gone"),
+            Answer::Subscribed => f.write_str("subscribed"),
+            Answer::Unsubscribed => f.write_str("unsubscribed"),
+            Answer::Cached(values) => write!(f, "{values:?}"),
+            Answer::Reset => f.write_str("reset"),
+            Answer::Counted(count) => write!(f, "{count}"),
+            Answer::Refused(fault) => write!(f, "refused {fault:?}"),
+            Answer::Spent => f.write_str("spent"),
+        }
+    }
 }
 
 #[derive(Drop)]
@@ -161,25 +183,25 @@ impl<'a> Player<'a> {
     }
 }
 
-/// Plays the steps on a new flow of this configuration, and answers what they answered.
+/// Plays the steps on a new flow of this configuration, and answers what they answered, with commas between.
 pub fn play<R: Wait>(
     rt: &R,
     alloc: Global,
     config: Config,
     steps: &[Step],
-) -> Result<Vec<Answer>, FlowFault> {
+) -> Result<String, FlowFault> {
     let (flow, seat) = SharedFlow::new(alloc, config)?;
     let mut player = Player {
         caller: OneCaller::new(&flow, seat),
         emissions: Vec::new(alloc),
         readers: Vec::new(alloc),
     };
-    let mut answers = Vec::new(alloc);
+    let mut told = String::new(alloc);
     for step in steps {
         let answer = player.step(rt, *step);
-        if answers.push(answer).is_err() {
+        if write!(told, "{answer}, ").is_err() {
             return Err(FlowFault::OutOfMemory);
         }
     }
-    Ok(answers)
+    Ok(told)
 }
