@@ -3,7 +3,9 @@
 use flow_law::{Config, Overflow};
 
 mod emissions;
+mod state;
 mod subscribers;
+mod threads;
 
 /// A configuration without a limit.
 fn config(replay: u32, extra: u32, overflow: Overflow) -> Config {

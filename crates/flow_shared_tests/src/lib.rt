@@ -4,9 +4,11 @@
 
 mod one_caller;
 mod playing;
+mod state_playing;
 
 pub use one_caller::{OneCaller, Reader, Waiting};
 pub use playing::{Step, play};
+pub use state_playing::{StatePlayer, StateStep};
 
 #[cfg(test)]
 mod examples;

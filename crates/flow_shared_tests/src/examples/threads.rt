@@ -1,0 +1,182 @@
+//! Several threads, and calls that do not wait.
+ghost use Rattle.std.specs.Prelude.{◌≡◌, IfSome, IfOk};
+
+use super::config;
+use flow_law::{FlowFault, Next, Overflow, Refused};
+use flow_shared::{Emitted, PolledNow, Seat, SharedFlow, StateFlow, StateSeat, Subscription};
+use std::sync::Wait;
+use std::test::Fail;
+use std::thread::join;
+
+/// Emits a value, and hands the seat back where the emission need not wait.
+fn emit_once<R: Wait>(
+    rt: &R,
+    flow: &SharedFlow<i64>,
+    seat: Seat<i64>,
+    value: i64,
+) -> Option<Seat<i64>>
+    requires { seat.table_id ≡ flow.now.table_id }
+    ensures { IfSome result (λ seat. seat.table_id ≡ flow.entry.now.table_id) }
+{
+    match flow.emit(rt, seat, value) {
+        Emitted::Done(seat) => Some(seat),
+        Emitted::Queued(_emission) => None,
+        Emitted::Refused(_seat, _value, _fault) => None,
+    }
+}
+
+#[test]
+fn what_a_thread_emitted_is_received(rt: HostRuntime) -> Result<(), Fail> {
+    let (flow, mut seat) = SharedFlow::new(rt.alloc(), config(0, 4, Overflow::Suspend))?;
+    let other = flow.seat(&mut seat);
+    let Ok(mut subscription) = flow.subscribe(&rt, &mut seat) else {
+        panic!(rt; "there is memory")
+    };
+    let shared = &flow;
+    let (ended, count) = join(
+        &rt,
+        || -> Option<Seat<i64>>
+            requires { other.table_id ≡ shared.now.table_id }
+            ensures { IfSome result (λ seat. seat.table_id ≡ shared.entry.now.table_id) }
+        { emit_once(&rt, shared, other, 8) },
+        || -> u64
+            requires { seat.table_id ≡ shared.now.table_id }
+        {
+            let mut seat = seat;
+            shared.subscription_count(&rt, &mut seat)
+        },
+    );
+    assert_eq!(rt; count, 1);
+    let Some(mut ended) = ended else {
+        panic!(rt; "there is room")
+    };
+    flow.meet_subscription(&mut subscription, &mut ended);
+    assert_eq!(rt; flow.next(&rt, &mut subscription), Ok(Next::Value(8)));
+    Ok(())
+}
+
+/// A value is emitted and received, twice, at once.
+fn round<R: Wait>(
+    rt: &R,
+    flow: &SharedFlow<i64>,
+    seat: Seat<i64>,
+    subscription: &mut Subscription<i64>,
+    value: i64,
+) -> Option<Seat<i64>>
+    requires { (seat.table_id ≡ flow.now.table_id) × (subscription.old.token.table_id ≡ flow.now.table_id) }
+    ensures seat { IfSome result (λ seat. seat.table_id ≡ flow.entry.now.table_id) }
+    ensures subscription { subscription.new.token.table_id ≡ flow.entry.now.table_id }
+{
+    let Emitted::Done(mut seat) = flow.emit_now(seat, value) else {
+        return None;
+    };
+    let is_first = flow.next_now(subscription) == Ok(Next::Value(value));
+    let is_emitted = flow.try_emit(rt, &mut seat, value) == Ok(true);
+    let is_second = flow.next(rt, subscription) == Ok(Next::Value(value));
+    if is_first && is_emitted && is_second {
+        Some(seat)
+    } else {
+        None
+    }
+}
+
+/// How many of 10,000 rounds a caller did who was alone.
+fn rounds<R: Wait>(
+    rt: &R,
+    flow: &SharedFlow<i64>,
+    seat: Seat<i64>,
+    subscription: &mut Subscription<i64>,
+) -> i64
+    requires { (seat.table_id ≡ flow.now.table_id) × (subscription.old.token.table_id ≡ flow.now.table_id) }
+{
+    let mut seat = seat;
+    for value in 0..10_000 {
+        match round(rt, flow, seat, subscription, value) {
+            Some(back) => seat = back,
+            None => return value,
+        }
+    }
+    10_000
+}
+
+#[test]
+fn alone_no_call_is_busy(rt: HostRuntime) -> Result<(), Fail> {
+    let (flow, mut seat) = SharedFlow::new(rt.alloc(), config(0, 4, Overflow::Suspend))?;
+    let Ok(mut subscription) = flow.subscribe(&rt, &mut seat) else {
+        panic!(rt; "there is memory")
+    };
+    assert_eq!(rt; rounds(&rt, &flow, seat, &mut subscription), 10_000);
+    Ok(())
+}
+
+#[test]
+fn an_emission_is_polled_and_cancelled_at_once(rt: HostRuntime) -> Result<(), Fail> {
+    let (flow, mut seat) = SharedFlow::new(rt.alloc(), config(0, 0, Overflow::Suspend))?;
+    let Ok(_subscription) = flow.subscribe(&rt, &mut seat) else {
+        panic!(rt; "there is memory")
+    };
+    assert_eq!(rt; flow.count_now(&mut seat), Ok(1));
+    assert_eq!(rt; flow.reset_now(&mut seat), Ok(()));
+    let Emitted::Queued(emission) = flow.emit_now(seat, 7) else {
+        panic!(rt; "it waits")
+    };
+    let PolledNow::Waiting(emission) = flow.poll_now(emission) else {
+        panic!(rt; "it waits")
+    };
+    let Ok((_seat, was_waiting)) = flow.cancel_now(emission) else {
+        panic!(rt; "nobody is inside")
+    };
+    assert!(rt; was_waiting);
+    Ok(())
+}
+
+/// Sets a value and reads the current one.
+fn set_and_read<R: Wait>(
+    rt: &R,
+    flow: &StateFlow<i64>,
+    seat: StateSeat<i64>,
+    value: i64,
+) -> Result<i64, FlowFault>
+    requires { seat.table_id ≡ flow.now.table_id }
+{
+    let mut seat = seat;
+    flow.set(rt, &mut seat, value);
+    flow.value(rt, &mut seat)
+}
+
+#[test]
+fn a_thread_reads_what_it_set_or_what_another_set(rt: HostRuntime) -> Result<(), Fail> {
+    let (flow, mut seat) = StateFlow::new(rt.alloc(), 0, u64::MAX)?;
+    let other = flow.seat(&mut seat);
+    let shared = &flow;
+    let (found, also) = join(
+        &rt,
+        || -> Result<i64, FlowFault>
+            requires { seat.table_id ≡ shared.now.table_id }
+        { set_and_read(&rt, shared, seat, 9) },
+        || -> Result<i64, FlowFault>
+            requires { other.table_id ≡ shared.now.table_id }
+        { set_and_read(&rt, shared, other, 4) },
+    );
+    assert!(rt; found == Ok(9) || found == Ok(4));
+    assert!(rt; also == Ok(9) || also == Ok(4));
+    Ok(())
+}
+
+#[test]
+fn a_state_flow_is_set_at_once(rt: HostRuntime) -> Result<(), Fail> {
+    let (flow, mut seat) = StateFlow::new(rt.alloc(), 0, u64::MAX)?;
+    let mut other = flow.seat(&mut seat);
+    assert_eq!(rt; flow.set_now(&mut other, 5), Ok(()));
+    assert_eq!(rt; flow.count_now(&mut other), Ok(0));
+    flow.meet(&mut seat, &mut other);
+    assert_eq!(rt; flow.value(&rt, &mut seat), Ok(5));
+    let Ok(mut subscription) = flow.subscribe(&rt, &mut seat) else {
+        panic!(rt; "there is memory")
+    };
+    flow.meet_subscription(&mut subscription, &mut other);
+    assert_eq!(rt; flow.next(&rt, &mut subscription), Ok(Next::Value(5)));
+    let mut seat = flow.unsubscribe(&rt, subscription);
+    assert_eq!(rt; flow.subscription_count(&rt, &mut seat), 0);
+    Ok(())
+}
