@@ -1,4 +1,26 @@
-//! Flows for callers on several threads.
+//! Shared and state flows for callers on several threads.
+//!
+//! A `SharedFlow` is a `MutableSharedFlow` of kotlinx.coroutines, a `StateFlow` a `MutableStateFlow`. Each is a gate (a
+//! lock with tokens, crate `flow_gate`) around the flow for one thread (crate `flow_core`).
+//!
+//! # Tokens
+//! A caller holds a token: a seat, a subscription or a suspended emission. `new` gives the first seat, and `seat` makes
+//! more, one for each thread. A call takes its token and gives it back, so two calls through one token never overlap.
+//! A token is used with the flow that it came from; each call asks for that by the flow's `table_id`.
+//!
+//! # What each call promises
+//! The one word is `Calls` (for a state flow `StateCalls`): the token has then seen a history of the flow that begins with
+//! all that it had seen, goes on with events of others, and ends with this call and this reply. The history is legal (each
+//! reply is the documented flow's at that point) and owned (nobody speaks for another's subscription or emission).
+//!
+//! # Waiting
+//! A call that takes `rt` waits while another caller is inside the flow. A call whose name ends in `_now` does not: it
+//! answers `FlowFault::Busy` there, and has done nothing. No call waits for room or for a value: `emit` answers `Queued`,
+//! and `next` answers `Empty`.
+//!
+//! # What is lost
+//! A seat that is dropped is lost. A subscription that is dropped stays, and may block emitters for good. An emission that
+//! is dropped stays queued or offered.
 #![tactic(auto)]
 
 mod answers;

@@ -18,7 +18,13 @@ mod emission;
 mod now;
 mod subscriber;
 
-/// A shared flow (`MutableSharedFlow`) for callers on several threads.
+/// A shared flow (`MutableSharedFlow`) for callers on several threads: what one emits each subscriber receives, and new
+/// subscribers get the replay cache first.
+///
+/// Each call but `new`, `seat` and the two that meet is one event of the flow's one history, and its contract says that
+/// the caller's token has then seen a history that the flow may have had, and that grew by exactly this call. A call
+/// that takes `rt` waits while another caller is inside the flow, and nothing says that it ever comes in. A call that
+/// ends in `_now` never waits: where another caller is inside it answers `Busy`, and is no event.
 #[derive(Drop)]
 pub struct SharedFlow<T: FlowValue, A: Allocator + Copy = Global> {
     gate: Gate<GuardedShared<T, A>, A>,
@@ -35,6 +41,9 @@ impl<T: FlowValue, A: Allocator + Copy> Model for SharedFlow<T, A> {
 
 impl<T: FlowValue, A: Allocator + Copy> SharedFlow<T, A> {
     /// A flow that nobody emitted into and nobody subscribed to, and its first seat.
+    ///
+    /// Refused as `TooLarge` or `NeedsBuffer` where the configuration is, then for want of memory. Every other seat is
+    /// made through the first one, or through one that was made so.
     pub fn new(alloc: A, config: Config) -> Result<(SharedFlow<T, A>, Seat<T, A>), FlowFault>
         ensures { MatchResult result
             (λ made. (config_fault config ≡ None) × (made.0.first ≡ config) × (made.1.table_id ≡ made.0.table_id) × (made.1.knows ≡ first_knowledge))

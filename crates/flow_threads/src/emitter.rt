@@ -6,23 +6,27 @@ use std::ops::Range;
 use std::sync::Wait;
 use std::thread;
 
-/// Waits until an emission was received, and hands its seat back.
-fn wait<R: Wait>(rt: &R, flow: &SharedFlow<i64>, emission: Emission<i64>) -> Seat<i64>
+/// How often an emitter looks whether its value was received before it takes it back.
+const TURNS: u32 = 100_000_000;
+
+/// Waits until an emission was received, and hands its seat back. `None` where it was not received in time.
+fn wait<R: Wait>(rt: &R, flow: &SharedFlow<i64>, emission: Emission<i64>) -> Option<Seat<i64>>
     requires { emission.token.table_id ≡ flow.now.table_id }
-    ensures { result.table_id ≡ flow.entry.now.table_id }
+    ensures { IfSome result (λ seat. seat.table_id ≡ flow.entry.now.table_id) }
 {
     let mut emission = emission;
-    for _ in rt.forever() {
+    for _ in 0..TURNS {
         match flow.poll_emit(rt, emission) {
-            Polled::Done(seat) => return seat,
+            Polled::Done(seat) => return Some(seat),
             Polled::Waiting(left) => emission = left,
         }
         thread::yield_now();
     }
-    unreachable!()
+    let (_seat, _was_waiting) = flow.cancel(rt, emission);
+    None
 }
 
-/// Emits a value, and waits where it must. `None` where it was refused.
+/// Emits a value, and waits where it must. `None` where it was refused or not received in time.
 fn emit_one<R: Wait>(
     rt: &R,
     flow: &SharedFlow<i64>,
@@ -34,12 +38,12 @@ fn emit_one<R: Wait>(
 {
     match flow.emit(rt, seat, value) {
         Emitted::Done(seat) => Some(seat),
-        Emitted::Queued(emission) => Some(wait(rt, flow, emission)),
+        Emitted::Queued(emission) => wait(rt, flow, emission),
         Emitted::Refused(_seat, _value, _fault) => None,
     }
 }
 
-/// Emits the values one after the other, and answers whether none was refused.
+/// Emits the values one after the other, and answers whether all were received in time.
 pub fn emit_all<R: Wait>(
     rt: &R,
     flow: &SharedFlow<i64>,

@@ -2,4 +2,4 @@ use Rattle.std.specs.Prelude.{◌≡◌}
 use Rattle.flow_threads.proofs.emitter.wait.Given as goal
 
 abbrev pub invariant-loop : goal.invariant-loop
-invariant-loop g l = (goal.iterator-loop g).can_next l.iterator' × (goal.iterator-loop g).is_finite l.iterator' × (l.emission.token.table_id ≡ l.flow.table_id)
+invariant-loop g l = l.emission.token.table_id ≡ l.flow.table_id
