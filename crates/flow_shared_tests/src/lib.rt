@@ -4,10 +4,12 @@
 
 mod one_caller;
 mod playing;
+mod reading;
 mod state_playing;
 
 pub use one_caller::{OneCaller, Reader, Waiting};
 pub use playing::{Step, play};
+pub use reading::set_and_read;
 pub use state_playing::{StatePlayer, StateStep};
 
 #[cfg(test)]

@@ -1,9 +1,10 @@
 //! Several threads, and calls that do not wait.
-ghost use Rattle.std.specs.Prelude.{◌≡◌, IfSome, IfOk};
+ghost use Rattle.std.specs.Prelude.{◌≡◌, IfSome};
 
 use super::config;
+use crate::set_and_read;
 use flow_law::{FlowFault, Next, Overflow, Refused};
-use flow_shared::{Emitted, PolledNow, Seat, SharedFlow, StateFlow, StateSeat, Subscription};
+use flow_shared::{Emitted, PolledNow, Seat, SharedFlow, StateFlow, Subscription};
 use std::sync::Wait;
 use std::test::Fail;
 use std::thread::join;
@@ -130,20 +131,6 @@ fn an_emission_is_polled_and_cancelled_at_once(rt: HostRuntime) -> Result<(), Fa
     Ok(())
 }
 
-/// Sets a value and reads the current one.
-fn set_and_read<R: Wait>(
-    rt: &R,
-    flow: &StateFlow<i64>,
-    seat: StateSeat<i64>,
-    value: i64,
-) -> Result<i64, FlowFault>
-    requires { seat.table_id ≡ flow.now.table_id }
-{
-    let mut seat = seat;
-    flow.set(rt, &mut seat, value);
-    flow.value(rt, &mut seat)
-}
-
 #[test]
 fn a_thread_reads_what_it_set_or_what_another_set(rt: HostRuntime) -> Result<(), Fail> {
     let (flow, mut seat) = StateFlow::new(rt.alloc(), 0, u64::MAX)?;
@@ -153,10 +140,16 @@ fn a_thread_reads_what_it_set_or_what_another_set(rt: HostRuntime) -> Result<(),
         &rt,
         || -> Result<i64, FlowFault>
             requires { seat.table_id ≡ shared.now.table_id }
-        { set_and_read(&rt, shared, seat, 9) },
+        {
+            let mut seat = seat;
+            set_and_read(&rt, shared, &mut seat, 9)
+        },
         || -> Result<i64, FlowFault>
             requires { other.table_id ≡ shared.now.table_id }
-        { set_and_read(&rt, shared, other, 4) },
+        {
+            let mut other = other;
+            set_and_read(&rt, shared, &mut other, 4)
+        },
     );
     assert!(rt; found == Ok(9) || found == Ok(4));
     assert!(rt; also == Ok(9) || also == Ok(4));
