@@ -2,10 +2,10 @@
 use Rattle.std.proofs.Common.{◌≡◌, ℕ, ◌≤◌, List, [], ◌∷◌, ◌++◌, refl, sym, ap, ◌∙◌, subst}
 use Rattle.flow_law.specs.declared.history.Event.{Event}
 use Rattle.flow_law.specs.declared.history.Said.{Said}
-use Rattle.flow_law.specs.Growth.{event, knowledge, adds, loses, GrowsByOthers}
+use Rattle.flow_law.specs.Growth.{event, knowledge, adds, GrowsByOthers}
 use Rattle.flow_law.specs.OneHistory.{AddsOne, said}
 use Rattle.flow_law.proofs.Names.{fits_own}
-use Rattle.flow_gate.specs.Tokens.{Token, Origin, HeldState, Finds, knowing, token}
+use Rattle.flow_gate.specs.Tokens.{Token, Origin, HeldState, Finds, knowing}
 use Rattle.flow_shared.specs.Calls.{CallsIn, CallsAtOnceIn, SaysIn}
 
 module _ {S E : Type 0} (stands : S → S → List (Event E) → Type 0) (gate : Origin S) (before : Token E) (held : HeldState S E) (f : Finds stands gate before held) where

@@ -1,8 +1,8 @@
 -- What each call of a flow for several threads does. Begin with `Calls`: one word for every call that is an event.
-use Rattle.std.specs.Prelude.{◌≡◌, ℕ, ◌+◌, List, [], ◌∷◌, ◌++◌}
+use Rattle.std.specs.Prelude.{◌≡◌, List, [], ◌∷◌, ◌++◌}
 use Rattle.flow_law.specs.declared.history.Event.{Event}
 use Rattle.flow_law.specs.declared.history.Said.{Said}
-use Rattle.flow_law.specs.Growth.{Fits, event, sees, loses, adds, makes, child}
+use Rattle.flow_law.specs.Growth.{Fits, event, sees, loses, adds}
 use Rattle.flow_law.specs.OneHistory.{AddsOne, said}
 use Rattle.flow_gate.specs.Tokens.{Token, HeldState, knowing}
 

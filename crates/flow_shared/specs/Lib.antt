@@ -1,3 +1,4 @@
 pub mod Tokens
 pub mod Calls
 pub mod SharedReplies
+pub mod StateReplies

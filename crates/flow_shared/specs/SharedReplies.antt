@@ -1,10 +1,12 @@
 -- What the calls of a shared flow for several threads answer. `flow` is the flow: which one, and its configuration.
-use Rattle.std.specs.Prelude.{◌≡◌, ◌⊎◌, ⊤, ℕ, ◌+◌, Bool, true, false, List, [], ◌∷◌, ◌++◌, Option, Some, None, Result, Ok, Err}
+use Rattle.std.specs.Prelude.{◌≡◌, ◌⊎◌, ⊤, ℕ, ◌+◌, Bool, true, false, List, Some, None, Result, Ok, Err}
 use Rattle.flow_law.specs.declared.config.Config.{Config}
 use Rattle.flow_law.specs.declared.fault.FlowFault.{FlowFault}
 use Rattle.flow_law.specs.declared.fault.FlowFault.TheVariants.{OutOfMemory, Busy}
 use Rattle.flow_law.specs.declared.history.Knowledge.{Knowledge}
 use Rattle.flow_law.specs.declared.history.Said.{Said}
+use Rattle.flow_law.specs.declared.fault.Refused.{Refused}
+use Rattle.flow_law.specs.declared.outcome.Emit.{Emit}
 use Rattle.flow_law.specs.declared.outcome.Emit.TheVariants.{Done, Queued}
 use Rattle.flow_law.specs.declared.outcome.Next.{Next}
 use Rattle.flow_law.specs.declared.outcome.Next.TheVariants.{Gone}
@@ -24,7 +26,7 @@ use Rattle.flow_shared.specs.declared.answers.Polled.TheVariants as polled
 use Rattle.flow_shared.specs.declared.answers.PolledNow.{PolledNow}
 use Rattle.flow_shared.specs.declared.answers.PolledNow.TheVariants as polled_now
 use Rattle.flow_shared.specs.declared.guarded.GuardedShared.{GuardedShared}
-use Rattle.flow_shared.specs.Tokens.{NumberedToken}
+use Rattle.flow_shared.specs.Tokens.{NumberedToken, IsEmission}
 use Rattle.flow_shared.specs.Calls.{CallsIn, CallsAtOnceIn, MeetsIn, SaysIn, IsBusy}
 
 -- why no flow is made of a configuration
@@ -147,3 +149,8 @@ module _ {T A : Type 0} where
   -- who was inside made this call, had this reply and left
   abbrev pub Says : HeldState (GuardedShared T A) (Said (SharedCall T) (SharedReply T)) → SharedCall T → SharedReply T → SharedToken T → Type 0
   Says held = SaysIn (IsHistory held.first.core.config) held
+
+-- the history gave the emission's number to the token, where the emission waits
+abbrev pub IsGivenIfQueued : {T : Type 0} → Knowledge (Said (SharedCall T) (SharedReply T)) → Result Emit (Refused T) → Type 0
+IsGivenIfQueued k (Ok (Queued number)) = IsEmission k number
+IsGivenIfQueued k _ = ⊤

@@ -1,15 +1,40 @@
 //! Emissions into a shared flow for several threads.
 ghost use Rattle.std.specs.Prelude.{◌≡◌, IfErr};
 ghost use Rattle.flow_law.specs.declared.call.SharedCall.TheVariants as call;
-ghost use Rattle.flow_core.specs.SharedCore.{tested};
-ghost use Rattle.flow_shared.specs.SharedReplies.{Calls};
+ghost use Rattle.flow_law.specs.declared.call.SharedReply.TheVariants as reply;
+ghost use Rattle.flow_core.specs.SharedCore.{tested, emitted};
+ghost use Rattle.flow_shared.specs.SharedReplies.{Calls, Emits, Polls, HandsBack, KeepsNumber, emit_reply, emit_token, poll_reply, poll_token, IsGivenIfQueued};
+ghost use Rattle.flow_shared.specs.Tokens.{IsEmission};
 
 use super::SharedFlow;
+use crate::answers::{Emitted, Polled};
+use crate::guarded::GuardedShared;
 use crate::inside;
-use crate::token::Seat;
-use flow_law::{FlowValue, Refused};
+use crate::token::{Emission, FlowSeat, Seat};
+use flow_law::{Emit, FlowValue, Refused};
 use std::alloc::Allocator;
 use std::sync::Wait;
+
+/// The answer to an emission, with the token that its caller has then.
+pub(super) fn answered<T: FlowValue, A: Allocator + Copy>(
+    seat: flow_gate::Seat<GuardedShared<T, A>, A>,
+    answer: Result<Emit, Refused<T>>,
+) -> Emitted<T, A>
+    requires { IsGivenIfQueued seat.knows answer }
+    ensures reply { emit_reply result ≡ emitted answer }
+    ensures token { emit_token result ≡ seat }
+    ensures handed_back { IfErr answer (λ refused. HandsBack refused.value result) }
+{
+    match answer {
+        Ok(Emit::Done) => Emitted::Done(FlowSeat { seat: Some(seat) }),
+        Ok(Emit::Queued(number)) => Emitted::Queued(Emission { seat, number }),
+        Err(Refused { value, fault }) => Emitted::Refused(
+            FlowSeat { seat: Some(seat) },
+            value,
+            fault,
+        ),
+    }
+}
 
 impl<T: FlowValue, A: Allocator + Copy> SharedFlow<T, A> {
     /// Emits a value, if it need not wait for subscribers: `true` where the flow took it or, under `DropLatest`,
@@ -29,5 +54,47 @@ impl<T: FlowValue, A: Allocator + Copy> SharedFlow<T, A> {
         let (own, answer) = inside::try_emit(held, value);
         seat.seat = Some(own);
         answer
+    }
+
+    /// Emits a value, or puts it where it waits.
+    ///
+    /// The seat goes with the emission: a caller who waits makes no other call through it. At `Queued`, `poll_emit` tells
+    /// for how long the emission waits, and `cancel` ends the wait.
+    pub fn emit<R: Wait>(&self, rt: &R, seat: Seat<T, A>, value: T) -> Emitted<T, A>
+        requires { seat.table_id ≡ self.now.table_id }
+        ensures { Emits self.now seat value result }
+    {
+        let FlowSeat { seat } = seat;
+        let held = self.gate.enter(rt, seat.unwrap());
+        let (own, answer) = inside::emit(held, value);
+        answered(own, answer)
+    }
+
+    /// Whether the emission still waits. Where it does not, it was emitted and received, and its seat comes back.
+    pub fn poll_emit<R: Wait>(&self, rt: &R, emission: Emission<T, A>) -> Polled<T, A>
+        requires { emission.token.table_id ≡ self.now.table_id }
+        ensures { Polls self.now emission result }
+    {
+        let Emission { seat, number } = emission;
+        let held = self.gate.enter(rt, seat);
+        let (seat, waits) = inside::poll(held, number);
+        if waits {
+            Polled::Waiting(Emission { seat, number })
+        } else {
+            Polled::Done(FlowSeat { seat: Some(seat) })
+        }
+    }
+
+    /// Ends the wait of an emission, and answers whether it waited.
+    ///
+    /// A queued value is lost. An offered one is no more for those who have not received it.
+    pub fn cancel<R: Wait>(&self, rt: &R, emission: Emission<T, A>) -> (Seat<T, A>, bool)
+        requires { emission.token.table_id ≡ self.now.table_id }
+        ensures { Calls self.now emission.token (call.Cancel emission.number) (reply.Tested result.1) result.0 }
+    {
+        let Emission { seat, number } = emission;
+        let held = self.gate.enter(rt, seat);
+        let (seat, was_waiting) = inside::cancel(held, number);
+        (FlowSeat { seat: Some(seat) }, was_waiting)
     }
 }

@@ -1,4 +1,4 @@
-use Rattle.std.proofs.Common.{ap, refl}
+use Rattle.std.proofs.Common.{ap}
 use Rattle.flow_law.specs.declared.call.SharedCall.TheVariants as call
 use Rattle.flow_shared.proofs.OneCall.{may_leave, has_said}
 use Rattle.flow_shared.proofs.inside.try_emit.Goals as goal

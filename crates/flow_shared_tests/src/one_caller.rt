@@ -1,0 +1,109 @@
+//! One caller of a shared flow, who makes a seat for each emission.
+ghost use Rattle.std.specs.Prelude.{◌≡◌};
+
+use flow_law::{FlowFault, Next, Refused};
+use flow_shared::{Emission, Emitted, Polled, Seat, SharedFlow, Subscription};
+use std::sync::Wait;
+
+/// A caller with a seat of a flow.
+#[derive(Drop)]
+pub struct OneCaller<'a> {
+    flow: &'a SharedFlow<i64>,
+    seat: Seat<i64>,
+    ghost of_flow: { seat.table_id ≡ flow.now.table_id },
+}
+
+/// An emission that waits.
+#[derive(Drop)]
+pub struct Waiting<'a> {
+    flow: &'a SharedFlow<i64>,
+    emission: Emission<i64>,
+    ghost of_flow: { emission.token.table_id ≡ flow.now.table_id },
+}
+
+/// A subscriber.
+#[derive(Drop)]
+pub struct Reader<'a> {
+    flow: &'a SharedFlow<i64>,
+    subscription: Subscription<i64>,
+    ghost of_flow: { subscription.token.table_id ≡ flow.now.table_id },
+}
+
+impl<'a> OneCaller<'a> {
+    /// The caller who has this seat of the flow.
+    pub fn new(flow: &'a SharedFlow<i64>, seat: Seat<i64>) -> OneCaller<'a>
+        requires { seat.table_id ≡ flow.now.table_id }
+    {
+        OneCaller { flow, seat }
+    }
+
+    pub fn try_emit<R: Wait>(&mut self, rt: &R, value: i64) -> Result<bool, FlowFault> {
+        match self.flow.try_emit(rt, &mut self.seat, value) {
+            Ok(answer) => Ok(answer),
+            Err(Refused { value: _, fault }) => Err(fault),
+        }
+    }
+
+    /// Emits through a new seat. `None` where the emission need not wait.
+    pub fn emit<R: Wait>(&mut self, rt: &R, value: i64) -> Result<Option<Waiting<'a>>, FlowFault> {
+        let seat = self.flow.seat(&mut self.seat);
+        match self.flow.emit(rt, seat, value) {
+            Emitted::Done(_seat) => Ok(None),
+            Emitted::Queued(emission) => Ok(Some(Waiting {
+                flow: self.flow,
+                emission,
+            })),
+            Emitted::Refused(_seat, _value, fault) => Err(fault),
+        }
+    }
+
+    pub fn subscribe<R: Wait>(&mut self, rt: &R) -> Result<Reader<'a>, FlowFault> {
+        match self.flow.subscribe(rt, &mut self.seat) {
+            Ok(subscription) => Ok(Reader {
+                flow: self.flow,
+                subscription,
+            }),
+            Err(fault) => Err(fault),
+        }
+    }
+
+    pub fn replay_cache<R: Wait>(&mut self, rt: &R) -> Result<Vec<i64>, FlowFault> {
+        self.flow.replay_cache(rt, &mut self.seat)
+    }
+
+    pub fn reset_replay_cache<R: Wait>(&mut self, rt: &R) {
+        self.flow.reset_replay_cache(rt, &mut self.seat);
+    }
+
+    pub fn subscription_count<R: Wait>(&mut self, rt: &R) -> u64 {
+        self.flow.subscription_count(rt, &mut self.seat)
+    }
+}
+
+impl<'a> Waiting<'a> {
+    /// The emission, if it still waits.
+    pub fn poll<R: Wait>(self, rt: &R) -> Option<Waiting<'a>> {
+        let Waiting { flow, emission } = self;
+        match flow.poll_emit(rt, emission) {
+            Polled::Waiting(emission) => Some(Waiting { flow, emission }),
+            Polled::Done(_seat) => None,
+        }
+    }
+
+    pub fn cancel<R: Wait>(self, rt: &R) -> bool {
+        let Waiting { flow, emission } = self;
+        let (_seat, was_waiting) = flow.cancel(rt, emission);
+        was_waiting
+    }
+}
+
+impl<'a> Reader<'a> {
+    pub fn next<R: Wait>(&mut self, rt: &R) -> Result<Next<i64>, FlowFault> {
+        self.flow.next(rt, &mut self.subscription)
+    }
+
+    pub fn unsubscribe<R: Wait>(self, rt: &R) {
+        let Reader { flow, subscription } = self;
+        let _seat = flow.unsubscribe(rt, subscription);
+    }
+}
