@@ -93,12 +93,12 @@ module _ {S E : Type 0} (stands : S → List (Event E) → Type 0) where
 
   -- where a seat that does not hold the state changes its view, who holds it holds it still
   held_set : (views : List (SeatView E)) (id : ℕ) (v w : SeatView E) → get_elem? views id ≡ some v → v.holds ≡ false → IsHeld views → IsHeld (set views id w)
-  held_set views id v w at off h =
-      let ne : h.0 ≢ id = λ e. let same : h.1 ≡ v = some-injective h.1 v (sym h.2 ∙ (ap (λ n. get_elem? views n) e ∙ at)) in true≢false (sym h.3 ∙ (ap (λ (z : SeatView E). z.holds) same ∙ off)) in
-      (h.0, h.1, set_else views id h.0 w ne ∙ h.2, h.3)
+  held_set views id v w at off h = let x : SeatView E = seat_view (h.1 ∷ []) true in
+      let ne : h.0 ≢ id = λ e. let same : x ≡ v = some-injective x v (sym h.2 ∙ (ap (λ n. get_elem? views n) e ∙ at)) in true≢false (ap (λ (z : SeatView E). z.holds) same ∙ off) in
+      (h.0, h.1, set_else views id h.0 w ne ∙ h.2)
 
   held_end : (views : List (SeatView E)) (w : SeatView E) → IsHeld views → IsHeld (views ++ w ∷ [])
-  held_end views w h = (h.0, h.1, at_longer views (w ∷ []) h.0 h.1 h.2, h.3)
+  held_end views w h = (h.0, h.1, at_longer views (w ∷ []) h.0 (seat_view (h.1 ∷ []) true) h.2)
 
   all_fit : (s : St) (r : Rule s) (id : ℕ) (v : SeatView E) → get_elem? s.views id ≡ some v → AllByRecursion (Fits r.history) v.known
   all_fit s r id v at = every_at (Fits r.history) v.known (λ a t e. r.fits id a t (v, at, e))
@@ -136,8 +136,8 @@ module _ {S E : Type 0} (stands : S → List (Event E) → Type 0) where
     (r.history, x.0, x.1, all_fit s r id v at, refl),
   )
 
-  pub enters : (slots id : ℕ) (me : Me (Option S) (SeatView E)) → me.0.holds ≡ false → Allows Rule slots id me 0 (λ n. either (eqb n 0) 1 n) (entered stands (step slots 0 0 1 none) me)
-  enters slots id me off s r _ at _ = let n : ℕ = word s in let v : SeatView E = me.0 in dite (ℕ_discrete n 0)
+  pub enters : (slots id : ℕ) (t : Knowledge E) (me : Me (Option S) (SeatView E)) → me.0 ≡ seat_view (t ∷ []) false → Allows Rule slots id me 0 (λ n. either (eqb n 0) 1 n) (entered stands (step slots 0 0 1 none) me)
+  enters slots id t me is s r _ at _ = let off : me.0.holds ≡ false = ap (λ (z : SeatView E). z.holds) is in let n : ℕ = word s in let v : SeatView E = me.0 in dite (ℕ_discrete n 0)
       (λ hit. let x = r.free hit in let w : SeatView E = seat_view (map (sees r.history) v.known) true in let wide = r.wide in
       let one : get_or (set s.words 0 1) 0 0 ≡ 1 = get_or-set_same s.words 0 1 0 (omega arith) in
       let calm : (i : ℕ) (y : SeatView E) → get_elem? s.views i ≡ some y → y.holds ≡ true → ⊥ = λ i y p on. true≢false (sym on ∙ r.nobody hit i y p) in
@@ -152,7 +152,7 @@ module _ {S E : Type 0} (stands : S → List (Event E) → Type 0) where
           sound = r.sound;
           free = λ e. absurd (omega arith);
           nobody = λ e. absurd (omega arith);
-          taken = λ _. (id, w, set_here s.views id w (at_inside s.views id v at), refl);
+          taken = λ _. (id, sees r.history t, set_here s.views id w (at_inside s.views id v at) ∙ ap (λ (z : SeatView E). some (seat_view (map (sees r.history) z.known) true)) is);
           holder = λ i y p on. ⊎_elim (λ (h : (i ≡ id) × (w ≡ y)). subst (λ (z : SeatView E). AllByRecursion (λ t. t.seen ≡ r.history) z.known) h.1 (every_map (λ (t : Knowledge E). t.seen ≡ r.history) (sees r.history) (λ _. refl) v.known))
               (λ (h : (i ≢ id) × (get_elem? s.views i ≡ some y)). absurd (calm i y h.1 on)) (at_set s.views id i w y p);
           single = λ i j y z p q on on'. is_id i y p on ∙ sym (is_id j z q on');
@@ -293,9 +293,9 @@ module _ {S E : Type 0} (stands : S → List (Event E) → Type 0) where
       (known_end mid i a right x p))
 
 -- The same, where what the histories begin from is known to the step by another name.
-module _ {F S E : Type 0} (stands : F → S → List (Event E) → Type 0) (k : F) (f : Option F) (is : f ≡ Some k) (slots id : ℕ) (me : Me (Option S) (SeatView E)) (off : me.0.holds ≡ false) where
-  pub enters_from : Allows (GateHolds (stands k)) slots id me 0 (λ n. either (eqb n 0) 1 n) (entered (stands_from stands f) (step slots 0 0 1 none) me)
-  enters_from = subst (λ (h : Option F). Allows (GateHolds (stands k)) slots id me 0 (λ n. either (eqb n 0) 1 n) (entered (stands_from stands h) (step slots 0 0 1 none) me)) (sym is) (enters (stands k) slots id me off)
+module _ {F S E : Type 0} (stands : F → S → List (Event E) → Type 0) (k : F) (f : Option F) (from : f ≡ Some k) (slots id : ℕ) where
+  pub enters_from : (t : Knowledge E) (me : Me (Option S) (SeatView E)) → me.0 ≡ seat_view (t ∷ []) false → Allows (GateHolds (stands k)) slots id me 0 (λ n. either (eqb n 0) 1 n) (entered (stands_from stands f) (step slots 0 0 1 none) me)
+  enters_from t me is = subst (λ (h : Option F). Allows (GateHolds (stands k)) slots id me 0 (λ n. either (eqb n 0) 1 n) (entered (stands_from stands h) (step slots 0 0 1 none) me)) (sym from) (enters (stands k) slots id t me is)
 
-  pub observes_from : Allows (GateHolds (stands k)) slots id me 0 (λ n. n) (observed (stands_from stands f) (step slots 0 0 0 none) me)
-  observes_from = subst (λ (h : Option F). Allows (GateHolds (stands k)) slots id me 0 (λ n. n) (observed (stands_from stands h) (step slots 0 0 0 none) me)) (sym is) (observes (stands k) slots id me off)
+  pub observes_from : (me : Me (Option S) (SeatView E)) → me.0.holds ≡ false → Allows (GateHolds (stands k)) slots id me 0 (λ n. n) (observed (stands_from stands f) (step slots 0 0 0 none) me)
+  observes_from me off = subst (λ (h : Option F). Allows (GateHolds (stands k)) slots id me 0 (λ n. n) (observed (stands_from stands h) (step slots 0 0 0 none) me)) (sym from) (observes (stands k) slots id me off)
