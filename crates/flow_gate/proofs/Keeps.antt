@@ -1,6 +1,6 @@
 -- Each step keeps the rule of the table.
 use Rattle.std.proofs.Common.{◌≡◌, ◌≢◌, ℕ, ◌≤◌, ◌⊎◌, Bool, true, false, List, [], ◌∷◌, ◌++◌, Option, Some, map, length, get_or, set, refl, sym, ap, ◌∙◌, subst, inl, inr, ⊎_elim, arith, le_refl, eqb, eq-eqb, ne_eqb, length-set, get_or-set_same, true≢false}
-use mathlib.Core.Option.{some, none}
+use mathlib.Core.Option.{some, none, some-injective}
 use mathlib.Core.Logic.{dite}
 use native.Mathlib.Decide.{ℕ_discrete}
 use lib.ListN.{get_elem?}
@@ -8,17 +8,17 @@ use lib.Seq.{set-get_or}
 use prog.Atomic.{either}
 use Rattle.std.specs.List.{AllByRecursion}
 use Rattle.atomic_table.specs.Table.{State, Me, step, keeps, takes, gives, stepped, Allows, Splits, Joins}
-use Rattle.atomic_table.proofs.Lists.{at_set, set_here, set_else}
+use Rattle.atomic_table.proofs.Lists.{at_set, set_here, set_else, at_longer}
 use Rattle.flow_law.specs.declared.history.Event.{Event}
 use Rattle.flow_law.specs.declared.history.Knowledge.{Knowledge}
 use Rattle.flow_gate.specs.declared.view.SeatView.{SeatView}
 use Rattle.flow_law.specs.Growth.{IsApartFrom, Fits, NamesOnlyMade, events_of}
 use Rattle.flow_gate.specs.View.{seat_view}
-use Rattle.flow_gate.specs.Rule.{GateHolds, KnownAt}
+use Rattle.flow_gate.specs.Rule.{GateHolds, KnownAt, IsHeld}
 use Rattle.flow_law.specs.Growth.{sees, loses, adds, makes, child}
 use Rattle.flow_gate.specs.Steps.{stands_from, entered, observed, left}
 use Rattle.flow_law.proofs.Names.{every_map, grew_refl, fits_more, fits_own, makes_fits, child_fits, child_apart, apart_child, makes_child, child_makes}
-use Rattle.flow_gate.proofs.Places.{at_only, at_two, at_none, at_end, every_at, of_map, known_set, known_end, AllApart, apart_from}
+use Rattle.flow_gate.proofs.Places.{at_only, at_two, at_none, at_inside, at_end, every_at, of_map, known_set, known_end, AllApart, apart_from}
 
 off_of : (b : Bool) → (b ≡ true → ⊥) → b ≡ false
 off_of true never = absurd (never refl)
@@ -91,19 +91,29 @@ module _ {S E : Type 0} (stands : S → List (Event E) → Type 0) where
   quiet views id w off P old i v at on = ⊎_elim (λ (h : (i ≡ id) × (w ≡ v)). absurd (true≢false (sym on ∙ (ap (λ (z : SeatView E). z.holds) (sym h.1) ∙ off))))
       (λ (h : (i ≢ id) × (get_elem? views i ≡ some v)). old i v h.1 on) (at_set views id i w v at)
 
+  -- where a seat that does not hold the state changes its view, who holds it holds it still
+  held_set : (views : List (SeatView E)) (id : ℕ) (v w : SeatView E) → get_elem? views id ≡ some v → v.holds ≡ false → IsHeld views → IsHeld (set views id w)
+  held_set views id v w at off h = let x : SeatView E = seat_view (h.1 ∷ []) true in
+      let ne : h.0 ≢ id = λ e. let same : x ≡ v = some-injective x v (sym h.2 ∙ (ap (λ n. get_elem? views n) e ∙ at)) in true≢false (ap (λ (z : SeatView E). z.holds) same ∙ off) in
+      (h.0, h.1, set_else views id h.0 w ne ∙ h.2)
+
+  held_end : (views : List (SeatView E)) (w : SeatView E) → IsHeld views → IsHeld (views ++ w ∷ [])
+  held_end views w h = (h.0, h.1, at_longer views (w ∷ []) h.0 (seat_view (h.1 ∷ []) true) h.2)
+
   all_fit : (s : St) (r : Rule s) (id : ℕ) (v : SeatView E) → get_elem? s.views id ≡ some v → AllByRecursion (Fits r.history) v.known
   all_fit s r id v at = every_at (Fits r.history) v.known (λ a t e. r.fits id a t (v, at, e))
 
   -- a step that leaves the word as it is, by a seat that does not hold the state
-  unmoved : (s : St) (r : Rule s) (id : ℕ) (v w : SeatView E) (cs : List (ℕ × Option S)) → get_elem? s.views id ≡ some v → w.holds ≡ false
+  unmoved : (s : St) (r : Rule s) (id : ℕ) (v w : SeatView E) (cs : List (ℕ × Option S)) → get_elem? s.views id ≡ some v → v.holds ≡ false → w.holds ≡ false
       → ((i a : ℕ) (t : Knowledge E) → KnownAt (set s.views id w) i a t → Fits r.history t) → AllApart (set s.views id w)
       → Rule (stepped s 0 (word s) id cs w keeps)
-  unmoved s r id v w cs at off fits apart = subst (λ (ws : List ℕ). Rule record { words = ws; homes = s.homes; views = set s.views id w }) (sym (set-get_or s.words 0 0)) record {
+  unmoved s r id v w cs at idle off fits apart = subst (λ (ws : List ℕ). Rule record { words = ws; homes = s.homes; views = set s.views id w }) (sym (set-get_or s.words 0 0)) record {
     history = r.history;
     wide = r.wide;
     sound = r.sound;
     free = r.free;
     nobody = λ e i x p. ⊎_elim (λ (h : (i ≡ id) × (w ≡ x)). ap (λ (z : SeatView E). z.holds) (sym h.1) ∙ off) (λ (h : (i ≢ id) × (get_elem? s.views i ≡ some x)). r.nobody e i x h.1) (at_set s.views id i w x p);
+    taken = λ n. held_set s.views id v w at idle (r.taken n);
     holder = quiet s.views id w off (λ i x. AllByRecursion (λ t. t.seen ≡ r.history) x.known) r.holder;
     single = λ i j x y p q on on'. quiet s.views id w off (λ i x. i ≡ j) (λ i x p on. quiet s.views id w off (λ j y. i ≡ j) (λ j y q on'. r.single i j x y p q on on') j y q on') i x p on;
     fits = fits;
@@ -121,13 +131,13 @@ module _ {S E : Type 0} (stands : S → List (Event E) → Type 0) where
     w,
     keeps,
     tt,
-    unmoved s r id v w me.1 at off (changed_fits r.history (sees r.history) (sees_fits r.history) s.views id v v.holds at r.fits)
+    unmoved s r id v w me.1 at off off (changed_fits r.history (sees r.history) (sees_fits r.history) s.views id v v.holds at r.fits)
         (changed_apart (sees r.history) (λ _. refl) (λ u. le_refl u.made) s.views id v v.holds at r.apart),
     (r.history, x.0, x.1, all_fit s r id v at, refl),
   )
 
-  pub enters : (slots id : ℕ) (me : Me (Option S) (SeatView E)) → me.0.holds ≡ false → Allows Rule slots id me 0 (λ n. either (eqb n 0) 1 n) (entered stands (step slots 0 0 1 none) me)
-  enters slots id me off s r _ at _ = let n : ℕ = word s in let v : SeatView E = me.0 in dite (ℕ_discrete n 0)
+  pub enters : (slots id : ℕ) (t : Knowledge E) (me : Me (Option S) (SeatView E)) → me.0 ≡ seat_view (t ∷ []) false → Allows Rule slots id me 0 (λ n. either (eqb n 0) 1 n) (entered stands (step slots 0 0 1 none) me)
+  enters slots id t me is s r _ at _ = let off : me.0.holds ≡ false = ap (λ (z : SeatView E). z.holds) is in let n : ℕ = word s in let v : SeatView E = me.0 in dite (ℕ_discrete n 0)
       (λ hit. let x = r.free hit in let w : SeatView E = seat_view (map (sees r.history) v.known) true in let wide = r.wide in
       let one : get_or (set s.words 0 1) 0 0 ≡ 1 = get_or-set_same s.words 0 1 0 (omega arith) in
       let calm : (i : ℕ) (y : SeatView E) → get_elem? s.views i ≡ some y → y.holds ≡ true → ⊥ = λ i y p on. true≢false (sym on ∙ r.nobody hit i y p) in
@@ -142,6 +152,7 @@ module _ {S E : Type 0} (stands : S → List (Event E) → Type 0) where
           sound = r.sound;
           free = λ e. absurd (omega arith);
           nobody = λ e. absurd (omega arith);
+          taken = λ _. (id, sees r.history t, set_here s.views id w (at_inside s.views id v at) ∙ ap (λ (z : SeatView E). some (seat_view (map (sees r.history) z.known) true)) is);
           holder = λ i y p on. ⊎_elim (λ (h : (i ≡ id) × (w ≡ y)). subst (λ (z : SeatView E). AllByRecursion (λ t. t.seen ≡ r.history) z.known) h.1 (every_map (λ (t : Knowledge E). t.seen ≡ r.history) (sees r.history) (λ _. refl) v.known))
               (λ (h : (i ≢ id) × (get_elem? s.views i ≡ some y)). absurd (calm i y h.1 on)) (at_set s.views id i w y p);
           single = λ i j y z p q on on'. is_id i y p on ∙ sym (is_id j z q on');
@@ -155,7 +166,7 @@ module _ {S E : Type 0} (stands : S → List (Event E) → Type 0) where
         keeps,
         tt,
         subst (λ b. Rule (stepped s 0 (either b 1 n) id me.1 w keeps)) (sym (ne_eqb n 0 miss))
-            (unmoved s r id v w me.1 at refl (changed_fits r.history loses (loses_fits r.history) s.views id v false at r.fits)
+            (unmoved s r id v w me.1 at off refl (changed_fits r.history loses (loses_fits r.history) s.views id v false at r.fits)
             (changed_apart loses (λ _. refl) (λ u. le_refl u.made) s.views id v false at r.apart)),
         ((λ hit. absurd (miss hit)), λ _. refl),
       ))
@@ -185,6 +196,7 @@ module _ {S E : Type 0} (stands : S → List (Event E) → Type 0) where
           sound = (x, fine);
           free = λ _. (x, free, fine);
           nobody = λ _ i y p. off_of y.holds (none_in i y p);
+          taken = λ n. absurd (n (get_or-set_same s.words 0 0 0 (omega arith)));
           holder = λ i y p on. absurd (none_in i y p on);
           single = λ i j y z p q on on'. absurd (none_in i y p on);
           fits = λ i a u p. ⊎_elim (λ (h : (i ≡ id) × (get_elem? (adds w t ∷ []) a ≡ some u)). subst (Fits log) (at_only (adds w t) u a h.1).1 own)
@@ -196,13 +208,14 @@ module _ {S E : Type 0} (stands : S → List (Event E) → Type 0) where
 
   -- a rule that stays where the views change, with the word and the state as they are
   reseated : (s : St) (r : Rule s) (views : List (SeatView E)) → ((i : ℕ) (y : SeatView E) → get_elem? views i ≡ some y → y.holds ≡ true → (v : SeatView E) × (get_elem? s.views i ≡ some v) × (v.holds ≡ true) × (v.known ≡ y.known))
-      → ((i a : ℕ) (t : Knowledge E) → KnownAt views i a t → Fits r.history t) → AllApart views → Rule record { words = s.words; homes = s.homes; views = views }
-  reseated s r views old fits apart = record {
+      → (IsHeld s.views → IsHeld views) → ((i a : ℕ) (t : Knowledge E) → KnownAt views i a t → Fits r.history t) → AllApart views → Rule record { words = s.words; homes = s.homes; views = views }
+  reseated s r views old still fits apart = record {
     history = r.history;
     wide = r.wide;
     sound = r.sound;
     free = r.free;
     nobody = λ e i y p. off_of y.holds (λ on. let o = old i y p on in true≢false (sym o.2 ∙ r.nobody e i o.0 o.1));
+    taken = λ n. still (r.taken n);
     holder = λ i y p on. let o = old i y p on in subst (AllByRecursion (λ (t : Knowledge E). t.seen ≡ r.history)) o.3 (r.holder i o.0 o.1 o.2);
     single = λ i j y z p q on on'. let o = old i y p on in let o' = old j z q on' in r.single i j o.0 o'.0 o.1 o'.1 o.2 o'.2;
     fits = fits;
@@ -229,6 +242,7 @@ module _ {S E : Type 0} (stands : S → List (Event E) → Type 0) where
       (known_set mid other i a gone x p) in
       reseated s r views
       (quiet mid other gone refl (HeldAt s.views) (quiet s.views id both refl (HeldAt s.views) (λ i y p on. (y, p, on, refl))))
+      (λ h. held_set mid other (seat_view (u ∷ []) false) gone there refl (held_set s.views id (seat_view (t ∷ []) false) both at refl h))
       (λ i a x p. let o = from i a x p in r.fits o.0 o.1 x o.2)
       (apart_from s.views views (Joined id other) (joined_once id other ne) (λ i a x p. let o = from i a x p in (o.0, o.1, x, o.2, refl, le_refl x.made, o.3)) r.apart)
 
@@ -250,6 +264,7 @@ module _ {S E : Type 0} (stands : S → List (Event E) → Type 0) where
       (known_end mid i a right x p) in
       reseated s r views
       (ending mid right refl (HeldAt s.views) (quiet s.views id left refl (HeldAt s.views) (λ i y p on. (y, p, on, refl))))
+      (λ h. held_end mid right (held_set s.views id (seat_view (t ∷ u ∷ []) false) left at refl h))
       (λ i a x p. let o = from i a x p in r.fits o.0 o.1 x o.2)
       (apart_from s.views views (Parted id (length mid)) (parted_once id (length mid)) (λ i a x p. let o = from i a x p in (o.0, o.1, x, o.2, refl, le_refl x.made, o.3)) r.apart)
 
@@ -267,6 +282,7 @@ module _ {S E : Type 0} (stands : S → List (Event E) → Type 0) where
       (known_set s.views id i a left x p) in
       reseated s r views
       (ending mid right refl (HeldAt s.views) (quiet s.views id left refl (HeldAt s.views) (λ i y p on. (y, p, on, refl))))
+      (λ h. held_end mid right (held_set s.views id v left at refl h))
       (λ i a x p. ⊎_elim (λ (h : KnownAt mid i a x). (one i a x h).0)
       (λ (h : (i ≡ length mid) × (get_elem? (child t ∷ []) a ≡ some x)). subst (Fits r.history) (at_only (child t) x a h.1).1 (child_fits t r.history (r.fits id 0 t t_at))) (known_end mid i a right x p))
       (λ i a j b x y p q ne. ⊎_elim
@@ -277,9 +293,9 @@ module _ {S E : Type 0} (stands : S → List (Event E) → Type 0) where
       (known_end mid i a right x p))
 
 -- The same, where what the histories begin from is known to the step by another name.
-module _ {F S E : Type 0} (stands : F → S → List (Event E) → Type 0) (k : F) (f : Option F) (is : f ≡ Some k) (slots id : ℕ) (me : Me (Option S) (SeatView E)) (off : me.0.holds ≡ false) where
-  pub enters_from : Allows (GateHolds (stands k)) slots id me 0 (λ n. either (eqb n 0) 1 n) (entered (stands_from stands f) (step slots 0 0 1 none) me)
-  enters_from = subst (λ (h : Option F). Allows (GateHolds (stands k)) slots id me 0 (λ n. either (eqb n 0) 1 n) (entered (stands_from stands h) (step slots 0 0 1 none) me)) (sym is) (enters (stands k) slots id me off)
+module _ {F S E : Type 0} (stands : F → S → List (Event E) → Type 0) (k : F) (f : Option F) (from : f ≡ Some k) (slots id : ℕ) where
+  pub enters_from : (t : Knowledge E) (me : Me (Option S) (SeatView E)) → me.0 ≡ seat_view (t ∷ []) false → Allows (GateHolds (stands k)) slots id me 0 (λ n. either (eqb n 0) 1 n) (entered (stands_from stands f) (step slots 0 0 1 none) me)
+  enters_from t me is = subst (λ (h : Option F). Allows (GateHolds (stands k)) slots id me 0 (λ n. either (eqb n 0) 1 n) (entered (stands_from stands h) (step slots 0 0 1 none) me)) (sym from) (enters (stands k) slots id t me is)
 
-  pub observes_from : Allows (GateHolds (stands k)) slots id me 0 (λ n. n) (observed (stands_from stands f) (step slots 0 0 0 none) me)
-  observes_from = subst (λ (h : Option F). Allows (GateHolds (stands k)) slots id me 0 (λ n. n) (observed (stands_from stands h) (step slots 0 0 0 none) me)) (sym is) (observes (stands k) slots id me off)
+  pub observes_from : (me : Me (Option S) (SeatView E)) → me.0.holds ≡ false → Allows (GateHolds (stands k)) slots id me 0 (λ n. n) (observed (stands_from stands f) (step slots 0 0 0 none) me)
+  observes_from me off = subst (λ (h : Option F). Allows (GateHolds (stands k)) slots id me 0 (λ n. n) (observed (stands_from stands h) (step slots 0 0 0 none) me)) (sym from) (observes (stands k) slots id me off)

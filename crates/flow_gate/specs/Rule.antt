@@ -1,5 +1,5 @@
--- The rule of the gate's table. Word 0 is 0 while the gate is free, and the one slot has the state then.
-use Rattle.std.specs.Prelude.{◌≡◌, ◌≢◌, ℕ, true, false, List, ◌⊎◌, Option, Some, length, slice_index}
+-- The rule of the gate's table. Word 0 is 0 while the gate is free, and the one slot has the state then. Otherwise the seat of one token holds the state.
+use Rattle.std.specs.Prelude.{◌≡◌, ◌≢◌, ℕ, true, false, List, [], ◌∷◌, ◌⊎◌, Option, Some, length, slice_index}
 use Rattle.std.specs.List.{AllByRecursion}
 use mathlib.Core.Option.{some}
 use lib.ListN.{get_elem?}
@@ -8,10 +8,15 @@ use Rattle.flow_law.specs.declared.history.Event.{Event}
 use Rattle.flow_law.specs.declared.history.Knowledge.{Knowledge}
 use Rattle.flow_law.specs.Growth.{Fits, IsApartFrom}
 use Rattle.flow_gate.specs.declared.view.SeatView.{SeatView}
+use Rattle.flow_gate.specs.View.{seat_view}
 
 -- what the a-th token of the i-th view knows
 abbrev pub KnownAt : {E : Type 0} → List (SeatView E) → ℕ → ℕ → Knowledge E → Type 0
 KnownAt {E} views i a k = (v : SeatView E) × (get_elem? views i ≡ some v) × (get_elem? v.known a ≡ some k)
+
+-- the seat of one token holds the state
+abbrev pub IsHeld : {E : Type 0} → List (SeatView E) → Type 0
+IsHeld {E} views = (i : ℕ) × (k : Knowledge E) × (get_elem? views i ≡ some (seat_view (k ∷ []) true))
 
 pub record GateHolds {S E : Type 0} (stands : S → List (Event E) → Type 0) (s : State (Option S) (SeatView E)) : Type 0 where
   -- the one history of the gate
@@ -21,6 +26,8 @@ pub record GateHolds {S E : Type 0} (stands : S → List (Event E) → Type 0) (
   pub sound : (state : S) × stands state history
   pub free : slice_index s.words 0 ≡ 0 → (state : S) × (get_elem? s.homes 0 ≡ some (some (Some state))) × stands state history
   pub nobody : slice_index s.words 0 ≡ 0 → (i : ℕ) (v : SeatView E) → get_elem? s.views i ≡ some v → v.holds ≡ false
+  -- while the gate is taken, the seat of one token holds the state: a seat without a token could be dropped unseen
+  pub taken : slice_index s.words 0 ≢ 0 → IsHeld s.views
   -- who holds the state has seen all of it
   pub holder : (i : ℕ) (v : SeatView E) → get_elem? s.views i ≡ some v → v.holds ≡ true → AllByRecursion (λ k. k.seen ≡ history) v.known
   pub single : (i j : ℕ) (v w : SeatView E) → get_elem? s.views i ≡ some v → get_elem? s.views j ≡ some w → v.holds ≡ true → w.holds ≡ true → i ≡ j
