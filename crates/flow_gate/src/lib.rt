@@ -17,8 +17,6 @@
 mod gate;
 mod held;
 mod steps;
-#[cfg(test)]
-mod tests;
 mod token;
 mod view;
 

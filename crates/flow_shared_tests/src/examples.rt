@@ -3,6 +3,7 @@
 use flow_law::{Config, Overflow};
 
 mod emissions;
+mod gate;
 mod state;
 mod subscribers;
 mod threads;

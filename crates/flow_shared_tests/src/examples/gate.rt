@@ -1,7 +1,7 @@
 //! A gate whose state counts the events of its history.
 ghost use Rattle.std.specs.Prelude.{◌≡◌, ◌%◌, ◌^◌, [], ◌∷◌, length};
 
-use crate::{Adds, Gate, Guarded, Held, Seat};
+use flow_gate::{Adds, Gate, Guarded, Held, Seat};
 use std::marker::Brand;
 use std::sync::Wait;
 use std::test::Fail;

@@ -1,5 +1,5 @@
 use Rattle.std.specs.Prelude.{◌≡◌}
-use Rattle.flow_gate.proofs.tests.add_thousand.Given as goal
+use Rattle.flow_shared_tests.proofs.examples.gate.add_thousand.Given as goal
 
 abbrev pub invariant-loop : goal.invariant-loop
 invariant-loop g l = l.seat.table_id ≡ l.gate.table_id
