@@ -1,5 +1,5 @@
 -- A flow of one thread never answers Busy.
-use Rattle.std.proofs.Common.{◌≡◌, ◌≢◌, ℕ, ◌+◌, cond, Option, Some, None}
+use Rattle.std.proofs.Common.{◌≢◌, ℕ, ◌+◌, Option, Some, None}
 use Rattle.std.specs.Prelude.{Err}
 use Rattle.std.specs.List.{slice_get}
 use Rattle.std.specs.Option.{option_map_or}
@@ -10,10 +10,10 @@ use Rattle.flow_law.specs.declared.call.SharedCall.TheVariants as call
 use Rattle.flow_law.specs.declared.call.SharedReply.{SharedReply}
 use Rattle.flow_law.specs.declared.call.SharedReply.TheVariants as reply
 use Rattle.flow_law.specs.declared.outcome.Next.TheVariants.{Value, Empty, Gone}
-use Rattle.flow_law.specs.SharedFlow.{SharedFlowState, Answer, answer, issuing, is_exhausted, is_blocked, values, position_of}
-use Rattle.flow_law.specs.EmitRule.{EmitCase, appends, offers, queues, drops_latest, drops_oldest, emit_case, emit_in, try_emit_in, append, suspend, drop_oldest}
+use Rattle.flow_law.specs.SharedFlow.{SharedFlowState, Answer, answer, issuing, is_exhausted, values, position_of}
+use Rattle.flow_law.specs.EmitRule.{EmitCase, appends, offers, queues, drops_latest, drops_oldest, emit_case, emit_in, try_emit_in}
 use Rattle.flow_law.specs.SharedStep.{settle, advance, enroll, read, next}
-use Rattle.flow_law.specs.SharedHistory.{Replies, answer_to, reply_by}
+use Rattle.flow_law.specs.SharedHistory.{Replies, reply_by}
 
 module _ {T : Type 0} (s : SharedFlowState T) where
   abbrev Busied : SharedReply T
