@@ -6,7 +6,8 @@ use Rattle.std.specs.Option.{option_map_or}
 use Rattle.std.proofs.lemmas.Grind.{common_steps}
 use Rattle.flow_law.specs.declared.fault.FlowFault.TheVariants.{Exhausted}
 use Rattle.flow_law.specs.declared.outcome.Next.TheVariants.{Value, Empty, Gone}
-use Rattle.flow_law.specs.SharedFlow.{SharedFlowState, Answer, answer, issuing, is_exhausted, values, position_of}
+use Rattle.flow_law.specs.declared.states.SharedFlowState.{SharedFlowState}
+use Rattle.flow_law.specs.SharedFlow.{Answer, answer, issuing, is_exhausted, values, position_of}
 use Rattle.flow_law.specs.EmitRule.{EmitCase, emit_case, emit, emit_in, try_emit, try_emit_in}
 use Rattle.flow_law.specs.SharedStep.{settle, advance, read, next}
 use Rattle.flow_law.specs.Standing.{Core, StandsFor}

@@ -4,7 +4,8 @@ use Rattle.std.specs.Prelude.{filter}
 use Rattle.std.specs.List.{list_any, position_from}
 use Rattle.std.proofs.lemmas.List.{take_all, drop_all}
 use Rattle.std.proofs.Common.{append-nil}
-use Rattle.flow_law.specs.SharedFlow.{Subscriber, position_of, move_to}
+use Rattle.flow_law.specs.declared.states.Subscriber.{Subscriber}
+use Rattle.flow_law.specs.SharedFlow.{position_of, move_to}
 use Rattle.flow_core.specs.declared.positions.Row.{Row}
 use Rattle.flow_core.specs.Positions.{subscriber_of}
 

@@ -9,7 +9,7 @@ use Rattle.std.specs.Prelude.{Option, Some, None, Result, Ok, Err, ◌^◌, if�
 use Rattle.std.specs.Option.{IsSome, OnSome, option_to_list}
 use Rattle.std.specs.Result.{is_ok}
 use Rattle.std.proofs.lemmas.List.{length-map, take-map, drop-map, map-append}
-use Rattle.flow_law.specs.SharedFlow.{Numbered}
+use Rattle.flow_law.specs.declared.states.Numbered.{Numbered}
 use Rattle.flow_law.specs.Laws.{RisesTo}
 use Rattle.flow_core.specs.declared.queue.Queued.{Queued}
 use Rattle.flow_core.specs.Queue.{numbered_of, Rises, IsPlace}

@@ -1,6 +1,6 @@
 -- The rows of subscribers as the definitions have them. No public clause cites this module.
 use Rattle.std.specs.Prelude.{ℕ, max, List, map}
-use Rattle.flow_law.specs.SharedFlow.{Subscriber}
+use Rattle.flow_law.specs.declared.states.Subscriber.{Subscriber}
 use Rattle.flow_core.specs.declared.positions.Row.{Row}
 use Rattle.flow_core.specs.declared.positions.Subscribers.TheInside.{Inside}
 

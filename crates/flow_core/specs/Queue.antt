@@ -1,7 +1,7 @@
 -- The queue as the definitions have it. No public clause cites this module.
 use Rattle.std.specs.Prelude.{◌≡◌, ℕ, ◌<◌, ◌^◌, ◌==◌, true, false, not, List, map, filter, length, Option, Some, None}
 use Rattle.std.specs.List.{list_any, remove}
-use Rattle.flow_law.specs.SharedFlow.{Numbered}
+use Rattle.flow_law.specs.declared.states.Numbered.{Numbered}
 use Rattle.flow_law.specs.Laws.{RisesTo}
 use Rattle.flow_core.specs.declared.queue.Queued.{Queued}
 use Rattle.flow_core.specs.declared.queue.Queue.TheInside.{Inside}

@@ -9,8 +9,10 @@ use Rattle.flow_law.specs.declared.outcome.Next.{Next}
 use Rattle.flow_law.specs.declared.outcome.Emit.{Emit}
 use Rattle.flow_law.specs.declared.call.SharedReply.{SharedReply}
 use Rattle.flow_law.specs.declared.call.SharedReply.TheVariants as reply
-use Rattle.flow_law.specs.SharedFlow.{SharedFlowState}
+use Rattle.flow_law.specs.declared.states.SharedFlowState.{SharedFlowState}
 use Rattle.flow_law.specs.EmitRule as law
+use Rattle.flow_law.specs.History.{replied}
+use Rattle.flow_law.specs.SharedHistory.{shared_flow}
 use Rattle.flow_law.specs.SharedStep.{settle}
 use Rattle.flow_law.specs.Laws.{RisesTo}
 use Rattle.flow_law.specs.Standing.{Core, StandsFor}
@@ -31,16 +33,13 @@ emitted (Ok emission) = reply.Emitted emission
 emitted (Err refused) = reply.Refused refused.fault
 
 abbrev pub subscribed : {T : Type 0} → Result SubId FlowFault → SharedReply T
-subscribed (Ok id) = reply.Subscribed (number_of id)
-subscribed (Err fault) = reply.Refused fault
+subscribed = replied shared_flow (λ id. reply.Subscribed (number_of id))
 
 abbrev pub received : {T : Type 0} → Result (Next T) FlowFault → SharedReply T
-received (Ok next) = reply.Received next
-received (Err fault) = reply.Refused fault
+received = replied shared_flow reply.Received
 
 abbrev pub cached : {V T : Type 0} → (V → List T) → Result V FlowFault → SharedReply T
-cached items (Ok values) = reply.Cached (items values)
-cached items (Err fault) = reply.Refused fault
+cached items = replied shared_flow (λ values. reply.Cached (items values))
 
 -- ---- the fields
 

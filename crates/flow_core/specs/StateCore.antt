@@ -1,10 +1,13 @@
 -- What contracts see of a state core, and the results of its calls as the replies of a history.
-use Rattle.std.specs.Prelude.{List, map, Result, Ok, Err}
+use Rattle.std.specs.Prelude.{List, map, Result}
 use Rattle.flow_law.specs.declared.fault.FlowFault.{FlowFault}
 use Rattle.flow_law.specs.declared.outcome.Next.{Next}
 use Rattle.flow_law.specs.declared.call.StateReply.{StateReply}
 use Rattle.flow_law.specs.declared.call.StateReply.TheVariants as reply
-use Rattle.flow_law.specs.StateFlow.{StateFlowState, StateSubscriber}
+use Rattle.flow_law.specs.History.{replied}
+use Rattle.flow_law.specs.declared.states.StateFlowState.{StateFlowState}
+use Rattle.flow_law.specs.declared.states.StateSubscriber.{StateSubscriber}
+use Rattle.flow_law.specs.StateFlow.{state_flow}
 use Rattle.flow_core.specs.declared.sub_id.SubId.{SubId}
 use Rattle.flow_core.specs.declared.state.Row.{Row}
 use Rattle.flow_core.specs.declared.state.StateCore.TheInside.{Inside}
@@ -12,25 +15,20 @@ use Rattle.flow_core.specs.SubId.{number_of}
 
 module _ {T : Type 0} where
   abbrev pub got : Result T FlowFault → StateReply T
-  got (Ok value) = reply.Got value
-  got (Err fault) = reply.Refused fault
+  got = replied state_flow reply.Got
 
   abbrev pub subscribed : Result SubId FlowFault → StateReply T
-  subscribed (Ok id) = reply.Subscribed (number_of id)
-  subscribed (Err fault) = reply.Refused fault
+  subscribed = replied state_flow (λ id. reply.Subscribed (number_of id))
 
   abbrev pub received : Result (Next T) FlowFault → StateReply T
-  received (Ok next) = reply.Received next
-  received (Err fault) = reply.Refused fault
+  received = replied state_flow reply.Received
 
   abbrev pub cached : {V : Type 0} → (V → List T) → Result V FlowFault → StateReply T
-  cached items (Ok values) = reply.Cached (items values)
-  cached items (Err fault) = reply.Refused fault
+  cached items = replied state_flow (λ values. reply.Cached (items values))
 
   -- a state flow's cache is never reset: `Ok` would be no reply of it
   abbrev pub reset : Result (Unit {0}) FlowFault → StateReply T
-  reset (Ok none) = reply.Done
-  reset (Err fault) = reply.Refused fault
+  reset = replied state_flow (λ none. reply.Done)
 
   abbrev pub subscriber_of : Row T → StateSubscriber T
   subscriber_of row = record { number = row.number; last = row.last }

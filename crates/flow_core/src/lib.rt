@@ -20,12 +20,14 @@
 #![tactic(auto)]
 
 mod copies;
+mod kind;
 mod positions;
 mod queue;
 mod shared;
 mod state;
 mod sub_id;
 
+pub use kind::FlowCore;
 pub use shared::SharedCore;
 pub use state::StateCore;
 pub use sub_id::SubId;

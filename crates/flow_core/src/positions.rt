@@ -21,7 +21,7 @@ pub(crate) struct Subscribers<A: Allocator> {
 
 impl<A: Allocator> Model for Subscribers<A> {
     ghost use Rattle.std.specs.Prelude.{List};
-    ghost use Rattle.flow_law.specs.SharedFlow.{Subscriber};
+    ghost use Rattle.flow_law.specs.declared.states.Subscriber.{Subscriber};
 
     ghost Value = { List Subscriber };
 

@@ -23,7 +23,7 @@ pub(crate) struct Queue<T: Drop, A: Allocator> {
 
 impl<T: Drop, A: Allocator> Model for Queue<T, A> {
     ghost use Rattle.std.specs.Prelude.{List};
-    ghost use Rattle.flow_law.specs.SharedFlow.{Numbered};
+    ghost use Rattle.flow_law.specs.declared.states.Numbered.{Numbered};
 
     ghost Value = { List (Numbered T) };
 

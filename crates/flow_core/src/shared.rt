@@ -10,6 +10,7 @@ ghost use Rattle.flow_core.specs.SubId.{number_of};
 ghost use Rattle.flow_core.specs.SharedCore.{subscribed, received, cached, Shows, Leads, Admits};
 
 mod emission;
+mod kind;
 
 use crate::copies::copies;
 use crate::positions::Subscribers;

@@ -8,6 +8,8 @@ ghost use Rattle.flow_law.specs.declared.call.StateReply.TheVariants as reply;
 ghost use Rattle.flow_core.specs.SubId.{number_of};
 ghost use Rattle.flow_core.specs.StateCore.{got, subscribed, received, cached, reset};
 
+mod kind;
+
 use crate::sub_id::SubId;
 use flow_law::{FlowFault, FlowValue, Next};
 use std::alloc::{Allocator, Global};
@@ -36,7 +38,7 @@ pub struct StateCore<T: FlowValue, A: Allocator + Copy = Global> {
 
 impl<T: FlowValue, A: Allocator + Copy> Model for StateCore<T, A> {
     ghost use Rattle.std.specs.Prelude.{◌≤◌};
-    ghost use Rattle.flow_law.specs.StateFlow.{StateFlowState};
+    ghost use Rattle.flow_law.specs.declared.states.StateFlowState.{StateFlowState};
 
     ghost Value = { StateFlowState T };
 

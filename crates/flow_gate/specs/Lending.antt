@@ -4,7 +4,7 @@ use denote.RattleType.{RattleType}
 use Rattle.std.specs.Prelude.{[]}
 use Rattle.std.specs.Borrow.{Lends, MutBor, Fml}
 use Rattle.std.specs.declared.alloc.Allocator.{Ghosts as AllocatorGhosts}
-use Rattle.flow_gate.specs.declared.view.Guarded.{Ghosts}
+use Rattle.flow_law.specs.declared.guarded.Guarded.{Ghosts}
 use Rattle.flow_gate.specs.Tokens.{HeldState, held_state}
 use Rattle.flow_gate.specs.contracts.held.Held.{the_row}
 

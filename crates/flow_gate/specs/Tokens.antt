@@ -5,18 +5,18 @@ use Rattle.atomic_table.specs.declared.shared.Seat.{Seat as TableSeat}
 use Rattle.flow_law.specs.declared.history.Event.{Event}
 use Rattle.flow_law.specs.declared.history.Knowledge.{Knowledge}
 use Rattle.flow_law.specs.Growth.{Fits, knowledge, first_knowledge, sees}
+use Rattle.flow_law.specs.Tokens as flows
+use Rattle.flow_law.specs.Tokens.{token, knowing}
 use Rattle.flow_gate.specs.declared.view.SeatView.{SeatView}
 use Rattle.flow_gate.specs.View.{seat_view}
 
 -- a seat: its gate, and what it knows
-pub record Token (E : Type 0) : Type 0 where
-  pub table_id : TableId
-  pub knows : Knowledge E
+abbrev pub Token : Type 0 → Type 0
+Token = flows.Token TableId
 
 -- a gate: which one it is, and the state that it began with
-pub record Origin (S : Type 0) : Type 0 where
-  pub table_id : TableId
-  pub first : S
+abbrev pub Origin : Type 0 → Type 0
+Origin = flows.Origin TableId
 
 -- who is inside has the state too
 pub record HeldState (S E : Type 0) : Type 0 where
@@ -27,17 +27,6 @@ pub record HeldState (S E : Type 0) : Type 0 where
 abbrev pub only_known : {E : Type 0} → List (Knowledge E) → Knowledge E
 only_known [] = first_knowledge
 only_known (k ∷ ks) = k
-
-abbrev pub origin : {S : Type 0} → TableId → S → Origin S
-origin id first = record { table_id = id; first = first }
-
-module _ {E : Type 0} where
-  abbrev pub token : TableId → Knowledge E → Token E
-  token id knows = record { table_id = id; knows = knows }
-
-  -- the same seat, which knows this
-  abbrev pub knowing : Token E → Knowledge E → Token E
-  knowing t knows = token t.table_id knows
 
 module _ {S E : Type 0} where
   abbrev pub token_of : TableSeat (Option S) (SeatView E) → Token E

@@ -1,13 +1,15 @@
 //! The gate.
 ghost use Rattle.std.specs.Prelude.{◌≡◌, ◌≤◌, [], Some, IfOk, IfErr, IfSome};
 ghost use Rattle.flow_law.specs.Growth.{first_knowledge, loses, makes, child};
-ghost use Rattle.flow_gate.specs.Tokens.{knowing, Finds, Meets, StandsForSome, StandsAfter};
+ghost use Rattle.flow_law.specs.Tokens.{knowing};
+ghost use Rattle.flow_gate.specs.Tokens.{Finds, Meets, StandsForSome};
 
 use crate::held::Held;
 use crate::steps::{Enter, GateRule, Make, Meet, Observe, Part, StartsFrom};
 use crate::token::Seat;
-use crate::view::{Guarded, SeatView};
+use crate::view::SeatView;
 use atomic_table::{Refused, Table};
+use flow_law::Guarded;
 use std::alloc::{AllocFailed, Allocator, Global};
 use std::marker::{Brand, Model};
 use std::snapshot::Snapshot;
@@ -25,7 +27,8 @@ pub struct Gate<S: Guarded, A: Allocator = Global> {
 
 impl<S: Guarded, A: Allocator> Model for Gate<S, A> {
     ghost use Rattle.std.specs.Prelude.{◌≡◌};
-    ghost use Rattle.flow_gate.specs.Tokens.{Origin, origin};
+    ghost use Rattle.flow_law.specs.Tokens.{origin};
+    ghost use Rattle.flow_gate.specs.Tokens.{Origin};
 
     ghost Value = { Origin S };
 

@@ -1,12 +1,13 @@
 //! Who is inside a gate.
 ghost use Rattle.std.specs.Prelude.{◌≡◌, ◌++◌};
 ghost use Rattle.flow_law.specs.Growth.{adds, events_of};
-ghost use Rattle.flow_gate.specs.Tokens.{knowing};
+ghost use Rattle.flow_law.specs.Tokens.{knowing};
 
 use crate::gate::Gate;
 use crate::steps::{Adds, Leave};
 use crate::token::Seat;
-use crate::view::{Guarded, SeatView};
+use crate::view::SeatView;
+use flow_law::Guarded;
 use std::alloc::{Allocator, Global};
 use std::marker::Model;
 
@@ -32,7 +33,7 @@ impl<'a, S: Guarded, A: Allocator> Held<'a, S, A> {
     ghost use Rattle.std.specs.Prelude.{◌≡◌, ◌++◌};
     ghost use Rattle.std.specs.Borrow.{sem};
     ghost use Rattle.flow_law.specs.Growth.{adds, events_of};
-    ghost use Rattle.flow_gate.specs.Tokens.{knowing};
+    ghost use Rattle.flow_law.specs.Tokens.{knowing};
     ghost use Rattle.flow_gate.specs.Lending.{LendsState};
 
     /// The state, which may be changed while it is lent.

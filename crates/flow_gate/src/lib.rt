@@ -24,4 +24,4 @@ pub use gate::Gate;
 pub use held::Held;
 pub use steps::{Adds, GateRule};
 pub use token::Seat;
-pub use view::{Guarded, SeatView};
+pub use view::SeatView;

@@ -5,8 +5,9 @@ ghost use Rattle.flow_gate.specs.View.{first_view, seat_view};
 ghost use Rattle.flow_gate.specs.Rule.{GateHolds};
 ghost use Rattle.flow_gate.specs.Steps.{boxed, stands_from, entered, observed, left, first_of, others_of};
 
-use crate::view::{Guarded, SeatView};
+use crate::view::SeatView;
 use atomic_table::{Join, Play, Split, TableRule};
+use flow_law::Guarded;
 use std::alloc::Allocator;
 use std::marker::{Brand, PhantomData};
 use std::snapshot::Snapshot;

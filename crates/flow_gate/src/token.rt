@@ -1,7 +1,8 @@
 //! The token of a gate.
 ghost use Rattle.flow_gate.specs.Tokens.{Token, token_of, IsIdle};
 
-use crate::view::{Guarded, SeatView};
+use crate::view::SeatView;
+use flow_law::Guarded;
 use std::alloc::{Allocator, Global};
 use std::marker::Model;
 

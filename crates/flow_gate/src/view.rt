@@ -1,6 +1,5 @@
-//! What a gate guards, and what its table knows of the seats.
-ghost use Rattle.std.specs.Prelude.{List};
-ghost use Rattle.flow_law.specs.declared.history.Event.{Event};
+//! What the table of a gate knows of the seats.
+ghost use Rattle.std.specs.Prelude.{◌≡◌};
 
 use flow_law::Knowledge;
 use std::collections::LinkedList;
@@ -10,13 +9,4 @@ use std::collections::LinkedList;
 pub struct SeatView<E> {
     pub known: LinkedList<Knowledge<E>>,
     pub holds: bool,
-}
-
-/// The state behind a gate. It says, for contracts, for which histories it stands.
-pub trait Guarded {
-    /// What one event says.
-    type Said;
-
-    /// From the state that the gate began with: a state, and a history that it stands for.
-    ghost stands: { Self → Self → List (Event Self.Said) → Type 0 };
 }

@@ -1,40 +1,120 @@
--- Histories of any kind of flow: the state that one leads to, legal, owned.
-use Rattle.std.specs.Prelude.{◌≡◌, ℕ, List, [], ◌∷◌, if◌then◌else◌, Option, Some, None, ◌==◌}
+-- Histories of any kind of flow. Begin with `Kind`: what is said of a kind of flow, and of it alone. The rest of this page,
+-- and all that is said of tokens, is said once and holds of every kind.
+use Rattle.std.specs.Prelude.{◌≡◌, ℕ, Bool, false, List, [], ◌∷◌, if◌then◌else◌, Option, Some, None, Result, Ok, Err, ◌==◌}
+use Rattle.flow_law.specs.declared.fault.FlowFault.{FlowFault}
 use Rattle.flow_law.specs.declared.history.Event.{Event}
+use Rattle.flow_law.specs.declared.history.Knowledge.{Knowledge}
 use Rattle.flow_law.specs.declared.history.Said.{Said}
+use Rattle.flow_law.specs.declared.outcome.Next.{Next}
 
--- the kind of flow says which replies are its own, and what state follows
-module _ {S C R : Type 0} (Replies : S → C → R → Type 0) (after : S → C → R → S) where
+-- a number that a flow gives: a subscriber's, or an emission's
+pub data Number : Type 0 where
+  subscriber : ℕ → Number
+  emission : ℕ → Number
+
+abbrev pub is_same : Number → Number → Bool
+is_same (subscriber m) (subscriber n) = m == n
+is_same (emission m) (emission n) = m == n
+is_same _ _ = false
+
+-- a number, and the name of the token that it was given to
+pub record Owner : Type 0 where
+  pub number : Number
+  pub name : List ℕ
+
+-- to whom a number was given, the latest first
+abbrev pub owner_of : Number → List Owner → Option (List ℕ)
+owner_of number [] = None
+owner_of number (o ∷ os) = if is_same o.number number then Some o.name else owner_of number os
+
+abbrev pub with_owner : Option Owner → List Owner → List Owner
+with_owner None owners = owners
+with_owner (Some o) owners = o ∷ owners
+
+-- A kind of flow: its values, the states of its documented flow of one thread, its calls and its replies.
+pub record Kind (T S C R : Type 0) : Type 1 where
+  -- a flow may begin in this state
+  pub MayBegin : S → Type 0
+  -- this reply to this call is the flow's own
+  pub Replies : S → C → R → Type 0
+  -- the state that follows it
+  pub after : S → C → R → S
+  -- the number that a call gives by its reply, and to whom. The caller's name comes first
+  pub gives : List ℕ → C → R → Option Owner
+  -- of what number a call speaks
+  pub speaks_of : C → Option Number
+  -- the number is a subscriber's
+  pub HasSubscriber : ℕ → S → Type 0
+  -- the calls that every kind has, and their replies
+  pub subscribe : List ℕ → C
+  pub take_next : ℕ → C
+  pub unsubscribe : ℕ → C
+  pub count : C
+  pub replay_cache : C
+  pub subscribed : ℕ → R
+  pub received : Next T → R
+  pub tested : Bool → R
+  pub counted : ℕ → R
+  pub cached : List T → R
+  pub refused : FlowFault → R
+
+module _ {T S C R : Type 0} (kind : Kind T S C R) where
+  -- a result as a reply, where `wrap` says what is replied where nothing is refused
+  abbrev pub replied : {X : Type 0} → (X → R) → Result X FlowFault → R
+  replied wrap (Ok x) = wrap x
+  replied wrap (Err fault) = kind.refused fault
+
   -- the state that a history leads to
   abbrev pub after_all : S → List (Event (Said C R)) → S
   after_all s [] = s
-  after_all s (e ∷ es) = after_all (after s e.what.call e.what.reply) es
+  after_all s (e ∷ es) = after_all (kind.after s e.what.call e.what.reply) es
 
   -- each reply is the flow's, in the state that the events before it lead to
   abbrev pub IsLegal : S → List (Event (Said C R)) → Type 0
   IsLegal s [] = Unit {0}
-  IsLegal s (e ∷ es) = Replies s e.what.call e.what.reply × IsLegal (after s e.what.call e.what.reply) es
+  IsLegal s (e ∷ es) = kind.Replies s e.what.call e.what.reply × IsLegal (kind.after s e.what.call e.what.reply) es
 
--- a number, and the name of the token that it was given to
-pub record Owner : Type 0 where
-  pub number : ℕ
-  pub name : List ℕ
-
-abbrev pub owner_of : ℕ → List Owner → Option (List ℕ)
-owner_of number [] = None
-owner_of number (o ∷ os) = if o.number == number then Some o.name else owner_of number os
-
--- the kind of flow says which events give a number to a token, and of what number a call speaks
-module _ {C R : Type 0} (owners_after : List Owner → Event (Said C R) → List Owner) (speaks_of : C → Option ℕ) where
-  abbrev pub MayCall : Option ℕ → List Owner → List ℕ → Type 0
-  MayCall None owners name = Unit {0}
-  MayCall (Some number) owners name = owner_of number owners ≡ Some name
+  abbrev pub owners_after : List Owner → Event (Said C R) → List Owner
+  owners_after owners e = with_owner (kind.gives e.name e.what.call e.what.reply) owners
 
   -- the owners that a history leads to, the latest first
   abbrev pub owners_all : List Owner → List (Event (Said C R)) → List Owner
   owners_all owners [] = owners
   owners_all owners (e ∷ es) = owners_all (owners_after owners e) es
 
+  -- a call that speaks of a number is made through the token that the number was given to
+  abbrev pub MaySpeak : Option Number → List Owner → List ℕ → Type 0
+  MaySpeak None owners name = Unit {0}
+  MaySpeak (Some number) owners name = owner_of number owners ≡ Some name
+
   abbrev pub IsOwned : List Owner → List (Event (Said C R)) → Type 0
   IsOwned owners [] = Unit {0}
-  IsOwned owners (e ∷ es) = MayCall (speaks_of e.what.call) owners e.name × IsOwned (owners_after owners e) es
+  IsOwned owners (e ∷ es) = MaySpeak (kind.speaks_of e.what.call) owners e.name × IsOwned (owners_after owners e) es
+
+  -- a history that a flow may have had that began in this state
+  pub record IsHistory (first : S) (h : List (Event (Said C R))) : Type 0 where
+    pub begins : kind.MayBegin first
+    pub legal : IsLegal first h
+    pub owned : IsOwned [] h
+
+  -- the token of this name may make this call after this history
+  abbrev pub MayCall : C → List ℕ → List (Event (Said C R)) → Type 0
+  MayCall call name h = MaySpeak (kind.speaks_of call) (owners_all [] h) name
+
+  -- ---- what a token knows of its number
+
+  -- the history gave this number to the token of this name
+  abbrev pub IsGiven : List ℕ → Number → List (Event (Said C R)) → Type 0
+  IsGiven name number h = owner_of number (owners_all [] h) ≡ Some name
+
+  -- the number is a subscriber's after the history, whichever state the flow began in
+  abbrev pub IsSubscribed : ℕ → List (Event (Said C R)) → Type 0
+  IsSubscribed number h = (first : S) → IsLegal first h → kind.HasSubscriber number (after_all first h)
+
+  -- the history that the token has seen gave it this subscriber's number, and the subscriber is still there after it
+  abbrev pub IsSubscription : Knowledge (Said C R) → ℕ → Type 0
+  IsSubscription k number = IsGiven k.name (subscriber number) k.seen × IsSubscribed number k.seen
+
+  -- it gave it this emission's number
+  abbrev pub IsEmission : Knowledge (Said C R) → ℕ → Type 0
+  IsEmission k number = IsGiven k.name (emission number) k.seen

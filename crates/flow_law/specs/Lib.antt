@@ -2,6 +2,7 @@ pub mod SharedFlow
 pub mod EmitRule
 pub mod SharedStep
 pub mod History
+pub mod Lawful
 pub mod SharedHistory
 pub mod Mailbox
 pub mod Laws
@@ -9,6 +10,7 @@ pub mod StateFlow
 pub mod Conflation
 pub mod Growth
 pub mod OneHistory
+pub mod Tokens
 pub mod Standing
 pub mod Sharing
 pub mod TurnAccount

@@ -15,31 +15,11 @@ use Rattle.flow_law.specs.declared.config.Overflow.{Overflow}
 use Rattle.flow_law.specs.declared.config.Overflow.TheVariants.{Suspend, DropOldest, DropLatest}
 use Rattle.flow_law.specs.declared.fault.FlowFault.{FlowFault}
 use Rattle.flow_law.specs.declared.fault.FlowFault.TheVariants.{TooLarge, NeedsBuffer, Exhausted}
+pub use Rattle.flow_law.specs.declared.states.Numbered.{Numbered}
+pub use Rattle.flow_law.specs.declared.states.Subscriber.{Subscriber}
+pub use Rattle.flow_law.specs.declared.states.SharedFlowState.{SharedFlowState}
 
 -- ---- the state
-
--- a value with the number that it took when it was accepted
-pub record Numbered (T : Type 0) : Type 0 where
-  pub value : T
-  pub number : ℕ
-
--- a subscriber's number, and how many emitted values lie behind it
-pub record Subscriber : Type 0 where
-  pub number : ℕ
-  pub position : ℕ
-
-pub record SharedFlowState (T : Type 0) : Type 0 where
-  pub config : Config
-  -- every value ever emitted, in order. It is never cut
-  pub emitted : List (Numbered T)
-  -- how many values had been emitted at the last reset
-  pub reset_mark : ℕ
-  -- the values whose emitters wait, the first one in front
-  pub queue : List (Numbered T)
-  -- in the order in which they subscribed, so in the order of their numbers
-  pub subscribers : List Subscriber
-  -- how many numbers were issued. The next one is one more
-  pub issued : ℕ
 
 -- before any call
 abbrev pub first_state : {T : Type 0} → Config → SharedFlowState T

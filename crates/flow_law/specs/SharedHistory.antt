@@ -1,5 +1,5 @@
 -- Histories of a shared flow.
-use Rattle.std.specs.Prelude.{◌≡◌, ℕ, IsTrue, Bool, true, false, not, ◌&&◌, if◌then◌else◌, List, [], ◌∷◌, Option, Some, None, IsSome, Result, Ok, Err}
+use Rattle.std.specs.Prelude.{◌≡◌, ℕ, IsTrue, Bool, true, false, not, ◌&&◌, if◌then◌else◌, List, Option, Some, None, IsSome, Result, Ok, Err}
 use Rattle.flow_law.specs.declared.config.Config.{Config}
 use Rattle.flow_law.specs.declared.fault.FlowFault.{FlowFault}
 use Rattle.flow_law.specs.declared.fault.FlowFault.TheVariants.{OutOfMemory}
@@ -12,7 +12,7 @@ use Rattle.flow_law.specs.declared.call.SharedReply.{SharedReply}
 use Rattle.flow_law.specs.declared.call.SharedReply.TheVariants as reply
 use Rattle.flow_law.specs.SharedFlow.{SharedFlowState, Answer, first_state, config_fault, position_of}
 use Rattle.flow_law.specs.SharedStep as flow
-use Rattle.flow_law.specs.History.{Owner, owner_of}
+use Rattle.flow_law.specs.History.{Number, subscriber, emission, Owner, Kind}
 use Rattle.flow_law.specs.History as histories
 
 -- what a call replies, and the state after it
@@ -62,34 +62,50 @@ module _ {T : Type 0} where
   abbrev pub after : SharedFlowState T → SharedCall T → SharedReply T → SharedFlowState T
   after s c r = if is_refused r then s else (answer_to c s).after
 
-  abbrev pub owners_after_call : List Owner → List ℕ → SharedCall T → SharedReply T → List Owner
-  owners_after_call owners name (call.Subscribe given) (reply.Subscribed u) = record { number = u; name = given } ∷ owners
-  owners_after_call owners name (call.Emit v) (reply.Emitted (Queued e)) = record { number = e; name = name } ∷ owners
-  owners_after_call owners name _ _ = owners
+  -- the subscription gets the subscriber's number, and the emitter that of an emission that waits
+  abbrev pub gives : List ℕ → SharedCall T → SharedReply T → Option Owner
+  gives name (call.Subscribe given) (reply.Subscribed u) = Some (record { number = subscriber u; name = given })
+  gives name (call.Emit v) (reply.Emitted (Queued e)) = Some (record { number = emission e; name = name })
+  gives name _ _ = None
 
-  abbrev pub owners_after : List Owner → Event (Said (SharedCall T) (SharedReply T)) → List Owner
-  owners_after owners e = owners_after_call owners e.name e.what.call e.what.reply
-
-  -- of which subscriber or emission a call speaks
-  abbrev pub speaks_of : SharedCall T → Option ℕ
-  speaks_of (call.TakeNext u) = Some u
-  speaks_of (call.Unsubscribe u) = Some u
-  speaks_of (call.Poll e) = Some e
-  speaks_of (call.Cancel e) = Some e
+  abbrev pub speaks_of : SharedCall T → Option Number
+  speaks_of (call.TakeNext u) = Some (subscriber u)
+  speaks_of (call.Unsubscribe u) = Some (subscriber u)
+  speaks_of (call.Poll e) = Some (emission e)
+  speaks_of (call.Cancel e) = Some (emission e)
   speaks_of _ = None
+
+  -- shared flows are a kind of flow
+  abbrev pub shared_flow : Kind T (SharedFlowState T) (SharedCall T) (SharedReply T)
+  shared_flow = record {
+    MayBegin = λ s. config_fault s.config ≡ None;
+    Replies = Replies;
+    after = after;
+    gives = gives;
+    speaks_of = speaks_of;
+    HasSubscriber = λ u s. IsSome (position_of u s.subscribers);
+    subscribe = call.Subscribe;
+    take_next = call.TakeNext;
+    unsubscribe = call.Unsubscribe;
+    count = call.SubscriptionCount;
+    replay_cache = call.ReplayCache;
+    subscribed = reply.Subscribed;
+    received = reply.Received;
+    tested = reply.Tested;
+    counted = reply.Counted;
+    cached = reply.Cached;
+    refused = reply.Refused;
+  }
 
 abbrev pub History : Type 0 → Type 0
 History T = List (Event (Said (SharedCall T) (SharedReply T)))
 
 module _ {T : Type 0} where
   abbrev pub after_all : SharedFlowState T → History T → SharedFlowState T
-  after_all = histories.after_all Replies after
+  after_all = histories.after_all shared_flow
 
   abbrev pub IsLegalFrom : SharedFlowState T → History T → Type 0
-  IsLegalFrom = histories.IsLegal Replies after
-
-  abbrev pub IsOwned : History T → Type 0
-  IsOwned = histories.IsOwned owners_after speaks_of []
+  IsLegalFrom = histories.IsLegal shared_flow
 
   -- the state that a history of a flow of this configuration leads to
   abbrev pub state_after : Config → History T → SharedFlowState T
@@ -101,12 +117,4 @@ module _ {T : Type 0} where
 
   -- a history that a flow of this configuration may have had
   abbrev pub IsHistory : Config → History T → Type 0
-  IsHistory config h = IsLegal config h × IsOwned h
-
-  -- the history gave this number, of a subscriber or an emission, to the token of this name
-  abbrev pub IsGiven : List ℕ → ℕ → History T → Type 0
-  IsGiven name number h = owner_of number (histories.owners_all owners_after speaks_of [] h) ≡ Some name
-
-  -- the number is a subscriber's after the history, of whichever configuration the flow is
-  abbrev pub IsSubscribed : ℕ → History T → Type 0
-  IsSubscribed number h = (config : Config) → IsLegal config h → IsSome (position_of number (state_after config h).subscribers)
+  IsHistory config = histories.IsHistory shared_flow (first_state config)

@@ -3,6 +3,9 @@
 use Rattle.std.specs.Prelude.{◌≡◌, ℕ, min, List, [], ◌∷◌, ◌++◌, length, drop, Bool}
 use Rattle.std.specs.Bool.{OnTrue}
 use Rattle.flow_law.specs.declared.config.Config.{Config}
+use Rattle.flow_law.specs.declared.history.Event.{Event}
+use Rattle.flow_law.specs.declared.history.Said.{Said}
+use Rattle.flow_law.specs.History.{Kind, IsHistory, after_all}
 use Rattle.flow_law.specs.declared.call.SharedCall.{SharedCall}
 use Rattle.flow_law.specs.declared.call.SharedReply.{SharedReply}
 use Rattle.flow_law.specs.declared.call.StateCall.{StateCall}
@@ -19,6 +22,16 @@ use Rattle.flow_law.specs.StateFlow as state
 module _ {K S C R : Type 0} (StandsAs : K → S → Type 0) (Replies : S → C → R → Type 0) (after : S → C → R → S) (is_refused : R → Bool) where
   abbrev pub ConformsBy : K → C → R → K → Type 0
   ConformsBy old call reply new = ((s : S) → StandsAs old s → Replies s call reply × StandsAs new (after s call reply)) × OnTrue (is_refused reply) (new ≡ old)
+
+module _ {K T S C R : Type 0} (kind : Kind T S C R) (StandsAs : K → S → Type 0) where
+  -- the reply and the state after are the flow's, in each state that the old core stands for
+  abbrev pub Documents : K → C → R → K → Type 0
+  Documents old call reply new = (s : S) → StandsAs old s → kind.Replies s call reply × StandsAs new (kind.after s call reply)
+
+  -- a core stands for a history: a flow that began in this state may have had it, and the core stands for the state that it
+  -- leads to
+  abbrev pub StandsForHistory : S → K → List (Event (Said C R)) → Type 0
+  StandsForHistory first core h = IsHistory kind first h × StandsAs core (after_all kind first h)
 
 -- ---- shared flows
 

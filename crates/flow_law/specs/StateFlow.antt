@@ -8,22 +8,10 @@ use Rattle.flow_law.specs.declared.call.StateCall.{StateCall}
 use Rattle.flow_law.specs.declared.call.StateCall.TheVariants.{GetValue, Set, TryEmit, CompareAndSet, Subscribe, TakeNext, Unsubscribe, SubscriptionCount, ReplayCache, ResetReplayCache}
 use Rattle.flow_law.specs.declared.call.StateReply.{StateReply}
 use Rattle.flow_law.specs.declared.call.StateReply.TheVariants.{Done, Got, Answered, Subscribed, Received, Counted, Cached, Refused}
-use Rattle.flow_law.specs.History.{Owner, owner_of}
+use Rattle.flow_law.specs.History.{Number, subscriber, Owner, Kind}
 use Rattle.flow_law.specs.History as histories
-
--- a subscriber's number, and the last value that it got, or none yet
-pub record StateSubscriber (T : Type 0) : Type 0 where
-  pub number : ℕ
-  pub last : Option T
-
-pub record StateFlowState (T : Type 0) : Type 0 where
-  -- the most numbers that it issues
-  pub limit : ℕ
-  pub value : T
-  -- in the order in which they subscribed
-  pub subscribers : List (StateSubscriber T)
-  -- how many numbers were issued. The next one is one more
-  pub issued : ℕ
+pub use Rattle.flow_law.specs.declared.states.StateSubscriber.{StateSubscriber}
+pub use Rattle.flow_law.specs.declared.states.StateFlowState.{StateFlowState}
 
 module _ {T : Type 0} where
   abbrev pub first_state_flow : ℕ → T → StateFlowState T
@@ -88,39 +76,47 @@ module _ {T : Type 0} where
   Replies s c (Refused OutOfMemory) = IsTrue (may_need_memory s c)
   Replies s c r = IsReply s c r
 
-  abbrev pub owners_after_call : List Owner → List ℕ → StateCall T → StateReply T → List Owner
-  owners_after_call owners name (Subscribe given) (Subscribed u) = record { number = u; name = given } ∷ owners
-  owners_after_call owners name _ _ = owners
+  abbrev pub gives : List ℕ → StateCall T → StateReply T → Option Owner
+  gives name (Subscribe given) (Subscribed u) = Some (record { number = subscriber u; name = given })
+  gives name _ _ = None
 
-  abbrev pub owners_after : List Owner → Event (Said (StateCall T) (StateReply T)) → List Owner
-  owners_after owners e = owners_after_call owners e.name e.what.call e.what.reply
-
-  abbrev pub speaks_of : StateCall T → Option ℕ
-  speaks_of (TakeNext u) = Some u
-  speaks_of (Unsubscribe u) = Some u
+  abbrev pub speaks_of : StateCall T → Option Number
+  speaks_of (TakeNext u) = Some (subscriber u)
+  speaks_of (Unsubscribe u) = Some (subscriber u)
   speaks_of _ = None
+
+  -- state flows are a kind of flow, and may begin in any state
+  abbrev pub state_flow : Kind T (StateFlowState T) (StateCall T) (StateReply T)
+  state_flow = record {
+    MayBegin = λ s. Unit {0};
+    Replies = Replies;
+    after = after;
+    gives = gives;
+    speaks_of = speaks_of;
+    HasSubscriber = λ u s. IsSome (last_of u s.subscribers);
+    subscribe = Subscribe;
+    take_next = TakeNext;
+    unsubscribe = Unsubscribe;
+    count = SubscriptionCount;
+    replay_cache = ReplayCache;
+    subscribed = Subscribed;
+    received = Received;
+    tested = Answered;
+    counted = Counted;
+    cached = Cached;
+    refused = Refused;
+  }
 
 abbrev pub StateHistory : Type 0 → Type 0
 StateHistory T = List (Event (Said (StateCall T) (StateReply T)))
 
 module _ {T : Type 0} where
   abbrev pub state_after_all : StateFlowState T → StateHistory T → StateFlowState T
-  state_after_all = histories.after_all Replies after
+  state_after_all = histories.after_all state_flow
 
   abbrev pub IsLegalState : StateFlowState T → StateHistory T → Type 0
-  IsLegalState = histories.IsLegal Replies after
-
-  abbrev pub IsOwnedState : StateHistory T → Type 0
-  IsOwnedState = histories.IsOwned owners_after speaks_of []
+  IsLegalState = histories.IsLegal state_flow
 
   -- a history that a flow may have had that began with this state
   abbrev pub IsStateHistory : StateFlowState T → StateHistory T → Type 0
-  IsStateHistory first h = IsLegalState first h × IsOwnedState h
-
-  -- the history gave this subscriber's number to the token of this name
-  abbrev pub IsGiven : List ℕ → ℕ → StateHistory T → Type 0
-  IsGiven name number h = owner_of number (histories.owners_all owners_after speaks_of [] h) ≡ Some name
-
-  -- the number is a subscriber's after the history, whichever state the flow began with
-  abbrev pub IsSubscribed : ℕ → StateHistory T → Type 0
-  IsSubscribed number h = (first : StateFlowState T) → IsLegalState first h → IsSome (last_of number (state_after_all first h).subscribers)
+  IsStateHistory = histories.IsHistory state_flow

@@ -4,7 +4,7 @@ use Rattle.flow_law.specs.declared.fault.FlowFault.{FlowFault}
 use Rattle.flow_law.specs.declared.fault.FlowFault.TheVariants.{OutOfMemory, TooLarge, NeedsBuffer, Exhausted, Unsupported, Busy}
 use Rattle.flow_law.specs.declared.call.SharedCall.{SharedCall}
 use Rattle.flow_law.specs.declared.call.SharedReply.TheVariants.{Refused}
-use Rattle.flow_law.specs.SharedFlow.{SharedFlowState}
+use Rattle.flow_law.specs.declared.states.SharedFlowState.{SharedFlowState}
 use Rattle.flow_law.specs.SharedHistory as history
 use Rattle.flow_law.specs.Standing.{Core, StandsFor, Conforms}
 use Rattle.flow_script.specs.Lines.{lined, line_of}

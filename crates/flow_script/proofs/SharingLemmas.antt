@@ -17,7 +17,7 @@ use Rattle.flow_law.specs.declared.sharing.Command.TheVariants.{Start, Stop, Kee
 use Rattle.flow_law.specs.declared.sharing.SharingObservation.{SharingObservation}
 use Rattle.flow_law.specs.Sharing.{newest_command, last_moment, is_running}
 use Rattle.flow_law.specs.ChainRun.{ChainRun, ends}
-use Rattle.flow_law.specs.SharedFlow.{SharedFlowState}
+use Rattle.flow_law.specs.declared.states.SharedFlowState.{SharedFlowState}
 use Rattle.flow_law.specs.SharedStep as shared
 use Rattle.flow_law.specs.Standing.{StandsFor}
 use Rattle.flow_sharing.specs.declared.core_hub.CoreHub.{CoreHub}

@@ -10,7 +10,7 @@ use Rattle.flow_law.specs.declared.sharing.Command.TheVariants.{Start, Stop, Kee
 use Rattle.flow_law.specs.declared.sharing.SharingObservation.{SharingObservation}
 use Rattle.flow_law.specs.Sharing.{newest_command, last_moment, is_running}
 use Rattle.flow_law.specs.ChainRun.{ChainRun, ends}
-use Rattle.flow_law.specs.StateFlow.{StateFlowState}
+use Rattle.flow_law.specs.declared.states.StateFlowState.{StateFlowState}
 use Rattle.flow_sharing.specs.declared.state_hub.StateHub.{StateHub}
 use Rattle.flow_sharing.specs.declared.report.Event.{Event}
 use Rattle.flow_sharing.specs.declared.report.Event.TheVariants.{Busy, Idle, Put, Queued, Waiting, Pending, Completed}

@@ -9,7 +9,8 @@ use Rattle.flow_law.specs.declared.call.StateCall.{StateCall}
 use Rattle.flow_law.specs.declared.call.StateCall.TheVariants as call
 use Rattle.flow_law.specs.declared.call.StateReply.{StateReply}
 use Rattle.flow_law.specs.declared.call.StateReply.TheVariants as reply
-use Rattle.flow_law.specs.StateFlow.{StateFlowState, last_of}
+use Rattle.flow_law.specs.declared.states.StateFlowState.{StateFlowState}
+use Rattle.flow_law.specs.StateFlow.{last_of}
 use Rattle.flow_law.specs.StateFlow as documented
 use Rattle.flow_law.specs.Standing.{StateConforms}
 use Rattle.flow_script.specs.Lines.{lined, state_line_of}

@@ -8,7 +8,8 @@ use Rattle.flow_law.specs.declared.call.SharedCall.{SharedCall}
 use Rattle.flow_law.specs.declared.call.SharedCall.TheVariants as call
 use Rattle.flow_law.specs.declared.call.SharedReply.{SharedReply}
 use Rattle.flow_law.specs.declared.call.SharedReply.TheVariants.{Emitted, Subscribed}
-use Rattle.flow_law.specs.SharedFlow.{SharedFlowState, first_state}
+use Rattle.flow_law.specs.declared.states.SharedFlowState.{SharedFlowState}
+use Rattle.flow_law.specs.SharedFlow.{first_state}
 use Rattle.flow_law.specs.SharedHistory as history
 use Rattle.flow_script.specs.Actions.{Action}
 use Rattle.flow_script.specs.Actions as action

@@ -24,9 +24,10 @@ use Rattle.flow_law.specs.declared.sharing.Command.TheVariants.{Start, Stop, Kee
 use Rattle.flow_law.specs.declared.sharing.SharingObservation.{SharingObservation}
 use Rattle.flow_law.specs.Sharing.{newest_command, last_moment, is_running}
 use Rattle.flow_law.specs.ChainRun.{ChainRun, gives, pends, ends}
-use Rattle.flow_law.specs.SharedFlow.{SharedFlowState, first_state}
+use Rattle.flow_law.specs.declared.states.SharedFlowState.{SharedFlowState}
+use Rattle.flow_law.specs.SharedFlow.{first_state}
 use Rattle.flow_law.specs.SharedStep as shared
-use Rattle.flow_law.specs.StateFlow.{StateFlowState}
+use Rattle.flow_law.specs.declared.states.StateFlowState.{StateFlowState}
 use Rattle.flow_sharing.specs.declared.report.Event.{Event}
 use Rattle.flow_sharing.specs.declared.report.Event.TheVariants.{Idle, Put, Queued, Waiting, Pending, Completed}
 use Rattle.flow_sharing.specs.declared.report.Report.{Report}

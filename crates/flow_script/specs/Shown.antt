@@ -1,6 +1,6 @@
 -- What the player keeps, and the documented player that it stands for. No public clause cites this module.
 use Rattle.std.specs.Prelude.{◌≡◌, ◌++◌, ℕ, ℤ, List, Option, map, option_map}
-use Rattle.flow_law.specs.SharedFlow.{SharedFlowState}
+use Rattle.flow_law.specs.declared.states.SharedFlowState.{SharedFlowState}
 use Rattle.flow_law.specs.declared.call.SharedCall.{SharedCall}
 use Rattle.flow_law.specs.Standing.{Core, StandsFor}
 use Rattle.flow_core.specs.declared.sub_id.SubId.{SubId}
@@ -10,7 +10,7 @@ use Rattle.flow_script.specs.declared.player.Player.{Player}
 use Rattle.flow_script.specs.declared.player.Player.TheVariants.{Idle, Shared, State, Share, StateIn}
 use Rattle.flow_script.specs.Actions.{Action}
 use Rattle.flow_law.specs.declared.call.StateCall.{StateCall}
-use Rattle.flow_law.specs.StateFlow.{StateFlowState}
+use Rattle.flow_law.specs.declared.states.StateFlowState.{StateFlowState}
 use Rattle.flow_script.specs.declared.state_player.StatePlayer.{StatePlayer}
 use Rattle.flow_script.specs.StateMeaning.{StatePlay, state_flow_after, state_reply, state_turn}
 use Rattle.std.specs.Prelude.{false, Some, None, Ok, Err}

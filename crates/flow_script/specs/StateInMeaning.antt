@@ -7,7 +7,8 @@ use Rattle.flow_law.specs.declared.call.StateCall.TheVariants as call
 use Rattle.flow_law.specs.declared.call.StateReply.{StateReply}
 use Rattle.flow_law.specs.declared.sharing.Started.{Started}
 use Rattle.flow_law.specs.ChainRun.{ChainRun}
-use Rattle.flow_law.specs.StateFlow.{StateFlowState, first_state_flow}
+use Rattle.flow_law.specs.declared.states.StateFlowState.{StateFlowState}
+use Rattle.flow_law.specs.StateFlow.{first_state_flow}
 use Rattle.flow_script.specs.Actions.{Action}
 use Rattle.flow_script.specs.Actions as action
 use Rattle.flow_script.specs.Lines.{state_line_of, turn_text}

@@ -9,7 +9,8 @@ use Rattle.flow_law.specs.declared.call.StateCall.{StateCall}
 use Rattle.flow_law.specs.declared.call.StateCall.TheVariants as call
 use Rattle.flow_law.specs.declared.call.StateReply.{StateReply}
 use Rattle.flow_law.specs.declared.call.StateReply.TheVariants as reply
-use Rattle.flow_law.specs.StateFlow.{StateFlowState, first_state_flow, last_of, is_exhausted}
+use Rattle.flow_law.specs.declared.states.StateFlowState.{StateFlowState}
+use Rattle.flow_law.specs.StateFlow.{first_state_flow, last_of, is_exhausted}
 use Rattle.flow_law.specs.StateFlow as documented
 use Rattle.flow_script.specs.Actions.{Action}
 use Rattle.flow_script.specs.Actions as action

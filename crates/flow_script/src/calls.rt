@@ -1,6 +1,6 @@
 //! The calls of a shared flow, each with its line.
 ghost use Rattle.std.specs.Prelude.{◌≡◌, [], ℤ, OnOk, IfOk, IfErr, string_bytes, option_map};
-ghost use Rattle.flow_law.specs.SharedFlow.{SharedFlowState};
+ghost use Rattle.flow_law.specs.declared.states.SharedFlowState.{SharedFlowState};
 ghost use Rattle.flow_law.specs.Standing.{StandsFor, Conforms};
 ghost use Rattle.flow_law.specs.declared.call.SharedCall.TheVariants as call;
 ghost use Rattle.flow_core.specs.SharedCore.{subscribed};

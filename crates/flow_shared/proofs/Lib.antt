@@ -1,9 +1,2 @@
-pub mod OneCall
-pub mod Entered
-pub mod SharedCalls
-pub mod Subscriptions
-pub mod AtOnce
-pub mod OneStateCall
-pub mod StateAnswers
-pub mod StateFlowCalls
-pub mod StateSubscriptions
+pub mod Inside
+pub mod Emissions

@@ -1,5 +1,5 @@
 -- What the calls of a shared flow for several threads answer. `flow` is the flow: which one, and its configuration.
-use Rattle.std.specs.Prelude.{◌≡◌, ◌⊎◌, ⊤, ℕ, ◌+◌, Bool, true, false, List, Some, None, Result, Ok, Err}
+use Rattle.std.specs.Prelude.{◌≡◌, ◌⊎◌, ⊤, ℕ, Bool, true, false, Some, None, Result, Ok, Err}
 use Rattle.flow_law.specs.declared.config.Config.{Config}
 use Rattle.flow_law.specs.declared.fault.FlowFault.{FlowFault}
 use Rattle.flow_law.specs.declared.fault.FlowFault.TheVariants.{OutOfMemory, Busy}
@@ -8,26 +8,24 @@ use Rattle.flow_law.specs.declared.history.Said.{Said}
 use Rattle.flow_law.specs.declared.fault.Refused.{Refused}
 use Rattle.flow_law.specs.declared.outcome.Emit.{Emit}
 use Rattle.flow_law.specs.declared.outcome.Emit.TheVariants.{Done, Queued}
-use Rattle.flow_law.specs.declared.outcome.Next.{Next}
-use Rattle.flow_law.specs.declared.outcome.Next.TheVariants.{Gone}
 use Rattle.flow_law.specs.declared.call.SharedCall.{SharedCall}
 use Rattle.flow_law.specs.declared.call.SharedCall.TheVariants as call
 use Rattle.flow_law.specs.declared.call.SharedReply.{SharedReply}
 use Rattle.flow_law.specs.declared.call.SharedReply.TheVariants as reply
-use Rattle.flow_law.specs.Growth.{child_name, makes, child}
+use Rattle.flow_law.specs.History.{IsEmission}
 use Rattle.flow_law.specs.SharedFlow.{config_fault}
-use Rattle.flow_law.specs.SharedHistory.{History, IsHistory, IsGiven, state_after}
-use Rattle.flow_law.specs.Standing.{Core, StandsFor}
-use Rattle.flow_gate.specs.Tokens.{Token, Origin, HeldState, knowing}
+use Rattle.flow_law.specs.SharedHistory.{shared_flow}
+use Rattle.flow_law.specs.declared.states.SharedFlowState.{SharedFlowState}
+use Rattle.flow_law.specs.Tokens.{IsBusy}
+use Rattle.flow_gate.specs.Tokens.{Token, Origin}
 use Rattle.flow_shared.specs.declared.answers.Emitted.{Emitted}
 use Rattle.flow_shared.specs.declared.answers.Emitted.TheVariants as emitted
 use Rattle.flow_shared.specs.declared.answers.Polled.{Polled}
 use Rattle.flow_shared.specs.declared.answers.Polled.TheVariants as polled
 use Rattle.flow_shared.specs.declared.answers.PolledNow.{PolledNow}
 use Rattle.flow_shared.specs.declared.answers.PolledNow.TheVariants as polled_now
-use Rattle.flow_shared.specs.declared.guarded.GuardedShared.{GuardedShared}
-use Rattle.flow_shared.specs.Tokens.{NumberedToken, IsEmission}
-use Rattle.flow_shared.specs.Calls.{CallsIn, CallsAtOnceIn, MeetsIn, SaysIn, IsBusy}
+use Rattle.flow_shared.specs.Calls.{NumberedToken}
+use Rattle.flow_shared.specs.Calls as flows
 
 -- why no flow is made of a configuration
 abbrev pub NoFlow : Config → FlowFault → Type 0
@@ -36,24 +34,12 @@ NoFlow config fault = (config_fault config ≡ Some fault) ⊎ ((config_fault co
 abbrev pub SharedToken : Type 0 → Type 0
 SharedToken T = Token (Said (SharedCall T) (SharedReply T))
 
-module _ {T : Type 0} where
-  -- the core stands for a history: it is one of the flow, and the core stands for the state that it leads to
-  abbrev pub StandsForHistory : Core T → Core T → History T → Type 0
-  StandsForHistory first core h = IsHistory first.config h × StandsFor core (state_after first.config h)
+module _ {T : Type 0} (flow : Origin (SharedFlowState T)) where
+  abbrev pub Calls : SharedToken T → SharedCall T → SharedReply T → SharedToken T → Type 0
+  Calls = flows.Calls shared_flow flow
 
-  module _ (flow : Origin Config) where
-    abbrev pub Calls : SharedToken T → SharedCall T → SharedReply T → SharedToken T → Type 0
-    Calls = CallsIn (IsHistory flow.first)
-
-    abbrev pub CallsAtOnce : SharedToken T → SharedCall T → SharedReply T → SharedToken T → Type 0
-    CallsAtOnce = CallsAtOnceIn (IsHistory flow.first)
-
-    abbrev pub Meets : SharedToken T → SharedToken T → SharedToken T → SharedToken T → Type 0
-    Meets = MeetsIn (IsHistory flow.first)
-
-  -- the name that the next seat gets which is made through this one
-  abbrev pub subscription_name : Knowledge (Said (SharedCall T) (SharedReply T)) → List ℕ
-  subscription_name k = child_name k.name (k.made + 1)
+  abbrev pub CallsAtOnce : SharedToken T → SharedCall T → SharedReply T → SharedToken T → Type 0
+  CallsAtOnce = flows.CallsAtOnce shared_flow flow
 
 -- ---- answers that hand a token over
 
@@ -86,7 +72,7 @@ module _ {T A : Type 0} where
   KeepsNumber number (polled.Waiting e) = e.number ≡ number
   KeepsNumber number _ = ⊤
 
-  module _ (flow : Origin Config) where
+  module _ (flow : Origin (SharedFlowState T)) where
     -- the call is one event, with the reply and the token that the answer has; at a refusal the value comes back
     abbrev pub Emits : SharedToken T → T → Emitted T A → Type 0
     Emits before value answer = Calls flow before (call.Emit value) (emit_reply answer) (emit_token answer) × HandsBack value answer
@@ -107,50 +93,16 @@ module _ {T A : Type 0} where
     PollsNow e (polled_now.Waiting f) = (f.number ≡ e.number) × CallsAtOnce flow e.token (call.Poll e.number) (reply.Tested true) f.token
     PollsNow e (polled_now.Busy f) = (f.number ≡ e.number) × IsBusy e.token f.token
 
-module _ {T : Type 0} (flow : Origin Config) where
-  -- The subscription's seat is made through the caller's, after the event: both have seen it.
-  abbrev pub Subscribes : SharedToken T → Result (NumberedToken (Said (SharedCall T) (SharedReply T))) FlowFault → SharedToken T → Type 0
-  Subscribes before (Ok s) after =
-      (between : SharedToken T) × Calls flow before (call.Subscribe (subscription_name before.knows)) (reply.Subscribed s.number) between
-      × (after ≡ knowing between (makes between.knows)) × (s.token ≡ knowing between (child between.knows))
-  Subscribes before (Err fault) after = Calls flow before (call.Subscribe (subscription_name before.knows)) (reply.Refused fault) after
-
-  abbrev pub NextsNow : NumberedToken (Said (SharedCall T) (SharedReply T)) → Result (Next T) FlowFault → NumberedToken (Said (SharedCall T) (SharedReply T)) → Type 0
-  NextsNow old (Ok Gone) new = ⊥
-  NextsNow old (Ok next) new = (new.number ≡ old.number) × CallsAtOnce flow old.token (call.TakeNext old.number) (reply.Received next) new.token
-  NextsNow old (Err Busy) new = (new.number ≡ old.number) × IsBusy old.token new.token
-  NextsNow old (Err fault) new = (new.number ≡ old.number) × CallsAtOnce flow old.token (call.TakeNext old.number) (reply.Refused fault) new.token
-
-  abbrev pub CountsNow : SharedToken T → Result ℕ FlowFault → SharedToken T → Type 0
-  CountsNow before (Ok count) after = CallsAtOnce flow before call.SubscriptionCount (reply.Counted count) after
-  CountsNow before (Err Busy) after = IsBusy before after
-  CountsNow before (Err fault) after = ⊥
-
+module _ {T : Type 0} (flow : Origin (SharedFlowState T)) where
   abbrev pub ResetsNow : SharedToken T → Result (Unit {0}) FlowFault → SharedToken T → Type 0
   ResetsNow before (Ok none) after = CallsAtOnce flow before call.ResetReplayCache reply.Reset after
-  ResetsNow before (Err Busy) after = IsBusy before after
-  ResetsNow before (Err fault) after = ⊥
+  ResetsNow before (Err fault) after = (fault ≡ Busy) × IsBusy before after
 
   abbrev pub CancelsNow : NumberedToken (Said (SharedCall T) (SharedReply T)) → Result (SharedToken T × Bool) (NumberedToken (Said (SharedCall T) (SharedReply T))) → Type 0
   CancelsNow e (Ok ended) = CallsAtOnce flow e.token (call.Cancel e.number) (reply.Tested ended.1) ended.0
   CancelsNow e (Err back) = (back.number ≡ e.number) × IsBusy e.token back.token
 
--- ---- who is inside
-
-module _ {T A : Type 0} where
-  -- the state that was found stands for what the token has seen
-  abbrev pub Found : HeldState (GuardedShared T A) (Said (SharedCall T) (SharedReply T)) → Type 0
-  Found held = StandsForHistory held.first.core held.state.core held.token.knows.seen
-
-  -- besides, the number was given to the token
-  abbrev pub FoundBy : HeldState (GuardedShared T A) (Said (SharedCall T) (SharedReply T)) → ℕ → Type 0
-  FoundBy held number = Found held × IsGiven held.token.knows.name number held.token.knows.seen
-
-  -- who was inside made this call, had this reply and left
-  abbrev pub Says : HeldState (GuardedShared T A) (Said (SharedCall T) (SharedReply T)) → SharedCall T → SharedReply T → SharedToken T → Type 0
-  Says held = SaysIn (IsHistory held.first.core.config) held
-
 -- the history gave the emission's number to the token, where the emission waits
 abbrev pub IsGivenIfQueued : {T : Type 0} → Knowledge (Said (SharedCall T) (SharedReply T)) → Result Emit (Refused T) → Type 0
-IsGivenIfQueued k (Ok (Queued number)) = IsEmission k number
+IsGivenIfQueued k (Ok (Queued number)) = IsEmission shared_flow k number
 IsGivenIfQueued k _ = ⊤

@@ -1,31 +1,56 @@
 //! What becomes of an emission, with the token that its caller has then.
-ghost use Rattle.std.specs.Prelude.{◌≡◌};
+ghost use Rattle.flow_law.specs.declared.history.Said.{Said};
+ghost use Rattle.flow_law.specs.declared.call.SharedCall.{SharedCall};
+ghost use Rattle.flow_law.specs.declared.call.SharedReply.{SharedReply};
+ghost use Rattle.flow_law.specs.History.{IsEmission};
+ghost use Rattle.flow_law.specs.SharedHistory.{shared_flow};
+ghost use Rattle.flow_law.specs.Tokens.{numbered};
+ghost use Rattle.flow_shared.specs.Calls.{NumberedToken};
 
-use crate::token::{Emission, Seat};
+use crate::token::FlowSeat;
+use flow_core::SharedCore;
 use flow_law::{FlowFault, FlowValue};
 use std::alloc::{Allocator, Global};
+use std::marker::Model;
+
+/// A suspended emission: the seat of its emitter, and the number of its value.
+///
+/// An emission that is dropped stays queued or offered, and its seat is lost. To end its wait, `cancel` it.
+#[derive(Drop)]
+pub struct Emission<T: FlowValue, A: Allocator + Copy = Global> {
+    pub(crate) seat: flow_gate::Seat<SharedCore<T, A>, A>,
+    pub(crate) number: u64,
+}
+
+impl<T: FlowValue, A: Allocator + Copy> Model for Emission<T, A> {
+    ghost Value = { NumberedToken (Said (SharedCall T) (SharedReply T)) };
+
+    ghost view = { λ e. numbered e.seat e.number };
+
+    ghost invariant = { λ e. IsEmission shared_flow e.seat.knows e.number };
+}
 
 /// What `emit` and `emit_now` answer.
 #[derive(Drop)]
 pub enum Emitted<T: FlowValue, A: Allocator + Copy = Global> {
-    Done(Seat<T, A>),
+    Done(FlowSeat<SharedCore<T, A>, A>),
     /// The emitter is to wait: `poll_emit` tells for how long, and `cancel` ends the wait.
     Queued(Emission<T, A>),
     /// With the value. `FlowFault::Busy` comes from `emit_now` alone.
-    Refused(Seat<T, A>, T, FlowFault),
+    Refused(FlowSeat<SharedCore<T, A>, A>, T, FlowFault),
 }
 
 /// What `poll_emit` answers.
 #[derive(Drop)]
 pub enum Polled<T: FlowValue, A: Allocator + Copy = Global> {
-    Done(Seat<T, A>),
+    Done(FlowSeat<SharedCore<T, A>, A>),
     Waiting(Emission<T, A>),
 }
 
 /// What `poll_now` answers.
 #[derive(Drop)]
 pub enum PolledNow<T: FlowValue, A: Allocator + Copy = Global> {
-    Done(Seat<T, A>),
+    Done(FlowSeat<SharedCore<T, A>, A>),
     Waiting(Emission<T, A>),
     /// Another caller was inside. The emission is as it was.
     Busy(Emission<T, A>),

@@ -9,7 +9,7 @@
 //! A token is used with the flow that it came from; each call asks for that by the flow's `table_id`.
 //!
 //! # What each call promises
-//! The one word is `Calls` (for a state flow `StateCalls`): the token has then seen a history of the flow that begins with
+//! The one word is `Calls` (for a state flow alone `StateCalls`): the token has then seen a history of the flow that begins with
 //! all that it had seen, goes on with events of others, and ends with this call and this reply. The history is legal (each
 //! reply is the documented flow's at that point) and owned (nobody speaks for another's subscription or emission).
 //!
@@ -24,14 +24,15 @@
 #![tactic(auto)]
 
 mod answers;
-mod guarded;
-mod inside;
+mod core_call;
+mod flow;
 mod shared;
 mod state;
+mod subscriber;
 mod token;
 
-pub use answers::{Emitted, Polled, PolledNow};
-pub use guarded::GuardedShared;
-pub use shared::SharedFlow;
-pub use state::{GuardedState, StateFlow, StateSeat, StateSubscription};
-pub use token::{Emission, FlowSeat, Seat, Subscription};
+pub use answers::{Emission, Emitted, Polled, PolledNow};
+pub use flow::Flow;
+pub use shared::{Seat, SharedFlow, Subscription};
+pub use state::{StateFlow, StateSeat, StateSubscription};
+pub use token::{FlowSeat, FlowSubscription};

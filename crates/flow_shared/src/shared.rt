@@ -1,97 +1,81 @@
 //! A shared flow for several threads.
 ghost use Rattle.std.specs.Prelude.{◌≡◌, None, MatchResult};
-ghost use Rattle.flow_law.specs.Growth.{first_knowledge, makes, child};
-ghost use Rattle.flow_law.specs.SharedFlow.{config_fault};
-ghost use Rattle.flow_gate.specs.Tokens.{knowing};
-ghost use Rattle.flow_shared.specs.SharedReplies.{NoFlow, Meets};
+ghost use Rattle.flow_law.specs.Growth.{first_knowledge};
+ghost use Rattle.flow_law.specs.SharedFlow.{config_fault, first_state};
+ghost use Rattle.flow_law.specs.declared.call.SharedCall.TheVariants as call;
+ghost use Rattle.flow_law.specs.declared.call.SharedReply.TheVariants as reply;
+ghost use Rattle.flow_core.specs.SharedCore.{cached};
+ghost use Rattle.flow_shared.specs.SharedReplies.{NoFlow, Calls, ResetsNow};
 
-use crate::guarded::GuardedShared;
-use crate::token::{FlowSeat, Seat, Subscription};
+use crate::flow::Flow;
+use crate::token::{FlowSeat, FlowSubscription};
 use flow_core::SharedCore;
 use flow_gate::Gate;
 use flow_law::{Config, FlowFault, FlowValue};
 use std::alloc::{Allocator, Global};
-use std::marker::Model;
+use std::sync::Wait;
 
-mod cache;
+mod calls;
 mod emission;
 mod now;
-mod subscriber;
+
+use calls::{ReplayCache, ResetReplayCache};
 
 /// A shared flow (`MutableSharedFlow`) for callers on several threads: what one emits each subscriber receives, and new
 /// subscribers get the replay cache first.
-///
-/// Each call but `new`, `seat` and the two that meet is one event of the flow's one history, and its contract says that
-/// the caller's token has then seen a history that the flow may have had, and that grew by exactly this call. A call
-/// that takes `rt` waits while another caller is inside the flow, and nothing says that it ever comes in. A call that
-/// ends in `_now` never waits: where another caller is inside it answers `Busy`, and is no event.
-#[derive(Drop)]
-pub struct SharedFlow<T: FlowValue, A: Allocator + Copy = Global> {
-    gate: Gate<GuardedShared<T, A>, A>,
-}
+pub type SharedFlow<T, A = Global> = Flow<SharedCore<T, A>, A>;
 
-impl<T: FlowValue, A: Allocator + Copy> Model for SharedFlow<T, A> {
-    ghost use Rattle.flow_law.specs.declared.config.Config.{Config};
-    ghost use Rattle.flow_gate.specs.Tokens.{Origin, origin};
+/// A seat at a shared flow.
+pub type Seat<T, A = Global> = FlowSeat<SharedCore<T, A>, A>;
 
-    ghost Value = { Origin Config };
+/// A subscription to a shared flow.
+pub type Subscription<T, A = Global> = FlowSubscription<SharedCore<T, A>, A>;
 
-    ghost view = { λ f. origin f.gate.table_id f.gate.first.core.config };
-}
-
-impl<T: FlowValue, A: Allocator + Copy> SharedFlow<T, A> {
+impl<T: FlowValue, A: Allocator + Copy> Flow<SharedCore<T, A>, A> {
     /// A flow that nobody emitted into and nobody subscribed to, and its first seat.
     ///
     /// Refused as `TooLarge` or `NeedsBuffer` where the configuration is, then for want of memory. Every other seat is
     /// made through the first one, or through one that was made so.
     pub fn new(alloc: A, config: Config) -> Result<(SharedFlow<T, A>, Seat<T, A>), FlowFault>
         ensures { MatchResult result
-            (λ made. (config_fault config ≡ None) × (made.0.first ≡ config) × (made.1.table_id ≡ made.0.table_id) × (made.1.knows ≡ first_knowledge))
+            (λ made. (config_fault config ≡ None) × (made.0.first ≡ first_state config) × (made.1.table_id ≡ made.0.table_id) × (made.1.knows ≡ first_knowledge))
             (NoFlow config) }
     {
         let core = SharedCore::new(alloc, config)?;
-        match Gate::new(alloc, GuardedShared { core }) {
-            Ok((gate, seat)) => Ok((SharedFlow { gate }, FlowSeat { seat: Some(seat) })),
+        match Gate::new(alloc, core) {
+            Ok((gate, seat)) => Ok((Flow { gate }, FlowSeat { seat: Some(seat) })),
             Err(_failed) => Err(FlowFault::OutOfMemory),
         }
     }
 
-    /// Makes a seat through another: for another thread, or for one more emission that may wait.
-    pub fn seat(&self, seat: &mut Seat<T, A>) -> Seat<T, A>
+    /// What a new subscriber would get first, where nothing is offered: copies of at most `replay` values.
+    pub fn replay_cache<R: Wait>(
+        &self,
+        rt: &R,
+        seat: &mut Seat<T, A>,
+    ) -> Result<Vec<T, A>, FlowFault>
         requires { seat.old.table_id ≡ self.now.table_id }
-        ensures maker { seat.new ≡ knowing seat.old (makes seat.old.knows) }
-        ensures made { result ≡ knowing seat.old (child seat.old.knows) }
+        ensures { Calls self.now seat.old call.ReplayCache (cached (λ values. values.items) result) seat.new }
     {
-        let mut inside = seat.seat.take().unwrap();
-        let made = self.gate.seat(&mut inside);
-        seat.seat = Some(inside);
-        FlowSeat { seat: Some(made) }
+        self.call(rt, seat, ReplayCache)
     }
 
-    /// Makes what two seats have seen one history: both have then seen all that was done so far.
-    ///
-    /// Call it where what one caller did is to count for another, as after a thread has ended and its seat came back.
-    pub fn meet(&self, one: &mut Seat<T, A>, other: &mut Seat<T, A>)
-        requires { (one.old.table_id ≡ self.now.table_id) × (other.old.table_id ≡ self.now.table_id) }
-        ensures { Meets self.now one.old other.old one.new other.new }
+    /// Empties the cache for new subscribers. Old ones keep what they have still to receive.
+    pub fn reset_replay_cache<R: Wait>(&self, rt: &R, seat: &mut Seat<T, A>)
+        requires { seat.old.table_id ≡ self.now.table_id }
+        ensures { Calls self.now seat.old call.ResetReplayCache reply.Reset seat.new }
     {
-        let first = one.seat.take().unwrap();
-        let second = other.seat.take().unwrap();
-        let (first, second) = self.gate.meet(first, second);
-        one.seat = Some(first);
-        other.seat = Some(second);
+        self.call(rt, seat, ResetReplayCache)
     }
 
-    /// `meet` of a subscription and a seat.
-    pub fn meet_subscription(&self, subscription: &mut Subscription<T, A>, seat: &mut Seat<T, A>)
-        requires { (subscription.old.token.table_id ≡ self.now.table_id) × (seat.old.table_id ≡ self.now.table_id) }
-        ensures met { Meets self.now subscription.old.token seat.old subscription.new.token seat.new }
-        ensures number { subscription.new.number ≡ subscription.old.number }
+    /// `reset_replay_cache`, where nobody is inside. It is never refused otherwise.
+    pub fn reset_now(&self, seat: &mut Seat<T, A>) -> Result<(), FlowFault>
+        requires { seat.old.table_id ≡ self.now.table_id }
+        ensures { ResetsNow self.now seat.old result seat.new }
     {
-        let first = subscription.seat.take().unwrap();
-        let second = seat.seat.take().unwrap();
-        let (first, second) = self.gate.meet(first, second);
-        subscription.seat = Some(first);
-        seat.seat = Some(second);
+        match self.call_now(seat, ResetReplayCache) {
+            Ok(()) => Ok(()),
+            Err(_back) => Err(FlowFault::Busy),
+        }
     }
 }

@@ -10,7 +10,8 @@ use Rattle.flow_law.specs.declared.call.StateReply.TheVariants as reply
 use Rattle.flow_law.specs.declared.outcome.Next.TheVariants.{Value, Empty, Gone}
 use Rattle.flow_law.specs.Growth.{event, IsSilent}
 use Rattle.flow_law.specs.OneHistory.{said}
-use Rattle.flow_law.specs.StateFlow.{StateFlowState, StateHistory, Replies, after, state_after_all, IsStateHistory}
+use Rattle.flow_law.specs.declared.states.StateFlowState.{StateFlowState}
+use Rattle.flow_law.specs.StateFlow.{StateHistory, after, state_after_all, state_flow, IsStateHistory}
 use Rattle.flow_law.proofs.HistoryLemmas.{after_all-snoc}
 use Rattle.flow_law.proofs.Owners.{after_all-append, legal_right}
 use Rattle.flow_gate.specs.Tokens.{Token, Origin}
@@ -66,8 +67,8 @@ module _ {T : Type 0} where
       let h = old.knows.seen ++ one.0 in
       let read_is : new.knows.seen ≡ (middle.knows.seen ++ two.0) ++ reads ∷ [] = two.1 ∙ ap (λ n. (middle.knows.seen ++ two.0) ++ event n (said call.GetValue (reply.Got found)) ∷ []) own in
       let seen : new.knows.seen ≡ ((h ++ sets ∷ []) ++ two.0) ++ reads ∷ [] = read_is ∙ ap (λ l. (l ++ two.0) ++ reads ∷ []) one.1 in
-      let legal = (subst (IsStateHistory flow.first) seen read.1.history).0 in
-      let replied : reply.Got found ≡ reply.Got (state_after_all flow.first ((h ++ sets ∷ []) ++ two.0)).value = (legal_right Replies after flow.first ((h ++ sets ∷ []) ++ two.0) (reads ∷ []) legal).0 in
+      let legal = (subst (IsStateHistory flow.first) seen read.1.history).legal in
+      let replied : reply.Got found ≡ reply.Got (state_after_all flow.first ((h ++ sets ∷ []) ++ two.0)).value = (legal_right state_flow flow.first ((h ++ sets ∷ []) ++ two.0) (reads ∷ []) legal).0 in
       record {
         earlier = one.0;
         between = two.0;
@@ -75,9 +76,9 @@ module _ {T : Type 0} where
         earlier_by_others = one.2;
         between_by_others = subst (λ n. IsSilent n two.0) own two.2;
         last_set = same_value found (state_after_all flow.first ((h ++ sets ∷ []) ++ two.0)).value replied
-            ∙ ap (λ (s : StateFlowState T). s.value) (after_all-append Replies after flow.first (h ++ sets ∷ []) two.0)
+            ∙ ap (λ (s : StateFlowState T). s.value) (after_all-append state_flow flow.first (h ++ sets ∷ []) two.0)
             ∙ values_kept (state_after_all flow.first (h ++ sets ∷ [])) two.0
-            ∙ ap (λ (s : StateFlowState T). value_after s.value two.0) (after_all-snoc Replies after flow.first h sets);
+            ∙ ap (λ (s : StateFlowState T). value_after s.value two.0) (after_all-snoc state_flow flow.first h sets);
       }
     where
       same_value : (a b : T) → reply.Got a ≡ reply.Got b → a ≡ b

@@ -15,7 +15,8 @@ use Rattle.flow_law.specs.declared.chain.End.TheVariants.{Completed as AtEnd, Fa
 use Rattle.flow_law.specs.ChainRun.{ChainRun, pends, ends, items}
 use Rattle.flow_law.specs.TurnAccount.{kept_items}
 use Rattle.flow_law.specs.Sharing.{newest_command}
-use Rattle.flow_law.specs.SharedFlow.{SharedFlowState, Answer, answer, issuing, is_exhausted}
+use Rattle.flow_law.specs.declared.states.SharedFlowState.{SharedFlowState}
+use Rattle.flow_law.specs.SharedFlow.{Answer, answer, issuing, is_exhausted}
 use Rattle.flow_law.specs.EmitRule.{appends, offers, queues, drops_latest, drops_oldest, emit_case, emit_in, append, suspend, drop_oldest}
 use Rattle.flow_law.specs.SharedStep as flow
 use Rattle.flow_law.specs.SharedHistory.{Replies, reply_by}

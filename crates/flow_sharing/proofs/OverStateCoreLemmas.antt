@@ -12,7 +12,7 @@ use Rattle.flow_law.specs.declared.chain.End.TheVariants.{Completed as AtEnd, Fa
 use Rattle.flow_law.specs.ChainRun.{pends, ends, items}
 use Rattle.flow_law.specs.TurnAccount.{kept_items}
 use Rattle.flow_law.specs.Sharing.{newest_command}
-use Rattle.flow_law.specs.StateFlow.{StateFlowState}
+use Rattle.flow_law.specs.declared.states.StateFlowState.{StateFlowState}
 use Rattle.flow_sharing.specs.declared.state_hub.StateHub.{StateHub}
 use Rattle.flow_sharing.specs.declared.report.Event.{Event}
 use Rattle.flow_sharing.specs.declared.report.Event.TheVariants.{Busy, Idle, Put, Queued, Waiting, Pending, Completed}

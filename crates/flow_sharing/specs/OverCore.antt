@@ -12,7 +12,7 @@ use Rattle.flow_law.specs.Sharing.{newest_command, last_moment, is_running}
 use Rattle.flow_law.specs.declared.chain.ChainFault.TheVariants.{OutOfMemory}
 use Rattle.flow_law.specs.declared.chain.End.TheVariants.{Completed as AtEnd, Failed}
 use Rattle.flow_law.specs.ChainRun.{pends, ends}
-use Rattle.flow_law.specs.SharedFlow.{SharedFlowState}
+use Rattle.flow_law.specs.declared.states.SharedFlowState.{SharedFlowState}
 use Rattle.flow_law.specs.SharedStep as flow
 use Rattle.flow_law.specs.SharedHistory.{Replies}
 use Rattle.flow_law.specs.Standing.{StandsFor}

@@ -2,7 +2,7 @@
 use Rattle.std.specs.Prelude.{◌≡◌, Bool, false}
 use Rattle.flow_law.specs.declared.call.StateCall.TheVariants as call
 use Rattle.flow_law.specs.declared.call.StateReply.TheVariants as reply
-use Rattle.flow_law.specs.StateFlow.{StateFlowState}
+use Rattle.flow_law.specs.declared.states.StateFlowState.{StateFlowState}
 use Rattle.flow_law.specs.Standing.{StateConforms}
 use Rattle.flow_sharing.specs.declared.state_hub.StateHub.{StateHub}
 use Rattle.flow_sharing.specs.Hub.{HubCall, HubReply, counts, puts, polls, cancels, counted, answered}

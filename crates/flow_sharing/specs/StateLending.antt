@@ -2,7 +2,7 @@
 use Rattle.std.specs.Borrow.{Lends, MutBor, Fml, RattleType}
 use Rattle.std.specs.declared.alloc.Allocator.{Ghosts as Allocating}
 use Rattle.flow_law.specs.declared.value.FlowValue.{Ghosts as Flowing}
-use Rattle.flow_law.specs.StateFlow.{StateFlowState}
+use Rattle.flow_law.specs.declared.states.StateFlowState.{StateFlowState}
 use Rattle.flow_core.specs.contracts.state.StateCore.{the_row as the_core}
 use Rattle.flow_sharing.specs.declared.state_hub.StateHub.{StateHub}
 use Rattle.flow_sharing.specs.contracts.state_hub.StateHub.{the_row}

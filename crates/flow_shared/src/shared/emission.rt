@@ -3,21 +3,21 @@ ghost use Rattle.std.specs.Prelude.{◌≡◌, IfErr};
 ghost use Rattle.flow_law.specs.declared.call.SharedCall.TheVariants as call;
 ghost use Rattle.flow_law.specs.declared.call.SharedReply.TheVariants as reply;
 ghost use Rattle.flow_core.specs.SharedCore.{tested, emitted};
-ghost use Rattle.flow_shared.specs.SharedReplies.{Calls, Emits, Polls, HandsBack, KeepsNumber, emit_reply, emit_token, poll_reply, poll_token, IsGivenIfQueued};
-ghost use Rattle.flow_shared.specs.Tokens.{IsEmission};
+ghost use Rattle.flow_shared.specs.SharedReplies.{Calls, Emits, Polls, HandsBack, emit_reply, emit_token, IsGivenIfQueued};
 
-use super::SharedFlow;
-use crate::answers::{Emitted, Polled};
-use crate::guarded::GuardedShared;
-use crate::inside;
-use crate::token::{Emission, FlowSeat, Seat};
+use super::Seat;
+use super::calls::{Cancel, Emit as EmitCall, Poll, TryEmit};
+use crate::answers::{Emission, Emitted, Polled};
+use crate::flow::Flow;
+use crate::token::FlowSeat;
+use flow_core::SharedCore;
 use flow_law::{Emit, FlowValue, Refused};
 use std::alloc::Allocator;
 use std::sync::Wait;
 
 /// The answer to an emission, with the token that its caller has then.
 pub(super) fn answered<T: FlowValue, A: Allocator + Copy>(
-    seat: flow_gate::Seat<GuardedShared<T, A>, A>,
+    seat: flow_gate::Seat<SharedCore<T, A>, A>,
     answer: Result<Emit, Refused<T>>,
 ) -> Emitted<T, A>
     requires { IsGivenIfQueued seat.knows answer }
@@ -36,7 +36,7 @@ pub(super) fn answered<T: FlowValue, A: Allocator + Copy>(
     }
 }
 
-impl<T: FlowValue, A: Allocator + Copy> SharedFlow<T, A> {
+impl<T: FlowValue, A: Allocator + Copy> Flow<SharedCore<T, A>, A> {
     /// Emits a value, if it need not wait for subscribers: `true` where the flow took it or, under `DropLatest`,
     /// dropped it. At `false` an `emit` would wait; the value is dropped then, and nothing has changed.
     pub fn try_emit<R: Wait>(
@@ -49,11 +49,7 @@ impl<T: FlowValue, A: Allocator + Copy> SharedFlow<T, A> {
         ensures called { Calls self.now seat.old (call.TryEmit value) (tested result) seat.new }
         ensures handed_back { IfErr result (λ refused. refused.value ≡ value) }
     {
-        let own = seat.seat.take().unwrap();
-        let held = self.gate.enter(rt, own);
-        let (own, answer) = inside::try_emit(held, value);
-        seat.seat = Some(own);
-        answer
+        self.call(rt, seat, TryEmit { value })
     }
 
     /// Emits a value, or puts it where it waits.
@@ -65,8 +61,7 @@ impl<T: FlowValue, A: Allocator + Copy> SharedFlow<T, A> {
         ensures { Emits self.now seat value result }
     {
         let FlowSeat { seat } = seat;
-        let held = self.gate.enter(rt, seat.unwrap());
-        let (own, answer) = inside::emit(held, value);
+        let (own, answer) = self.call_by(rt, seat.unwrap(), EmitCall { value });
         answered(own, answer)
     }
 
@@ -76,8 +71,7 @@ impl<T: FlowValue, A: Allocator + Copy> SharedFlow<T, A> {
         ensures { Polls self.now emission result }
     {
         let Emission { seat, number } = emission;
-        let held = self.gate.enter(rt, seat);
-        let (seat, waits) = inside::poll(held, number);
+        let (seat, waits) = self.call_by(rt, seat, Poll { number });
         if waits {
             Polled::Waiting(Emission { seat, number })
         } else {
@@ -93,8 +87,7 @@ impl<T: FlowValue, A: Allocator + Copy> SharedFlow<T, A> {
         ensures { Calls self.now emission.token (call.Cancel emission.number) (reply.Tested result.1) result.0 }
     {
         let Emission { seat, number } = emission;
-        let held = self.gate.enter(rt, seat);
-        let (seat, was_waiting) = inside::cancel(held, number);
+        let (seat, was_waiting) = self.call_by(rt, seat, Cancel { number });
         (FlowSeat { seat: Some(seat) }, was_waiting)
     }
 }

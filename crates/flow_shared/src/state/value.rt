@@ -5,12 +5,15 @@ ghost use Rattle.flow_law.specs.declared.call.StateReply.TheVariants as reply;
 ghost use Rattle.flow_core.specs.StateCore.{got};
 ghost use Rattle.flow_shared.specs.StateReplies.{StateCalls, SetsNow};
 
-use super::{StateFlow, StateSeat, inside};
+use super::StateSeat;
+use super::calls::{CompareAndSet, GetValue, Set, TryEmit};
+use crate::flow::Flow;
+use flow_core::StateCore;
 use flow_law::{FlowFault, FlowValue, Refused};
 use std::alloc::Allocator;
 use std::sync::Wait;
 
-impl<T: FlowValue, A: Allocator + Copy> StateFlow<T, A> {
+impl<T: FlowValue, A: Allocator + Copy> Flow<StateCore<T, A>, A> {
     /// A copy of the current value. `Err` is want of memory.
     ///
     /// Call it to read the state at any time, without a subscription. Another caller may set the value right after; to
@@ -19,11 +22,7 @@ impl<T: FlowValue, A: Allocator + Copy> StateFlow<T, A> {
         requires { seat.old.table_id ≡ self.now.table_id }
         ensures { StateCalls self.now seat.old call.GetValue (got result) seat.new }
     {
-        let own = seat.seat.take().unwrap();
-        let held = self.gate.enter(rt, own);
-        let (own, answer) = inside::value(held);
-        seat.seat = Some(own);
-        answer
+        self.call(rt, seat, GetValue)
     }
 
     /// Makes this the current value. Setting a value that is equal to the current one does nothing: no subscriber gets
@@ -35,10 +34,7 @@ impl<T: FlowValue, A: Allocator + Copy> StateFlow<T, A> {
         requires { seat.old.table_id ≡ self.now.table_id }
         ensures { StateCalls self.now seat.old (call.Set value) reply.Done seat.new }
     {
-        let own = seat.seat.take().unwrap();
-        let held = self.gate.enter(rt, own);
-        let own = inside::set(held, value);
-        seat.seat = Some(own);
+        self.call(rt, seat, Set { value })
     }
 
     /// As `set`, but it never waits. Where another caller is inside the flow the value comes back, with `Busy`: nothing
@@ -49,20 +45,12 @@ impl<T: FlowValue, A: Allocator + Copy> StateFlow<T, A> {
         requires { seat.old.table_id ≡ self.now.table_id }
         ensures { SetsNow self.now seat.old value result seat.new }
     {
-        let own = seat.seat.take().unwrap();
-        match self.gate.try_enter(own) {
-            Ok(held) => {
-                let own = inside::set(held, value);
-                seat.seat = Some(own);
-                Ok(())
-            }
-            Err(own) => {
-                seat.seat = Some(own);
-                Err(Refused {
-                    value,
-                    fault: FlowFault::Busy,
-                })
-            }
+        match self.call_now(seat, Set { value }) {
+            Ok(()) => Ok(()),
+            Err(Set { value }) => Err(Refused {
+                value,
+                fault: FlowFault::Busy,
+            }),
         }
     }
 
@@ -74,11 +62,7 @@ impl<T: FlowValue, A: Allocator + Copy> StateFlow<T, A> {
         requires { seat.old.table_id ≡ self.now.table_id }
         ensures { StateCalls self.now seat.old (call.TryEmit value) (reply.Answered result) seat.new }
     {
-        let own = seat.seat.take().unwrap();
-        let held = self.gate.enter(rt, own);
-        let (own, answer) = inside::try_emit(held, value);
-        seat.seat = Some(own);
-        answer
+        self.call(rt, seat, TryEmit { value })
     }
 
     /// Atomically compares the current value with `expect` and sets it to `update` if it is equal to `expect`. The
@@ -97,10 +81,6 @@ impl<T: FlowValue, A: Allocator + Copy> StateFlow<T, A> {
         requires { seat.old.table_id ≡ self.now.table_id }
         ensures { StateCalls self.now seat.old (call.CompareAndSet expect.now update) (reply.Answered result) seat.new }
     {
-        let own = seat.seat.take().unwrap();
-        let held = self.gate.enter(rt, own);
-        let (own, answer) = inside::compare_and_set(held, expect, update);
-        seat.seat = Some(own);
-        answer
+        self.call(rt, seat, CompareAndSet { expect, update })
     }
 }

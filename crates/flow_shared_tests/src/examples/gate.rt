@@ -1,7 +1,8 @@
 //! A gate whose state counts the events of its history.
 ghost use Rattle.std.specs.Prelude.{◌≡◌, ◌%◌, ◌^◌, [], ◌∷◌, length};
 
-use flow_gate::{Adds, Gate, Guarded, Held, Seat};
+use flow_gate::{Adds, Gate, Held, Seat};
+use flow_law::Guarded;
 use std::marker::Brand;
 use std::sync::Wait;
 use std::test::Fail;

@@ -1,5 +1,6 @@
 use Rattle.std.proofs.Common.{◌≡◌, true, false, map, ◌∙◌, ◌+◌, ◌∷◌, ◌++◌, [], sym, ap, refl, subst, length, arith}
-use Rattle.flow_law.specs.SharedFlow.{Numbered, is_blocked}
+use Rattle.flow_law.specs.declared.states.Numbered.{Numbered}
+use Rattle.flow_law.specs.SharedFlow.{is_blocked}
 use Rattle.flow_law.specs.Standing.{StandsFor}
 use Rattle.flow_law.specs.Laws.{RisesTo}
 use Rattle.flow_law.proofs.Rows.{rises_from}

@@ -1,5 +1,5 @@
 use Rattle.std.proofs.Common.{◌≡◌, length}
-use Rattle.flow_law.specs.SharedFlow.{SharedFlowState}
+use Rattle.flow_law.specs.declared.states.SharedFlowState.{SharedFlowState}
 use Rattle.flow_law.specs.SharedStep.{settle}
 use Rattle.flow_law.specs.Standing.{StandsFor}
 use Rattle.flow_core.proofs.shared.SharedCore.settle.Given as goal

@@ -1,7 +1,7 @@
 use Rattle.std.proofs.Common.{◌≡◌, ◌∙◌, ◌+◌, map, length, sym, ap, subst, arith, length-append}
 use Rattle.std.proofs.lemmas.List.{map-append}
 use Rattle.flow_law.specs.Laws.{RisesTo}
-use Rattle.flow_law.specs.SharedFlow.{Numbered}
+use Rattle.flow_law.specs.declared.states.Numbered.{Numbered}
 use Rattle.flow_law.proofs.Rows.{rises_more}
 use Rattle.flow_core.proofs.shared.SharedCore.suspend.Goals as goal
 

@@ -1,7 +1,8 @@
 use Rattle.std.proofs.Common.{◌≡◌, [], ◌∙◌, true, not, ◌==◌, map, length, sym, ap, subst, cond, arith}
 use Rattle.std.specs.Prelude.{filter}
 use Rattle.flow_law.specs.Laws.{RisesTo}
-use Rattle.flow_law.specs.SharedFlow.{Numbered, is_offered_as, stand_at, cache_start}
+use Rattle.flow_law.specs.declared.states.Numbered.{Numbered}
+use Rattle.flow_law.specs.SharedFlow.{is_offered_as, stand_at, cache_start}
 use Rattle.flow_law.specs.Standing.{StandsFor}
 use Rattle.flow_law.proofs.Rows.{rises_filter}
 use Rattle.flow_law.proofs.StandingLemmas.{stands-subscribers, least_position-gathered}

@@ -2,7 +2,8 @@ use Rattle.std.proofs.Common.{inl, inr, ◌≡◌, ◌==◌, ◌∙◌, Option, 
 use Rattle.std.proofs.lemmas.Iterator.Adapters.{position_from-zero}
 use Rattle.flow_law.specs.declared.outcome.Next.TheVariants.{Value, Empty, Gone}
 use Rattle.flow_law.specs.declared.call.StateReply.TheVariants as reply
-use Rattle.flow_law.specs.StateFlow.{StateFlowState, last_of, with_last, Receives}
+use Rattle.flow_law.specs.declared.states.StateFlowState.{StateFlowState}
+use Rattle.flow_law.specs.StateFlow.{last_of, with_last, Receives}
 use Rattle.flow_core.specs.declared.state.Row.{Row}
 use Rattle.flow_core.specs.StateCore.{subscriber_of, kept}
 use Rattle.flow_core.proofs.StateLemmas.{place_at, place_none}

@@ -3,7 +3,8 @@ use Rattle.std.specs.Prelude.{is_some}
 use Rattle.std.proofs.lemmas.Fn.{filter_same}
 use Rattle.std.proofs.lemmas.Iterator.Adapters.{position_from-zero}
 use Rattle.flow_law.specs.declared.call.StateReply.TheVariants as reply
-use Rattle.flow_law.specs.StateFlow.{StateFlowState, last_of, without_subscriber}
+use Rattle.flow_law.specs.declared.states.StateFlowState.{StateFlowState}
+use Rattle.flow_law.specs.StateFlow.{last_of, without_subscriber}
 use Rattle.flow_core.specs.StateCore.{subscriber_of, kept}
 use Rattle.flow_core.proofs.PositionLemmas.{filter-map}
 use Rattle.flow_core.proofs.StateLemmas.{there_is}

@@ -1,0 +1,51 @@
+//! What the cores of all kinds of flow have alike: the kind of flow that they are, and the calls of subscribers.
+ghost use Rattle.std.specs.Prelude.{◌≡◌, List, ℕ};
+ghost use Rattle.flow_law.specs.declared.history.Event.{Event};
+ghost use Rattle.flow_law.specs.declared.history.Said.{Said};
+ghost use Rattle.flow_law.specs.History.{Kind, replied};
+ghost use Rattle.flow_law.specs.Lawful.{Lawful};
+ghost use Rattle.flow_law.specs.Standing.{Documents, StandsForHistory};
+ghost use Rattle.flow_core.specs.SubId.{number_of};
+
+use crate::sub_id::SubId;
+use flow_law::{FlowFault, Guarded, Next, Said};
+
+/// A flow for one thread, of any kind.
+pub trait FlowCore: Guarded<Said = Said<Self::Call, Self::Reply>> {
+    type Item;
+    /// The states of the documented flow.
+    type State;
+
+    type Call;
+
+    type Reply;
+
+    /// Which kind of flow it is.
+    ghost kind: { Kind Self.Item Self.State Self.Call Self.Reply };
+
+    /// The state that a new core stands for.
+    ghost first: { Self → Self.State };
+
+    /// For which states a core stands.
+    ghost stands_as: { Self → Self.State → Type 0 };
+
+    fn subscribe(&mut self) -> Result<SubId, FlowFault>
+        ensures { (name : List ℕ) → Documents kind stands_as self.old (kind.subscribe name) (replied kind (λ id. kind.subscribed (number_of id)) result) self.new };
+
+    fn next(&mut self, id: SubId) -> Result<Next<Self::Item>, FlowFault>
+        ensures { Documents kind stands_as self.old (kind.take_next (number_of id)) (replied kind kind.received result) self.new };
+
+    fn unsubscribe(&mut self, id: SubId) -> bool
+        ensures { Documents kind stands_as self.old (kind.unsubscribe (number_of id)) (kind.tested result) self.new };
+
+    fn subscription_count(&self) -> u64
+        ensures { Documents kind stands_as self.now kind.count (kind.counted result) self.now };
+
+    /// What holds of its kind.
+    ghost lawful: { Lawful kind };
+
+    /// Behind a gate it stands for the histories of its kind.
+    ghost stands_so: { (start core : Self) (h : List (Event (Said Self.Call Self.Reply))) → Self.stands start core h → StandsForHistory kind stands_as (first start) core h };
+
+    ghost stands_then: { (start core : Self) (h : List (Event (Said Self.Call Self.Reply))) → StandsForHistory kind stands_as (first start) core h → Self.stands start core h };
+}

@@ -1,0 +1,57 @@
+//! A shared core behind a gate, and as one of the kinds of flow.
+ghost use Rattle.flow_law.specs.SharedFlow.{first_state};
+ghost use Rattle.flow_law.specs.SharedHistory.{shared_flow};
+ghost use Rattle.flow_law.specs.Standing.{StandsFor, StandsForHistory};
+ghost use Rattle.flow_law.proofs.SharedLawful.{shared_lawful};
+
+use crate::kind::FlowCore;
+use crate::shared::SharedCore;
+use crate::sub_id::SubId;
+use flow_law::{
+    FlowFault, FlowValue, Guarded, Next, Said, SharedCall, SharedFlowState, SharedReply,
+};
+use std::alloc::Allocator;
+
+impl<T: FlowValue, A: Allocator + Copy> Guarded for SharedCore<T, A> {
+    type Said = Said<SharedCall<T>, SharedReply<T>>;
+
+    ghost stands = { λ start core h. StandsForHistory shared_flow StandsFor (first_state start.config) core h };
+}
+
+impl<T: FlowValue, A: Allocator + Copy> FlowCore for SharedCore<T, A> {
+    type Item = T;
+
+    type State = SharedFlowState<T>;
+
+    type Call = SharedCall<T>;
+
+    type Reply = SharedReply<T>;
+
+    ghost kind = { shared_flow };
+
+    ghost first = { λ core. first_state core.config };
+
+    ghost stands_as = { StandsFor };
+
+    fn subscribe(&mut self) -> Result<SubId, FlowFault> {
+        SharedCore::subscribe(self)
+    }
+
+    fn next(&mut self, id: SubId) -> Result<Next<T>, FlowFault> {
+        SharedCore::next(self, id)
+    }
+
+    fn unsubscribe(&mut self, id: SubId) -> bool {
+        SharedCore::unsubscribe(self, id)
+    }
+
+    fn subscription_count(&self) -> u64 {
+        SharedCore::subscription_count(self)
+    }
+
+    ghost lawful = { shared_lawful };
+
+    ghost stands_so = { λ start core h stood. stood };
+
+    ghost stands_then = { λ start core h stood. stood };
+}

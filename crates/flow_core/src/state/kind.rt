@@ -1,0 +1,55 @@
+//! A state core behind a gate, and as one of the kinds of flow.
+ghost use Rattle.std.specs.Prelude.{◌≡◌};
+ghost use Rattle.flow_law.specs.StateFlow.{state_flow};
+ghost use Rattle.flow_law.specs.Standing.{StandsForHistory};
+ghost use Rattle.flow_law.proofs.StateLawful.{state_lawful};
+
+use crate::kind::FlowCore;
+use crate::state::StateCore;
+use crate::sub_id::SubId;
+use flow_law::{FlowFault, FlowValue, Guarded, Next, Said, StateCall, StateFlowState, StateReply};
+use std::alloc::Allocator;
+
+impl<T: FlowValue, A: Allocator + Copy> Guarded for StateCore<T, A> {
+    type Said = Said<StateCall<T>, StateReply<T>>;
+
+    ghost stands = { λ start core h. StandsForHistory state_flow (λ c s. c ≡ s) start core h };
+}
+
+impl<T: FlowValue, A: Allocator + Copy> FlowCore for StateCore<T, A> {
+    type Item = T;
+
+    type State = StateFlowState<T>;
+
+    type Call = StateCall<T>;
+
+    type Reply = StateReply<T>;
+
+    ghost kind = { state_flow };
+
+    ghost first = { λ core. core };
+
+    ghost stands_as = { λ core s. core ≡ s };
+
+    fn subscribe(&mut self) -> Result<SubId, FlowFault> {
+        StateCore::subscribe(self)
+    }
+
+    fn next(&mut self, id: SubId) -> Result<Next<T>, FlowFault> {
+        StateCore::next(self, id)
+    }
+
+    fn unsubscribe(&mut self, id: SubId) -> bool {
+        StateCore::unsubscribe(self, id)
+    }
+
+    fn subscription_count(&self) -> u64 {
+        StateCore::subscription_count(self)
+    }
+
+    ghost lawful = { state_lawful };
+
+    ghost stands_so = { λ start core h stood. stood };
+
+    ghost stands_then = { λ start core h stood. stood };
+}

@@ -1,0 +1,36 @@
+-- What holds of every kind of flow, and of which each kind is proved to have it. No public clause but the law of a core cites
+-- this module.
+use Rattle.std.specs.Prelude.{◌≡◌, ◌≢◌, ℕ, ◌<◌, ◌≤◌, Bool, true, List, Option, Some, None}
+use Rattle.flow_law.specs.declared.fault.FlowFault.TheVariants.{Busy}
+use Rattle.flow_law.specs.declared.outcome.Next.TheVariants.{Gone}
+use Rattle.flow_law.specs.History.{Number, subscriber, emission, Owner, Kind}
+
+abbrev pub number_in : Number → ℕ
+number_in (subscriber n) = n
+number_in (emission n) = n
+
+-- a number that is given was not issued before, and is issued after
+abbrev pub IsNew : ℕ → Option Owner → ℕ → Type 0
+IsNew issued None later = Unit {0}
+IsNew issued (Some o) later = (issued < number_in o.number) × (number_in o.number ≤ later)
+
+pub record Lawful {T S C R : Type 0} (kind : Kind T S C R) : Type 0 where
+  -- how many numbers were issued
+  pub issued : S → ℕ
+  pub rises : (s : S) (c : C) (r : R) → kind.Replies s c r → issued s ≤ issued (kind.after s c r)
+  pub gives_new : (s : S) (name : List ℕ) (c : C) (r : R) → kind.Replies s c r → IsNew (issued s) (kind.gives name c r) (issued (kind.after s c r))
+  -- what a subscriber's calls speak of, and what a subscription is given
+  pub next_speaks : (u : ℕ) → kind.speaks_of (kind.take_next u) ≡ Some (subscriber u)
+  pub unsubscribe_speaks : (u : ℕ) → kind.speaks_of (kind.unsubscribe u) ≡ Some (subscriber u)
+  pub subscribe_speaks : (name : List ℕ) → kind.speaks_of (kind.subscribe name) ≡ None
+  pub count_speaks : kind.speaks_of kind.count ≡ None
+  pub subscribe_gives : (by name : List ℕ) (u : ℕ) → kind.gives by (kind.subscribe name) (kind.subscribed u) ≡ Some (record { number = subscriber u; name = name })
+  -- who subscribes is a subscriber, and stays one while no call speaks of the number but `next`
+  pub subscribe_has : (s : S) (name : List ℕ) (u : ℕ) → kind.Replies s (kind.subscribe name) (kind.subscribed u) → kind.HasSubscriber u (kind.after s (kind.subscribe name) (kind.subscribed u))
+  pub others_keep : (u : ℕ) (s : S) (c : C) (r : R) → kind.speaks_of c ≢ Some (subscriber u) → kind.HasSubscriber u s → kind.HasSubscriber u (kind.after s c r)
+  pub next_keeps : (u : ℕ) (s : S) (r : R) → kind.HasSubscriber u s → kind.HasSubscriber u (kind.after s (kind.take_next u) r)
+  -- what a subscriber is told
+  pub never_gone : (s : S) (u : ℕ) → kind.HasSubscriber u s → kind.Replies s (kind.take_next u) (kind.received Gone) → ⊥
+  pub was_there : (s : S) (u : ℕ) (answer : Bool) → kind.HasSubscriber u s → kind.Replies s (kind.unsubscribe u) (kind.tested answer) → answer ≡ true
+  -- no flow of one thread answers Busy
+  pub never_busy : (s : S) (c : C) → kind.Replies s c (kind.refused Busy) → ⊥

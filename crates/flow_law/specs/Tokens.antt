@@ -1,0 +1,87 @@
+-- The tokens of any flow for several threads, and what a call does, as the token sees it through which it was made.
+-- Begin with `CallsIn`: one word for every call that is an event. `Id` is what tells one flow from another.
+use Rattle.std.specs.Prelude.{◌≡◌, ◌≢◌, ℕ, ◌+◌, List, Result, Ok, Err}
+use Rattle.flow_law.specs.declared.fault.FlowFault.{FlowFault}
+use Rattle.flow_law.specs.declared.fault.FlowFault.TheVariants.{Busy}
+use Rattle.flow_law.specs.declared.history.Event.{Event}
+use Rattle.flow_law.specs.declared.history.Knowledge.{Knowledge}
+use Rattle.flow_law.specs.declared.history.Said.{Said}
+use Rattle.flow_law.specs.declared.outcome.Next.{Next}
+use Rattle.flow_law.specs.declared.outcome.Next.TheVariants.{Gone}
+use Rattle.flow_law.specs.Growth.{Fits, child_name, sees, loses, makes, child}
+use Rattle.flow_law.specs.History.{Kind, IsHistory}
+use Rattle.flow_law.specs.OneHistory.{AddsOne}
+
+-- a token: its flow, and what it knows
+pub record Token (Id E : Type 0) : Type 0 where
+  pub table_id : Id
+  pub knows : Knowledge E
+
+-- a flow: which one it is, and what it began with
+pub record Origin (Id S : Type 0) : Type 0 where
+  pub table_id : Id
+  pub first : S
+
+-- a subscription or an emission: its token, and the number that the flow gave it
+pub record NumberedToken (Id E : Type 0) : Type 0 where
+  pub token : Token Id E
+  pub number : ℕ
+
+module _ {Id S : Type 0} where
+  abbrev pub origin : Id → S → Origin Id S
+  origin id first = record { table_id = id; first = first }
+
+module _ {Id E : Type 0} where
+  abbrev pub token : Id → Knowledge E → Token Id E
+  token id knows = record { table_id = id; knows = knows }
+
+  abbrev pub numbered : Token Id E → ℕ → NumberedToken Id E
+  numbered t number = record { token = t; number = number }
+
+  -- the same token, which knows this
+  abbrev pub knowing : Token Id E → Knowledge E → Token Id E
+  knowing t knows = token t.table_id knows
+
+  -- another caller was inside: the token has counted one exchange that it lost, and nothing else has changed
+  abbrev pub IsBusy : Token Id E → Token Id E → Type 0
+  IsBusy before after = after ≡ knowing before (loses before.knows)
+
+-- the name of the next token that is made through the one that knows this
+abbrev pub subscription_name : {E : Type 0} → Knowledge E → List ℕ
+subscription_name k = child_name k.name (k.made + 1)
+
+module _ {Id T S C R : Type 0} (kind : Kind T S C R) (first : S) where
+  -- the token made this call, had this reply, and has seen it in a history of the flow that begins with all that it had seen
+  abbrev pub CallsIn : Token Id (Said C R) → C → R → Token Id (Said C R) → Type 0
+  CallsIn before call reply after = (after.table_id ≡ before.table_id) × AddsOne (IsHistory kind first) before.knows call reply after.knows
+
+  -- the same, and no exchange was lost
+  abbrev pub CallsAtOnceIn : Token Id (Said C R) → C → R → Token Id (Said C R) → Type 0
+  CallsAtOnceIn before call reply after = CallsIn before call reply after × (after.knows.lost ≡ before.knows.lost)
+
+  -- both tokens have then seen one history of the flow, which fits what each had seen
+  pub record MeetsIn (one other one_after other_after : Token Id (Said C R)) : Type 0 where
+    pub history : List (Event (Said C R))
+    pub is_history : IsHistory kind first history
+    pub fits_one : Fits history one.knows
+    pub fits_other : Fits history other.knows
+    pub sees_one : one_after ≡ knowing one (sees history one.knows)
+    pub sees_other : other_after ≡ knowing other (sees history other.knows)
+
+  -- The subscription's token is made through the caller's, after the event: both have seen it.
+  abbrev pub SubscribesIn : Token Id (Said C R) → Result (NumberedToken Id (Said C R)) FlowFault → Token Id (Said C R) → Type 0
+  SubscribesIn before (Ok s) after =
+      (between : Token Id (Said C R)) × CallsIn before (kind.subscribe (subscription_name before.knows)) (kind.subscribed s.number) between
+      × (after ≡ knowing between (makes between.knows)) × (s.token ≡ knowing between (child between.knows))
+  SubscribesIn before (Err fault) after = CallsIn before (kind.subscribe (subscription_name before.knows)) (kind.refused fault) after
+
+  -- ---- calls that do not wait: Busy exactly where one exchange was lost
+
+  abbrev pub NextsNowIn : NumberedToken Id (Said C R) → Result (Next T) FlowFault → NumberedToken Id (Said C R) → Type 0
+  NextsNowIn old (Ok next) new = (next ≢ Gone) × (new.number ≡ old.number) × CallsAtOnceIn old.token (kind.take_next old.number) (kind.received next) new.token
+  NextsNowIn old (Err Busy) new = (new.number ≡ old.number) × IsBusy old.token new.token
+  NextsNowIn old (Err fault) new = (new.number ≡ old.number) × CallsAtOnceIn old.token (kind.take_next old.number) (kind.refused fault) new.token
+
+  abbrev pub CountsNowIn : Token Id (Said C R) → Result ℕ FlowFault → Token Id (Said C R) → Type 0
+  CountsNowIn before (Ok count) after = CallsAtOnceIn before kind.count (kind.counted count) after
+  CountsNowIn before (Err fault) after = (fault ≡ Busy) × IsBusy before after

@@ -1,0 +1,49 @@
+//! The states of documented flows. Contracts alone speak of them; no value of these types is made.
+ghost use Rattle.std.specs.Prelude.{◌≡◌};
+
+use crate::config::Config;
+use std::collections::LinkedList;
+
+/// A value with the number that it took when it was accepted.
+pub struct Numbered<T> {
+    pub value: T,
+    pub number: u64,
+}
+
+/// A subscriber's number, and how many emitted values lie behind it.
+pub struct Subscriber {
+    pub number: u64,
+    pub position: u64,
+}
+
+/// The state of a documented shared flow. `specs/SharedFlow.antt` has a drawing of it.
+pub struct SharedFlowState<T> {
+    pub config: Config,
+    /// Every value ever emitted, in order. It is never cut.
+    pub emitted: LinkedList<Numbered<T>>,
+    /// How many values had been emitted at the last reset.
+    pub reset_mark: u64,
+    /// The values whose emitters wait, the first one in front.
+    pub queue: LinkedList<Numbered<T>>,
+    /// In the order in which they subscribed, so in the order of their numbers.
+    pub subscribers: LinkedList<Subscriber>,
+    /// How many numbers were issued. The next one is one more.
+    pub issued: u64,
+}
+
+/// A subscriber's number, and the last value that it got, or none yet.
+pub struct StateSubscriber<T> {
+    pub number: u64,
+    pub last: Option<T>,
+}
+
+/// The state of a documented state flow.
+pub struct StateFlowState<T> {
+    /// The most numbers that it issues.
+    pub limit: u64,
+    pub value: T,
+    /// In the order in which they subscribed.
+    pub subscribers: LinkedList<StateSubscriber<T>>,
+    /// How many numbers were issued. The next one is one more.
+    pub issued: u64,
+}

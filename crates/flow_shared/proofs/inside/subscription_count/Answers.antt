@@ -1,9 +1,0 @@
-use Rattle.std.proofs.Common.{ap, refl}
-use Rattle.flow_shared.proofs.OneCall.{may_leave, has_said}
-use Rattle.flow_shared.proofs.inside.subscription_count.Goals as goal
-
-pub leave-seat-requires : goal.leave-seat-requires
-leave-seat-requires g c = may_leave c.args.held _ _ _ _ _ c.requires (ap (λ s. s.core) c.state.ensures.value) refl c.subscription_count-count.ensures.documented tt
-
-pub returns : goal.returns
-returns g c = has_said c.args.held _ _ _ _ _ c.requires (ap (λ s. s.core) c.state.ensures.value) refl c.subscription_count-count.ensures.documented tt _ c.leave-seat.ensures

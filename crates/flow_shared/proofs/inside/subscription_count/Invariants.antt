@@ -1,8 +1,0 @@
-use Rattle.std.specs.Prelude.{[], ◌∷◌}
-use Rattle.flow_law.specs.declared.call.SharedCall.TheVariants as call
-use Rattle.flow_law.specs.declared.call.SharedReply.TheVariants as reply
-use Rattle.flow_law.specs.OneHistory.{said}
-use Rattle.flow_shared.proofs.inside.subscription_count.Given as goal
-
-abbrev pub ghosts-leave : goal.ghosts-leave
-ghosts-leave g a = record { adds = said call.SubscriptionCount (reply.Counted a._evidence.now) ∷ [] }

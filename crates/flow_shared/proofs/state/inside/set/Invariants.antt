@@ -1,8 +1,0 @@
-use Rattle.std.specs.Prelude.{[], ◌∷◌}
-use Rattle.flow_law.specs.declared.call.StateCall.TheVariants as call
-use Rattle.flow_law.specs.declared.call.StateReply.TheVariants as reply
-use Rattle.flow_law.specs.OneHistory.{said}
-use Rattle.flow_shared.proofs.state.inside.set.Given as goal
-
-abbrev pub ghosts-leave : goal.ghosts-leave
-ghosts-leave g a = record { adds = said (call.Set a._evidence.now.value) reply.Done ∷ [] }

@@ -1,0 +1,120 @@
+//! A flow of any kind for several threads.
+ghost use Rattle.std.specs.Prelude.{◌≡◌, ℕ, List, None, IfOk, IfErr};
+ghost use Rattle.flow_law.specs.History.{MayCall};
+ghost use Rattle.flow_law.specs.Growth.{makes, child};
+ghost use Rattle.flow_law.specs.Tokens.{subscription_name, knowing, IsBusy};
+ghost use Rattle.flow_shared.specs.Calls.{Calls, CallsAtOnce, Meets};
+
+use crate::core_call::{CoreCall, call_core};
+use crate::token::{FlowSeat, FlowSubscription};
+use flow_core::FlowCore;
+use flow_gate::Gate;
+use std::alloc::{Allocator, Global};
+use std::marker::Model;
+use std::sync::Wait;
+
+/// A flow for callers on several threads.
+#[derive(Drop)]
+pub struct Flow<S: FlowCore, A: Allocator + Copy = Global> {
+    pub(crate) gate: Gate<S, A>,
+}
+
+impl<S: FlowCore, A: Allocator + Copy> Model for Flow<S, A> {
+    ghost use Rattle.flow_law.specs.Tokens.{origin};
+    ghost use Rattle.flow_gate.specs.Tokens.{Origin};
+
+    ghost Value = { Origin S.State };
+
+    ghost view = { λ f. origin f.gate.table_id (S.first f.gate.first) };
+}
+
+impl<S: FlowCore + Drop, A: Allocator + Copy> Flow<S, A> {
+    pub(crate) fn call_by<R: Wait, C: CoreCall<S>>(
+        &self,
+        rt: &R,
+        seat: flow_gate::Seat<S, A>,
+        call: C,
+    ) -> (flow_gate::Seat<S, A>, C::Answer)
+        requires flow { seat.table_id ≡ self.now.table_id }
+        requires may { MayCall S.kind (C.call call (subscription_name seat.knows)) seat.knows.name seat.knows.seen }
+        ensures called { Calls S.kind self.now seat (C.call call (subscription_name seat.knows)) (C.reply result.1) result.0 }
+        ensures also { C.also call result.1 }
+    {
+        let held = self.gate.enter(rt, seat);
+        call_core(held, call)
+    }
+
+    pub(crate) fn call_by_now<C: CoreCall<S>>(
+        &self,
+        seat: flow_gate::Seat<S, A>,
+        call: C,
+    ) -> Result<(flow_gate::Seat<S, A>, C::Answer), (flow_gate::Seat<S, A>, C)>
+        requires flow { seat.table_id ≡ self.now.table_id }
+        requires may { MayCall S.kind (C.call call (subscription_name seat.knows)) seat.knows.name seat.knows.seen }
+        ensures called { IfOk result (λ done. CallsAtOnce S.kind self.now seat (C.call call (subscription_name seat.knows)) (C.reply done.1) done.0 × C.also call done.1) }
+        ensures busy { IfErr result (λ back. IsBusy seat back.0 × (back.1 ≡ call)) }
+    {
+        match self.gate.try_enter(seat) {
+            Ok(held) => Ok(call_core(held, call)),
+            Err(back) => Err((back, call)),
+        }
+    }
+
+    /// A call that speaks of no number, through a seat.
+    pub(crate) fn call<R: Wait, C: CoreCall<S>>(
+        &self,
+        rt: &R,
+        seat: &mut FlowSeat<S, A>,
+        call: C,
+    ) -> C::Answer
+        requires flow { seat.old.table_id ≡ self.now.table_id }
+        requires free { (name : List ℕ) → S.kind.speaks_of (C.call call name) ≡ None }
+        ensures called { Calls S.kind self.now seat.old (C.call call (subscription_name seat.old.knows)) (C.reply result) seat.new }
+        ensures also { C.also call result }
+    {
+        let own = seat.seat.take().unwrap();
+        let (own, answer) = self.call_by(rt, own, call);
+        seat.seat = Some(own);
+        answer
+    }
+
+    /// The same, which does not wait. Where another caller is inside the call comes back.
+    pub(crate) fn call_now<C: CoreCall<S>>(
+        &self,
+        seat: &mut FlowSeat<S, A>,
+        call: C,
+    ) -> Result<C::Answer, C>
+        requires flow { seat.old.table_id ≡ self.now.table_id }
+        requires free { (name : List ℕ) → S.kind.speaks_of (C.call call name) ≡ None }
+        ensures called { IfOk result (λ answer. CallsAtOnce S.kind self.now seat.old (C.call call (subscription_name seat.old.knows)) (C.reply answer) seat.new × C.also call answer) }
+        ensures busy { IfErr result (λ back. IsBusy seat.old seat.new × (back ≡ call)) }
+    {
+        let own = seat.seat.take().unwrap();
+        match self.call_by_now(own, call) {
+            Ok((own, answer)) => {
+                seat.seat = Some(own);
+                Ok(answer)
+            }
+            Err((own, call)) => {
+                seat.seat = Some(own);
+                Err(call)
+            }
+        }
+    }
+
+    /// Makes a seat through another. Call it for each thread that is to call the flow, before the thread starts, or for
+    /// one more emission that may wait.
+    ///
+    /// The new seat has seen what its maker had seen, and has a name of its own. A seat that is dropped is lost: nobody
+    /// calls under its name any more, and the flow goes on.
+    pub fn seat(&self, seat: &mut FlowSeat<S, A>) -> FlowSeat<S, A>
+        requires { seat.old.table_id ≡ self.now.table_id }
+        ensures maker { seat.new ≡ knowing seat.old (makes seat.old.knows) }
+        ensures made { result ≡ knowing seat.old (child seat.old.knows) }
+    {
+        let mut inside = seat.seat.take().unwrap();
+        let made = self.gate.seat(&mut inside);
+        seat.seat = Some(inside);
+        FlowSeat { seat: Some(made) }
+    }
+}

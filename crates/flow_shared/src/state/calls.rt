@@ -1,0 +1,123 @@
+//! The calls that state flows alone have.
+ghost use Rattle.std.specs.Prelude.{◌≡◌, Err, ⊤};
+ghost use Rattle.flow_law.specs.declared.fault.FlowFault.TheVariants.{Unsupported};
+ghost use Rattle.flow_law.specs.declared.call.StateCall.TheVariants as call;
+ghost use Rattle.flow_law.specs.declared.call.StateReply.TheVariants as reply;
+ghost use Rattle.flow_core.specs.StateCore.{got, cached, reset};
+
+use crate::core_call::CoreCall;
+use flow_core::StateCore;
+use flow_law::{FlowFault, FlowValue};
+use std::alloc::Allocator;
+
+#[derive(Clone, Copy)]
+pub(super) struct GetValue;
+
+impl<T: FlowValue, A: Allocator + Copy> CoreCall<StateCore<T, A>> for GetValue {
+    type Answer = Result<T, FlowFault>;
+
+    ghost call = { λ c name. call.GetValue };
+
+    ghost reply = { λ answer. got answer };
+
+    ghost also = { λ c answer. ⊤ };
+
+    fn run(self, core: &mut StateCore<T, A>) -> Result<T, FlowFault> {
+        core.value()
+    }
+}
+
+#[derive(Drop)]
+pub(super) struct Set<T: FlowValue> {
+    pub(super) value: T,
+}
+
+impl<T: FlowValue, A: Allocator + Copy> CoreCall<StateCore<T, A>> for Set<T> {
+    type Answer = ();
+
+    ghost call = { λ c name. call.Set c.value };
+
+    ghost reply = { λ answer. reply.Done };
+
+    ghost also = { λ c answer. ⊤ };
+
+    fn run(self, core: &mut StateCore<T, A>) -> () {
+        let Set { value } = self;
+        core.set(value)
+    }
+}
+
+#[derive(Drop)]
+pub(super) struct TryEmit<T: FlowValue> {
+    pub(super) value: T,
+}
+
+impl<T: FlowValue, A: Allocator + Copy> CoreCall<StateCore<T, A>> for TryEmit<T> {
+    type Answer = bool;
+
+    ghost call = { λ c name. call.TryEmit c.value };
+
+    ghost reply = { λ answer. reply.Answered answer };
+
+    ghost also = { λ c answer. ⊤ };
+
+    fn run(self, core: &mut StateCore<T, A>) -> bool {
+        let TryEmit { value } = self;
+        core.try_emit(value)
+    }
+}
+
+#[derive(Drop)]
+pub(super) struct CompareAndSet<'a, T: FlowValue> {
+    pub(super) expect: &'a T,
+    pub(super) update: T,
+}
+
+impl<'a, T: FlowValue, A: Allocator + Copy> CoreCall<StateCore<T, A>> for CompareAndSet<'a, T> {
+    type Answer = bool;
+
+    ghost call = { λ c name. call.CompareAndSet c.expect.now c.update };
+
+    ghost reply = { λ answer. reply.Answered answer };
+
+    ghost also = { λ c answer. ⊤ };
+
+    fn run(self, core: &mut StateCore<T, A>) -> bool {
+        let CompareAndSet { expect, update } = self;
+        core.compare_and_set(expect, update)
+    }
+}
+
+#[derive(Clone, Copy)]
+pub(super) struct ReplayCache;
+
+impl<T: FlowValue, A: Allocator + Copy> CoreCall<StateCore<T, A>> for ReplayCache {
+    type Answer = Result<Vec<T, A>, FlowFault>;
+
+    ghost call = { λ c name. call.ReplayCache };
+
+    ghost reply = { λ answer. cached (λ values. values.items) answer };
+
+    ghost also = { λ c answer. ⊤ };
+
+    fn run(self, core: &mut StateCore<T, A>) -> Result<Vec<T, A>, FlowFault> {
+        core.replay_cache()
+    }
+}
+
+#[derive(Clone, Copy)]
+pub(super) struct ResetReplayCache;
+
+impl<T: FlowValue, A: Allocator + Copy> CoreCall<StateCore<T, A>> for ResetReplayCache {
+    type Answer = Result<(), FlowFault>;
+
+    ghost call = { λ c name. call.ResetReplayCache };
+
+    ghost reply = { λ answer. reset answer };
+
+    ghost also = { λ c answer. answer ≡ Err Unsupported };
+
+    fn run(self, core: &mut StateCore<T, A>) -> Result<(), FlowFault> {
+        core.reset_replay_cache()
+    }
+}

@@ -1,0 +1,240 @@
+//! The calls of subscribers, of any kind of flow for several threads.
+ghost use Rattle.std.specs.Prelude.{◌≡◌, ◌≢◌, ℕ, true, Ok, ⊤};
+ghost use Rattle.flow_law.specs.History.{replied};
+ghost use Rattle.flow_law.specs.declared.outcome.Next.TheVariants.{Gone};
+ghost use Rattle.flow_core.specs.SubId.{number_of};
+ghost use Rattle.flow_shared.specs.Calls.{Calls, Meets, Subscribes, NextsNow, CountsNow};
+
+use crate::core_call::CoreCall;
+use crate::flow::Flow;
+use crate::token::{FlowSeat, FlowSubscription};
+use flow_core::{FlowCore, SubId};
+use flow_law::{FlowFault, Next};
+use std::alloc::Allocator;
+use std::sync::Wait;
+
+#[derive(Clone, Copy)]
+struct Subscribe;
+
+impl<S: FlowCore> CoreCall<S> for Subscribe {
+    type Answer = Result<SubId, FlowFault>;
+
+    ghost call = { λ c name. S.kind.subscribe name };
+
+    ghost reply = { λ answer. replied S.kind (λ id. S.kind.subscribed (number_of id)) answer };
+
+    ghost also = { λ c answer. ⊤ };
+
+    fn run(self, core: &mut S) -> Result<SubId, FlowFault> {
+        core.subscribe()
+    }
+}
+
+#[derive(Clone, Copy)]
+struct TakeNext {
+    id: SubId,
+}
+
+impl<S: FlowCore> CoreCall<S> for TakeNext {
+    type Answer = Result<Next<S::Item>, FlowFault>;
+
+    ghost call = { λ c name. S.kind.take_next (number_of c.id) };
+
+    ghost reply = { λ answer. replied S.kind S.kind.received answer };
+
+    ghost also = { λ c answer. ⊤ };
+
+    fn run(self, core: &mut S) -> Result<Next<S::Item>, FlowFault> {
+        core.next(self.id)
+    }
+}
+
+#[derive(Clone, Copy)]
+struct Unsubscribe {
+    id: SubId,
+}
+
+impl<S: FlowCore> CoreCall<S> for Unsubscribe {
+    type Answer = bool;
+
+    ghost call = { λ c name. S.kind.unsubscribe (number_of c.id) };
+
+    ghost reply = { λ answer. S.kind.tested answer };
+
+    ghost also = { λ c answer. ⊤ };
+
+    fn run(self, core: &mut S) -> bool {
+        core.unsubscribe(self.id)
+    }
+}
+
+#[derive(Clone, Copy)]
+struct Count;
+
+impl<S: FlowCore> CoreCall<S> for Count {
+    type Answer = u64;
+
+    ghost call = { λ c name. S.kind.count };
+
+    ghost reply = { λ count. S.kind.counted count };
+
+    ghost also = { λ c count. ⊤ };
+
+    fn run(self, core: &mut S) -> u64 {
+        core.subscription_count()
+    }
+}
+
+impl<S: FlowCore + Drop, A: Allocator + Copy> Flow<S, A> {
+    /// A new subscriber. It gets the replay cache of a shared flow first, or the value that is offered, and the current
+    /// value of a state flow. `Err` is want of memory, or `Exhausted` where the flow has issued as many numbers as its
+    /// limit allows.
+    ///
+    /// The subscription has a seat of its own, which is made through this one. Who does not read blocks the emitters of a
+    /// shared flow or loses values, as the strategy says, until `unsubscribe`.
+    pub fn subscribe<R: Wait>(
+        &self,
+        rt: &R,
+        seat: &mut FlowSeat<S, A>,
+    ) -> Result<FlowSubscription<S, A>, FlowFault>
+        requires { seat.old.table_id ≡ self.now.table_id }
+        ensures { Subscribes S.kind self.now seat.old result seat.new }
+    {
+        let own = seat.seat.take().unwrap();
+        let (mut own, answer) = self.call_by(rt, own, Subscribe);
+        match answer {
+            Ok(id) => {
+                let made = self.gate.seat(&mut own);
+                seat.seat = Some(own);
+                Ok(FlowSubscription {
+                    seat: Some(made),
+                    id,
+                })
+            }
+            Err(fault) => {
+                seat.seat = Some(own);
+                Err(fault)
+            }
+        }
+    }
+
+    /// What the subscriber receives next; `Empty` where it has all. `Err` is want of memory: it then gets the value at a
+    /// later call.
+    ///
+    /// In a shared flow it makes room, so queued values may be emitted by it. A slow subscriber of a state flow skips
+    /// values that were set fast, and gets the most recent one.
+    pub fn next<R: Wait>(
+        &self,
+        rt: &R,
+        subscription: &mut FlowSubscription<S, A>,
+    ) -> Result<Next<S::Item>, FlowFault>
+        requires { subscription.old.token.table_id ≡ self.now.table_id }
+        ensures called { Calls S.kind self.now subscription.old.token (S.kind.take_next subscription.old.number) (replied S.kind S.kind.received result) subscription.new.token }
+        ensures number { subscription.new.number ≡ subscription.old.number }
+        ensures live { result ≢ Ok Gone }
+    {
+        let own = subscription.seat.take().unwrap();
+        let id = subscription.id;
+        let (own, answer) = self.call_by(rt, own, TakeNext { id });
+        subscription.seat = Some(own);
+        answer
+    }
+
+    /// `next`, where nobody is inside.
+    pub fn next_now(
+        &self,
+        subscription: &mut FlowSubscription<S, A>,
+    ) -> Result<Next<S::Item>, FlowFault>
+        requires { subscription.old.token.table_id ≡ self.now.table_id }
+        ensures { NextsNow S.kind self.now subscription.old result subscription.new }
+    {
+        let own = subscription.seat.take().unwrap();
+        let id = subscription.id;
+        match self.call_by_now(own, TakeNext { id }) {
+            Ok((own, answer)) => {
+                subscription.seat = Some(own);
+                answer
+            }
+            Err((back, _call)) => {
+                subscription.seat = Some(back);
+                Err(FlowFault::Busy)
+            }
+        }
+    }
+
+    /// Ends the subscription. Emitters who waited for it alone go on. Its seat comes back, for other calls.
+    pub fn unsubscribe<R: Wait>(
+        &self,
+        rt: &R,
+        subscription: FlowSubscription<S, A>,
+    ) -> FlowSeat<S, A>
+        requires { subscription.token.table_id ≡ self.now.table_id }
+        ensures { Calls S.kind self.now subscription.token (S.kind.unsubscribe subscription.number) (S.kind.tested true) result }
+    {
+        let FlowSubscription { seat, id } = subscription;
+        let (seat, _was_there) = self.call_by(rt, seat.unwrap(), Unsubscribe { id });
+        FlowSeat { seat: Some(seat) }
+    }
+
+    /// How many subscribers there are. A subscription that was dropped is counted: only `unsubscribe` ends one.
+    pub fn subscription_count<R: Wait>(&self, rt: &R, seat: &mut FlowSeat<S, A>) -> u64
+        requires { seat.old.table_id ≡ self.now.table_id }
+        ensures { Calls S.kind self.now seat.old S.kind.count (S.kind.counted result) seat.new }
+    {
+        self.call(rt, seat, Count)
+    }
+
+    /// As `subscription_count`, where nobody is inside. It is never refused otherwise.
+    pub fn count_now(&self, seat: &mut FlowSeat<S, A>) -> Result<u64, FlowFault>
+        requires { seat.old.table_id ≡ self.now.table_id }
+        ensures { CountsNow S.kind self.now seat.old result seat.new }
+    {
+        match self.call_now(seat, Count) {
+            Ok(count) => Ok(count),
+            Err(Count) => Err(FlowFault::Busy),
+        }
+    }
+
+    /// Makes what two seats have seen one history: both have then seen all that was done so far. Nothing is called, and
+    /// nobody waits.
+    ///
+    /// Call it where what one caller did is to count for another, as after a thread has ended and its seat came back.
+    pub fn meet(&self, one: &mut FlowSeat<S, A>, other: &mut FlowSeat<S, A>)
+        requires { (one.old.table_id ≡ self.now.table_id) × (other.old.table_id ≡ self.now.table_id) }
+        ensures { Meets S.kind self.now one.old other.old one.new other.new }
+    {
+        let first = one.seat.take().unwrap();
+        let second = other.seat.take().unwrap();
+        let (first, second) = self.meet_by(first, second);
+        one.seat = Some(first);
+        other.seat = Some(second);
+    }
+
+    /// `meet` of a subscription and a seat.
+    pub fn meet_subscription(
+        &self,
+        subscription: &mut FlowSubscription<S, A>,
+        seat: &mut FlowSeat<S, A>,
+    )
+        requires { (subscription.old.token.table_id ≡ self.now.table_id) × (seat.old.table_id ≡ self.now.table_id) }
+        ensures met { Meets S.kind self.now subscription.old.token seat.old subscription.new.token seat.new }
+        ensures number { subscription.new.number ≡ subscription.old.number }
+    {
+        let first = subscription.seat.take().unwrap();
+        let second = seat.seat.take().unwrap();
+        let (first, second) = self.meet_by(first, second);
+        subscription.seat = Some(first);
+        seat.seat = Some(second);
+    }
+
+    fn meet_by(
+        &self,
+        one: flow_gate::Seat<S, A>,
+        other: flow_gate::Seat<S, A>,
+    ) -> (flow_gate::Seat<S, A>, flow_gate::Seat<S, A>)
+        requires { (one.table_id ≡ self.now.table_id) × (other.table_id ≡ self.now.table_id) }
+        ensures { Meets S.kind self.now one other result.0 result.1 }
+    {
+        self.gate.meet(one, other)
+    }
+}
