@@ -15,7 +15,7 @@ use Rattle.flow_law.specs.declared.call.StateReply.{StateReply}
 use Rattle.flow_law.specs.declared.call.StateReply.TheVariants.{Answered, Subscribed, Received, Refused}
 use Rattle.flow_law.specs.SharedFlow.{Numbered, Subscriber, SharedFlowState, cache}
 use Rattle.flow_law.specs.SharedStep as flow
-use Rattle.flow_law.specs.StateFlow.{StateFlowState, StateHistory, first_state_flow, after, IsReply, Receives, may_need_memory, is_exhausted, last_of, with_last, without_subscriber, IsLegalState}
+use Rattle.flow_law.specs.StateFlow.{StateFlowState, StateHistory, first_state_flow, after, IsReply, Receives, MayNeedMemory, is_exhausted, last_of, with_last, without_subscriber, IsLegalState}
 use Rattle.flow_law.specs.Conflation.{Beside, beside, newest_only, emitting, subscribing, reading, leaving, follows, Conflated, Agrees, AgreeAll, passed_on}
 use Rattle.flow_law.proofs.ReplyLemmas.{state_replies_cases}
 use Rattle.flow_law.proofs.Rows.{split}
@@ -321,17 +321,17 @@ module _ {T : Type 0} where
   answered u limit room s m ResetReplayCache r a is = (tt, less u limit room s m a)
 
   -- want of memory
-  short : (u limit room : ℕ) (s : StateFlowState T) (m : Beside T) (c : StateCall T) → Along u limit (suc room) s m → IsTrue (may_need_memory s c) → Kept u limit room s m c (Refused OutOfMemory)
+  short : (u limit room : ℕ) (s : StateFlowState T) (m : Beside T) (c : StateCall T) → Along u limit (suc room) s m → MayNeedMemory s c → Kept u limit room s m c (Refused OutOfMemory)
   short u limit room s m GetValue a h = (tt, less u limit room s m a)
-  short u limit room s m (Set x) a h = absurd (untrue h)
-  short u limit room s m (TryEmit x) a h = absurd (untrue h)
-  short u limit room s m (CompareAndSet x y) a h = absurd (untrue h)
+  short u limit room s m (Set x) a h = absurd h
+  short u limit room s m (TryEmit x) a h = absurd h
+  short u limit room s m (CompareAndSet x y) a h = absurd h
   short u limit room s m (Subscribe name) a h = (tt, less u limit room s m a)
   short u limit room s m (TakeNext n) a h = (tt, less u limit room s m a)
-  short u limit room s m (Unsubscribe n) a h = absurd (untrue h)
-  short u limit room s m SubscriptionCount a h = absurd (untrue h)
+  short u limit room s m (Unsubscribe n) a h = absurd h
+  short u limit room s m SubscriptionCount a h = absurd h
   short u limit room s m ReplayCache a h = (tt, less u limit room s m a)
-  short u limit room s m ResetReplayCache a h = absurd (untrue h)
+  short u limit room s m ResetReplayCache a h = absurd h
 
   pub agree : (u limit : ℕ) (s : StateFlowState T) (m : Beside T) (h : StateHistory T) → Along u limit (length h) s m → IsLegalState s h → AgreeAll u m h
   agree u limit s m [] a legal = tt

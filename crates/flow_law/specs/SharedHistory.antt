@@ -1,9 +1,10 @@
 -- Histories of a shared flow.
-use Rattle.std.specs.Prelude.{◌≡◌, ℕ, IsTrue, Bool, true, false, not, ◌&&◌, if◌then◌else◌, List, Option, Some, None, IsSome, Result, Ok, Err}
+use Rattle.std.specs.Prelude.{◌≡◌, ℕ, IsTrue, Bool, true, false, not, ◌&&◌, if◌then◌else◌, List, ◌∷◌, Option, Some, None, IsSome, Result, Ok, Err}
 use Rattle.flow_law.specs.declared.config.Config.{Config}
 use Rattle.flow_law.specs.declared.fault.FlowFault.{FlowFault}
 use Rattle.flow_law.specs.declared.fault.FlowFault.TheVariants.{OutOfMemory}
 use Rattle.flow_law.specs.declared.outcome.Emit.TheVariants.{Queued}
+use Rattle.flow_law.specs.declared.outcome.Next.TheVariants.{Value}
 use Rattle.flow_law.specs.declared.history.Event.{Event}
 use Rattle.flow_law.specs.declared.history.Said.{Said}
 use Rattle.flow_law.specs.declared.call.SharedCall.{SharedCall}
@@ -11,6 +12,7 @@ use Rattle.flow_law.specs.declared.call.SharedCall.TheVariants as call
 use Rattle.flow_law.specs.declared.call.SharedReply.{SharedReply}
 use Rattle.flow_law.specs.declared.call.SharedReply.TheVariants as reply
 use Rattle.flow_law.specs.SharedFlow.{SharedFlowState, Answer, first_state, config_fault, position_of}
+use Rattle.flow_law.specs.EmitRule.{emit_case, is_accepted, is_accepted_now}
 use Rattle.flow_law.specs.SharedStep as flow
 use Rattle.flow_law.specs.History.{Number, subscriber, emission, Owner, Kind}
 use Rattle.flow_law.specs.History as histories
@@ -44,14 +46,21 @@ module _ {T : Type 0} where
   is_refused (reply.Refused fault) = true
   is_refused _ = false
 
-  -- the calls that may be refused for want of memory, by the state too: with a buffer made in advance fewer need any
+  -- the reply hands a copy of some value out
+  abbrev pub hands_out : SharedReply T → Bool
+  hands_out (reply.Received (Value v)) = true
+  hands_out (reply.Cached (v ∷ vs)) = true
+  hands_out _ = false
+
+  -- The calls that may be refused for want of memory, by the state too: those that make the flow grow there, or that copy a
+  -- value. With a buffer made in advance fewer need any.
   abbrev pub may_need_memory : SharedFlowState T → SharedCall T → Bool
-  may_need_memory s (call.Poll e) = false
-  may_need_memory s (call.Cancel e) = false
-  may_need_memory s (call.Unsubscribe u) = false
-  may_need_memory s call.ResetReplayCache = false
-  may_need_memory s call.SubscriptionCount = false
-  may_need_memory s _ = true
+  may_need_memory s (call.TryEmit v) = is_accepted_now (emit_case s)
+  may_need_memory s (call.Emit v) = is_accepted (emit_case s)
+  may_need_memory s (call.Subscribe name) = true
+  may_need_memory s (call.TakeNext u) = hands_out (answer_to (call.TakeNext u) s).reply
+  may_need_memory s call.ReplayCache = hands_out (answer_to call.ReplayCache s).reply
+  may_need_memory s _ = false
 
   -- Want of memory is a reply to a call that may need memory and is not refused otherwise. Any other reply is the flow's own.
   abbrev pub Replies : SharedFlowState T → SharedCall T → SharedReply T → Type 0

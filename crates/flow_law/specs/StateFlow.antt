@@ -64,16 +64,21 @@ module _ {T : Type 0} where
   is_refused (Refused fault) = true
   is_refused _ = false
 
-  -- the calls that may be refused for want of memory
-  abbrev pub may_need_memory : StateFlowState T → StateCall T → Bool
-  may_need_memory s GetValue = true
-  may_need_memory s ReplayCache = true
-  may_need_memory s (TakeNext u) = true
-  may_need_memory s (Subscribe name) = not (is_exhausted s)
-  may_need_memory s _ = false
+  -- the subscriber is there, and this value is not the last that it got
+  abbrev pub IsDue : T → Option (Option T) → Type 0
+  IsDue v None = ⊥
+  IsDue v (Some last) = last ≢ Some v
+
+  -- the calls that may be refused for want of memory: those that copy a value, and a new subscriber
+  abbrev pub MayNeedMemory : StateFlowState T → StateCall T → Type 0
+  MayNeedMemory s GetValue = Unit {0}
+  MayNeedMemory s ReplayCache = Unit {0}
+  MayNeedMemory s (TakeNext u) = IsDue s.value (last_of u s.subscribers)
+  MayNeedMemory s (Subscribe name) = is_exhausted s ≡ false
+  MayNeedMemory s _ = ⊥
 
   abbrev pub Replies : StateFlowState T → StateCall T → StateReply T → Type 0
-  Replies s c (Refused OutOfMemory) = IsTrue (may_need_memory s c)
+  Replies s c (Refused OutOfMemory) = MayNeedMemory s c
   Replies s c r = IsReply s c r
 
   abbrev pub gives : List ℕ → StateCall T → StateReply T → Option Owner

@@ -1,6 +1,6 @@
 -- The tokens of any flow for several threads, and what a call does, as the token sees it through which it was made.
 -- Begin with `CallsIn`: one word for every call that is an event. `Id` is what tells one flow from another.
-use Rattle.std.specs.Prelude.{◌≡◌, ◌≢◌, ℕ, ◌+◌, List, Result, Ok, Err}
+use Rattle.std.specs.Prelude.{◌≡◌, ◌≢◌, ℕ, ◌+◌, true, List, Result, Ok, Err}
 use Rattle.flow_law.specs.declared.fault.FlowFault.{FlowFault}
 use Rattle.flow_law.specs.declared.fault.FlowFault.TheVariants.{Busy}
 use Rattle.flow_law.specs.declared.history.Event.{Event}
@@ -9,7 +9,7 @@ use Rattle.flow_law.specs.declared.history.Said.{Said}
 use Rattle.flow_law.specs.declared.outcome.Next.{Next}
 use Rattle.flow_law.specs.declared.outcome.Next.TheVariants.{Gone}
 use Rattle.flow_law.specs.Growth.{Fits, child_name, sees, loses, makes, child}
-use Rattle.flow_law.specs.History.{Kind, IsHistory}
+use Rattle.flow_law.specs.History.{Kind, IsHistory, replied}
 use Rattle.flow_law.specs.OneHistory.{AddsOne}
 
 -- a token: its flow, and what it knows
@@ -58,6 +58,19 @@ module _ {Id T S C R : Type 0} (kind : Kind T S C R) (first : S) where
   -- the same, and no exchange was lost
   abbrev pub CallsAtOnceIn : Token Id (Said C R) → C → R → Token Id (Said C R) → Type 0
   CallsAtOnceIn before call reply after = CallsIn before call reply after × (after.knows.lost ≡ before.knows.lost)
+
+  -- ---- the calls that every kind of flow has
+
+  -- the subscription took what was next
+  abbrev pub NextsIn : NumberedToken Id (Said C R) → Result (Next T) FlowFault → NumberedToken Id (Said C R) → Type 0
+  NextsIn old result new = CallsIn old.token (kind.take_next old.number) (replied kind kind.received result) new.token
+
+  -- the subscription was there and ended. Its token serves other calls
+  abbrev pub UnsubscribesIn : NumberedToken Id (Said C R) → Token Id (Said C R) → Type 0
+  UnsubscribesIn old after = CallsIn old.token (kind.unsubscribe old.number) (kind.tested true) after
+
+  abbrev pub CountsIn : Token Id (Said C R) → ℕ → Token Id (Said C R) → Type 0
+  CountsIn before count after = CallsIn before kind.count (kind.counted count) after
 
   -- both tokens have then seen one history of the flow, which fits what each had seen
   pub record MeetsIn (one other one_after other_after : Token Id (Said C R)) : Type 0 where

@@ -1,7 +1,7 @@
 //! The values of flows.
 ghost use Rattle.std.proofs.Common.{rules};
 ghost use Rattle.std.specs.Ordering.{int_eq};
-ghost use Rattle.std.specs.Prelude.{Bool, ◌≡◌, ◌↔◌, IsTrue, IfOk, IfErr};
+ghost use Rattle.std.specs.Prelude.{Bool, ◌≡◌, ◌↔◌, IsTrue, Ok, IfOk, IfErr};
 
 use crate::fault::FlowFault;
 
@@ -29,7 +29,9 @@ pub trait FlowValue: Drop {
 impl FlowValue for i64 {
     ghost is_same = { int_eq };
 
-    fn try_copy(&self) -> Result<i64, FlowFault> {
+    fn try_copy(&self) -> Result<i64, FlowFault>
+        ensures given { result ≡ Ok self.now }
+    {
         Ok(*self)
     }
 
