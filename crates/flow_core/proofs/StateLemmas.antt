@@ -1,8 +1,13 @@
 -- Rows of a state core beside the subscribers that the definitions have.
-use Rattle.std.proofs.Common.{◌≡◌, ℕ, suc, ◌+◌, ◌-◌, ◌≤◌, Bool, true, false, not, cond, ◌==◌, if◌then◌else◌, List, [], ◌∷◌, map, get_or, set, Option, Some, None, refl, ap, ◌∙◌, arith}
+use Rattle.std.proofs.Common.{◌≡◌, ◌≢◌, ℕ, suc, ◌+◌, ◌-◌, ◌≤◌, Bool, true, false, not, cond, ◌==◌, if◌then◌else◌, List, [], ◌∷◌, map, get_or, set, Option, Some, None, refl, sym, ap, subst, ◌∙◌, arith}
 use Rattle.std.specs.Prelude.{is_some}
 use Rattle.std.specs.List.{position_from}
-use Rattle.flow_law.specs.StateFlow.{last_of, with_last}
+use Rattle.flow_law.specs.declared.call.StateCall.TheVariants.{TakeNext}
+use Rattle.flow_law.specs.declared.call.StateReply.TheVariants.{Refused}
+use Rattle.flow_law.specs.declared.fault.FlowFault.{FlowFault}
+use Rattle.flow_law.specs.declared.fault.FlowFault.TheVariants.{OutOfMemory}
+use Rattle.flow_law.specs.declared.states.StateFlowState.{StateFlowState}
+use Rattle.flow_law.specs.StateFlow.{last_of, with_last, IsDue, Replies}
 use Rattle.flow_core.specs.declared.state.Row.{Row}
 use Rattle.flow_core.specs.StateCore.{subscriber_of}
 
@@ -48,3 +53,9 @@ module _ {T : Type 0} where
   there_is number rows None e = ap (λ o. is_some o) (Rattle.std.proofs.Common.sym (place_none number 0 rows e))
   there_is number [] (Some place) e = absurd (cc)
   there_is number (u ∷ us) (Some place) e = ap (λ o. is_some o) (Rattle.std.proofs.Common.sym (place_at number place (u ∷ us) u e).0)
+
+  -- who is there and has not got the value may be refused its copy
+  pub copy_refused : (s : StateFlowState T) (number : ℕ) (last : Option T) (fault : FlowFault) → last_of number s.subscribers ≡ Some last → last ≢ Some s.value → fault ≡ OutOfMemory
+      → Replies s (TakeNext number) (Refused fault)
+  copy_refused s number last fault there differs is =
+      subst (λ f. Replies s (TakeNext number) (Refused f)) (sym is) (subst (λ o. IsDue s.value o) (sym there) differs)

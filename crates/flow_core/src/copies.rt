@@ -1,5 +1,5 @@
 //! Copies of values.
-ghost use Rattle.std.specs.Prelude.{◌≡◌, IfOk, IfErr};
+ghost use Rattle.std.specs.Prelude.{◌≡◌, ◌≢◌, [], IfOk, IfErr, OnErr};
 
 use flow_law::{FlowFault, FlowValue};
 use std::alloc::Allocator;
@@ -11,6 +11,7 @@ pub(crate) fn copies<T: FlowValue, A: Allocator>(
 ) -> Result<Vec<T, A>, FlowFault>
     ensures copies { IfOk result (λ copies. copies.items ≡ values.now) }
     ensures memory { IfErr result (λ fault. fault ≡ FlowFault.OutOfMemory) }
+    ensures any { OnErr result (values.now ≢ []) }
 {
     let mut copies = Vec::new(alloc);
     for value in values {

@@ -1,12 +1,13 @@
-use Rattle.std.proofs.Common.{inl, inr, ◌≡◌, ◌==◌, ◌∙◌, Option, Some, None, map, set, refl, sym, ap, subst}
+use Rattle.std.proofs.Common.{inl, inr, ◌≡◌, ◌≢◌, ◌==◌, ◌∙◌, Option, Some, None, map, set, refl, sym, ap, subst}
 use Rattle.std.proofs.lemmas.Iterator.Adapters.{position_from-zero}
 use Rattle.flow_law.specs.declared.outcome.Next.TheVariants.{Value, Empty, Gone}
 use Rattle.flow_law.specs.declared.call.StateReply.TheVariants as reply
 use Rattle.flow_law.specs.declared.states.StateFlowState.{StateFlowState}
-use Rattle.flow_law.specs.StateFlow.{last_of, with_last, Receives}
+use Rattle.flow_law.specs.declared.call.StateCall.TheVariants as call
+use Rattle.flow_law.specs.StateFlow.{last_of, with_last, Receives, Replies}
 use Rattle.flow_core.specs.declared.state.Row.{Row}
 use Rattle.flow_core.specs.StateCore.{subscriber_of, kept}
-use Rattle.flow_core.proofs.StateLemmas.{place_at, place_none}
+use Rattle.flow_core.proofs.StateLemmas.{place_at, place_none, copy_refused}
 use Rattle.flow_core.proofs.state.StateCore.next.Goals as goal
 
 pub returns-in_default : goal.returns-in_default
@@ -64,5 +65,41 @@ returns-in-Ok-try_copy g c = record {
           ap (λ us. record (kept c.self.inside) { subscribers = us }) moved ∙ ap (λ (k : StateFlowState _). record k { subscribers = with_last number value k.subscribers }) (c.self.view_is ∙ same),
         ),
     tt,
+  );
+}
+
+pub returns-in-Err : goal.returns-in-Err
+returns-in-Err g c = record {
+  documented = (
+    λ s same.
+        let number = c.args.id.number in
+        let rows = c.self.inside.rows.items in
+        let found = sym (position_from-zero (λ u. u.number == number) rows) ∙ sym (rw c.as_slice.ensures.value at c.place_of.ensures) ∙ c.in-Some.is in
+        let there : last_of number (kept c.self.inside).subscribers ≡ Some c.index.result.now.last =
+        (place_at number c.in-Some.place rows c.index.result.now found).0 ∙ ap (λ (u : Row _). Some u.last) (sym c.index.ensures) in
+        let differs : c.index.result.now.last ≢ Some c.self.inside.value = λ is. Rattle.std.proofs.lemmas.Bool.both_ways c.has_got.result c.if-has_got.false (c.has_got.ensures.1 is) in (
+          subst (λ (k : StateFlowState _). Replies k (call.TakeNext number) (reply.Refused c.in-Err.fault)) (c.self.view_is ∙ same)
+              (copy_refused (kept c.self.inside) number c.index.result.now.last c.in-Err.fault there differs c.in-Err.ensures.memory),
+          same,
+        ),
+    refl,
+  );
+}
+
+pub returns-in-Err-try_copy : goal.returns-in-Err-try_copy
+returns-in-Err-try_copy g c = record {
+  documented = (
+    λ s same.
+        let number = c.args.id.number in
+        let rows = c.self.inside.rows.items in
+        let found = sym (position_from-zero (λ u. u.number == number) rows) ∙ sym (rw c.as_slice.ensures.value at c.place_of.ensures) ∙ c.in-Some.is in
+        let there : last_of number (kept c.self.inside).subscribers ≡ Some c.index.result.now.last =
+        (place_at number c.in-Some.place rows c.index.result.now found).0 ∙ ap (λ (u : Row _). Some u.last) (sym c.index.ensures) in
+        let differs : c.index.result.now.last ≢ Some c.self.inside.value = λ is. Rattle.std.proofs.lemmas.Bool.both_ways c.has_got.result c.if-has_got.false (c.has_got.ensures.1 is) in (
+          subst (λ (k : StateFlowState _). Replies k (call.TakeNext number) (reply.Refused c.in-Err-try_copy.fault)) (c.self.view_is ∙ same)
+              (copy_refused (kept c.self.inside) number c.index.result.now.last c.in-Err-try_copy.fault there differs c.in-Err-try_copy.ensures.memory),
+          same,
+        ),
+    refl,
   );
 }
