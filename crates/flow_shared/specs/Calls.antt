@@ -8,7 +8,7 @@ use Rattle.flow_law.specs.declared.outcome.Next.{Next}
 use Rattle.flow_law.specs.Growth.{adds, event}
 use Rattle.flow_law.specs.History.{Kind, IsHistory}
 use Rattle.flow_law.specs.OneHistory.{said}
-use Rattle.flow_law.specs.Tokens.{CallsIn, CallsAtOnceIn, MeetsIn, SubscribesIn, NextsNowIn, CountsNowIn}
+use Rattle.flow_law.specs.Tokens.{CallsIn, CallsAtOnceIn, NextsIn, UnsubscribesIn, CountsIn, MeetsIn, SubscribesIn, NextsNowIn, CountsNowIn}
 use Rattle.flow_law.specs.Tokens as flows
 use Rattle.flow_gate.specs.Tokens.{Token, Origin, HeldState}
 
@@ -27,6 +27,15 @@ module _ {T S C R : Type 0} (kind : Kind T S C R) (flow : Origin S) where
 
   abbrev pub Subscribes : Token (Said C R) → Result (NumberedToken (Said C R)) FlowFault → Token (Said C R) → Type 0
   Subscribes = SubscribesIn kind flow.first
+
+  abbrev pub Nexts : NumberedToken (Said C R) → Result (Next T) FlowFault → NumberedToken (Said C R) → Type 0
+  Nexts = NextsIn kind flow.first
+
+  abbrev pub Unsubscribes : NumberedToken (Said C R) → Token (Said C R) → Type 0
+  Unsubscribes = UnsubscribesIn kind flow.first
+
+  abbrev pub Counts : Token (Said C R) → ℕ → Token (Said C R) → Type 0
+  Counts = CountsIn kind flow.first
 
   abbrev pub NextsNow : NumberedToken (Said C R) → Result (Next T) FlowFault → NumberedToken (Said C R) → Type 0
   NextsNow = NextsNowIn kind flow.first

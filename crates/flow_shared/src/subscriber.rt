@@ -3,7 +3,7 @@ ghost use Rattle.std.specs.Prelude.{◌≡◌, ◌≢◌, ℕ, true, Ok, ⊤};
 ghost use Rattle.flow_law.specs.History.{replied};
 ghost use Rattle.flow_law.specs.declared.outcome.Next.TheVariants.{Gone};
 ghost use Rattle.flow_core.specs.SubId.{number_of};
-ghost use Rattle.flow_shared.specs.Calls.{Calls, Meets, Subscribes, NextsNow, CountsNow};
+ghost use Rattle.flow_shared.specs.Calls.{Nexts, Unsubscribes, Counts, Meets, Subscribes, NextsNow, CountsNow};
 
 use crate::core_call::CoreCall;
 use crate::flow::Flow;
@@ -129,7 +129,7 @@ impl<S: FlowCore + Drop, A: Allocator + Copy> Flow<S, A> {
         subscription: &mut FlowSubscription<S, A>,
     ) -> Result<Next<S::Item>, FlowFault>
         requires { subscription.old.token.table_id ≡ self.now.table_id }
-        ensures called { Calls S.kind self.now subscription.old.token (S.kind.take_next subscription.old.number) (replied S.kind S.kind.received result) subscription.new.token }
+        ensures called { Nexts S.kind self.now subscription.old result subscription.new }
         ensures number { subscription.new.number ≡ subscription.old.number }
         ensures live { result ≢ Ok Gone }
     {
@@ -169,7 +169,7 @@ impl<S: FlowCore + Drop, A: Allocator + Copy> Flow<S, A> {
         subscription: FlowSubscription<S, A>,
     ) -> FlowSeat<S, A>
         requires { subscription.token.table_id ≡ self.now.table_id }
-        ensures { Calls S.kind self.now subscription.token (S.kind.unsubscribe subscription.number) (S.kind.tested true) result }
+        ensures { Unsubscribes S.kind self.now subscription result }
     {
         let FlowSubscription { seat, id } = subscription;
         let (seat, _was_there) = self.call_by(rt, seat.unwrap(), Unsubscribe { id });
@@ -179,7 +179,7 @@ impl<S: FlowCore + Drop, A: Allocator + Copy> Flow<S, A> {
     /// How many subscribers there are. A subscription that was dropped is counted: only `unsubscribe` ends one.
     pub fn subscription_count<R: Wait>(&self, rt: &R, seat: &mut FlowSeat<S, A>) -> u64
         requires { seat.old.table_id ≡ self.now.table_id }
-        ensures { Calls S.kind self.now seat.old S.kind.count (S.kind.counted result) seat.new }
+        ensures { Counts S.kind self.now seat.old result seat.new }
     {
         self.call(rt, seat, Count)
     }
