@@ -1,7 +1,7 @@
 -- Nobody has more to receive than the window, and the numbers that calls answer are those of the state after.
 use Rattle.std.proofs.Common.{◌≡◌, ℕ, ◌+◌, ◌-◌, ◌≤◌, ◌<◌, Bool, false, not, ◌==◌, cond, List, [], ◌∷◌, ◌++◌, length, map, Option, Some, None, refl, subst, arith}
 use Rattle.std.specs.Prelude.{filter, max, nat_le, Err}
-use Rattle.std.specs.List.{list_any, slice_get}
+use Rattle.std.specs.List.{AllByRecursion, list_any, slice_get}
 use Rattle.std.specs.Option.{option_map_or}
 use Rattle.std.proofs.lemmas.Bool.{cond_both, or_parts, leb-false}
 use Rattle.std.proofs.lemmas.List.{length_push}
@@ -16,19 +16,19 @@ use Rattle.flow_law.specs.EmitRule.{append, numbered}
 use Rattle.flow_law.specs.SharedStep.{settle, withdraw, enroll, advance, leave, read, next}
 use Rattle.flow_law.specs.SharedHistory.{SharedOutcome, outcome_of, answer_to, is_refused, after, History, state_after}
 use Rattle.flow_law.proofs.Moves.{Keeps, history_keeps, admit_keeps}
-use Rattle.flow_law.proofs.Rows.{Every, every_weaker, every_snoc, every_filter, every_map, every_move, position_holds}
+use Rattle.flow_law.proofs.Rows.{every_weaker, every_snoc, every_filter, every_map, every_move, position_holds}
 use Rattle.flow_law.proofs.Steps.{emit_split, try_emit_split}
 
 -- where a test holds of none, it fails at each
-none_holds : {X : Type 0} (test : X → Bool) (xs : List X) → list_any test xs ≡ false → Every (λ x. test x ≡ false) xs
+none_holds : {X : Type 0} (test : X → Bool) (xs : List X) → list_any test xs ≡ false → AllByRecursion (λ x. test x ≡ false) xs
 none_holds test [] h = tt
 none_holds test (x ∷ xs) h = let parts : (test x ≡ false) × (list_any test xs ≡ false) = or_parts _ _ h in (parts.0, none_holds test xs parts.1)
 
 module _ {T : Type 0} where
   abbrev pub Keeping : SharedFlowState T → Type 0
-  Keeping s = Every (λ u. length s.emitted - u.position ≤ window s) s.subscribers
+  Keeping s = AllByRecursion (λ u. length s.emitted - u.position ≤ window s) s.subscribers
 
-  one_more : (s : SharedFlowState T) (e : Numbered T) → is_blocked s ≡ false → Every (λ u. length (s.emitted ++ e ∷ []) - u.position ≤ window s) s.subscribers
+  one_more : (s : SharedFlowState T) (e : Numbered T) → is_blocked s ≡ false → AllByRecursion (λ u. length (s.emitted ++ e ∷ []) - u.position ≤ window s) s.subscribers
   one_more s e free = every_weaker (λ u. nat_le (window s) (lag s u) ≡ false) (λ u. length (s.emitted ++ e ∷ []) - u.position ≤ window s)
       (λ u k. let room : length s.emitted - u.position < window s = leb-false (window s) (length s.emitted - u.position) k in omega (arith, room, length_push s.emitted e))
       s.subscribers (none_holds _ s.subscribers free)

@@ -1,5 +1,6 @@
 -- A history of any kind of flow in two parts: what holds of each, and to whom a number belongs after it.
 use Rattle.std.proofs.Common.{◌≡◌, ◌≢◌, ℕ, ◌≤◌, ◌<◌, true, List, [], ◌∷◌, ◌++◌, Option, Some, None, refl, sym, ap, ◌∙◌, subst, arith, eq-eqb}
+use Rattle.std.specs.List.{AllByRecursion}
 use Rattle.std.proofs.lemmas.Bool.{cond_both, cond-true}
 use Rattle.std.proofs.lemmas.Bool.Decides.{Decides-eqb}
 use Rattle.flow_law.specs.declared.history.Event.{Event}
@@ -7,7 +8,7 @@ use Rattle.flow_law.specs.declared.history.Said.{Said}
 use Rattle.flow_law.specs.History.{Kind, Number, subscriber, emission, is_same, Owner, owner_of, with_owner, after_all, IsLegal, MaySpeak, IsOwned, IsHistory, owners_after, owners_all, IsGiven}
 use Rattle.flow_law.specs.Lawful.{Lawful, number_in, IsNew}
 use Rattle.flow_law.specs.Growth.{IsSilent}
-use Rattle.flow_law.proofs.Rows.{Every, every_weaker}
+use Rattle.flow_law.proofs.Rows.{every_weaker}
 
 -- ---- numbers
 
@@ -22,7 +23,7 @@ is_same-refl (subscriber n) = eq-eqb n n refl
 is_same-refl (emission n) = eq-eqb n n refl
 
 abbrev pub UpTo : ℕ → List Owner → Type 0
-UpTo n = Every (λ (o : Owner). number_in o.number ≤ n)
+UpTo n = AllByRecursion (λ (o : Owner). number_in o.number ≤ n)
 
 pub up_to_more : (m n : ℕ) (owners : List Owner) → m ≤ n → UpTo m owners → UpTo n owners
 up_to_more m n owners l = every_weaker (λ (o : Owner). number_in o.number ≤ m) (λ (o : Owner). number_in o.number ≤ n) (λ o h. omega (arith, h, l)) owners

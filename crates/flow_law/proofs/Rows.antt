@@ -1,7 +1,7 @@
 -- Subscribers in a list, and lists of numbers that rise.
 use Rattle.std.proofs.Common.{◌≡◌, ℕ, ◌+◌, ◌-◌, ◌≤◌, ◌<◌, Bool, true, false, not, ◌==◌, cond, List, [], ◌∷◌, ◌++◌, map, Some, None, refl, sym, ap, ◌∙◌, subst, arith}
 use Rattle.std.specs.Prelude.{filter, nat_le}
-use Rattle.std.specs.List.{list_any}
+use Rattle.std.specs.List.{AllByRecursion, list_any}
 use Rattle.std.proofs.lemmas.Bool.{cond_both, or_parts, cond-true, cond-false, leb-false}
 use Rattle.std.proofs.lemmas.Bool.Decides.{Decides-eqb, nat_tests}
 use Rattle.flow_law.specs.SharedFlow.{Numbered, Subscriber, position_of, stand_at, move_to, without}
@@ -12,41 +12,37 @@ pub split : (b : Bool) (P : Bool → Type 0) → (b ≡ true → P true) → (b 
 split true P f g = f refl
 split false P f g = g refl
 
-abbrev pub Every : {A : Type 0} → (A → Type 0) → List A → Type 0
-Every P [] = Unit {0}
-Every P (x ∷ xs) = P x × Every P xs
-
 module _ {A : Type 0} where
-  pub every_weaker : (P Q : A → Type 0) → ((x : A) → P x → Q x) → (xs : List A) → Every P xs → Every Q xs
+  pub every_weaker : (P Q : A → Type 0) → ((x : A) → P x → Q x) → (xs : List A) → AllByRecursion P xs → AllByRecursion Q xs
   every_weaker P Q f [] h = tt
   every_weaker P Q f (x ∷ xs) h = (f x h.0, every_weaker P Q f xs h.1)
 
-  pub every_snoc : (P : A → Type 0) (xs : List A) (x : A) → Every P xs → P x → Every P (xs ++ x ∷ [])
+  pub every_snoc : (P : A → Type 0) (xs : List A) (x : A) → AllByRecursion P xs → P x → AllByRecursion P (xs ++ x ∷ [])
   every_snoc P [] x h k = (k, tt)
   every_snoc P (y ∷ ys) x h k = (h.0, every_snoc P ys x h.1 k)
 
-  pub every_filter : (P : A → Type 0) (test : A → Bool) (xs : List A) → Every P xs → Every P (filter test xs)
+  pub every_filter : (P : A → Type 0) (test : A → Bool) (xs : List A) → AllByRecursion P xs → AllByRecursion P (filter test xs)
   every_filter P test [] h = tt
-  every_filter P test (x ∷ xs) h = cond_both (test x) (x ∷ filter test xs) (filter test xs) (Every P)
+  every_filter P test (x ∷ xs) h = cond_both (test x) (x ∷ filter test xs) (filter test xs) (AllByRecursion P)
       (λ _. (h.0, every_filter P test xs h.1)) (λ _. every_filter P test xs h.1)
 
-  pub every_map : (P Q : A → Type 0) (f : A → A) → ((x : A) → P x → Q (f x)) → (xs : List A) → Every P xs → Every Q (map f xs)
+  pub every_map : (P Q : A → Type 0) (f : A → A) → ((x : A) → P x → Q (f x)) → (xs : List A) → AllByRecursion P xs → AllByRecursion Q (map f xs)
   every_map P Q f k [] h = tt
   every_map P Q f k (x ∷ xs) h = (k x h.0, every_map P Q f k xs h.1)
 
-pub every_move : (P : Subscriber → Type 0) (number p : ℕ) → ((u : Subscriber) → P u → P (stand_at p u)) → (us : List Subscriber) → Every P us → Every P (move_to number p us)
+pub every_move : (P : Subscriber → Type 0) (number p : ℕ) → ((u : Subscriber) → P u → P (stand_at p u)) → (us : List Subscriber) → AllByRecursion P us → AllByRecursion P (move_to number p us)
 every_move P number p k [] h = tt
-every_move P number p k (u ∷ us) h = cond_both (u.number == number) (stand_at p u ∷ us) (u ∷ move_to number p us) (Every P)
+every_move P number p k (u ∷ us) h = cond_both (u.number == number) (stand_at p u ∷ us) (u ∷ move_to number p us) (AllByRecursion P)
     (λ _. (k u h.0, h.1)) (λ _. (h.0, every_move P number p k us h.1))
 
 -- ---- where a subscriber stands
 
-pub absent : (n number : ℕ) (us : List Subscriber) → Every (λ u. u.number ≤ n) us → n < number → position_of number us ≡ None
+pub absent : (n number : ℕ) (us : List Subscriber) → AllByRecursion (λ u. u.number ≤ n) us → n < number → position_of number us ≡ None
 absent n number [] h l = refl
 absent n number (u ∷ us) h l = cond_both (u.number == number) (Some u.position) (position_of number us) (λ o. o ≡ None)
     (λ e. absurd (omega (arith, h.0, l, (Decides-eqb u.number number).0 e))) (λ _. absent n number us h.1 l)
 
-pub position_holds : (P : Subscriber → Type 0) (number p : ℕ) (us : List Subscriber) → Every P us → position_of number us ≡ Some p → (u : Subscriber) × (u.number ≡ number) × (u.position ≡ p) × P u
+pub position_holds : (P : Subscriber → Type 0) (number p : ℕ) (us : List Subscriber) → AllByRecursion P us → position_of number us ≡ Some p → (u : Subscriber) × (u.number ≡ number) × (u.position ≡ p) × P u
 position_holds P number p [] h e = absurd (cc)
 position_holds P number p (u ∷ us) h e = cond_both (u.number == number) (Some u.position) (position_of number us)
     (λ o. o ≡ Some p → (u : Subscriber) × (u.number ≡ number) × (u.position ≡ p) × P u)

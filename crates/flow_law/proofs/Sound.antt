@@ -1,7 +1,7 @@
 -- What holds in each state that a history leads to.
 use Rattle.std.proofs.Common.{inl, inr, ◌≡◌, ℕ, ◌+◌, ◌-◌, ◌≤◌, not, ◌==◌, List, [], ◌∷◌, ◌++◌, length, map, Some, refl, sym, ap, ◌∙◌, subst, arith, append_assoc, append-nil}
 use Rattle.std.specs.Prelude.{filter, max}
-use Rattle.std.specs.List.{slice_get}
+use Rattle.std.specs.List.{AllByRecursion, slice_get}
 use Rattle.std.proofs.lemmas.Bool.{cond_both, or_parts, both_ways, cond-true, cond-false}
 use Rattle.std.proofs.lemmas.List.{map-append, length-map, length_push}
 use Rattle.std.proofs.lemmas.Option.{slice_get_past}
@@ -13,20 +13,20 @@ use Rattle.flow_law.specs.SharedHistory.{History, state_after}
 use Rattle.flow_law.specs.Laws.{RisesTo, numbers}
 use Rattle.flow_law.proofs.Moves.{Keeps, history_keeps, admit_keeps}
 use Rattle.flow_law.proofs.Queue.{Calm, fits_drops, calm_keeps, opened_fits}
-use Rattle.flow_law.proofs.Rows.{Every, every_weaker, every_snoc, every_filter, every_map, every_move, rises_more, rises_filter}
+use Rattle.flow_law.proofs.Rows.{every_weaker, every_snoc, every_filter, every_map, every_move, rises_more, rises_filter}
 
-within_longer : (us : List Subscriber) (a b : ℕ) → a ≤ b → Every (λ u. u.position ≤ a) us → Every (λ u. u.position ≤ b) us
+within_longer : (us : List Subscriber) (a b : ℕ) → a ≤ b → AllByRecursion (λ u. u.position ≤ a) us → AllByRecursion (λ u. u.position ≤ b) us
 within_longer us a b l h = every_weaker (λ u. u.position ≤ a) (λ u. u.position ≤ b) (λ u k. omega (arith, l, k)) us h
 
-issued_more : (us : List Subscriber) (n : ℕ) → Every (λ u. u.number ≤ n) us → Every (λ u. u.number ≤ n + 1) us
+issued_more : (us : List Subscriber) (n : ℕ) → AllByRecursion (λ u. u.number ≤ n) us → AllByRecursion (λ u. u.number ≤ n + 1) us
 issued_more us n h = every_weaker (λ u. u.number ≤ n) (λ u. u.number ≤ n + 1) (λ u k. omega (arith, k)) us h
 
 module _ {T : Type 0} where
   -- subscribers stand within the log, and have numbers that were issued
   pub record Placed (s : SharedFlowState T) : Type 0 where
     pub reset_mark : s.reset_mark ≤ length s.emitted
-    pub within : Every (λ u. u.position ≤ length s.emitted) s.subscribers
-    pub issued : Every (λ u. u.number ≤ s.issued) s.subscribers
+    pub within : AllByRecursion (λ u. u.position ≤ length s.emitted) s.subscribers
+    pub issued : AllByRecursion (λ u. u.number ≤ s.issued) s.subscribers
 
   pub record Sound (s : SharedFlowState T) : Type 0 where
     pub calm : Calm s

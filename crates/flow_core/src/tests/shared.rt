@@ -70,3 +70,44 @@ fn a_strategy_that_drops_needs_a_buffer(rt: HostRuntime) -> Result<(), Fail> {
     assert_eq!(rt; refused.err(), Some(FlowFault::NeedsBuffer));
     Ok(())
 }
+
+#[test]
+fn the_largest_buffer_is_filled_and_more(rt: HostRuntime) -> Result<(), Fail> {
+    let mut flow = SharedCore::<i64>::new(rt.alloc(), config(65_536, 0, Overflow::DropOldest))?;
+    let a = flow.subscribe()?;
+    for value in 0..65_540_i64 {
+        assert_eq!(rt; flow.emit(value)?, Emit::Done);
+    }
+    assert_eq!(rt; flow.replay_cache()?.len(), 65_536);
+    assert_eq!(rt; flow.next(a)?, Next::Value(4));
+    Ok(())
+}
+
+#[test]
+fn two_thousand_emitters_wait_in_order(rt: HostRuntime) -> Result<(), Fail> {
+    let mut flow = SharedCore::<i64>::new(rt.alloc(), config(1, 0, Overflow::Suspend))?;
+    let a = flow.subscribe()?;
+    assert_eq!(rt; flow.emit(0)?, Emit::Done);
+    for value in 1..2_001_u64 {
+        assert_eq!(rt; flow.emit(value as i64)?, Emit::Queued(value + 2));
+    }
+    for value in 0..2_001_i64 {
+        assert_eq!(rt; flow.next(a)?, Next::Value(value));
+    }
+    assert_eq!(rt; flow.next(a)?, Next::Empty);
+    Ok(())
+}
+
+#[test]
+fn an_emission_after_a_hundred_thousand(rt: HostRuntime) -> Result<(), Fail> {
+    let mut flow = SharedCore::<i64>::new(rt.alloc(), config(1, 0, Overflow::Suspend))?;
+    for value in 0..100_000_i64 {
+        assert_eq!(rt; flow.try_emit(value)?, true);
+    }
+    let a = flow.subscribe()?;
+    assert_eq!(rt; a.number(), 100_001);
+    assert_eq!(rt; flow.next(a)?, Next::Value(99_999));
+    assert_eq!(rt; flow.emit(7)?, Emit::Done);
+    assert_eq!(rt; flow.next(a)?, Next::Value(7));
+    Ok(())
+}

@@ -38,3 +38,13 @@ fn a_subscriber_gets_no_value_twice_in_a_row(rt: HostRuntime) -> Result<(), Fail
     assert!(rt; !flow.unsubscribe(a));
     Ok(())
 }
+
+#[test]
+fn a_state_flow_without_a_subscriber_has_a_cache(rt: HostRuntime) -> Result<(), Fail> {
+    let mut flow = StateCore::<i64>::new(rt.alloc(), 0, 0);
+    assert_eq!(rt; flow.replay_cache()?.as_slice(), [0].as_slice());
+    flow.set(7);
+    assert_eq!(rt; flow.replay_cache()?.as_slice(), [7].as_slice());
+    assert_eq!(rt; flow.value()?, 7);
+    Ok(())
+}
