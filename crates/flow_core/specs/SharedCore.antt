@@ -1,5 +1,5 @@
 -- What contracts see of a shared core, and the results of its calls as the replies of a history.
--- Public clauses cite the replies (`tested` to `cached`); the rest is for private functions.
+-- Public clauses cite the replies (`try_emit_reply` to `cache_reply`); the rest is for private functions.
 use Rattle.std.specs.Prelude.{◌≡◌, ◌+◌, ◌<◌, ◌≤◌, Bool, List, map, length, vec_len, Result, Ok, Err}
 use Rattle.std.specs.Vec.{vec_capacity}
 use Rattle.flow_law.specs.declared.fault.FlowFault.{FlowFault}
@@ -24,28 +24,28 @@ use Rattle.flow_core.specs.declared.shared.emission.EmitCase.TheVariants.{Append
 
 -- ---- replies
 
-abbrev pub tested : {T : Type 0} → Result Bool (Refused T) → SharedReply T
-tested (Ok answer) = reply.Tested answer
-tested (Err refused) = reply.Refused refused.fault
+abbrev pub try_emit_reply : {T : Type 0} → Result Bool (Refused T) → SharedReply T
+try_emit_reply (Ok answer) = reply.Tested answer
+try_emit_reply (Err refused) = reply.Refused refused.fault
 
-abbrev pub emitted : {T : Type 0} → Result Emit (Refused T) → SharedReply T
-emitted (Ok emission) = reply.Emitted emission
-emitted (Err refused) = reply.Refused refused.fault
+abbrev pub emit_reply : {T : Type 0} → Result Emit (Refused T) → SharedReply T
+emit_reply (Ok emission) = reply.Emitted emission
+emit_reply (Err refused) = reply.Refused refused.fault
 
-abbrev pub subscribed : {T : Type 0} → Result SubId FlowFault → SharedReply T
-subscribed = replied shared_flow (λ id. reply.Subscribed (number_of id))
+abbrev pub subscribe_reply : {T : Type 0} → Result SubId FlowFault → SharedReply T
+subscribe_reply = replied shared_flow (λ id. reply.Subscribed (number_of id))
 
-abbrev pub received : {T : Type 0} → Result (Next T) FlowFault → SharedReply T
-received = replied shared_flow reply.Received
+abbrev pub next_reply : {T : Type 0} → Result (Next T) FlowFault → SharedReply T
+next_reply = replied shared_flow reply.Received
 
-abbrev pub cached : {V T : Type 0} → (V → List T) → Result V FlowFault → SharedReply T
-cached items = replied shared_flow (λ values. reply.Cached (items values))
+abbrev pub cache_reply : {V T : Type 0} → (V → List T) → Result V FlowFault → SharedReply T
+cache_reply items = replied shared_flow (λ values. reply.Cached (items values))
 
 -- ---- the fields
 
 -- what a core's fields keep of a flow. It never lets go of a value
-abbrev pub kept : {T A : Type 0} → Inside T A → Core T
-kept c = record {
+abbrev pub fields_of : {T A : Type 0} → Inside T A → Core T
+fields_of c = record {
   config = c.config;
   held = c.values.items;
   appended = vec_len c.values;

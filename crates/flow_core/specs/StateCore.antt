@@ -14,27 +14,27 @@ use Rattle.flow_core.specs.declared.state.StateCore.TheInside.{Inside}
 use Rattle.flow_core.specs.SubId.{number_of}
 
 module _ {T : Type 0} where
-  abbrev pub got : Result T FlowFault → StateReply T
-  got = replied state_flow reply.Got
+  abbrev pub value_reply : Result T FlowFault → StateReply T
+  value_reply = replied state_flow reply.Got
 
-  abbrev pub subscribed : Result SubId FlowFault → StateReply T
-  subscribed = replied state_flow (λ id. reply.Subscribed (number_of id))
+  abbrev pub subscribe_reply : Result SubId FlowFault → StateReply T
+  subscribe_reply = replied state_flow (λ id. reply.Subscribed (number_of id))
 
-  abbrev pub received : Result (Next T) FlowFault → StateReply T
-  received = replied state_flow reply.Received
+  abbrev pub next_reply : Result (Next T) FlowFault → StateReply T
+  next_reply = replied state_flow reply.Received
 
-  abbrev pub cached : {V : Type 0} → (V → List T) → Result V FlowFault → StateReply T
-  cached items = replied state_flow (λ values. reply.Cached (items values))
+  abbrev pub cache_reply : {V : Type 0} → (V → List T) → Result V FlowFault → StateReply T
+  cache_reply items = replied state_flow (λ values. reply.Cached (items values))
 
   -- a state flow's cache is never reset: `Ok` would be no reply of it
-  abbrev pub reset : Result (Unit {0}) FlowFault → StateReply T
-  reset = replied state_flow (λ none. reply.Done)
+  abbrev pub reset_reply : Result (Unit {0}) FlowFault → StateReply T
+  reset_reply = replied state_flow (λ none. reply.Done)
 
   abbrev pub subscriber_of : Row T → StateSubscriber T
   subscriber_of row = record { number = row.number; last = row.last }
 
-  abbrev pub kept : {A : Type 0} → Inside T A → StateFlowState T
-  kept c = record {
+  abbrev pub fields_of : {A : Type 0} → Inside T A → StateFlowState T
+  fields_of c = record {
     limit = c.limit;
     value = c.value;
     subscribers = map subscriber_of c.rows.items;

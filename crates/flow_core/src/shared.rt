@@ -7,7 +7,7 @@ ghost use Rattle.flow_law.specs.Standing.{StandsFor, Conforms};
 ghost use Rattle.flow_law.specs.declared.call.SharedCall.TheVariants as call;
 ghost use Rattle.flow_law.specs.declared.call.SharedReply.TheVariants as reply;
 ghost use Rattle.flow_core.specs.SubId.{number_of};
-ghost use Rattle.flow_core.specs.SharedCore.{subscribed, received, cached, Shows, Leads, Admits};
+ghost use Rattle.flow_core.specs.SharedCore.{subscribe_reply, next_reply, cache_reply, Shows, Leads, Admits};
 
 mod emission;
 mod kind;
@@ -42,9 +42,9 @@ impl<T: FlowValue, A: Allocator + Copy> Model for SharedCore<T, A> {
 
     ghost Value = { Core T };
 
-    ghost use Rattle.flow_core.specs.SharedCore.{kept, IsSound};
+    ghost use Rattle.flow_core.specs.SharedCore.{fields_of, IsSound};
 
-    ghost view = { kept };
+    ghost view = { fields_of };
 
     ghost invariant = { λ c. IsSound c };
 }
@@ -165,7 +165,7 @@ impl<T: FlowValue, A: Allocator + Copy> SharedCore<T, A> {
     ///
     /// A subscriber who does not read blocks emitters or loses values, as the strategy says, until `unsubscribe`.
     pub fn subscribe(&mut self) -> Result<SubId, FlowFault>
-        ensures documented { (name : List ℕ) → Conforms self.old (call.Subscribe name) (subscribed result) self.new }
+        ensures documented { (name : List ℕ) → Conforms self.old (call.Subscribe name) (subscribe_reply result) self.new }
     {
         if self.issued == self.config.limit {
             return Err(FlowFault::Exhausted);
@@ -183,7 +183,7 @@ impl<T: FlowValue, A: Allocator + Copy> SharedCore<T, A> {
 
     /// What a subscriber receives next. It makes room, so queued values may be emitted by it.
     pub fn next(&mut self, id: SubId) -> Result<Next<T>, FlowFault>
-        ensures documented { Conforms self.old (call.TakeNext (number_of id)) (received result) self.new }
+        ensures documented { Conforms self.old (call.TakeNext (number_of id)) (next_reply result) self.new }
     {
         let Some(position) = self.subscribers.position_of(id.number) else {
             return Ok(Next::Gone);
@@ -213,7 +213,7 @@ impl<T: FlowValue, A: Allocator + Copy> SharedCore<T, A> {
 
     /// What a new subscriber would get first, where nothing is offered: copies of at most `replay` values.
     pub fn replay_cache(&self) -> Result<Vec<T, A>, FlowFault>
-        ensures documented { Conforms self.now call.ReplayCache (cached (λ values. values.items) result) self.now }
+        ensures documented { Conforms self.now call.ReplayCache (cache_reply (λ values. values.items) result) self.now }
     {
         match copies(self.alloc, &self.values.as_slice()[self.cache_start()..]) {
             Ok(cache) => Ok(cache),

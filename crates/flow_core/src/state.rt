@@ -6,7 +6,7 @@ ghost use Rattle.flow_law.specs.Standing.{StateConforms};
 ghost use Rattle.flow_law.specs.declared.call.StateCall.TheVariants as call;
 ghost use Rattle.flow_law.specs.declared.call.StateReply.TheVariants as reply;
 ghost use Rattle.flow_core.specs.SubId.{number_of};
-ghost use Rattle.flow_core.specs.StateCore.{got, subscribed, received, cached, reset};
+ghost use Rattle.flow_core.specs.StateCore.{value_reply, subscribe_reply, next_reply, cache_reply, reset_reply};
 
 mod kind;
 
@@ -42,9 +42,9 @@ impl<T: FlowValue, A: Allocator + Copy> Model for StateCore<T, A> {
 
     ghost Value = { StateFlowState T };
 
-    ghost use Rattle.flow_core.specs.StateCore.{kept};
+    ghost use Rattle.flow_core.specs.StateCore.{fields_of};
 
-    ghost view = { kept };
+    ghost view = { fields_of };
 
     ghost invariant = { λ c. c.issued ≤ c.limit };
 }
@@ -82,7 +82,7 @@ impl<T: FlowValue, A: Allocator + Copy> StateCore<T, A> {
 
     /// A copy of the current value.
     pub fn value(&self) -> Result<T, FlowFault>
-        ensures documented { StateConforms self.now call.GetValue (got result) self.now }
+        ensures documented { StateConforms self.now call.GetValue (value_reply result) self.now }
     {
         match self.value.try_copy() {
             Ok(copy) => Ok(copy),
@@ -120,7 +120,7 @@ impl<T: FlowValue, A: Allocator + Copy> StateCore<T, A> {
 
     /// A new subscriber, who gets the current value first.
     pub fn subscribe(&mut self) -> Result<SubId, FlowFault>
-        ensures documented { (name : List ℕ) → StateConforms self.old (call.Subscribe name) (subscribed result) self.new }
+        ensures documented { (name : List ℕ) → StateConforms self.old (call.Subscribe name) (subscribe_reply result) self.new }
     {
         if self.issued == self.limit {
             return Err(FlowFault::Exhausted);
@@ -137,7 +137,7 @@ impl<T: FlowValue, A: Allocator + Copy> StateCore<T, A> {
 
     /// The current value, if it is not the one that the subscriber got last.
     pub fn next(&mut self, id: SubId) -> Result<Next<T>, FlowFault>
-        ensures documented { StateConforms self.old (call.TakeNext (number_of id)) (received result) self.new }
+        ensures documented { StateConforms self.old (call.TakeNext (number_of id)) (next_reply result) self.new }
     {
         let Some(place) = place_of(self.rows.as_slice(), id.number) else {
             return Ok(Next::Gone);
@@ -168,7 +168,7 @@ impl<T: FlowValue, A: Allocator + Copy> StateCore<T, A> {
 
     /// The current value alone: that is a state flow's replay cache.
     pub fn replay_cache(&self) -> Result<Vec<T, A>, FlowFault>
-        ensures documented { StateConforms self.now call.ReplayCache (cached (λ values. values.items) result) self.now }
+        ensures documented { StateConforms self.now call.ReplayCache (cache_reply (λ values. values.items) result) self.now }
     {
         match self.value.try_copy() {
             Err(fault) => Err(fault),
@@ -184,7 +184,7 @@ impl<T: FlowValue, A: Allocator + Copy> StateCore<T, A> {
 
     /// Always refused as `Unsupported`: a state flow has a value at any time.
     pub fn reset_replay_cache(&mut self) -> Result<(), FlowFault>
-        ensures documented { StateConforms self.old call.ResetReplayCache (reset result) self.new }
+        ensures documented { StateConforms self.old call.ResetReplayCache (reset_reply result) self.new }
     {
         Err(FlowFault::Unsupported)
     }

@@ -54,7 +54,7 @@ module _ {S E : Type 0} (stands : S → S → List (Event E) → Type 0) (gate :
     pub token : held.token ≡ knowing before (knowledge before.knows.name before.knows.made held.token.knows.lost history)
 
   -- Two tokens meet: both have then seen one history, for which some state stood, and which fits what each had seen.
-  pub record Meets (one other one_after other_after : Token E) : Type 0 where
+  pub record MeetsAtGate (one other one_after other_after : Token E) : Type 0 where
     pub history : List (Event E)
     pub stood : (state : S) × stands gate.first state history
     pub fits_one : Fits history one.knows
@@ -65,7 +65,3 @@ module _ {S E : Type 0} (stands : S → S → List (Event E) → Type 0) (gate :
   -- the state stands for a history
   abbrev pub StandsForSome : S → Type 0
   StandsForSome state = (history : List (Event E)) × stands gate.first state history
-
-  -- the state stands for a history that fits what the token has seen
-  abbrev pub StandsAfter : Token E → S → Type 0
-  StandsAfter t state = (history : List (Event E)) × stands gate.first state history × Fits history t.knows

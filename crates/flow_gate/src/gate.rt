@@ -2,7 +2,7 @@
 ghost use Rattle.std.specs.Prelude.{◌≡◌, ◌≤◌, [], Some, IfOk, IfErr, IfSome};
 ghost use Rattle.flow_law.specs.Growth.{first_knowledge, loses, makes, child};
 ghost use Rattle.flow_law.specs.Tokens.{knowing};
-ghost use Rattle.flow_gate.specs.Tokens.{Finds, Meets, StandsForSome};
+ghost use Rattle.flow_gate.specs.Tokens.{Finds, MeetsAtGate, StandsForSome};
 
 use crate::held::Held;
 use crate::steps::{Enter, GateRule, Make, Meet, Observe, Part, StartsFrom};
@@ -137,7 +137,7 @@ impl<S: Guarded + Drop, A: Allocator + Copy> Gate<S, A> {
     ) -> (Seat<S, A>, Seat<S, A>)
         requires gate { (one.table_id ≡ self.now.table_id) × (other.table_id ≡ self.now.table_id) }
         requires first { B.first ≡ Some self.now.first }
-        ensures { Meets S.stands self.now one other result.0 result.1 }
+        ensures { MeetsAtGate S.stands self.now one other result.0 result.1 }
     {
         let Seat { seat: mut both } = one;
         let Seat { seat } = other;
@@ -153,7 +153,7 @@ impl<S: Guarded + Drop, A: Allocator + Copy> Gate<S, A> {
     /// Call it where what one caller did is to count for the other, as after a thread has ended.
     pub fn meet(&self, one: Seat<S, A>, other: Seat<S, A>) -> (Seat<S, A>, Seat<S, A>)
         requires { (one.table_id ≡ self.now.table_id) × (other.table_id ≡ self.now.table_id) }
-        ensures { Meets S.stands self.now one other result.0 result.1 }
+        ensures { MeetsAtGate S.stands self.now one other result.0 result.1 }
     {
         self.meet_at::<Brand>(one, other)
     }

@@ -3,7 +3,7 @@ ghost use Rattle.std.specs.Prelude.{◌≡◌, [], ℤ, OnOk, IfOk, IfErr, strin
 ghost use Rattle.flow_law.specs.declared.states.SharedFlowState.{SharedFlowState};
 ghost use Rattle.flow_law.specs.Standing.{StandsFor, Conforms};
 ghost use Rattle.flow_law.specs.declared.call.SharedCall.TheVariants as call;
-ghost use Rattle.flow_core.specs.SharedCore.{subscribed};
+ghost use Rattle.flow_core.specs.SharedCore.{subscribe_reply};
 ghost use Rattle.flow_core.specs.SubId.{number_of};
 ghost use Rattle.flow_script.specs.ScriptMeaning.{reply_to, emission_number, subscriber_number};
 ghost use Rattle.flow_script.specs.Shown.{Writes};
@@ -76,7 +76,7 @@ pub fn cancel(
 
 /// A new subscription. Here no history is kept, so it bears no name.
 fn new_subscription(core: &mut SharedCore<i64>) -> Result<SubId, FlowFault>
-    ensures { Conforms core.old (call.Subscribe []) (subscribed result) core.new }
+    ensures { Conforms core.old (call.Subscribe []) (subscribe_reply result) core.new }
 {
     core.subscribe()
 }

@@ -2,7 +2,7 @@
 ghost use Rattle.std.specs.Prelude.{◌≡◌, [], OnOk, IfOk, IfErr, string_bytes, option_map};
 ghost use Rattle.flow_law.specs.Standing.{StateConforms};
 ghost use Rattle.flow_law.specs.declared.call.StateCall.TheVariants as call;
-ghost use Rattle.flow_core.specs.StateCore.{subscribed};
+ghost use Rattle.flow_core.specs.StateCore.{subscribe_reply};
 ghost use Rattle.flow_core.specs.SubId.{number_of};
 ghost use Rattle.flow_script.specs.StateMeaning.{state_reply, reader_number};
 ghost use Rattle.flow_script.specs.Shown.{StateWrites};
@@ -55,7 +55,7 @@ pub fn compare_and_set(
 
 /// A new subscription. Here no history is kept, so it bears no name.
 fn new_subscription(core: &mut StateCore<i64>) -> Result<SubId, FlowFault>
-    ensures { StateConforms core.old (call.Subscribe []) (subscribed result) core.new }
+    ensures { StateConforms core.old (call.Subscribe []) (subscribe_reply result) core.new }
 {
     core.subscribe()
 }

@@ -45,28 +45,28 @@ module _ {T : Type 0} (flow : Origin (SharedFlowState T)) where
 
 module _ {T A : Type 0} where
   -- the reply that an answer stands for
-  abbrev pub emit_reply : Emitted T A → SharedReply T
-  emit_reply (emitted.Done t) = reply.Emitted Done
-  emit_reply (emitted.Queued e) = reply.Emitted (Queued e.number)
-  emit_reply (emitted.Refused t v fault) = reply.Refused fault
+  abbrev pub emitted_reply : Emitted T A → SharedReply T
+  emitted_reply (emitted.Done t) = reply.Emitted Done
+  emitted_reply (emitted.Queued e) = reply.Emitted (Queued e.number)
+  emitted_reply (emitted.Refused t v fault) = reply.Refused fault
 
   -- the token that the caller has then
-  abbrev pub emit_token : Emitted T A → SharedToken T
-  emit_token (emitted.Done t) = t
-  emit_token (emitted.Queued e) = e.token
-  emit_token (emitted.Refused t v fault) = t
+  abbrev pub emitted_token : Emitted T A → SharedToken T
+  emitted_token (emitted.Done t) = t
+  emitted_token (emitted.Queued e) = e.token
+  emitted_token (emitted.Refused t v fault) = t
 
   abbrev pub HandsBack : T → Emitted T A → Type 0
   HandsBack value (emitted.Refused t v fault) = v ≡ value
   HandsBack value _ = ⊤
 
-  abbrev pub poll_reply : Polled T A → SharedReply T
-  poll_reply (polled.Done t) = reply.Tested false
-  poll_reply (polled.Waiting e) = reply.Tested true
+  abbrev pub polled_reply : Polled T A → SharedReply T
+  polled_reply (polled.Done t) = reply.Tested false
+  polled_reply (polled.Waiting e) = reply.Tested true
 
-  abbrev pub poll_token : Polled T A → SharedToken T
-  poll_token (polled.Done t) = t
-  poll_token (polled.Waiting e) = e.token
+  abbrev pub polled_token : Polled T A → SharedToken T
+  polled_token (polled.Done t) = t
+  polled_token (polled.Waiting e) = e.token
 
   abbrev pub KeepsNumber : ℕ → Polled T A → Type 0
   KeepsNumber number (polled.Waiting e) = e.number ≡ number
@@ -75,10 +75,10 @@ module _ {T A : Type 0} where
   module _ (flow : Origin (SharedFlowState T)) where
     -- the call is one event, with the reply and the token that the answer has; at a refusal the value comes back
     abbrev pub Emits : SharedToken T → T → Emitted T A → Type 0
-    Emits before value answer = Calls flow before (call.Emit value) (emit_reply answer) (emit_token answer) × HandsBack value answer
+    Emits before value answer = Calls flow before (call.Emit value) (emitted_reply answer) (emitted_token answer) × HandsBack value answer
 
     abbrev pub Polls : NumberedToken (Said (SharedCall T) (SharedReply T)) → Polled T A → Type 0
-    Polls e answer = Calls flow e.token (call.Poll e.number) (poll_reply answer) (poll_token answer) × KeepsNumber e.number answer
+    Polls e answer = Calls flow e.token (call.Poll e.number) (polled_reply answer) (polled_token answer) × KeepsNumber e.number answer
 
     -- ---- calls that do not wait: Busy exactly where one exchange was lost
 

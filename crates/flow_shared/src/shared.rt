@@ -4,7 +4,7 @@ ghost use Rattle.flow_law.specs.Growth.{first_knowledge};
 ghost use Rattle.flow_law.specs.SharedFlow.{config_fault, first_state};
 ghost use Rattle.flow_law.specs.declared.call.SharedCall.TheVariants as call;
 ghost use Rattle.flow_law.specs.declared.call.SharedReply.TheVariants as reply;
-ghost use Rattle.flow_core.specs.SharedCore.{cached};
+ghost use Rattle.flow_core.specs.SharedCore.{cache_reply};
 ghost use Rattle.flow_shared.specs.SharedReplies.{NoFlow, Calls, ResetsNow};
 
 use crate::flow::Flow;
@@ -55,7 +55,7 @@ impl<T: FlowValue, A: Allocator + Copy> Flow<SharedCore<T, A>, A> {
         seat: &mut Seat<T, A>,
     ) -> Result<Vec<T, A>, FlowFault>
         requires { seat.old.table_id ≡ self.now.table_id }
-        ensures { Calls self.now seat.old call.ReplayCache (cached (λ values. values.items) result) seat.new }
+        ensures { Calls self.now seat.old call.ReplayCache (cache_reply (λ values. values.items) result) seat.new }
     {
         self.call(rt, seat, ReplayCache)
     }

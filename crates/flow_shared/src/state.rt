@@ -4,7 +4,7 @@ ghost use Rattle.flow_law.specs.Growth.{first_knowledge};
 ghost use Rattle.flow_law.specs.StateFlow.{first_state_flow};
 ghost use Rattle.flow_law.specs.declared.fault.FlowFault.TheVariants.{Unsupported};
 ghost use Rattle.flow_law.specs.declared.call.StateCall.TheVariants as call;
-ghost use Rattle.flow_core.specs.StateCore.{cached, reset};
+ghost use Rattle.flow_core.specs.StateCore.{cache_reply, reset_reply};
 ghost use Rattle.flow_shared.specs.StateReplies.{StateCalls};
 
 use crate::flow::Flow;
@@ -61,7 +61,7 @@ impl<T: FlowValue, A: Allocator + Copy> Flow<StateCore<T, A>, A> {
         seat: &mut StateSeat<T, A>,
     ) -> Result<Vec<T, A>, FlowFault>
         requires { seat.old.table_id ≡ self.now.table_id }
-        ensures { StateCalls self.now seat.old call.ReplayCache (cached (λ values. values.items) result) seat.new }
+        ensures { StateCalls self.now seat.old call.ReplayCache (cache_reply (λ values. values.items) result) seat.new }
     {
         self.call(rt, seat, ReplayCache)
     }
@@ -75,7 +75,7 @@ impl<T: FlowValue, A: Allocator + Copy> Flow<StateCore<T, A>, A> {
         seat: &mut StateSeat<T, A>,
     ) -> Result<(), FlowFault>
         requires { seat.old.table_id ≡ self.now.table_id }
-        ensures called { StateCalls self.now seat.old call.ResetReplayCache (reset result) seat.new }
+        ensures called { StateCalls self.now seat.old call.ResetReplayCache (reset_reply result) seat.new }
         ensures refused { result ≡ Err Unsupported }
     {
         self.call(rt, seat, ResetReplayCache)

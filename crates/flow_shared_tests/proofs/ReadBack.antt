@@ -15,7 +15,7 @@ use Rattle.flow_law.specs.StateFlow.{StateHistory, after, state_after_all, state
 use Rattle.flow_law.proofs.HistoryLemmas.{after_all-snoc}
 use Rattle.flow_law.proofs.Owners.{after_all-append, legal_right}
 use Rattle.flow_gate.specs.Tokens.{Token, Origin}
-use Rattle.flow_core.specs.StateCore.{got}
+use Rattle.flow_core.specs.StateCore.{value_reply}
 use Rattle.flow_shared.specs.StateReplies.{StateToken, StateCalls}
 use Rattle.flow_shared_tests.specs.ReadingBack.{value_by, value_after, ReadsBack}
 
@@ -58,7 +58,7 @@ module _ {T : Type 0} where
   values_kept s [] = refl
   values_kept s (e ∷ es) = values_kept (after s e.what.call e.what.reply) es ∙ ap (λ v. value_after v es) (value_kept s e.what.call e.what.reply)
 
-  pub reads_back : (flow : Origin (StateFlowState T)) (old middle new : StateToken T) (value : T) (answer : Result T FlowFault) → StateCalls flow old (call.Set value) reply.Done middle → StateCalls flow middle call.GetValue (got answer) new
+  pub reads_back : (flow : Origin (StateFlowState T)) (old middle new : StateToken T) (value : T) (answer : Result T FlowFault) → StateCalls flow old (call.Set value) reply.Done middle → StateCalls flow middle call.GetValue (value_reply answer) new
       → IfOk answer (λ found. ReadsBack old.knows value found new.knows)
   reads_back flow old middle new value (Err fault) set read = tt
   reads_back flow old middle new value (Ok found) set read =

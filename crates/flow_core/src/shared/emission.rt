@@ -8,7 +8,7 @@ ghost use Rattle.flow_law.specs.SharedStep as step;
 ghost use Rattle.flow_law.specs.Standing.{Conforms};
 ghost use Rattle.flow_law.specs.declared.call.SharedCall.TheVariants as call;
 ghost use Rattle.flow_law.specs.declared.call.SharedReply.TheVariants as reply;
-ghost use Rattle.flow_core.specs.SharedCore.{tested, emitted, case_of, Shows, Leads, RefusedFor};
+ghost use Rattle.flow_core.specs.SharedCore.{try_emit_reply, emit_reply, case_of, Shows, Leads, RefusedFor};
 
 use super::SharedCore;
 use flow_law::{Emit, FlowFault, FlowValue, Overflow, Refused};
@@ -124,7 +124,7 @@ impl<T: FlowValue, A: Allocator + Copy> SharedCore<T, A> {
     ///
     /// At `false` an `emit` would wait. The value is dropped then, and nothing has changed.
     pub fn try_emit(&mut self, value: T) -> Result<bool, Refused<T>>
-        ensures documented { Conforms self.old (call.TryEmit value) (tested result) self.new }
+        ensures documented { Conforms self.old (call.TryEmit value) (try_emit_reply result) self.new }
         ensures handed_back { IfErr result (λ refused. refused.value ≡ value) }
     {
         match self.emit_case() {
@@ -149,7 +149,7 @@ impl<T: FlowValue, A: Allocator + Copy> SharedCore<T, A> {
     /// At `Queued` the emitter is to wait: `poll` tells by the number for how long, and `cancel` ends the wait. An
     /// emission that is neither polled nor cancelled stays, and is emitted when room comes.
     pub fn emit(&mut self, value: T) -> Result<Emit, Refused<T>>
-        ensures documented { Conforms self.old (call.Emit value) (emitted result) self.new }
+        ensures documented { Conforms self.old (call.Emit value) (emit_reply result) self.new }
         ensures handed_back { IfErr result (λ refused. refused.value ≡ value) }
     {
         match self.emit_case() {

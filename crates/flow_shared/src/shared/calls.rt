@@ -2,7 +2,7 @@
 ghost use Rattle.std.specs.Prelude.{◌≡◌, IfErr, ⊤};
 ghost use Rattle.flow_law.specs.declared.call.SharedCall.TheVariants as call;
 ghost use Rattle.flow_law.specs.declared.call.SharedReply.TheVariants as reply;
-ghost use Rattle.flow_core.specs.SharedCore.{tested, emitted, cached};
+ghost use Rattle.flow_core.specs.SharedCore.{try_emit_reply, emit_reply, cache_reply};
 
 use crate::core_call::CoreCall;
 use flow_core::SharedCore;
@@ -19,7 +19,7 @@ impl<T: FlowValue, A: Allocator + Copy> CoreCall<SharedCore<T, A>> for TryEmit<T
 
     ghost call = { λ c name. call.TryEmit c.value };
 
-    ghost reply = { λ answer. tested answer };
+    ghost reply = { λ answer. try_emit_reply answer };
 
     ghost also = { λ c answer. IfErr answer (λ refused. refused.value ≡ c.value) };
 
@@ -39,7 +39,7 @@ impl<T: FlowValue, A: Allocator + Copy> CoreCall<SharedCore<T, A>> for Emit<T> {
 
     ghost call = { λ c name. call.Emit c.value };
 
-    ghost reply = { λ answer. emitted answer };
+    ghost reply = { λ answer. emit_reply answer };
 
     ghost also = { λ c answer. IfErr answer (λ refused. refused.value ≡ c.value) };
 
@@ -95,7 +95,7 @@ impl<T: FlowValue, A: Allocator + Copy> CoreCall<SharedCore<T, A>> for ReplayCac
 
     ghost call = { λ c name. call.ReplayCache };
 
-    ghost reply = { λ answer. cached (λ values. values.items) answer };
+    ghost reply = { λ answer. cache_reply (λ values. values.items) answer };
 
     ghost also = { λ c answer. ⊤ };
 

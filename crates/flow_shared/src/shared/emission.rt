@@ -2,8 +2,8 @@
 ghost use Rattle.std.specs.Prelude.{◌≡◌, IfErr};
 ghost use Rattle.flow_law.specs.declared.call.SharedCall.TheVariants as call;
 ghost use Rattle.flow_law.specs.declared.call.SharedReply.TheVariants as reply;
-ghost use Rattle.flow_core.specs.SharedCore.{tested, emitted};
-ghost use Rattle.flow_shared.specs.SharedReplies.{Calls, Emits, Polls, HandsBack, emit_reply, emit_token, IsGivenIfQueued};
+ghost use Rattle.flow_core.specs.SharedCore.{try_emit_reply, emit_reply};
+ghost use Rattle.flow_shared.specs.SharedReplies.{Calls, Emits, Polls, HandsBack, emitted_reply, emitted_token, IsGivenIfQueued};
 
 use super::Seat;
 use super::calls::{Cancel, Emit as EmitCall, Poll, TryEmit};
@@ -21,8 +21,8 @@ pub(super) fn answered<T: FlowValue, A: Allocator + Copy>(
     answer: Result<Emit, Refused<T>>,
 ) -> Emitted<T, A>
     requires { IsGivenIfQueued seat.knows answer }
-    ensures reply { emit_reply result ≡ emitted answer }
-    ensures token { emit_token result ≡ seat }
+    ensures reply { emitted_reply result ≡ emit_reply answer }
+    ensures token { emitted_token result ≡ seat }
     ensures handed_back { IfErr answer (λ refused. HandsBack refused.value result) }
 {
     match answer {
@@ -46,7 +46,7 @@ impl<T: FlowValue, A: Allocator + Copy> Flow<SharedCore<T, A>, A> {
         value: T,
     ) -> Result<bool, Refused<T>>
         requires { seat.old.table_id ≡ self.now.table_id }
-        ensures called { Calls self.now seat.old (call.TryEmit value) (tested result) seat.new }
+        ensures called { Calls self.now seat.old (call.TryEmit value) (try_emit_reply result) seat.new }
         ensures handed_back { IfErr result (λ refused. refused.value ≡ value) }
     {
         self.call(rt, seat, TryEmit { value })

@@ -3,7 +3,7 @@ ghost use Rattle.std.specs.Prelude.{◌≡◌, Err, ⊤};
 ghost use Rattle.flow_law.specs.declared.fault.FlowFault.TheVariants.{Unsupported};
 ghost use Rattle.flow_law.specs.declared.call.StateCall.TheVariants as call;
 ghost use Rattle.flow_law.specs.declared.call.StateReply.TheVariants as reply;
-ghost use Rattle.flow_core.specs.StateCore.{got, cached, reset};
+ghost use Rattle.flow_core.specs.StateCore.{value_reply, cache_reply, reset_reply};
 
 use crate::core_call::CoreCall;
 use flow_core::StateCore;
@@ -18,7 +18,7 @@ impl<T: FlowValue, A: Allocator + Copy> CoreCall<StateCore<T, A>> for GetValue {
 
     ghost call = { λ c name. call.GetValue };
 
-    ghost reply = { λ answer. got answer };
+    ghost reply = { λ answer. value_reply answer };
 
     ghost also = { λ c answer. ⊤ };
 
@@ -96,7 +96,7 @@ impl<T: FlowValue, A: Allocator + Copy> CoreCall<StateCore<T, A>> for ReplayCach
 
     ghost call = { λ c name. call.ReplayCache };
 
-    ghost reply = { λ answer. cached (λ values. values.items) answer };
+    ghost reply = { λ answer. cache_reply (λ values. values.items) answer };
 
     ghost also = { λ c answer. ⊤ };
 
@@ -113,7 +113,7 @@ impl<T: FlowValue, A: Allocator + Copy> CoreCall<StateCore<T, A>> for ResetRepla
 
     ghost call = { λ c name. call.ResetReplayCache };
 
-    ghost reply = { λ answer. reset answer };
+    ghost reply = { λ answer. reset_reply answer };
 
     ghost also = { λ c answer. answer ≡ Err Unsupported };
 

@@ -2,7 +2,7 @@
 ghost use Rattle.std.specs.Prelude.{◌≡◌};
 ghost use Rattle.flow_law.specs.declared.call.StateCall.TheVariants as call;
 ghost use Rattle.flow_law.specs.declared.call.StateReply.TheVariants as reply;
-ghost use Rattle.flow_core.specs.StateCore.{got};
+ghost use Rattle.flow_core.specs.StateCore.{value_reply};
 ghost use Rattle.flow_shared.specs.StateReplies.{StateCalls, SetsNow};
 
 use super::StateSeat;
@@ -20,7 +20,7 @@ impl<T: FlowValue, A: Allocator + Copy> Flow<StateCore<T, A>, A> {
     /// set what depends on the value that was read, `compare_and_set`.
     pub fn value<R: Wait>(&self, rt: &R, seat: &mut StateSeat<T, A>) -> Result<T, FlowFault>
         requires { seat.old.table_id ≡ self.now.table_id }
-        ensures { StateCalls self.now seat.old call.GetValue (got result) seat.new }
+        ensures { StateCalls self.now seat.old call.GetValue (value_reply result) seat.new }
     {
         self.call(rt, seat, GetValue)
     }

@@ -5,7 +5,7 @@ use Rattle.flow_law.specs.Standing.{StandsFor}
 use Rattle.flow_law.specs.Laws.{RisesTo}
 use Rattle.flow_law.proofs.Rows.{rises_from}
 use Rattle.flow_law.proofs.StandingLemmas.{stands-admit, stands-held, settle_first, settle_blocked}
-use Rattle.flow_core.specs.SharedCore.{kept}
+use Rattle.flow_core.specs.SharedCore.{fields_of}
 use Rattle.flow_core.specs.Queue.{numbered_of}
 use Rattle.flow_core.proofs.shared.SharedCore.admit.Goals as goal
 
@@ -33,12 +33,12 @@ pub returns-in-Some-clause-admitted : goal.returns-in-Some-clause-admitted
 returns-in-Some-clause-admitted g c = (
   omega (arith, ap length c.in-Some.ensures, ap (λ core. length core.queue) c.self.view_is),
   λ s stands.
-      let within : StandsFor (kept c.self.inside) s = subst (λ k. StandsFor k s) (sym c.self.view_is) stands in
+      let within : StandsFor (fields_of c.self.inside) s = subst (λ k. StandsFor k s) (sym c.self.view_is) stands in
       let free : is_blocked s ≡ false = sym (c.is_blocked.ensures s stands) ∙ c.if-is_blocked.false in
       let first = numbered_of c.in-Some.first in
       let here : s.queue ≡ first ∷ c.pop_front.new.self = sym within.queue ∙ c.in-Some.ensures in (
         record s { emitted = s.emitted ++ first ∷ []; queue = c.pop_front.new.self },
-        stands-held _ _ c.push_reserved.new.self.items _ (stands-admit (kept c.self.inside) s first c.pop_front.new.self c.self.invariant.reset_mark within)
+        stands-held _ _ c.push_reserved.new.self.items _ (stands-admit (fields_of c.self.inside) s first c.pop_front.new.self c.self.invariant.reset_mark within)
             c.push_reserved.ensures.items c.push_reserved.ensures.len,
         sym (settle_first s first c.pop_front.new.self here free),
       ),

@@ -2,7 +2,7 @@ use Rattle.std.proofs.Common.{◌∙◌, ◌++◌, ◌+◌, ◌∷◌, [], sym, 
 use Rattle.flow_law.specs.Standing.{StandsFor}
 use Rattle.flow_law.proofs.Rows.{rises_higher}
 use Rattle.flow_law.proofs.StandingLemmas.{stands-append, stands-held}
-use Rattle.flow_core.specs.SharedCore.{kept}
+use Rattle.flow_core.specs.SharedCore.{fields_of}
 use Rattle.flow_core.proofs.shared.SharedCore.append.Goals as goal
 
 pub invariant_of-self-2 : goal.invariant_of-self-2
@@ -18,8 +18,8 @@ returns g c = (
   ap (λ core. core.issued + 1) c.self.view_is,
   λ spent. c.if-self.false (ap (λ core. core.issued) c.self.view_is ∙ spent ∙ sym (ap (λ core. core.config.limit) c.self.view_is)),
   λ s stands.
-      let within : StandsFor (kept c.self.inside) s = subst (λ k. StandsFor k s) (sym c.self.view_is) stands in
-      stands-held _ _ c.push_reserved.new.self.items _ (stands-append (kept c.self.inside) s c.args.value c.self.invariant.reset_mark within)
+      let within : StandsFor (fields_of c.self.inside) s = subst (λ k. StandsFor k s) (sym c.self.view_is) stands in
+      stands-held _ _ c.push_reserved.new.self.items _ (stands-append (fields_of c.self.inside) s c.args.value c.self.invariant.reset_mark within)
       (c.push_reserved.ensures.items ∙ ap (λ l. l ++ c.args.value ∷ []) c.make_room.ensures.items)
       (omega (arith, c.push_reserved.ensures.len, c.make_room.ensures.len)),
 )

@@ -4,7 +4,7 @@ use Rattle.flow_law.specs.SharedFlow.{cache}
 use Rattle.flow_law.specs.SharedHistory.{hands_out}
 use Rattle.flow_law.specs.Standing.{StandsFor}
 use Rattle.flow_law.proofs.StandingLemmas.{same_cache}
-use Rattle.flow_core.specs.SharedCore.{kept}
+use Rattle.flow_core.specs.SharedCore.{fields_of}
 use Rattle.flow_core.proofs.CallLemmas.{rest_whole}
 use Rattle.flow_core.proofs.shared.SharedCore.replay_cache.Goals as goal
 
@@ -17,11 +17,11 @@ pub returns-in-Err : goal.returns-in-Err
 returns-in-Err g c = record {
   documented = (
     λ s stands.
-        let within : StandsFor (kept c.self.inside) s = subst (λ k. StandsFor k s) (sym c.self.view_is) stands in
+        let within : StandsFor (fields_of c.self.inside) s = subst (λ k. StandsFor k s) (sym c.self.view_is) stands in
         let all = rest_whole c.cache_start.result c.as_slice.result.now
         ∙ ap (drop c.cache_start.result) c.as_slice.ensures.value
         ∙ ap (λ n. drop n c.self.inside.values.items) (c.cache_start.ensures.start s stands)
-        ∙ same_cache (kept c.self.inside) s within c.self.invariant.reset_mark (sym c.self.inside.values.ok.0) in
+        ∙ same_cache (fields_of c.self.inside) s within c.self.invariant.reset_mark (sym c.self.inside.values.ok.0) in
         let due = handed_out (cache s) (λ none. c.in-Err.ensures.any (all ∙ none)) in
         (rw c.in-Err.ensures.memory (rw due refl), stands),
     refl,
@@ -32,11 +32,11 @@ pub returns-in-Ok : goal.returns-in-Ok
 returns-in-Ok g c = record {
   documented = (
     λ s stands.
-        let within : StandsFor (kept c.self.inside) s = subst (λ k. StandsFor k s) (sym c.self.view_is) stands in
+        let within : StandsFor (fields_of c.self.inside) s = subst (λ k. StandsFor k s) (sym c.self.view_is) stands in
         let all = c.in-Ok.ensures.copies ∙ rest_whole c.cache_start.result c.as_slice.result.now
         ∙ ap (drop c.cache_start.result) c.as_slice.ensures.value
         ∙ ap (λ n. drop n c.self.inside.values.items) (c.cache_start.ensures.start s stands)
-        ∙ same_cache (kept c.self.inside) s within c.self.invariant.reset_mark (sym c.self.inside.values.ok.0) in
+        ∙ same_cache (fields_of c.self.inside) s within c.self.invariant.reset_mark (sym c.self.inside.values.ok.0) in
         (ap reply.Cached all, stands),
     tt,
   );

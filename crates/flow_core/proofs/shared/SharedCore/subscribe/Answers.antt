@@ -6,7 +6,7 @@ use Rattle.flow_law.specs.SharedHistory.{reply_by}
 use Rattle.flow_law.specs.Standing.{StandsFor}
 use Rattle.flow_law.proofs.Rows.{rises_higher}
 use Rattle.flow_law.proofs.StandingLemmas.{stands-enroll}
-use Rattle.flow_core.specs.SharedCore.{kept}
+use Rattle.flow_core.specs.SharedCore.{fields_of}
 use Rattle.flow_core.proofs.CallLemmas.{not_exhausted, issued_now}
 use Rattle.flow_core.proofs.shared.SharedCore.subscribe.Goals as goal
 
@@ -22,13 +22,13 @@ pub returns-in-Ok : goal.returns-in-Ok
 returns-in-Ok g c = record {
   documented = λ name. (
     λ s stands.
-        let within : StandsFor (kept c.self.inside) s = subst (λ k. StandsFor k s) (sym c.self.view_is) stands in
-        let left : is_exhausted s ≡ false = not_exhausted (kept c.self.inside) s within c.if-self.false in
+        let within : StandsFor (fields_of c.self.inside) s = subst (λ k. StandsFor k s) (sym c.self.view_is) stands in
+        let left : is_exhausted s ≡ false = not_exhausted (fields_of c.self.inside) s within c.if-self.false in
         let all : subscribe s ≡ answer (s.issued + 1) (enroll s) = issued_now s _ left in (
           ap (λ n. reply.Subscribed (n + 1)) within.issued ∙ sym (ap (λ a. reply_by reply.Subscribed a.reply) all),
-          subst (λ t. StandsFor (record (kept c.self.inside) { subscribers = c.push.new.self; issued = c.self.inside.issued + 1 }) t) (sym (ap (λ a. a.after) all))
-              (subst (λ us. StandsFor (record (kept c.self.inside) { subscribers = us; issued = c.self.inside.issued + 1 }) (enroll s)) (sym c.in-Ok.ensures.pushed)
-              (stands-enroll (kept c.self.inside) s c.entry-position.result within (c.entry-position.ensures s stands))),
+          subst (λ t. StandsFor (record (fields_of c.self.inside) { subscribers = c.push.new.self; issued = c.self.inside.issued + 1 }) t) (sym (ap (λ a. a.after) all))
+              (subst (λ us. StandsFor (record (fields_of c.self.inside) { subscribers = us; issued = c.self.inside.issued + 1 }) (enroll s)) (sym c.in-Ok.ensures.pushed)
+              (stands-enroll (fields_of c.self.inside) s c.entry-position.result within (c.entry-position.ensures s stands))),
         ),
     tt,
   );

@@ -6,7 +6,7 @@ use Rattle.flow_law.specs.SharedFlow.{is_offered_as, stand_at, cache_start}
 use Rattle.flow_law.specs.Standing.{StandsFor}
 use Rattle.flow_law.proofs.Rows.{rises_filter}
 use Rattle.flow_law.proofs.StandingLemmas.{stands-subscribers, least_position-gathered}
-use Rattle.flow_core.specs.SharedCore.{kept}
+use Rattle.flow_core.specs.SharedCore.{fields_of}
 use Rattle.flow_core.proofs.CallLemmas.{length-filter}
 use Rattle.flow_core.proofs.shared.SharedCore.withdraw.Goals as goal
 
@@ -21,9 +21,9 @@ invariant_of-self-else-is_offered_as g c = record {
 
 pub returns-then-is_offered_as : goal.returns-then-is_offered_as
 returns-then-is_offered_as g c = λ s stands.
-    let within : StandsFor (kept c.self.inside) s = subst (λ k. StandsFor k s) (sym c.self.view_is) stands in
+    let within : StandsFor (fields_of c.self.inside) s = subst (λ k. StandsFor k s) (sym c.self.view_is) stands in
     let offered : is_offered_as c.args.number s ≡ true = sym (c.is_offered_as.ensures s stands) ∙ c.if-is_offered_as.true in
-    let all = stands-subscribers (kept c.self.inside) s c.gather_at.new.self (map (stand_at (length s.emitted)) s.subscribers) c.self.inside.issued s.issued within
+    let all = stands-subscribers (fields_of c.self.inside) s c.gather_at.new.self (map (stand_at (length s.emitted)) s.subscribers) c.self.inside.issued s.issued within
     (c.gather_at.ensures ∙ ap (λ n. map (stand_at n) c.self.inside.subscribers) (c.len.ensures ∙ within.appended) ∙ ap (map (stand_at (length s.emitted))) within.subscribers)
     within.issued (least_position-gathered (cache_start s) (length s.emitted) s.subscribers (omega (arith, within.reset_mark, within.appended, c.self.invariant.reset_mark))) in
-    subst (λ t. StandsFor (record (kept c.self.inside) { subscribers = c.gather_at.new.self }) t) (sym (ap (λ t. cond t (record s { subscribers = map (stand_at (length s.emitted)) s.subscribers }) (record s { queue = filter (λ q. not (q.number == c.args.number)) s.queue })) offered)) all
+    subst (λ t. StandsFor (record (fields_of c.self.inside) { subscribers = c.gather_at.new.self }) t) (sym (ap (λ t. cond t (record s { subscribers = map (stand_at (length s.emitted)) s.subscribers }) (record s { queue = filter (λ q. not (q.number == c.args.number)) s.queue })) offered)) all
