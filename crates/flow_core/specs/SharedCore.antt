@@ -1,6 +1,6 @@
 -- What contracts see of a shared core, and the results of its calls as the replies of a history.
 -- Public clauses cite the replies (`try_emit_reply` to `cache_reply`); the rest is for private functions.
-use Rattle.std.specs.Prelude.{◌≡◌, ◌+◌, ◌<◌, ◌≤◌, Bool, List, map, length, vec_len, Result, Ok, Err}
+use Rattle.std.specs.Prelude.{◌≡◌, ◌+◌, ◌<◌, ◌≤◌, Bool, List, map, length, Vec, vec_len, Result, Ok, Err}
 use Rattle.std.specs.Vec.{vec_capacity}
 use Rattle.flow_law.specs.declared.fault.FlowFault.{FlowFault}
 use Rattle.flow_law.specs.declared.fault.FlowFault.TheVariants.{OutOfMemory, Exhausted}
@@ -38,8 +38,8 @@ subscribe_reply = replied shared_flow (λ id. reply.Subscribed (number_of id))
 abbrev pub next_reply : {T : Type 0} → Result (Next T) FlowFault → SharedReply T
 next_reply = replied shared_flow reply.Received
 
-abbrev pub cache_reply : {V T : Type 0} → (V → List T) → Result V FlowFault → SharedReply T
-cache_reply items = replied shared_flow (λ values. reply.Cached (items values))
+abbrev pub cache_reply : {T A : Type 0} → Result (Vec T A) FlowFault → SharedReply T
+cache_reply = replied shared_flow (λ values. reply.Cached values.items)
 
 -- ---- the fields
 

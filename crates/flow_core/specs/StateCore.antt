@@ -1,5 +1,5 @@
 -- What contracts see of a state core, and the results of its calls as the replies of a history.
-use Rattle.std.specs.Prelude.{List, map, Result}
+use Rattle.std.specs.Prelude.{map, Vec, Result}
 use Rattle.flow_law.specs.declared.fault.FlowFault.{FlowFault}
 use Rattle.flow_law.specs.declared.outcome.Next.{Next}
 use Rattle.flow_law.specs.declared.call.StateReply.{StateReply}
@@ -23,8 +23,8 @@ module _ {T : Type 0} where
   abbrev pub next_reply : Result (Next T) FlowFault → StateReply T
   next_reply = replied state_flow reply.Received
 
-  abbrev pub cache_reply : {V : Type 0} → (V → List T) → Result V FlowFault → StateReply T
-  cache_reply items = replied state_flow (λ values. reply.Cached (items values))
+  abbrev pub cache_reply : {A : Type 0} → Result (Vec T A) FlowFault → StateReply T
+  cache_reply = replied state_flow (λ values. reply.Cached values.items)
 
   -- a state flow's cache is never reset: `Ok` would be no reply of it
   abbrev pub reset_reply : Result (Unit {0}) FlowFault → StateReply T

@@ -213,7 +213,7 @@ impl<T: FlowValue, A: Allocator + Copy> SharedCore<T, A> {
 
     /// What a new subscriber would get first, where nothing is offered: copies of at most `replay` values.
     pub fn replay_cache(&self) -> Result<Vec<T, A>, FlowFault>
-        ensures documented { Conforms self.now call.ReplayCache (cache_reply (λ values. values.items) result) self.now }
+        ensures documented { Conforms self.now call.ReplayCache (cache_reply result) self.now }
     {
         match copies(self.alloc, &self.values.as_slice()[self.cache_start()..]) {
             Ok(cache) => Ok(cache),

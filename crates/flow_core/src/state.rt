@@ -168,7 +168,7 @@ impl<T: FlowValue, A: Allocator + Copy> StateCore<T, A> {
 
     /// The current value alone: that is a state flow's replay cache.
     pub fn replay_cache(&self) -> Result<Vec<T, A>, FlowFault>
-        ensures documented { StateConforms self.now call.ReplayCache (cache_reply (λ values. values.items) result) self.now }
+        ensures documented { StateConforms self.now call.ReplayCache (cache_reply result) self.now }
     {
         match self.value.try_copy() {
             Err(fault) => Err(fault),

@@ -1,10 +1,10 @@
 -- What contracts see of a seat, of a gate and of who is inside.
-use Rattle.std.specs.Prelude.{◌≡◌, false, true, List, [], ◌∷◌, Option, None}
+use Rattle.std.specs.Prelude.{◌≡◌, false, true, List, [], ◌∷◌, ◌++◌, Option, None}
 use Rattle.atomic_table.specs.Seated.{TableId}
 use Rattle.atomic_table.specs.declared.shared.Seat.{Seat as TableSeat}
 use Rattle.flow_law.specs.declared.history.Event.{Event}
 use Rattle.flow_law.specs.declared.history.Knowledge.{Knowledge}
-use Rattle.flow_law.specs.Growth.{Fits, knowledge, first_knowledge, sees}
+use Rattle.flow_law.specs.Growth.{Fits, events_of, knowledge, first_knowledge, sees}
 use Rattle.flow_law.specs.Tokens as flows
 use Rattle.flow_law.specs.Tokens.{token, knowing}
 use Rattle.flow_gate.specs.declared.view.SeatView.{SeatView}
@@ -53,6 +53,10 @@ module _ {S E : Type 0} (stands : S → S → List (Event E) → Type 0) (gate :
     pub first : held.first ≡ gate.first
     pub token : held.token ≡ knowing before (knowledge before.knows.name before.knows.made held.token.knows.lost history)
 
+  -- the same, and no exchange was lost
+  abbrev pub FindsAtOnce : Token E → HeldState S E → Type 0
+  FindsAtOnce before held = Finds before held × (held.token.knows.lost ≡ before.knows.lost)
+
   -- Two tokens meet: both have then seen one history, for which some state stood, and which fits what each had seen.
   pub record MeetsAtGate (one other one_after other_after : Token E) : Type 0 where
     pub history : List (Event E)
@@ -65,3 +69,7 @@ module _ {S E : Type 0} (stands : S → S → List (Event E) → Type 0) (gate :
   -- the state stands for a history
   abbrev pub StandsForSome : S → Type 0
   StandsForSome state = (history : List (Event E)) × stands gate.first state history
+
+-- the state of who is inside stands for what was found followed by events of its own
+abbrev pub StandsWith : {S E : Type 0} → (S → S → List (Event E) → Type 0) → HeldState S E → List E → Type 0
+StandsWith stands held added = stands held.first held.state (held.token.knows.seen ++ events_of held.token.knows.name added)

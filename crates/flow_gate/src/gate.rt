@@ -1,8 +1,8 @@
 //! The gate.
 ghost use Rattle.std.specs.Prelude.{◌≡◌, ◌≤◌, [], Some, IfOk, IfErr, IfSome};
-ghost use Rattle.flow_law.specs.Growth.{first_knowledge, loses, makes, child};
-ghost use Rattle.flow_law.specs.Tokens.{knowing};
-ghost use Rattle.flow_gate.specs.Tokens.{Finds, MeetsAtGate, StandsForSome};
+ghost use Rattle.flow_law.specs.Growth.{loses, makes, child};
+ghost use Rattle.flow_law.specs.Tokens.{Begins, knowing};
+ghost use Rattle.flow_gate.specs.Tokens.{Finds, FindsAtOnce, MeetsAtGate, StandsForSome};
 
 use crate::held::Held;
 use crate::steps::{Enter, GateRule, Make, Meet, Observe, Part, StartsFrom};
@@ -41,7 +41,7 @@ impl<S: Guarded + Drop, A: Allocator + Copy> Gate<S, A> {
     /// A gate with this state, and its first seat. Where memory is wanted, the state comes back.
     pub fn new(alloc: A, state: S) -> Result<(Gate<S, A>, Seat<S, A>), AllocFailed<S>>
         requires { S.stands state state [] }
-        ensures made { IfOk result (λ r. (r.0.first ≡ state) × (r.1.table_id ≡ r.0.table_id) × (r.1.knows ≡ first_knowledge)) }
+        ensures made { IfOk result (Begins state) }
         ensures handed_back { IfErr result (λ failed. failed.value ≡ state) }
     {
         let first = Snapshot::of(&state);
@@ -66,7 +66,7 @@ impl<S: Guarded + Drop, A: Allocator + Copy> Gate<S, A> {
     fn try_enter_at<B: StartsFrom<S>>(&self, seat: Seat<S, A>) -> Result<Held<'_, S, A>, Seat<S, A>>
         requires gate { seat.table_id ≡ self.now.table_id }
         requires first { B.first ≡ Some self.now.first }
-        ensures found { IfOk result (λ held. Finds S.stands self.now seat held × (held.token.knows.lost ≡ seat.knows.lost)) }
+        ensures found { IfOk result (FindsAtOnce S.stands self.now seat) }
         ensures lost { IfErr result (λ back. back ≡ knowing seat (loses seat.knows)) }
     {
         let Seat { mut seat } = seat;
@@ -89,7 +89,7 @@ impl<S: Guarded + Drop, A: Allocator + Copy> Gate<S, A> {
     /// Enters, if nobody is inside. Where somebody is, the seat comes back and has counted one exchange that it lost.
     pub fn try_enter(&self, seat: Seat<S, A>) -> Result<Held<'_, S, A>, Seat<S, A>>
         requires { seat.table_id ≡ self.now.table_id }
-        ensures found { IfOk result (λ held. Finds S.stands self.now seat held × (held.token.knows.lost ≡ seat.knows.lost)) }
+        ensures found { IfOk result (FindsAtOnce S.stands self.now seat) }
         ensures lost { IfErr result (λ back. back ≡ knowing seat (loses seat.knows)) }
     {
         self.try_enter_at::<Brand>(seat)

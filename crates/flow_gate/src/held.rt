@@ -1,5 +1,5 @@
 //! Who is inside a gate.
-ghost use Rattle.std.specs.Prelude.{◌≡◌, ◌++◌};
+ghost use Rattle.std.specs.Prelude.{◌≡◌};
 ghost use Rattle.flow_law.specs.Growth.{adds, events_of};
 ghost use Rattle.flow_law.specs.Tokens.{knowing};
 
@@ -30,11 +30,12 @@ impl<'a, S: Guarded, A: Allocator> Model for Held<'a, S, A> {
 }
 
 impl<'a, S: Guarded, A: Allocator> Held<'a, S, A> {
-    ghost use Rattle.std.specs.Prelude.{◌≡◌, ◌++◌};
+    ghost use Rattle.std.specs.Prelude.{◌≡◌};
     ghost use Rattle.std.specs.Borrow.{sem};
-    ghost use Rattle.flow_law.specs.Growth.{adds, events_of};
+    ghost use Rattle.flow_law.specs.Growth.{adds};
     ghost use Rattle.flow_law.specs.Tokens.{knowing};
     ghost use Rattle.flow_gate.specs.Lending.{LendsState};
+    ghost use Rattle.flow_gate.specs.Tokens.{StandsWith};
 
     /// The state, which may be changed while it is lent.
     pub fn state(&mut self) -> &mut S
@@ -46,7 +47,7 @@ impl<'a, S: Guarded, A: Allocator> Held<'a, S, A> {
 
     /// Puts the state back, where the events that were added are those of `W`, a type of one's own.
     pub fn leave_adding<W: Adds<S::Said>>(self) -> Seat<S, A>
-        requires { S.stands self.first self.state (self.token.knows.seen ++ events_of self.token.knows.name W.adds) }
+        requires { StandsWith S.stands self W.adds }
         ensures { result ≡ knowing self.entry.token (adds W.adds self.entry.token.knows) }
     {
         let Held {
@@ -65,7 +66,7 @@ impl<'a, S: Guarded, A: Allocator> Held<'a, S, A> {
     /// Puts the state back. At `Brand` the caller's proof says which events were added; it may speak of what lies
     /// behind `evidence`, such as the call's argument and its answer.
     pub fn leave<W: Adds<S::Said>, X>(self, _evidence: &X) -> Seat<S, A>
-        requires { S.stands self.first self.state (self.token.knows.seen ++ events_of self.token.knows.name W.adds) }
+        requires { StandsWith S.stands self W.adds }
         ensures { result ≡ knowing self.entry.token (adds W.adds self.entry.token.knows) }
     {
         self.leave_adding::<W>()

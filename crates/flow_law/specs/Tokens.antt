@@ -8,7 +8,7 @@ use Rattle.flow_law.specs.declared.history.Knowledge.{Knowledge}
 use Rattle.flow_law.specs.declared.history.Said.{Said}
 use Rattle.flow_law.specs.declared.outcome.Next.{Next}
 use Rattle.flow_law.specs.declared.outcome.Next.TheVariants.{Gone}
-use Rattle.flow_law.specs.Growth.{Fits, child_name, sees, loses, makes, child}
+use Rattle.flow_law.specs.Growth.{Fits, child_name, first_knowledge, sees, loses, makes, child}
 use Rattle.flow_law.specs.History.{Kind, IsHistory, replied}
 use Rattle.flow_law.specs.OneHistory.{AddsOne}
 
@@ -45,6 +45,10 @@ module _ {Id E : Type 0} where
   -- another caller was inside: the token has counted one exchange that it lost, and nothing else has changed
   abbrev pub IsBusy : Token Id E → Token Id E → Type 0
   IsBusy before after = after ≡ knowing before (loses before.knows)
+
+-- a new flow that began with this, and its first token, which has seen nothing
+abbrev pub Begins : {Id S E : Type 0} → S → Origin Id S × Token Id E → Type 0
+Begins first made = (made.0.first ≡ first) × (made.1.table_id ≡ made.0.table_id) × (made.1.knows ≡ first_knowledge)
 
 -- the name of the next token that is made through the one that knows this
 abbrev pub subscription_name : {E : Type 0} → Knowledge E → List ℕ

@@ -1,6 +1,6 @@
 //! A shared flow for several threads.
 ghost use Rattle.std.specs.Prelude.{◌≡◌, None, MatchResult};
-ghost use Rattle.flow_law.specs.Growth.{first_knowledge};
+ghost use Rattle.flow_law.specs.Tokens.{Begins};
 ghost use Rattle.flow_law.specs.SharedFlow.{config_fault, first_state};
 ghost use Rattle.flow_law.specs.declared.call.SharedCall.TheVariants as call;
 ghost use Rattle.flow_law.specs.declared.call.SharedReply.TheVariants as reply;
@@ -38,7 +38,7 @@ impl<T: FlowValue, A: Allocator + Copy> Flow<SharedCore<T, A>, A> {
     /// made through the first one, or through one that was made so.
     pub fn new(alloc: A, config: Config) -> Result<(SharedFlow<T, A>, Seat<T, A>), FlowFault>
         ensures { MatchResult result
-            (λ made. (config_fault config ≡ None) × (made.0.first ≡ first_state config) × (made.1.table_id ≡ made.0.table_id) × (made.1.knows ≡ first_knowledge))
+            (λ made. (config_fault config ≡ None) × Begins (first_state config) made)
             (NoFlow config) }
     {
         let core = SharedCore::new(alloc, config)?;
@@ -55,7 +55,7 @@ impl<T: FlowValue, A: Allocator + Copy> Flow<SharedCore<T, A>, A> {
         seat: &mut Seat<T, A>,
     ) -> Result<Vec<T, A>, FlowFault>
         requires { seat.old.table_id ≡ self.now.table_id }
-        ensures { Calls self.now seat.old call.ReplayCache (cache_reply (λ values. values.items) result) seat.new }
+        ensures { Calls self.now seat.old call.ReplayCache (cache_reply result) seat.new }
     {
         self.call(rt, seat, ReplayCache)
     }

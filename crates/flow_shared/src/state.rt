@@ -1,6 +1,6 @@
 //! A state flow for several threads.
 ghost use Rattle.std.specs.Prelude.{◌≡◌, Err, IfOk, IfErr};
-ghost use Rattle.flow_law.specs.Growth.{first_knowledge};
+ghost use Rattle.flow_law.specs.Tokens.{Begins};
 ghost use Rattle.flow_law.specs.StateFlow.{first_state_flow};
 ghost use Rattle.flow_law.specs.declared.fault.FlowFault.TheVariants.{Unsupported};
 ghost use Rattle.flow_law.specs.declared.call.StateCall.TheVariants as call;
@@ -41,7 +41,7 @@ impl<T: FlowValue, A: Allocator + Copy> Flow<StateCore<T, A>, A> {
         initial: T,
         limit: u64,
     ) -> Result<(StateFlow<T, A>, StateSeat<T, A>), FlowFault>
-        ensures made { IfOk result (λ made. (made.0.first ≡ first_state_flow limit initial) × (made.1.table_id ≡ made.0.table_id) × (made.1.knows ≡ first_knowledge)) }
+        ensures made { IfOk result (Begins (first_state_flow limit initial)) }
         ensures memory { IfErr result (λ fault. fault ≡ FlowFault.OutOfMemory) }
     {
         let core = StateCore::new(alloc, initial, limit);
@@ -61,7 +61,7 @@ impl<T: FlowValue, A: Allocator + Copy> Flow<StateCore<T, A>, A> {
         seat: &mut StateSeat<T, A>,
     ) -> Result<Vec<T, A>, FlowFault>
         requires { seat.old.table_id ≡ self.now.table_id }
-        ensures { StateCalls self.now seat.old call.ReplayCache (cache_reply (λ values. values.items) result) seat.new }
+        ensures { StateCalls self.now seat.old call.ReplayCache (cache_reply result) seat.new }
     {
         self.call(rt, seat, ReplayCache)
     }

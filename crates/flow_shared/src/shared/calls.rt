@@ -95,7 +95,7 @@ impl<T: FlowValue, A: Allocator + Copy> CoreCall<SharedCore<T, A>> for ReplayCac
 
     ghost call = { λ c name. call.ReplayCache };
 
-    ghost reply = { λ answer. cache_reply (λ values. values.items) answer };
+    ghost reply = { λ answer. cache_reply answer };
 
     ghost also = { λ c answer. ⊤ };
 

@@ -96,7 +96,7 @@ impl<T: FlowValue, A: Allocator + Copy> CoreCall<StateCore<T, A>> for ReplayCach
 
     ghost call = { λ c name. call.ReplayCache };
 
-    ghost reply = { λ answer. cache_reply (λ values. values.items) answer };
+    ghost reply = { λ answer. cache_reply answer };
 
     ghost also = { λ c answer. ⊤ };
 
