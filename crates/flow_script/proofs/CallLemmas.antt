@@ -1,28 +1,24 @@
--- A call of the core, as the documented flow's call with its line.
-use Rattle.std.proofs.Common.{◌≡◌, ◌≢◌, ℤ, List, ◌++◌, refl, subst, ap, ◌∙◌, ℕ}
-use Rattle.flow_law.specs.declared.fault.FlowFault.{FlowFault}
-use Rattle.flow_law.specs.declared.fault.FlowFault.TheVariants.{OutOfMemory, TooLarge, NeedsBuffer, Exhausted, Unsupported, Busy}
-use Rattle.flow_law.specs.declared.call.SharedCall.{SharedCall}
-use Rattle.flow_law.specs.declared.call.SharedReply.TheVariants.{Refused}
-use Rattle.flow_law.specs.declared.states.SharedFlowState.{SharedFlowState}
-use Rattle.flow_law.specs.SharedHistory as history
-use Rattle.flow_law.specs.Standing.{Core, StandsFor, Conforms}
-use Rattle.flow_script.specs.Lines.{lined, line_of}
-use Rattle.flow_script.specs.ScriptMeaning.{reply_to}
-use Rattle.flow_script.specs.Shown.{Writes}
+-- A call of a core, as the documented flow's call with its line.
+use Rattle.std.proofs.Common.{◌≡◌, ℕ, ℤ, true, List, ◌++◌, Option, Some, refl, sym, ap, subst, ◌∙◌}
+use Rattle.flow_law.specs.History.{Kind}
+use Rattle.flow_law.specs.Standing.{Documents}
+use Rattle.flow_script.specs.declared.script.FlowStep.{FlowStep}
+use Rattle.flow_script.specs.FlowMeaning.{Played, HasLines, IsLine, given, turn_by, with_number}
+use Rattle.flow_script.specs.Lines.{lined}
+use Rattle.flow_script.specs.Numbers.{Numbers}
 
--- a refusal that is not for want of memory is the documented one
-pub refused : (call : SharedCall ℤ) (fault : FlowFault) (s : SharedFlowState ℤ) → fault ≢ OutOfMemory → history.Replies s call (Refused fault) → Refused fault ≡ reply_to call s
-refused call OutOfMemory s other is = absurd (other refl)
-refused call TooLarge s other is = is
-refused call NeedsBuffer s other is = is
-refused call Exhausted s other is = is
-refused call Unsupported s other is = is
-refused call Busy s other is = is
-
-pub refusal_writes : (call : SharedCall ℤ) (fault : FlowFault) (old new : Core ℤ) (before after : List ℕ) → Conforms old call (Refused fault) new → fault ≢ OutOfMemory
-    → after ≡ before ++ lined (line_of call (Refused fault)) → Writes call old new before after
-refusal_writes call fault old new before after conforms other line = λ s stands.
-    let both = conforms.0 s stands in
-    let same = refused call fault s other both.0 in
-    (subst (λ r. StandsFor new (history.after s call r)) same both.1, line ∙ ap (λ r. before ++ lined (line_of call r)) same)
+module _ {K S C R : Type 0} (kind : Kind ℤ S C R) (played : Played S C R) (Stands : K → S → Type 0) (lines : HasLines kind played) where
+  -- a call that was told is the documented one
+  pub tells : (step : FlowStep) (o : Option C) (call : C) (reply : R) (old new : K) (n m : Numbers) (text before later : List ℕ) → o ≡ Some call
+      → Documents kind Stands old call reply new → IsLine kind played lines.is_told call reply text → m ≡ with_number step (given kind played call reply) n
+      → later ≡ before ++ lined text → (s : S) → Stands old s →
+      Stands new (turn_by kind played o step s n).after × (m ≡ (turn_by kind played o step s n).numbers) × (later ≡ before ++ lined (turn_by kind played o step s n).line)
+  tells step o call reply old new n m text before later makes documents is numbers written s stands =
+      let both = documents s stands in
+      let same : reply ≡ played.reply_to call s = lines.documented s call reply both.0 is.0 in
+      subst (λ c. Stands new (turn_by kind played c step s n).after × (m ≡ (turn_by kind played c step s n).numbers) × (later ≡ before ++ lined (turn_by kind played c step s n).line))
+      (sym makes) (
+        subst (λ r. Stands new (kind.after s call r)) same both.1,
+        numbers ∙ ap (λ r. with_number step (given kind played call r) n) same,
+        written ∙ ap (λ l. before ++ lined l) (sym is.1 ∙ ap (played.line call) same),
+      )

@@ -6,5 +6,7 @@ pub mod PlayLemmas
 pub mod MeaningLemmas
 pub mod ChainLemmas
 pub mod StateLemmas
+pub mod LineLemmas
+pub mod SharingTurnLemmas
+pub mod StateTurnLemmas
 pub mod SharingLemmas
-pub mod StateInLemmas

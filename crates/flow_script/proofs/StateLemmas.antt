@@ -12,10 +12,7 @@ use Rattle.flow_law.specs.declared.call.StateReply.TheVariants as reply
 use Rattle.flow_law.specs.declared.states.StateFlowState.{StateFlowState}
 use Rattle.flow_law.specs.StateFlow.{last_of}
 use Rattle.flow_law.specs.StateFlow as documented
-use Rattle.flow_law.specs.Standing.{StateConforms}
-use Rattle.flow_script.specs.Lines.{lined, state_line_of}
 use Rattle.flow_script.specs.StateMeaning.{state_reply, received, is_last}
-use Rattle.flow_script.specs.Shown.{StateWrites}
 
 same : (a b : ℤ) → a ≡ b → int_eq a b ≡ true
 same a b e = (Decides-int_eq a b).1 e
@@ -40,7 +37,7 @@ received-is v (Some last) r (inl w) = w.1 ∙ ap (λ t. if t then reply.Received
 received-is v (Some last) r (inr w) = w.1 ∙ ap (λ t. if t then reply.Received Empty else reply.Received (Value v)) (sym (last-differs v last w.0))
 
 -- the documented reply is the computed one
-reply-is : (c : StateCall ℤ) (s : StateFlowState ℤ) (r : StateReply ℤ) → documented.IsReply s c r → r ≡ state_reply c s
+pub reply-is : (c : StateCall ℤ) (s : StateFlowState ℤ) (r : StateReply ℤ) → documented.IsReply s c r → r ≡ state_reply c s
 reply-is call.GetValue s r is = is
 reply-is (call.Set x) s r is = is
 reply-is (call.TryEmit x) s r is = is
@@ -51,23 +48,3 @@ reply-is (call.Unsubscribe u) s r is = is
 reply-is call.SubscriptionCount s r is = is
 reply-is call.ReplayCache s r is = is
 reply-is call.ResetReplayCache s r is = is
-
-pub state-writes : (c : StateCall ℤ) (r : StateReply ℤ) (old new : StateFlowState ℤ) (before after : List ℕ) → (documented.Replies old c r → documented.IsReply old c r)
-    → StateConforms old c r new → after ≡ before ++ lined (state_line_of c r) → StateWrites c old new before after
-state-writes c r old new before after plain conforms line =
-    let both = conforms.0 old refl in
-    let is = reply-is c old r (plain both.0) in
-    (both.1 ∙ ap (documented.after old c) is, line ∙ ap (λ reply. before ++ lined (state_line_of c reply)) is)
-
--- a refusal that is not for want of memory is the documented one
-pub not-memory : (c : StateCall ℤ) (fault : FlowFault) (s : StateFlowState ℤ) → fault ≢ OutOfMemory → documented.Replies s c (reply.Refused fault) → documented.IsReply s c (reply.Refused fault)
-not-memory c OutOfMemory s other is = absurd (other refl)
-not-memory c TooLarge s other is = is
-not-memory c NeedsBuffer s other is = is
-not-memory c Exhausted s other is = is
-not-memory c Unsupported s other is = is
-not-memory c Busy s other is = is
-
-pub refused-number : (c : StateCall ℤ) (fault : FlowFault) (old new : StateFlowState ℤ) → fault ≢ OutOfMemory → StateConforms old c (reply.Refused fault) new
-    → reply.Refused fault ≡ state_reply c old
-refused-number c fault old new other conforms = reply-is c old (reply.Refused fault) (not-memory c fault old other (conforms.0 old refl).0)

@@ -15,9 +15,9 @@ use Rattle.flow_script.specs.declared.fault.ScriptFault.{ScriptFault}
 use Rattle.flow_script.specs.declared.fault.ScriptFault.TheVariants.{OutOfMemory, ReadFailed, WriteFailed, NotJson, BadVersion, BadShape, UnknownName, DuplicateName, TooLarge}
 pub use Rattle.flow_script.specs.Results.{result_then, result_map, or_fault}
 use Rattle.flow_script.specs.declared.script.Script.{Script}
+use Rattle.flow_script.specs.declared.script.FlowStep.TheVariants as step
 use Rattle.flow_script.specs.declared.script.Step.{Step}
-use Rattle.flow_script.specs.Actions.{Action, action_of, actions_of, head_of_flow}
-use Rattle.flow_script.specs.Actions as action
+use Rattle.flow_script.specs.Actions.{Action, on_flow, collect, action_of, actions_of, head_of_flow}
 use Rattle.flow_script.specs.ChainFormat.{Build, chain_in}
 use Rattle.flow_script.specs.declared.verb.Verb.{Verb}
 use Rattle.flow_script.specs.declared.verb.Verb.TheVariants.{TryEmit, Emit, Poll, Cancel, Subscribe, Next, Unsubscribe, Cache, Count, Reset, Collect, Set, CompareAndSet, Turn}
@@ -92,21 +92,21 @@ abbrev pub collected_in : ℕ → Data → Result Build ScriptFault
 collected_in at d = result_then (chain_in at) (or_fault (BadShape at) (get (codes "chain") d))
 
 abbrev pub step_by : Verb → ℕ → NameLists → Data → Result Named ScriptFault
-step_by TryEmit at names d = result_map (λ value. named names (action.try_emit value)) (value_in at d)
-step_by Emit at names d = result_then (λ value. result_then (λ name. result_map (λ after. named after (action.emit value)) (with_emission at name names)) (name_in at d)) (value_in at d)
-step_by Poll at names d = result_map (λ place. named names (action.poll place)) (emission_in at names d)
-step_by Cancel at names d = result_map (λ place. named names (action.cancel place)) (emission_in at names d)
-step_by Subscribe at names d = result_then (λ name. result_map (λ after. named after action.subscribe) (with_subscriber at name names)) (name_in at d)
-step_by Next at names d = result_map (λ place. named names (action.next place)) (subscriber_in at names d)
-step_by Unsubscribe at names d = result_map (λ place. named names (action.unsubscribe place)) (subscriber_in at names d)
-step_by Cache at names d = Ok (named names action.cache)
-step_by Count at names d = Ok (named names action.count)
-step_by Reset at names d = Ok (named names action.reset)
-step_by verbs.Value at names d = Ok (named names action.value)
-step_by Set at names d = result_map (λ value. named names (action.set value)) (value_in at d)
-step_by CompareAndSet at names d = result_map (λ pair. named names (action.compare_and_set pair.0 pair.1)) (or_fault (BadShape at) (pair_of d))
-step_by Turn at names d = result_map (λ now. named names (action.turn now)) (moment_in at d)
-step_by Collect at names d = result_map (λ build. named names (action.collect build)) (collected_in at d)
+step_by TryEmit at names d = result_map (λ value. named names (on_flow (step.TryEmit value))) (value_in at d)
+step_by Emit at names d = result_then (λ value. result_then (λ name. result_map (λ after. named after (on_flow (step.Emit value))) (with_emission at name names)) (name_in at d)) (value_in at d)
+step_by Poll at names d = result_map (λ place. named names (on_flow (step.Poll place))) (emission_in at names d)
+step_by Cancel at names d = result_map (λ place. named names (on_flow (step.Cancel place))) (emission_in at names d)
+step_by Subscribe at names d = result_then (λ name. result_map (λ after. named after (on_flow step.Subscribe)) (with_subscriber at name names)) (name_in at d)
+step_by Next at names d = result_map (λ place. named names (on_flow (step.Next place))) (subscriber_in at names d)
+step_by Unsubscribe at names d = result_map (λ place. named names (on_flow (step.Unsubscribe place))) (subscriber_in at names d)
+step_by Cache at names d = Ok (named names (on_flow step.Cache))
+step_by Count at names d = Ok (named names (on_flow step.Count))
+step_by Reset at names d = Ok (named names (on_flow step.Reset))
+step_by verbs.Value at names d = Ok (named names (on_flow step.Value))
+step_by Set at names d = result_map (λ value. named names (on_flow (step.Set value))) (value_in at d)
+step_by CompareAndSet at names d = result_map (λ pair. named names (on_flow (step.CompareAndSet pair.0 pair.1))) (or_fault (BadShape at) (pair_of d))
+step_by Turn at names d = result_map (λ now. named names (on_flow (step.Turn now))) (moment_in at d)
+step_by Collect at names d = result_map (λ build. named names (collect build)) (collected_in at d)
 
 abbrev pub step_of : Kind → ℕ → NameLists → Data → Result Named ScriptFault
 step_of kind at names d = result_then (λ verb. step_by verb at names d) (or_fault (BadShape at) (verb_of kind d))

@@ -12,6 +12,7 @@ use Rattle.flow_law.specs.declared.config.Overflow.{Overflow}
 use Rattle.flow_law.specs.declared.config.Overflow.TheVariants.{Suspend, DropOldest, DropLatest}
 use Rattle.flow_script.specs.declared.verb.Verb.{Verb}
 use Rattle.flow_script.specs.declared.verb.Verb.TheVariants.{TryEmit, Emit, Poll, Cancel, Subscribe, Next, Unsubscribe, Cache, Count, Reset, Collect, Value, Set, CompareAndSet, Turn}
+use Rattle.flow_script.specs.declared.verb.Rule.{Rule}
 use Rattle.flow_script.specs.declared.verb.Kind.{Kind}
 use Rattle.flow_script.specs.declared.verb.Kind.TheVariants as kind
 
@@ -75,35 +76,6 @@ has_version d = option_map_or (λ version. version == 1) (u64_at (codes "version
 
 -- ---- steps
 
-abbrev pub verb_named : List ℕ → Option Verb
-verb_named text =
-    if bytes_eq text (codes "try_emit") then Some TryEmit
-    else (if bytes_eq text (codes "emit") then Some Emit
-    else (if bytes_eq text (codes "poll") then Some Poll
-    else (if bytes_eq text (codes "cancel") then Some Cancel
-    else (if bytes_eq text (codes "subscribe") then Some Subscribe
-    else (if bytes_eq text (codes "next") then Some Next
-    else (if bytes_eq text (codes "unsubscribe") then Some Unsubscribe
-    else (if bytes_eq text (codes "cache") then Some Cache
-    else (if bytes_eq text (codes "count") then Some Count
-    else (if bytes_eq text (codes "reset") then Some Reset
-    else (if bytes_eq text (codes "collect") then Some Collect
-    else (if bytes_eq text (codes "value") then Some Value
-    else (if bytes_eq text (codes "set") then Some Set
-    else (if bytes_eq text (codes "compare_and_set") then Some CompareAndSet
-    else (if bytes_eq text (codes "turn") then Some Turn else None))))))))))))))
-
--- how many keys a step has, `do` among them
-abbrev pub key_count : Verb → ℕ
-key_count Emit = 3
-key_count Cache = 1
-key_count Count = 1
-key_count Reset = 1
-key_count Value = 1
-key_count CompareAndSet = 3
-key_count Turn = 2
-key_count _ = 2
-
 abbrev pub is_flow : Kind → Bool
 is_flow kind.Absent = false
 is_flow _ = true
@@ -134,24 +106,29 @@ is_sharing kind.Share = true
 is_sharing kind.StateIn = true
 is_sharing _ = false
 
--- the kinds of flow that allow a step
-abbrev pub is_allowed : Kind → Verb → Bool
-is_allowed kind Collect = true
-is_allowed kind TryEmit = is_mutable kind
-is_allowed kind Reset = is_mutable kind
-is_allowed kind Emit = is_shared kind
-is_allowed kind Poll = is_shared kind
-is_allowed kind Cancel = is_shared kind
-is_allowed kind Subscribe = is_flow kind
-is_allowed kind Next = is_flow kind
-is_allowed kind Unsubscribe = is_flow kind
-is_allowed kind Cache = is_flow kind
-is_allowed kind Count = is_flow kind
-is_allowed kind Value = has_value kind
-is_allowed kind Set = is_state kind
-is_allowed kind CompareAndSet = is_state kind
-is_allowed kind Turn = is_sharing kind
+abbrev pub rule_of : Verb → ℕ → Bool → Option Rule
+rule_of verb keys allowed = Some (record { verb = verb; keys = keys; allowed = allowed })
+
+-- what a step does by the text of its key `do`, how many keys it has, `do` among them, and which flows allow it
+abbrev pub rule_named : Kind → List ℕ → Option Rule
+rule_named kind text =
+    if bytes_eq text (codes "try_emit") then rule_of TryEmit 2 (is_mutable kind)
+    else (if bytes_eq text (codes "emit") then rule_of Emit 3 (is_shared kind)
+    else (if bytes_eq text (codes "poll") then rule_of Poll 2 (is_shared kind)
+    else (if bytes_eq text (codes "cancel") then rule_of Cancel 2 (is_shared kind)
+    else (if bytes_eq text (codes "subscribe") then rule_of Subscribe 2 (is_flow kind)
+    else (if bytes_eq text (codes "next") then rule_of Next 2 (is_flow kind)
+    else (if bytes_eq text (codes "unsubscribe") then rule_of Unsubscribe 2 (is_flow kind)
+    else (if bytes_eq text (codes "cache") then rule_of Cache 1 (is_flow kind)
+    else (if bytes_eq text (codes "count") then rule_of Count 1 (is_flow kind)
+    else (if bytes_eq text (codes "reset") then rule_of Reset 1 (is_mutable kind)
+    else (if bytes_eq text (codes "collect") then rule_of Collect 2 true
+    else (if bytes_eq text (codes "value") then rule_of Value 1 (has_value kind)
+    else (if bytes_eq text (codes "set") then rule_of Set 2 (is_state kind)
+    else (if bytes_eq text (codes "compare_and_set") then rule_of CompareAndSet 3 (is_state kind)
+    else (if bytes_eq text (codes "turn") then rule_of Turn 2 (is_sharing kind) else None))))))))))))))
 
 -- what a step does, if the flow allows it and it has as many keys as it needs
 abbrev pub verb_of : Kind → Data → Option Verb
-verb_of kind d = option_and_then (λ verb. where_true (is_allowed kind verb && has_members (key_count verb) d) (Some verb)) (option_and_then verb_named (text_at (codes "do") d))
+verb_of kind d =
+    option_and_then (λ rule. where_true (rule.allowed && has_members rule.keys d) (Some rule.verb)) (option_and_then (rule_named kind) (text_at (codes "do") d))

@@ -41,14 +41,6 @@ abbrev pub list_text : List ℤ → List ℕ
 list_text [] = codes "[]"
 list_text (x ∷ xs) = codes "[" ++ signed_decimal x ++ more_items xs ++ codes "]"
 
-abbrev pub refusal_text : FlowFault → List ℕ
-refusal_text OutOfMemory = codes "refused 1 OutOfMemory"
-refusal_text TooLarge = codes "refused 2 TooLarge"
-refusal_text NeedsBuffer = codes "refused 3 NeedsBuffer"
-refusal_text Exhausted = codes "refused 4 Exhausted"
-refusal_text Unsupported = codes "refused 5 Unsupported"
-refusal_text Busy = codes "refused 6 Busy"
-
 abbrev pub flow_fault_text : FlowFault → List ℕ
 flow_fault_text OutOfMemory = codes "1 OutOfMemory"
 flow_fault_text TooLarge = codes "2 TooLarge"
@@ -56,6 +48,9 @@ flow_fault_text NeedsBuffer = codes "3 NeedsBuffer"
 flow_fault_text Exhausted = codes "4 Exhausted"
 flow_fault_text Unsupported = codes "5 Unsupported"
 flow_fault_text Busy = codes "6 Busy"
+
+abbrev pub refusal_text : FlowFault → List ℕ
+refusal_text fault = codes "refused " ++ flow_fault_text fault
 
 abbrev pub test_text : Bool → List ℕ
 test_text test = if test then codes "true" else codes "false"

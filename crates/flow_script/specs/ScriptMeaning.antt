@@ -1,78 +1,81 @@
 -- What a script means: the text that it writes, or the fault that it is refused by.
 -- Begin with `meaning`: the checks of Checks, then the steps over the documented flow, each with its line.
-use Rattle.std.specs.Prelude.{ℕ, List, [], ◌∷◌, ◌++◌, Result, Ok, Err}
+use Rattle.std.specs.Prelude.{ℕ, ℤ, List, [], ◌∷◌, ◌++◌, Result, Ok, Err}
 use Rattle.std.specs.Option.{option_map_or}
-use Rattle.flow_law.specs.SharedFlow.{config_fault}
+use Rattle.flow_law.specs.SharedFlow.{config_fault, first_state}
 use Rattle.flow_script.specs.declared.fault.ScriptFault.{ScriptFault}
-use Rattle.flow_script.specs.Heads.{Head, no_flow, shared_flow, state_flow, shared_chain, state_chain}
-use Rattle.flow_script.specs.Actions.{Action}
-use Rattle.flow_script.specs.Actions as action
+use Rattle.flow_script.specs.Heads.{Head, no_flow, shared_chain, state_chain}
+use Rattle.flow_script.specs.Heads as head
+use Rattle.flow_script.specs.Actions.{Action, on_flow, collect}
 use Rattle.flow_script.specs.Checks.{result_map, read_script}
-use Rattle.flow_script.specs.Lines.{lined, refusal_text, share_fault_text, collection_text, not_allowed}
+use Rattle.flow_script.specs.Lines.{lined, refusal_text, share_fault_text, collection_text}
 use Rattle.flow_sharing.specs.declared.report.ShareFault.TheVariants.{Chain, Flow}
 use Rattle.flow_sharing.specs.ShareIn.{share_config}
-use Rattle.flow_script.specs.StateMeaning.{StatePlay, first_state_play, state_turn}
-pub use Rattle.flow_script.specs.Turns.{Turn, number_at, line_without_call}
-pub use Rattle.flow_script.specs.SharedMeaning.{SharedPlay, first_play, reply_to, state_after, emission_number, subscriber_number, shared_turn}
-use Rattle.flow_script.specs.SharingMeaning.{SharePlay, first_share_play, share_turn}
-use Rattle.flow_script.specs.StateInMeaning.{StateInPlay, first_state_in_play, state_in_turn}
+use Rattle.flow_law.specs.declared.states.SharedFlowState.{SharedFlowState}
+use Rattle.flow_law.specs.declared.states.StateFlowState.{StateFlowState}
+use Rattle.flow_law.specs.SharedHistory.{shared_flow}
+use Rattle.flow_law.specs.StateFlow.{first_state_flow, state_flow}
+use Rattle.flow_script.specs.declared.script.FlowStep.{FlowStep}
+use Rattle.flow_script.specs.FlowMeaning.{Turn, flow_turn, without_call}
+use Rattle.flow_script.specs.Numbers.{Numbers, no_numbers}
+use Rattle.flow_script.specs.SharedMeaning.{plays_shared}
+use Rattle.flow_script.specs.SharingMeaning.{SharingPlay, first_sharing, sharing_step}
+use Rattle.flow_script.specs.SharingTurn.{shared_target, state_target}
+use Rattle.flow_script.specs.StateMeaning.{plays_state}
 
 -- ---- players
 
 -- what the steps are played on
 pub data Player : Type 0 where
   idle : Player
-  shared : SharedPlay → Player
-  state : StatePlay → Player
-  share : SharePlay → Player
-  state_in : StateInPlay → Player
+  shared : SharedFlowState ℤ → Player
+  state : StateFlowState ℤ → Player
+  share : SharingPlay (SharedFlowState ℤ) → Player
+  state_in : SharingPlay (StateFlowState ℤ) → Player
 
 -- ---- steps
 
-abbrev pub on_shared : Turn SharedPlay → Turn Player
-on_shared t = record { line = t.line; after = shared t.after }
+abbrev pub played_as : {P : Type 0} → (P → Player) → Turn P → Turn Player
+played_as player t = record { line = t.line; after = player t.after; numbers = t.numbers }
 
-abbrev pub on_state : Turn StatePlay → Turn Player
-on_state t = record { line = t.line; after = state t.after }
+abbrev pub shared_turn : FlowStep → SharedFlowState ℤ → Numbers → Turn (SharedFlowState ℤ)
+shared_turn = flow_turn shared_flow plays_shared
 
-abbrev pub on_share : Turn SharePlay → Turn Player
-on_share t = record { line = t.line; after = share t.after }
+abbrev pub state_turn : FlowStep → StateFlowState ℤ → Numbers → Turn (StateFlowState ℤ)
+state_turn = flow_turn state_flow plays_state
 
-abbrev pub on_state_in : Turn StateInPlay → Turn Player
-on_state_in t = record { line = t.line; after = state_in t.after }
-
-abbrev pub flow_turn : Action → Player → Turn Player
-flow_turn action idle = record { line = not_allowed; after = idle }
-flow_turn action (shared p) = on_shared (shared_turn action p)
-flow_turn action (state p) = on_state (state_turn action p)
-flow_turn action (share p) = on_share (share_turn action p)
-flow_turn action (state_in p) = on_state_in (state_in_turn action p)
+abbrev pub player_turn : FlowStep → Player → Numbers → Turn Player
+player_turn step idle n = without_call step idle n
+player_turn step (shared s) n = played_as shared (shared_turn step s n)
+player_turn step (state s) n = played_as state (state_turn step s n)
+player_turn step (share p) n = played_as share (sharing_step shared_turn shared_target step p n)
+player_turn step (state_in p) n = played_as state_in (sharing_step state_turn state_target step p n)
 
 -- a collection is about no flow
-abbrev pub turn : Action → Player → Turn Player
-turn (action.collect build) p = record { line = collection_text build; after = p }
-turn action p = flow_turn action p
+abbrev pub turn : Action → Player → Numbers → Turn Player
+turn (on_flow step) p n = player_turn step p n
+turn (collect build) p n = record { line = collection_text build; after = p; numbers = n }
 
-abbrev pub lines_from : Player → List Action → List ℕ
-lines_from p [] = []
-lines_from p (action ∷ rest) = lined (turn action p).line ++ lines_from (turn action p).after rest
+abbrev pub lines_from : Player → Numbers → List Action → List ℕ
+lines_from p n [] = []
+lines_from p n (action ∷ rest) = lined (turn action p n).line ++ lines_from (turn action p n).after (turn action p n).numbers rest
 
 -- ---- scripts
 
 -- what the steps are played on, or the line of a flow that is itself refused
 abbrev pub player_of : Head → Result Player (List ℕ)
 player_of no_flow = Ok idle
-player_of (shared_flow config) = option_map_or (λ fault. Err (refusal_text fault)) (config_fault config) (Ok (shared (first_play config)))
-player_of (state_flow initial limit) = Ok (state (first_state_play limit initial))
+player_of (head.shared_flow config) = option_map_or (λ fault. Err (refusal_text fault)) (config_fault config) (Ok (shared (first_state config)))
+player_of (head.state_flow initial limit) = Ok (state (first_state_flow limit initial))
 player_of (shared_chain (Err fault) started replay limit) = Err (share_fault_text (Chain fault))
 player_of (shared_chain (Ok chain) started replay limit) =
     option_map_or (λ fault. Err (share_fault_text (Flow fault))) (config_fault (share_config replay limit))
-    (Ok (share (first_share_play chain.run started (share_config replay limit))))
+    (Ok (share (first_sharing chain.run started (first_state (share_config replay limit)))))
 player_of (state_chain (Err fault) started initial limit) = Err (share_fault_text (Chain fault))
-player_of (state_chain (Ok chain) started initial limit) = Ok (state_in (first_state_in_play chain.run started limit initial))
+player_of (state_chain (Ok chain) started initial limit) = Ok (state_in (first_sharing chain.run started (first_state_flow limit initial)))
 
 abbrev pub text_by : List Action → Result Player (List ℕ) → List ℕ
-text_by steps (Ok p) = lines_from p steps
+text_by steps (Ok p) = lines_from p no_numbers steps
 text_by steps (Err text) = lined text
 
 -- all that a script writes. Where the flow itself is refused, that is the only line

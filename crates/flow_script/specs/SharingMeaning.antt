@@ -1,204 +1,47 @@
--- A turn of a documented sharing (`shareIn`, `stateIn`), want of memory aside.
--- Begin with `sharing_turn`. When the chain runs, and the command, are those of flow_law's `Sharing`.
-use Rattle.std.specs.Prelude.{ℕ, ℤ, Bool, true, false, nat_lt, if◌then◌else◌, List, [], ◌∷◌, length, Option, Some, None, Result, Ok, Err}
-use Rattle.std.specs.Prelude.{◌++◌, option_map}
-use Rattle.std.specs.Option.{option_map_or}
-use Rattle.flow_law.specs.declared.config.Config.{Config}
-use Rattle.flow_law.specs.declared.call.SharedCall.{SharedCall}
-use Rattle.flow_law.specs.declared.call.SharedCall.TheVariants as call
-use Rattle.flow_law.specs.declared.call.SharedReply.{SharedReply}
-use Rattle.flow_law.specs.declared.fault.FlowFault.TheVariants as flow_fault
-use Rattle.flow_law.specs.declared.chain.ChainFault.TheVariants as chain_fault
-use Rattle.flow_script.specs.Actions.{Action}
-use Rattle.flow_script.specs.Actions as action
-use Rattle.flow_script.specs.Lines.{line_of, turn_text}
-use Rattle.flow_script.specs.Turns.{Turn, number_at, line_without_call}
-use Rattle.flow_script.specs.SharedMeaning.{reply_to, state_after, subscriber_number}
-use Rattle.flow_law.specs.declared.fault.FlowFault.{FlowFault}
-use Rattle.flow_law.specs.declared.outcome.Emit.{Emit}
-use Rattle.flow_law.specs.declared.outcome.Emit.TheVariants as emission
-use Rattle.flow_law.specs.declared.chain.End.TheVariants.{Completed as AtEnd, Failed}
+-- The steps of a script on a chain that is shared (`shareIn`, `stateIn`), by whichever kind of flow.
+-- Begin with `sharing_step`. A turn is `sharing_turn` of SharingTurn, any other step one on the flow that reads it.
+use Rattle.std.specs.Prelude.{ℕ, ℤ, Bool, true, false, if◌then◌else◌}
 use Rattle.flow_law.specs.declared.sharing.Started.{Started}
-use Rattle.flow_law.specs.declared.sharing.Command.{Command}
-use Rattle.flow_law.specs.declared.sharing.Command.TheVariants.{Start, Stop, Keep}
-use Rattle.flow_law.specs.declared.sharing.SharingObservation.{SharingObservation}
-use Rattle.flow_law.specs.Sharing.{newest_command, last_moment, is_running}
-use Rattle.flow_law.specs.ChainRun.{ChainRun, gives, pends, ends}
-use Rattle.flow_law.specs.declared.states.SharedFlowState.{SharedFlowState}
-use Rattle.flow_law.specs.SharedFlow.{first_state}
-use Rattle.flow_law.specs.SharedStep as shared
-use Rattle.flow_law.specs.declared.states.StateFlowState.{StateFlowState}
-use Rattle.flow_sharing.specs.declared.report.Event.{Event}
-use Rattle.flow_sharing.specs.declared.report.Event.TheVariants.{Idle, Put, Queued, Waiting, Pending, Completed}
-use Rattle.flow_sharing.specs.declared.report.Report.{Report}
-use Rattle.flow_sharing.specs.declared.report.ShareFault.{ShareFault}
-use Rattle.flow_sharing.specs.declared.report.ShareFault.TheVariants.{Backwards, Ended, Chain, Flow}
-use Rattle.flow_sharing.specs.OverCore.{after_stop, still_waits}
-use Rattle.flow_sharing.specs.Turn.{reported}
+use Rattle.flow_law.specs.ChainRun.{ChainRun}
+use Rattle.flow_script.specs.declared.script.FlowStep.{FlowStep}
+use Rattle.flow_script.specs.declared.script.FlowStep.TheVariants as step
+use Rattle.flow_script.specs.FlowMeaning.{Turn, without_call}
+use Rattle.flow_script.specs.Lines.{turn_text}
+use Rattle.flow_script.specs.Numbers.{Numbers}
+use Rattle.flow_script.specs.SharingTurn.{SharedChain, Target, at_rest, sharing_turn}
 
--- ---- the flow into which the chain's items go
-
--- an item is accepted, with the number of its emission where that waits, or refused
-pub data Accepting (F : Type 0) : Type 0 where
-  accepted : Option ℕ → F → Accepting F
-  refused : FlowFault → Accepting F
-
-pub record Target (F : Type 0) : Type 0 where
-  pub count : F → ℕ
-  pub put : ℤ → F → Accepting F
-  pub waits : Option ℕ → F → Bool
-  pub cancelled : Option ℕ → F → F
-
-abbrev pub accepting : Result Emit FlowFault → SharedFlowState ℤ → Accepting (SharedFlowState ℤ)
-accepting (Ok emission.Done) after = accepted None after
-accepting (Ok (emission.Queued number)) after = accepted (Some number) after
-accepting (Err fault) after = refused fault
-
--- an item is emitted into a shared flow
-abbrev pub shared_target : Target (SharedFlowState ℤ)
-shared_target = record {
-  count = λ f. length f.subscribers;
-  put = λ x f. accepting (shared.emit x f).reply (shared.emit x f).after;
-  waits = still_waits;
-  cancelled = after_stop;
-}
-
--- an item becomes the value of a state flow
-abbrev pub state_target : Target (StateFlowState ℤ)
-state_target = record {
-  count = λ f. length f.subscribers;
-  put = λ x f. accepted None (record f { value = x });
-  waits = λ waiting f. false;
-  cancelled = λ waiting f. f;
-}
-
--- ---- a turn
-
-pub record SharedChain (F : Type 0) : Type 0 where
-  -- the observations, the newest one first
-  pub seen : List SharingObservation
-  -- what the chain gives from its beginning, and what it has still to give
-  pub whole : ChainRun ℤ
-  pub rest : ChainRun ℤ
-  -- an item that the flow refused
-  pub kept : Option ℤ
-  pub completed : Bool
-  pub ended : Bool
-  -- the number of the emission that waits
-  pub waiting : Option ℕ
-  pub flow : F
-
-pub record Outcome (F : Type 0) : Type 0 where
-  pub event : Result Event ShareFault
-  pub after : SharedChain F
-
-abbrev pub outcome : {F : Type 0} → Result Event ShareFault → SharedChain F → Outcome F
-outcome event after = record { event = event; after = after }
-
-module _ {F : Type 0} (to : Target F) where
-  -- the item x is next, and then `rest` is left
-  abbrev pub sent : ℤ → ChainRun ℤ → SharedChain F → Accepting F → Outcome F
-  sent x rest p (accepted None f) = outcome (Ok Put) (record p { rest = rest; kept = None; waiting = None; flow = f })
-  sent x rest p (accepted (Some number) f) = outcome (Ok Queued) (record p { rest = rest; kept = None; waiting = Some number; flow = f })
-  sent x rest p (refused fault) = outcome (Err (Flow fault)) (record p { rest = rest; kept = Some x; waiting = None })
-
-  abbrev pub next_entry : SharedChain F → ChainRun ℤ → Outcome F
-  next_entry p (gives x rest) = sent x rest p (to.put x p.flow)
-  next_entry p (pends rest) = outcome (Ok Pending) (record p { rest = rest; waiting = None })
-  next_entry p (ends AtEnd) = outcome (Ok Completed) (record p { completed = true; waiting = None })
-  next_entry p (ends (Failed fault)) = outcome (Err (Chain fault)) (record p { rest = ends AtEnd; ended = true; waiting = None })
-
-  -- the kept item, or the chain's next entry
-  abbrev pub send : SharedChain F → Option ℤ → Outcome F
-  send p (Some x) = sent x p.rest p (to.put x p.flow)
-  send p None = next_entry p p.rest
-
-  abbrev pub run : SharedChain F → Outcome F
-  run p = if p.completed then outcome (Ok Completed) p else (if to.waits p.waiting p.flow then outcome (Ok Waiting) p else send p p.kept)
-
-  -- what a command does, and what follows it; `ran` says whether it ran before
-  abbrev pub goes_on : Bool → SharedChain F → Outcome F
-  goes_on ran p = if ran then run p else outcome (Ok Idle) p
-
-  abbrev pub do_command : Command → Bool → SharedChain F → Outcome F
-  do_command Start ran p = run (record p { rest = p.whole; completed = false })
-  do_command Stop ran p = outcome (Ok Idle) (record p { kept = None; waiting = None; flow = to.cancelled p.waiting p.flow })
-  do_command Keep ran p = goes_on ran p
-
-pub record SharingTurn (F : Type 0) : Type 0 where
-  pub result : Result Report ShareFault
-  pub after : SharedChain F
-
-abbrev pub told_turn : {F : Type 0} → Command → Outcome F → SharingTurn F
-told_turn command o = record { result = reported command o.event; after = o.after }
-
-module _ {F : Type 0} (to : Target F) where
-  abbrev pub observing : Started → List SharingObservation → SharedChain F → SharingTurn F
-  observing started all p = told_turn (newest_command started all) (do_command to (newest_command started all) (is_running started p.seen) (record p { seen = all }))
-
-  -- a chain that failed is not observed any more, and no moment comes before the last one
-  abbrev pub sharing_turn : Started → ℕ → SharedChain F → SharingTurn F
-  sharing_turn started now p =
-      if p.ended then record { result = Err Ended; after = p }
-      else (if nat_lt now (last_moment p.seen) then record { result = Err (Backwards (last_moment p.seen)); after = p }
-      else observing started (record { moment = now; count = to.count p.flow } ∷ p.seen) p)
-
--- ---- no want of memory
-
-abbrev pub IsToldFault : ShareFault → Type 0
-IsToldFault (Flow flow_fault.OutOfMemory) = ⊥
-IsToldFault (Chain chain_fault.OutOfMemory) = ⊥
-IsToldFault _ = Unit {0}
-
-abbrev pub IsTold : {R : Type 0} → Result R ShareFault → Type 0
-IsTold (Ok r) = Unit {0}
-IsTold (Err fault) = IsToldFault fault
-
--- ---- the steps of a script
-
--- a chain that is shared by a shared flow, and the number that each subscriber's name stands for, if it stands for any
-pub record SharePlay : Type 0 where
+pub record SharingPlay (S : Type 0) : Type 0 where
   pub started : Started
-  pub chain : SharedChain (SharedFlowState ℤ)
-  pub subscribers : List (Option ℕ)
+  pub chain : SharedChain S
 
 -- before any turn
-abbrev pub at_rest : {F : Type 0} → ChainRun ℤ → F → SharedChain F
-at_rest whole f = record { seen = []; whole = whole; rest = whole; kept = None; completed = false; ended = false; waiting = None; flow = f }
+abbrev pub first_sharing : {S : Type 0} → ChainRun ℤ → Started → S → SharingPlay S
+first_sharing whole started s = record { started = started; chain = at_rest whole s }
 
-abbrev pub first_share_play : ChainRun ℤ → Started → Config → SharePlay
-first_share_play whole started config = record { started = started; chain = at_rest whole (first_state config); subscribers = [] }
+-- who shares a chain only reads its flow
+abbrev pub is_reading : FlowStep → Bool
+is_reading step.Subscribe = true
+is_reading (step.Next place) = true
+is_reading (step.Unsubscribe place) = true
+is_reading step.Cache = true
+is_reading step.Count = true
+is_reading step.Value = true
+is_reading _ = false
 
--- the call that a step makes. A name that stands for no number makes none
-abbrev pub share_call_of : Action → SharePlay → Option (SharedCall ℤ)
-share_call_of action.subscribe p = Some (call.Subscribe [])
-share_call_of (action.next place) p = option_map call.TakeNext (number_at place p.subscribers)
-share_call_of (action.unsubscribe place) p = option_map call.Unsubscribe (number_at place p.subscribers)
-share_call_of action.cache p = Some call.ReplayCache
-share_call_of action.count p = Some call.SubscriptionCount
-share_call_of _ p = None
+-- `flow` says what a step does on the flow
+module _ {S : Type 0} (flow : FlowStep → S → Numbers → Turn S) where
+  abbrev pub on_flow : Turn S → SharingPlay S → Turn (SharingPlay S)
+  on_flow t p = record { line = t.line; after = record p { chain = record p.chain { flow = t.after } }; numbers = t.numbers }
 
-abbrev pub with_subscription : Action → SharedReply ℤ → SharePlay → SharePlay
-with_subscription action.subscribe reply p = record p { subscribers = p.subscribers ++ subscriber_number reply ∷ [] }
-with_subscription _ reply p = p
+  abbrev pub reading : FlowStep → SharingPlay S → Numbers → Turn (SharingPlay S)
+  reading step p n = if is_reading step then on_flow (flow step p.chain.flow n) p else without_call step p n
 
-abbrev pub with_flow : SharedFlowState ℤ → SharePlay → SharePlay
-with_flow f p = record p { chain = record p.chain { flow = f } }
+module _ {S : Type 0} (to : Target S) where
+  abbrev pub turn_at : ℕ → SharingPlay S → Numbers → Turn (SharingPlay S)
+  turn_at now p n =
+      let t = sharing_turn to p.started now p.chain in
+      record { line = turn_text t.result; after = record p { chain = t.after }; numbers = n }
 
-abbrev pub share_called : Action → SharePlay → SharedCall ℤ → Turn SharePlay
-share_called action p call = record {
-  line = line_of call (reply_to call p.chain.flow);
-  after = with_subscription action (reply_to call p.chain.flow) (with_flow (state_after call p.chain.flow) p);
-}
-
-abbrev pub share_call_turn : Action → SharePlay → Turn SharePlay
-share_call_turn action p = option_map_or (share_called action p) (share_call_of action p) (record { line = line_without_call action; after = p })
-
-abbrev pub turn_at : ℕ → SharePlay → Turn SharePlay
-turn_at now p =
-    let t = sharing_turn shared_target p.started now p.chain in
-    record { line = turn_text t.result; after = record p { chain = t.after } }
-
-abbrev pub share_turn : Action → SharePlay → Turn SharePlay
-share_turn (action.turn now) p = turn_at now p
-share_turn action p = share_call_turn action p
+abbrev pub sharing_step : {S : Type 0} → (FlowStep → S → Numbers → Turn S) → Target S → FlowStep → SharingPlay S → Numbers → Turn (SharingPlay S)
+sharing_step flow to (step.Turn now) p n = turn_at to now p n
+sharing_step flow to other p n = reading flow other p n

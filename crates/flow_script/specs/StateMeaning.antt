@@ -1,7 +1,6 @@
--- The steps of a script on a documented state flow.
--- Begin with `state_turn`. `state_reply` is the reply that the documented flow gives to a call, computed for whole numbers.
-use Rattle.std.specs.Prelude.{ℕ, ◌+◌, ℤ, Bool, true, false, List, [], ◌∷◌, ◌++◌, length, if◌then◌else◌, Option, Some, None, option_map, is_some}
-use Rattle.std.specs.Option.{option_map_or}
+-- State flows, as scripts play on them.
+-- `state_reply` is the reply that the documented flow gives to a call, computed for whole numbers.
+use Rattle.std.specs.Prelude.{◌≡◌, ℕ, ◌+◌, ℤ, Bool, true, false, List, [], ◌∷◌, length, if◌then◌else◌, Option, Some, None, is_some}
 use Rattle.std.specs.Ordering.{int_eq}
 use Rattle.flow_law.specs.declared.fault.FlowFault.TheVariants.{Exhausted, Unsupported}
 use Rattle.flow_law.specs.declared.outcome.Next.TheVariants.{Value, Empty, Gone}
@@ -10,23 +9,11 @@ use Rattle.flow_law.specs.declared.call.StateCall.TheVariants as call
 use Rattle.flow_law.specs.declared.call.StateReply.{StateReply}
 use Rattle.flow_law.specs.declared.call.StateReply.TheVariants as reply
 use Rattle.flow_law.specs.declared.states.StateFlowState.{StateFlowState}
-use Rattle.flow_law.specs.StateFlow.{first_state_flow, last_of, is_exhausted}
-use Rattle.flow_law.specs.StateFlow as documented
-use Rattle.flow_script.specs.Actions.{Action}
-use Rattle.flow_script.specs.Actions as action
+use Rattle.flow_law.specs.StateFlow.{last_of, is_exhausted}
+use Rattle.flow_script.specs.declared.script.FlowStep.{FlowStep}
+use Rattle.flow_script.specs.declared.script.FlowStep.TheVariants as step
+use Rattle.flow_script.specs.FlowMeaning.{Played}
 use Rattle.flow_script.specs.Lines.{state_line_of}
-use Rattle.flow_script.specs.Turns.{Turn, number_at, line_without_call}
-
--- a state flow, and the number that each subscriber's name stands for, if it stands for any
-pub record StatePlay : Type 0 where
-  pub flow : StateFlowState ℤ
-  pub subscribers : List (Option ℕ)
-
--- before the first step
-abbrev pub first_state_play : ℕ → ℤ → StatePlay
-first_state_play limit initial = record { flow = first_state_flow limit initial; subscribers = [] }
-
--- ---- the documented reply, and the state after it
 
 abbrev pub is_last : ℤ → Option ℤ → Bool
 is_last value None = false
@@ -49,39 +36,17 @@ state_reply call.SubscriptionCount s = reply.Counted (length s.subscribers)
 state_reply call.ReplayCache s = reply.Cached (s.value ∷ [])
 state_reply call.ResetReplayCache s = reply.Refused Unsupported
 
-abbrev pub state_flow_after : StateCall ℤ → StateFlowState ℤ → StateFlowState ℤ
-state_flow_after call s = documented.after s call (state_reply call s)
+-- the steps that state flows alone have
+abbrev pub state_own_call : FlowStep → List (Option ℕ) → Option (StateCall ℤ)
+state_own_call step.Reset emissions = Some call.ResetReplayCache
+state_own_call step.Value emissions = Some call.GetValue
+state_own_call (step.Set x) emissions = Some (call.Set x)
+state_own_call (step.CompareAndSet expect update) emissions = Some (call.CompareAndSet expect update)
+state_own_call _ emissions = None
 
--- ---- steps
+abbrev pub plays_state : Played (StateFlowState ℤ) (StateCall ℤ) (StateReply ℤ)
+plays_state = record { try_emit = call.TryEmit; own_call = state_own_call; reply_to = state_reply; line = state_line_of }
 
--- the call that a step makes. A name that stands for no number makes none
-abbrev pub state_call_of : Action → StatePlay → Option (StateCall ℤ)
-state_call_of (action.try_emit x) p = Some (call.TryEmit x)
-state_call_of action.subscribe p = Some (call.Subscribe [])
-state_call_of (action.next place) p = option_map call.TakeNext (number_at place p.subscribers)
-state_call_of (action.unsubscribe place) p = option_map call.Unsubscribe (number_at place p.subscribers)
-state_call_of action.cache p = Some call.ReplayCache
-state_call_of action.count p = Some call.SubscriptionCount
-state_call_of action.reset p = Some call.ResetReplayCache
-state_call_of action.value p = Some call.GetValue
-state_call_of (action.set x) p = Some (call.Set x)
-state_call_of (action.compare_and_set expect update) p = Some (call.CompareAndSet expect update)
-state_call_of _ p = None
-
--- the number that a subscriber's name stands for from then on
-abbrev pub reader_number : StateReply ℤ → Option ℕ
-reader_number (reply.Subscribed u) = Some u
-reader_number _ = None
-
-abbrev pub with_reader : Action → StateReply ℤ → StatePlay → StatePlay
-with_reader action.subscribe reply p = record p { subscribers = p.subscribers ++ reader_number reply ∷ [] }
-with_reader _ reply p = p
-
-abbrev pub state_called : Action → StatePlay → StateCall ℤ → Turn StatePlay
-state_called action p call = record {
-  line = state_line_of call (state_reply call p.flow);
-  after = with_reader action (state_reply call p.flow) (record p { flow = state_flow_after call p.flow });
-}
-
-abbrev pub state_turn : Action → StatePlay → Turn StatePlay
-state_turn action p = option_map_or (state_called action p) (state_call_of action p) (record { line = line_without_call action; after = p })
+-- a state core keeps the state itself
+abbrev pub IsState : StateFlowState ℤ → StateFlowState ℤ → Type 0
+IsState core s = core ≡ s

@@ -5,6 +5,7 @@ ghost use Rattle.flow_script.specs.Lines as lines;
 
 use crate::fault::ScriptFault;
 use crate::lines::add_items;
+use crate::memory::ends_for_memory;
 use crate::script::Build;
 use flow_cold::{ChainFault, End, ScriptChain, collect_all};
 use std::alloc::{AllocError, Global};
@@ -46,7 +47,7 @@ fn add_collected(
         Ok(collected) => collected,
         Err(_) => return Err(ScriptFault::OutOfMemory),
     };
-    if let End::Failed(ChainFault::OutOfMemory) = collected.end {
+    if ends_for_memory(collected.end) {
         return Err(ScriptFault::OutOfMemory);
     }
     add_items(text, collected.items.as_slice())?;

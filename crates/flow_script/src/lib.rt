@@ -4,13 +4,15 @@
 //! that is refused writes nothing, and the refusal names the step.
 #![tactic(auto)]
 
-mod calls;
 mod chain_words;
 mod collect;
 mod fault;
+mod flow_steps;
 mod lines;
 mod members;
+mod memory;
 mod names;
+mod numbers;
 mod player;
 mod playing;
 mod read;
@@ -21,12 +23,12 @@ mod read_share;
 mod read_source;
 mod read_step;
 mod script;
+mod script_core;
+mod script_hub;
 mod share_lines;
-mod share_player;
-mod shared_player;
+mod shared_calls;
+mod sharing_steps;
 mod state_calls;
-mod state_in_player;
-mod state_player;
 mod transfer;
 mod verb;
 mod watched;
@@ -34,5 +36,5 @@ mod watched;
 pub use fault::ScriptFault;
 pub use playing::play;
 pub use read::read_script;
-pub use script::{Build, Script, ScriptFlow, Step};
+pub use script::{Build, FlowStep, Script, ScriptFlow, Step};
 pub use watched::Watched;

@@ -1,9 +1,13 @@
 //! Writing lines.
-ghost use Rattle.std.specs.Prelude.{◌≡◌, ◌≢◌, ◌++◌, OnOk, IfErr, string_bytes, decimal};
+ghost use Rattle.std.specs.Prelude.{◌≡◌, ◌++◌, OnOk, IfErr, string_bytes, decimal};
 ghost use Rattle.std.specs.Fmt.{signed_decimal};
+ghost use Rattle.flow_script.specs.FlowMeaning.{line_without_call};
 ghost use Rattle.flow_script.specs.Lines as lines;
+ghost use Rattle.flow_script.specs.Memory.{IsToldFlowFault};
 
 use crate::fault::ScriptFault;
+use crate::memory::is_flow_memory;
+use crate::script::FlowStep;
 use flow_law::{FlowFault, Next};
 use std::alloc::AllocError;
 
@@ -84,28 +88,44 @@ pub fn add_count(text: &mut String, count: u64) -> Result<(), AllocError>
     writeln!(text, "{count}")
 }
 
-/// The line of a step that the flow does not allow. No script that is read has one.
-pub fn add_not_allowed(text: &mut String) -> Result<(), ScriptFault>
-    ensures line { OnOk result (string_bytes text.new ≡ string_bytes text.old ++ lines.lined lines.not_allowed) }
+/// The line of a step that makes no call.
+pub fn add_line_without_call(text: &mut String, step: FlowStep) -> Result<(), ScriptFault>
+    ensures line { OnOk result (string_bytes text.new ≡ string_bytes text.old ++ lines.lined (line_without_call step)) }
     ensures refused { IfErr result (λ refused. refused ≡ ScriptFault.OutOfMemory) }
 {
-    add_line(text, "not allowed")?;
+    match step {
+        FlowStep::Poll(_) => add_line(text, "done")?,
+        FlowStep::Next(_) => add_line(text, "gone")?,
+        FlowStep::Cancel(_) | FlowStep::Unsubscribe(_) => add_line(text, "false")?,
+        _ => add_line(text, "not allowed")?,
+    }
     Ok(())
+}
+
+/// The rest of a line that tells a fault of a flow.
+pub fn add_flow_fault(text: &mut String, fault: FlowFault) -> Result<(), AllocError>
+    ensures { OnOk result (string_bytes text.new ≡ string_bytes text.old ++ lines.lined (lines.flow_fault_text fault)) }
+{
+    match fault {
+        FlowFault::OutOfMemory => add_line(text, "1 OutOfMemory"),
+        FlowFault::TooLarge => add_line(text, "2 TooLarge"),
+        FlowFault::NeedsBuffer => add_line(text, "3 NeedsBuffer"),
+        FlowFault::Exhausted => add_line(text, "4 Exhausted"),
+        FlowFault::Unsupported => add_line(text, "5 Unsupported"),
+        FlowFault::Busy => add_line(text, "6 Busy"),
+    }
 }
 
 /// The line of a refused call. Want of memory has none: it ends the script.
 pub fn add_refusal(text: &mut String, fault: FlowFault) -> Result<(), ScriptFault>
-    ensures memory { OnOk result (fault ≢ FlowFault.OutOfMemory) }
+    ensures told { OnOk result (IsToldFlowFault fault) }
     ensures line { OnOk result (string_bytes text.new ≡ string_bytes text.old ++ lines.lined (lines.refusal_text fault)) }
     ensures refused { IfErr result (λ refused. refused ≡ ScriptFault.OutOfMemory) }
 {
-    match fault {
-        FlowFault::OutOfMemory => return Err(ScriptFault::OutOfMemory),
-        FlowFault::TooLarge => add_line(text, "refused 2 TooLarge")?,
-        FlowFault::NeedsBuffer => add_line(text, "refused 3 NeedsBuffer")?,
-        FlowFault::Exhausted => add_line(text, "refused 4 Exhausted")?,
-        FlowFault::Unsupported => add_line(text, "refused 5 Unsupported")?,
-        FlowFault::Busy => add_line(text, "refused 6 Busy")?,
+    if is_flow_memory(fault) {
+        return Err(ScriptFault::OutOfMemory);
     }
+    text.push_str("refused ")?;
+    add_flow_fault(text, fault)?;
     Ok(())
 }

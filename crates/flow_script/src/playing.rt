@@ -6,14 +6,13 @@ ghost use Rattle.flow_script.specs.Playing.{Plays, TakesWithin, text_result, is_
 ghost use Rattle.flow_script.specs.Watching.{inner_of, has_failed};
 
 use crate::fault::ScriptFault;
-use crate::player::text_of;
 use crate::read::read_script;
 use crate::transfer::{read_all, write_all};
 use crate::watched::Watched;
 use std::alloc::Global;
 use std::io::{Read, Write};
 
-/// The lines of a script.
+/// The lines of a script's text.
 fn lines_of(alloc: Global, bytes: &[u8]) -> Result<String, ScriptFault>
     ensures { Gives (meaning bytes.now) (text_result result) }
 {
@@ -21,7 +20,7 @@ fn lines_of(alloc: Global, bytes: &[u8]) -> Result<String, ScriptFault>
         Ok(script) => script,
         Err(fault) => return Err(fault),
     };
-    match text_of(alloc, script) {
+    match script.lines(alloc) {
         Ok(text) => Ok(text),
         Err(_) => Err(ScriptFault::OutOfMemory),
     }

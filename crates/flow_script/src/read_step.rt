@@ -10,8 +10,8 @@ use crate::fault::ScriptFault;
 use crate::members::{has_members, i64_at, name_at, text_at, u64_at};
 use crate::names::Names;
 use crate::read_chain::chain_in;
-use crate::script::{Build, Step};
-use crate::verb::{Kind, Verb, is_allowed, key_count, verb_named};
+use crate::script::{Build, FlowStep, Step};
+use crate::verb::{Kind, Verb, rule_named};
 use serde_json::Value;
 use std::alloc::Global;
 
@@ -20,9 +20,9 @@ fn verb_of(kind: Kind, step: &Value) -> Option<Verb>
     ensures { result ≡ format.verb_of kind (view step.now) }
 {
     let text = text_at(step, "do")?;
-    let verb = verb_named(text)?;
-    if is_allowed(kind, verb) && has_members(step, key_count(verb)) {
-        Some(verb)
+    let rule = rule_named(kind, text)?;
+    if rule.allowed && has_members(step, rule.keys) {
+        Some(rule.verb)
     } else {
         None
     }
@@ -72,7 +72,7 @@ fn emit_step<'a>(names: &mut Names<'a>, at: u64, step: &'a Value) -> Result<Step
         return Err(ScriptFault::BadShape(at));
     };
     names.add_emission(at, name)?;
-    Ok(Step::Emit(value))
+    Ok(Step::Flow(FlowStep::Emit(value)))
 }
 
 /// The step, and its name introduced.
@@ -83,7 +83,7 @@ fn subscribe_step<'a>(names: &mut Names<'a>, at: u64, step: &'a Value) -> Result
         return Err(ScriptFault::BadShape(at));
     };
     names.add_subscriber(at, name)?;
-    Ok(Step::Subscribe)
+    Ok(Step::Flow(FlowStep::Subscribe))
 }
 
 /// The moment of a turn.
@@ -109,7 +109,7 @@ fn compare_and_set_step(at: u64, step: &Value) -> Result<Step, ScriptFault>
     ensures { (names : checks.NameLists) → checks.Gives (checks.step_by Verb.CompareAndSet at names (view step.now)) (checks.named_result result names) }
 {
     match pair_of(step) {
-        Some((expect, update)) => Ok(Step::CompareAndSet(expect, update)),
+        Some((expect, update)) => Ok(Step::Flow(FlowStep::CompareAndSet(expect, update))),
         None => Err(ScriptFault::BadShape(at)),
     }
 }
@@ -138,20 +138,20 @@ pub fn step_of<'a>(
         return Err(ScriptFault::BadShape(at));
     };
     match verb {
-        Verb::TryEmit => Ok(Step::TryEmit(value_in(at, step)?)),
+        Verb::TryEmit => Ok(Step::Flow(FlowStep::TryEmit(value_in(at, step)?))),
         Verb::Emit => emit_step(names, at, step),
-        Verb::Poll => Ok(Step::Poll(emission_in(names, at, step)?)),
-        Verb::Cancel => Ok(Step::Cancel(emission_in(names, at, step)?)),
+        Verb::Poll => Ok(Step::Flow(FlowStep::Poll(emission_in(names, at, step)?))),
+        Verb::Cancel => Ok(Step::Flow(FlowStep::Cancel(emission_in(names, at, step)?))),
         Verb::Subscribe => subscribe_step(names, at, step),
-        Verb::Next => Ok(Step::Next(subscriber_in(names, at, step)?)),
-        Verb::Unsubscribe => Ok(Step::Unsubscribe(subscriber_in(names, at, step)?)),
-        Verb::Cache => Ok(Step::Cache),
-        Verb::Count => Ok(Step::Count),
-        Verb::Reset => Ok(Step::Reset),
-        Verb::Value => Ok(Step::Value),
-        Verb::Set => Ok(Step::Set(value_in(at, step)?)),
+        Verb::Next => Ok(Step::Flow(FlowStep::Next(subscriber_in(names, at, step)?))),
+        Verb::Unsubscribe => Ok(Step::Flow(FlowStep::Unsubscribe(subscriber_in(names, at, step)?))),
+        Verb::Cache => Ok(Step::Flow(FlowStep::Cache)),
+        Verb::Count => Ok(Step::Flow(FlowStep::Count)),
+        Verb::Reset => Ok(Step::Flow(FlowStep::Reset)),
+        Verb::Value => Ok(Step::Flow(FlowStep::Value)),
+        Verb::Set => Ok(Step::Flow(FlowStep::Set(value_in(at, step)?))),
         Verb::CompareAndSet => compare_and_set_step(at, step),
-        Verb::Turn => Ok(Step::Turn(moment_in(at, step)?)),
+        Verb::Turn => Ok(Step::Flow(FlowStep::Turn(moment_in(at, step)?))),
         Verb::Collect => Ok(Step::Collect(collected_in(alloc, at, step)?)),
     }
 }

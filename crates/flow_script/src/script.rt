@@ -6,10 +6,10 @@ use flow_law::{Config, Started};
 /// A chain of a script, or why it could not be built. That is no fault of the script, but what its collection tells.
 pub type Build = Result<ScriptChain, ChainFault>;
 
-/// A step. A name is known by how many names of its kind were introduced before it: emissions and subscribers are
-/// counted apart.
-#[derive(Drop)]
-pub enum Step {
+/// A step about the flow. A name is known by how many names of its kind were introduced before it: emissions and
+/// subscribers are counted apart.
+#[derive(Clone, Copy, Debug, PartialEq, Eq)]
+pub enum FlowStep {
     TryEmit(i64),
     /// It introduces an emission.
     Emit(i64),
@@ -32,6 +32,11 @@ pub enum Step {
     CompareAndSet(i64, i64),
     /// At a moment.
     Turn(u64),
+}
+
+#[derive(Drop)]
+pub enum Step {
+    Flow(FlowStep),
     Collect(Build),
 }
 

@@ -1,11 +1,13 @@
 //! The lines of turns.
-ghost use Rattle.std.specs.Prelude.{◌≡◌, ◌++◌, false, Ok, OnOk, IfErr, string_bytes};
+ghost use Rattle.std.specs.Prelude.{◌≡◌, ◌++◌, Ok, OnOk, IfErr, string_bytes};
 ghost use Rattle.flow_script.specs.Lines as lines;
-ghost use Rattle.flow_script.specs.SharingMeaning.{IsToldFault};
+ghost use Rattle.flow_script.specs.Memory.{IsToldFault};
 
 use crate::collect::add_chain_fault;
 use crate::fault::ScriptFault;
-use flow_law::{ChainFault, Command, FlowFault};
+use crate::lines::add_flow_fault;
+use crate::memory::is_memory;
+use flow_law::Command;
 use flow_sharing::{Event, Report, ShareFault};
 use std::alloc::AllocError;
 
@@ -39,30 +41,6 @@ pub fn add_report(text: &mut String, report: Report) -> Result<(), AllocError>
     add_command(text, report.command)?;
     text.push(' ')?;
     add_event(text, report.event)
-}
-
-fn add_flow_fault(text: &mut String, fault: FlowFault) -> Result<(), AllocError>
-    ensures { OnOk result (string_bytes text.new ≡ string_bytes text.old ++ lines.lined (lines.flow_fault_text fault)) }
-{
-    match fault {
-        FlowFault::OutOfMemory => writeln!(text, "1 OutOfMemory"),
-        FlowFault::TooLarge => writeln!(text, "2 TooLarge"),
-        FlowFault::NeedsBuffer => writeln!(text, "3 NeedsBuffer"),
-        FlowFault::Exhausted => writeln!(text, "4 Exhausted"),
-        FlowFault::Unsupported => writeln!(text, "5 Unsupported"),
-        FlowFault::Busy => writeln!(text, "6 Busy"),
-    }
-}
-
-/// Whether a refusal is for want of memory.
-fn is_memory(fault: ShareFault) -> bool
-    ensures { result ≡ false → IsToldFault fault }
-{
-    match fault {
-        ShareFault::Chain(ChainFault::OutOfMemory) => true,
-        ShareFault::Flow(FlowFault::OutOfMemory) => true,
-        _ => false,
-    }
 }
 
 /// The line of a refusal. Want of memory has none: it ends the script.

@@ -32,81 +32,47 @@ pub enum Verb {
     Turn,
 }
 
-pub fn verb_named(text: &str) -> Option<Verb>
-    ensures { result ≡ format.verb_named text.now }
-{
-    if text == "try_emit" {
-        Some(Verb::TryEmit)
-    } else if text == "emit" {
-        Some(Verb::Emit)
-    } else if text == "poll" {
-        Some(Verb::Poll)
-    } else if text == "cancel" {
-        Some(Verb::Cancel)
-    } else if text == "subscribe" {
-        Some(Verb::Subscribe)
-    } else if text == "next" {
-        Some(Verb::Next)
-    } else if text == "unsubscribe" {
-        Some(Verb::Unsubscribe)
-    } else if text == "cache" {
-        Some(Verb::Cache)
-    } else if text == "count" {
-        Some(Verb::Count)
-    } else if text == "reset" {
-        Some(Verb::Reset)
-    } else if text == "collect" {
-        Some(Verb::Collect)
-    } else if text == "value" {
-        Some(Verb::Value)
-    } else if text == "set" {
-        Some(Verb::Set)
-    } else if text == "compare_and_set" {
-        Some(Verb::CompareAndSet)
-    } else if text == "turn" {
-        Some(Verb::Turn)
-    } else {
-        None
-    }
+/// What the format says of a step.
+#[derive(Clone, Copy, Debug, PartialEq, Eq)]
+pub struct Rule {
+    pub verb: Verb,
+    /// How many keys it has, `do` among them.
+    pub keys: usize,
+    /// Whether the flow allows it.
+    pub allowed: bool,
 }
 
-/// How many keys such a step has, `do` among them.
-pub fn key_count(verb: Verb) -> usize
-    ensures { result ≡ format.key_count verb }
+fn rule_of(verb: Verb, keys: usize, allowed: bool) -> Option<Rule>
+    ensures { result ≡ format.rule_of verb keys allowed }
 {
-    match verb {
-        Verb::Emit => 3,
-        Verb::CompareAndSet => 3,
-        Verb::TryEmit => 2,
-        Verb::Poll => 2,
-        Verb::Cancel => 2,
-        Verb::Subscribe => 2,
-        Verb::Next => 2,
-        Verb::Unsubscribe => 2,
-        Verb::Cache => 1,
-        Verb::Count => 1,
-        Verb::Reset => 1,
-        Verb::Value => 1,
-        Verb::Collect => 2,
-        Verb::Set => 2,
-        Verb::Turn => 2,
-    }
+    Some(Rule {
+        verb,
+        keys,
+        allowed,
+    })
 }
 
-/// Whether a flow of this kind allows such a step.
-pub fn is_allowed(kind: Kind, verb: Verb) -> bool
-    ensures { result ≡ format.is_allowed kind verb }
+/// What a step may be on a flow of this kind, by the text of its key `do`.
+pub fn rule_named(kind: Kind, text: &str) -> Option<Rule>
+    ensures { result ≡ format.rule_named kind text.now }
 {
-    match verb {
-        Verb::Collect => true,
-        Verb::TryEmit | Verb::Reset => kind.is_mutable(),
-        Verb::Emit | Verb::Poll | Verb::Cancel => kind.is_shared(),
-        Verb::Subscribe | Verb::Next | Verb::Unsubscribe | Verb::Cache | Verb::Count => {
-            kind.is_flow()
-        }
-        Verb::Value => kind.has_value(),
-        Verb::Set | Verb::CompareAndSet => kind.is_state(),
-        Verb::Turn => kind.is_sharing(),
+    match text {
+        "try_emit" => rule_of(Verb::TryEmit, 2, kind.is_mutable()),
+        "emit" => rule_of(Verb::Emit, 3, kind.is_shared()),
+        "poll" => rule_of(Verb::Poll, 2, kind.is_shared()),
+        "cancel" => rule_of(Verb::Cancel, 2, kind.is_shared()),
+        "subscribe" => rule_of(Verb::Subscribe, 2, kind.is_flow()),
+        "next" => rule_of(Verb::Next, 2, kind.is_flow()),
+        "unsubscribe" => rule_of(Verb::Unsubscribe, 2, kind.is_flow()),
+        "cache" => rule_of(Verb::Cache, 1, kind.is_flow()),
+        "count" => rule_of(Verb::Count, 1, kind.is_flow()),
+        "reset" => rule_of(Verb::Reset, 1, kind.is_mutable()),
+        "collect" => rule_of(Verb::Collect, 2, true),
+        "value" => rule_of(Verb::Value, 1, kind.has_value()),
+        "set" => rule_of(Verb::Set, 2, kind.is_state()),
+        "compare_and_set" => rule_of(Verb::CompareAndSet, 3, kind.is_state()),
+        "turn" => rule_of(Verb::Turn, 2, kind.is_sharing()),
+        _ => None,
     }
 }
 

@@ -1,6 +1,6 @@
 //! Readers and writers that give or take little, or fail.
 use crate::program::run;
-use flow_script::Watched;
+use flow_script::{Watched, read_script};
 use std::alloc::Global;
 use std::io;
 use std::io::{Read, Write};
@@ -109,6 +109,14 @@ fn a_slow_reader_and_a_slow_writer_change_nothing(rt: HostRuntime) -> Result<(),
     let mut taken = Vec::new(rt.alloc());
     assert_eq!(rt; play_to(rt.alloc(), usize::MAX, true, &mut taken), 0);
     assert_eq!(rt; taken.as_slice(), LINES.as_bytes());
+    Ok(())
+}
+
+#[test]
+fn a_script_that_was_read_has_the_same_lines(rt: HostRuntime) -> Result<(), Fail> {
+    let script = read_script(rt.alloc(), SCRIPT.as_bytes()).expect(&rt, "a script");
+    let lines = script.lines(rt.alloc()).expect(&rt, "lines");
+    assert_eq!(rt; lines.as_str(), LINES);
     Ok(())
 }
 

@@ -1,0 +1,26 @@
+-- The faults that a line tells: all but want of memory, which ends a script.
+use Rattle.flow_law.specs.declared.fault.FlowFault.{FlowFault}
+use Rattle.flow_law.specs.declared.fault.FlowFault.TheVariants as flow_fault
+use Rattle.flow_law.specs.declared.chain.ChainFault.{ChainFault}
+use Rattle.flow_law.specs.declared.chain.ChainFault.TheVariants as chain_fault
+use Rattle.flow_law.specs.declared.chain.End.{End}
+use Rattle.flow_law.specs.declared.chain.End.TheVariants.{Completed, Failed}
+use Rattle.flow_sharing.specs.declared.report.ShareFault.{ShareFault}
+use Rattle.flow_sharing.specs.declared.report.ShareFault.TheVariants.{Chain, Flow}
+
+abbrev pub IsToldFlowFault : FlowFault → Type 0
+IsToldFlowFault flow_fault.OutOfMemory = ⊥
+IsToldFlowFault _ = Unit {0}
+
+abbrev pub IsToldChainFault : ChainFault → Type 0
+IsToldChainFault chain_fault.OutOfMemory = ⊥
+IsToldChainFault _ = Unit {0}
+
+abbrev pub IsToldFault : ShareFault → Type 0
+IsToldFault (Flow fault) = IsToldFlowFault fault
+IsToldFault (Chain fault) = IsToldChainFault fault
+IsToldFault _ = Unit {0}
+
+abbrev pub IsToldEnd : End → Type 0
+IsToldEnd Completed = Unit {0}
+IsToldEnd (Failed fault) = IsToldChainFault fault
