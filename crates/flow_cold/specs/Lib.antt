@@ -2,6 +2,7 @@ pub mod Asking
 pub mod Build
 pub mod Closures
 pub mod Sources
+pub mod Kept
 pub mod Numbers
 pub mod Operators
 pub mod Pairing

@@ -1,7 +1,8 @@
 -- Chains of whole numbers that are built at run time: how deep they are, and what they mean.
 use Rattle.std.specs.Prelude.{◌≡◌, ℕ, ◌+◌, ◌≤◌, max, ℤ, true, length, drop}
-use Rattle.flow_law.specs.ChainRun.{ChainRun, list_run, unless_ended}
+use Rattle.flow_law.specs.ChainRun.{ChainRun, list_run}
 use Rattle.flow_law.specs.OperatorRuns.{zip_run}
+use Rattle.flow_cold.specs.Kept.{unless_ended}
 use Rattle.flow_cold.specs.declared.script_chain.node.Node.{Node, List, Range, Script, On', Zip'}
 use Rattle.flow_cold.specs.Numbers.{joined}
 use Rattle.flow_cold.specs.Operators.{operator_whole, stage_rest, is_over}

@@ -1,8 +1,8 @@
 //! `distinctUntilChanged`: items that differ from the one before.
 ghost use Rattle.std.specs.Prelude.{◌≡◌, true, None};
-ghost use Rattle.flow_law.specs.ChainRun.{unless_ended};
 ghost use Rattle.flow_law.specs.Chain.{distinct_meaning, meaning_of};
 ghost use Rattle.flow_law.specs.OperatorRuns.{distinct_run, is_repeated};
+ghost use Rattle.flow_cold.specs.Kept.{unless_ended};
 
 use crate::cold::{Asked, Cold};
 use flow_law::{ChainFault, FlowValue};

@@ -1,8 +1,8 @@
 //! `drop`: all but the first items.
 ghost use Rattle.std.specs.Prelude.{◌≡◌, true};
-ghost use Rattle.flow_law.specs.ChainRun.{unless_ended};
 ghost use Rattle.flow_law.specs.Chain.{drop_meaning, meaning_of};
 ghost use Rattle.flow_law.specs.OperatorRuns.{drop_run};
+ghost use Rattle.flow_cold.specs.Kept.{unless_ended};
 
 use crate::cold::{Asked, Cold};
 

@@ -1,9 +1,9 @@
 //! `filter`: the items that pass a test.
 ghost use Rattle.std.specs.Prelude.{◌≡◌, true};
-ghost use Rattle.flow_law.specs.ChainRun.{unless_ended};
 ghost use Rattle.std.specs.Fn.{FnReturnsAt};
 ghost use Rattle.flow_law.specs.Chain.{filter_meaning, meaning_of};
 ghost use Rattle.flow_law.specs.OperatorRuns.{filter_run};
+ghost use Rattle.flow_cold.specs.Kept.{unless_ended};
 ghost use Rattle.flow_cold.specs.Closures.{Decides};
 
 use crate::cold::{Asked, Cold};

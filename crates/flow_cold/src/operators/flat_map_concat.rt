@@ -1,8 +1,8 @@
 //! `flatMapConcat`: inner chains, one after the other.
 ghost use Rattle.std.specs.Prelude.{◌≡◌, true};
-ghost use Rattle.flow_law.specs.ChainRun.{unless_ended};
 ghost use Rattle.flow_law.specs.Chain.{flat_map_meaning, meaning_of};
-ghost use Rattle.flow_law.specs.OperatorRuns.{flat_map_run, inner_rest};
+ghost use Rattle.flow_law.specs.OperatorRuns.{flat_map_run};
+ghost use Rattle.flow_cold.specs.Kept.{unless_ended, inner_rest};
 ghost use Rattle.flow_cold.specs.Closures.{ComputesBy};
 
 use crate::cold::{Asked, Cold};

@@ -1,8 +1,8 @@
 //! `map`: what a closure makes of each item.
 ghost use Rattle.std.specs.Prelude.{◌≡◌, true, Result};
-ghost use Rattle.flow_law.specs.ChainRun.{unless_ended};
 ghost use Rattle.flow_law.specs.Chain.{map_meaning, meaning_of};
 ghost use Rattle.flow_law.specs.OperatorRuns.{map_run};
+ghost use Rattle.flow_cold.specs.Kept.{unless_ended};
 ghost use Rattle.flow_cold.specs.Closures.{Computes};
 
 use crate::cold::{Asked, Cold};

@@ -1,8 +1,9 @@
 //! `scan`: the results so far.
 ghost use Rattle.std.specs.Prelude.{◌≡◌, true};
-ghost use Rattle.flow_law.specs.ChainRun.{unless_ended, gives};
+ghost use Rattle.flow_law.specs.ChainRun.{gives};
 ghost use Rattle.flow_law.specs.Chain.{scan_meaning, meaning_of};
-ghost use Rattle.flow_law.specs.OperatorRuns.{scan_run, scan_rest};
+ghost use Rattle.flow_law.specs.OperatorRuns.{scan_run};
+ghost use Rattle.flow_cold.specs.Kept.{unless_ended, scan_rest};
 ghost use Rattle.flow_cold.specs.Closures.{Computes};
 
 use crate::cold::{Asked, Cold};

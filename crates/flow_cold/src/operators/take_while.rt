@@ -1,9 +1,9 @@
 //! `takeWhile`: the items before the first that does not pass.
 ghost use Rattle.std.specs.Prelude.{◌≡◌, true};
 ghost use Rattle.std.specs.Fn.{FnReturnsAt};
-ghost use Rattle.flow_law.specs.ChainRun.{unless_ended};
 ghost use Rattle.flow_law.specs.Chain.{take_while_meaning, meaning_of};
 ghost use Rattle.flow_law.specs.OperatorRuns.{take_while_run};
+ghost use Rattle.flow_cold.specs.Kept.{unless_ended};
 ghost use Rattle.flow_cold.specs.Closures.{Decides};
 
 use crate::cold::{Asked, Cold};

@@ -1,8 +1,8 @@
 //! `transform`: several items for each.
 ghost use Rattle.std.specs.Prelude.{◌≡◌, true};
-ghost use Rattle.flow_law.specs.ChainRun.{unless_ended};
 ghost use Rattle.flow_law.specs.Chain.{transform_meaning, meaning_of};
-ghost use Rattle.flow_law.specs.OperatorRuns.{transform_run, images_rest};
+ghost use Rattle.flow_law.specs.OperatorRuns.{transform_run};
+ghost use Rattle.flow_cold.specs.Kept.{unless_ended, images_rest};
 ghost use Rattle.flow_cold.specs.Closures.{ComputesBy};
 
 use crate::cold::{Asked, Cold};

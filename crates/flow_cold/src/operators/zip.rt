@@ -1,8 +1,8 @@
 //! `zip`: pairs of two chains.
 ghost use Rattle.std.specs.Prelude.{◌≡◌, true};
-ghost use Rattle.flow_law.specs.ChainRun.{unless_ended};
 ghost use Rattle.flow_law.specs.Chain.{zip_meaning, meaning_of};
-ghost use Rattle.flow_law.specs.OperatorRuns.{zip_run, with_kept};
+ghost use Rattle.flow_law.specs.OperatorRuns.{zip_run};
+ghost use Rattle.flow_cold.specs.Kept.{unless_ended, with_kept};
 ghost use Rattle.flow_cold.specs.Closures.{Computes};
 
 use crate::cold::{Asked, Cold};

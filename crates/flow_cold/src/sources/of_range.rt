@@ -1,6 +1,6 @@
 //! A range of whole numbers as a chain.
 ghost use Rattle.std.specs.Prelude.{◌≡◌, true, ⊤};
-ghost use Rattle.flow_law.specs.ChainRun.{unless_ended};
+ghost use Rattle.flow_cold.specs.Kept.{unless_ended};
 ghost use Rattle.flow_cold.specs.Sources.{range_run};
 
 use crate::cold::{Asked, Cold};

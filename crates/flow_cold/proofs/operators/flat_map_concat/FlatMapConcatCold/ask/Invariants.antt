@@ -1,6 +1,7 @@
 use Rattle.std.proofs.Common.{◌≡◌, false}
 use Rattle.flow_law.specs.ChainRun.{asks}
-use Rattle.flow_law.specs.OperatorRuns.{flat_map_run, inner_rest}
+use Rattle.flow_law.specs.OperatorRuns.{flat_map_run}
+use Rattle.flow_cold.specs.Kept.{inner_rest}
 use Rattle.flow_cold.specs.Sources.{scripted_rest}
 use Rattle.flow_cold.proofs.operators.flat_map_concat.FlatMapConcatCold.ask.Given as goal
 

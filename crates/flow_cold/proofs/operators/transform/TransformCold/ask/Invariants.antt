@@ -1,6 +1,7 @@
 use Rattle.std.proofs.Common.{◌≡◌, false}
 use Rattle.flow_law.specs.ChainRun.{asks}
-use Rattle.flow_law.specs.OperatorRuns.{transform_run, images_rest}
+use Rattle.flow_law.specs.OperatorRuns.{transform_run}
+use Rattle.flow_cold.specs.Kept.{images_rest}
 use Rattle.flow_cold.proofs.operators.transform.TransformCold.ask.Given as goal
 
 abbrev pub invariant-loop-images : goal.invariant-loop-images
