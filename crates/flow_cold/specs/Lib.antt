@@ -1,4 +1,5 @@
 pub mod Asking
+pub mod Behind
 pub mod Build
 pub mod Closures
 pub mod Sources

@@ -21,6 +21,8 @@ pub enum Asked<T> {
 ///
 /// Contracts see a chain as two runs, each an entry for every ask and then the end: the whole, and what is left of it.
 pub trait Cold: Drop {
+    ghost use Rattle.flow_cold.specs.declared.cold.Asked.{Asked};
+
     type Item: FlowValue;
 
     /// That the caller's closures may be called, and compute what their meanings say.
@@ -35,6 +37,9 @@ pub trait Cold: Drop {
     /// That the chain has ended or failed since it was started.
     ghost IsOver: { Self → Type 0 };
 
+    /// What an ask does to the chains that stand behind: each gives just the entries that the answer needs. A source has none.
+    ghost AsksBehind: { Self → Asked Self.Item → Self → Type 0 } = { λ _ _ _. Unit {0} };
+
     /// Takes the next entry off what is left. Want of memory may come in place of it, and ends the chain.
     fn ask(&mut self) -> Asked<Self::Item>
         requires { sound self.old }
@@ -42,6 +47,7 @@ pub trait Cold: Drop {
         ensures whole { whole self.new ≡ whole self.old }
         ensures gives { AskGives (rest self.old) result (rest self.new) }
         ensures over { IsFinal result → IsOver self.new }
+        ensures behind { (¬ IsOver self.old) → AsksBehind self.old result self.new }
         // A chain that is over is left as it is, and so is all that stands behind it.
         ensures end { IsOver self.old → (result ≡ Asked.End) × self.new ≡ self.old };
 

@@ -2,6 +2,7 @@
 ghost use Rattle.std.specs.Prelude.{◌≡◌, true, None};
 ghost use Rattle.flow_law.specs.Chain.{distinct_meaning, meaning_of};
 ghost use Rattle.flow_law.specs.OperatorRuns.{distinct_run, is_repeated};
+ghost use Rattle.flow_cold.specs.Behind.{Leaves, after_distinct};
 ghost use Rattle.flow_cold.specs.Kept.{unless_ended};
 
 use crate::cold::{Asked, Cold};
@@ -25,6 +26,8 @@ impl<C: Cold> Cold for Distinct<C> {
     ghost rest = { λ s. unless_ended s.ended (distinct_run C.Item.is_same s.last (C.rest s.upstream)) };
 
     ghost IsOver = { λ s. s.ended ≡ true };
+
+    ghost AsksBehind = { λ old result new. Leaves (after_distinct C.Item.is_same old.last (C.rest old.upstream)) result (C.rest new.upstream) };
 
     fn ask(&mut self) -> Asked<C::Item> {
         if self.ended {

@@ -2,6 +2,7 @@
 ghost use Rattle.std.specs.Prelude.{◌≡◌, true};
 ghost use Rattle.flow_law.specs.Chain.{drop_meaning, meaning_of};
 ghost use Rattle.flow_law.specs.OperatorRuns.{drop_run};
+ghost use Rattle.flow_cold.specs.Behind.{Leaves, after_drop};
 ghost use Rattle.flow_cold.specs.Kept.{unless_ended};
 
 use crate::cold::{Asked, Cold};
@@ -25,6 +26,8 @@ impl<C: Cold> Cold for DropFirst<C> {
     ghost rest = { λ s. unless_ended s.ended (drop_run (C.rest s.upstream) s.left) };
 
     ghost IsOver = { λ s. s.ended ≡ true };
+
+    ghost AsksBehind = { λ old result new. Leaves (after_drop (C.rest old.upstream) old.left) result (C.rest new.upstream) };
 
     fn ask(&mut self) -> Asked<C::Item> {
         if self.ended {

@@ -2,6 +2,7 @@
 ghost use Rattle.std.specs.Prelude.{◌≡◌, true};
 ghost use Rattle.flow_law.specs.Chain.{flat_map_meaning, meaning_of};
 ghost use Rattle.flow_law.specs.OperatorRuns.{flat_map_run};
+ghost use Rattle.flow_cold.specs.Behind.{Leaves, after_inner, after_flat_map};
 ghost use Rattle.flow_cold.specs.Kept.{unless_ended, inner_rest};
 ghost use Rattle.flow_cold.specs.Closures.{ComputesBy};
 
@@ -38,6 +39,8 @@ where
     ghost rest = { λ s. unless_ended s.ended (inner_rest ⟦<Scripted<U> as Cold>⟧.rest s.inner (flat_map_run (M.inner s.given.meaning) (C.rest s.upstream))) };
 
     ghost IsOver = { λ s. s.ended ≡ true };
+
+    ghost AsksBehind = { λ old result new. Leaves (after_inner ⟦<Scripted<U> as Cold>⟧.rest old.inner (C.rest old.upstream) (after_flat_map (M.inner old.given.meaning) (C.rest old.upstream))) result (C.rest new.upstream) };
 
     fn ask(&mut self) -> Asked<U> {
         if self.ended {

@@ -2,6 +2,7 @@
 ghost use Rattle.std.specs.Prelude.{◌≡◌, true, Result};
 ghost use Rattle.flow_law.specs.Chain.{map_meaning, meaning_of};
 ghost use Rattle.flow_law.specs.OperatorRuns.{map_run};
+ghost use Rattle.flow_cold.specs.Behind.{AsksOnce};
 ghost use Rattle.flow_cold.specs.Kept.{unless_ended};
 ghost use Rattle.flow_cold.specs.Closures.{Computes};
 
@@ -36,6 +37,8 @@ where
     ghost rest = { λ s. unless_ended s.ended (map_run (M.image s.given.meaning) (C.rest s.upstream)) };
 
     ghost IsOver = { λ s. s.ended ≡ true };
+
+    ghost AsksBehind = { λ old result new. AsksOnce (C.rest old.upstream) result (C.rest new.upstream) };
 
     fn ask(&mut self) -> Asked<U> {
         if self.ended {

@@ -3,6 +3,7 @@ ghost use Rattle.std.specs.Prelude.{◌≡◌, true};
 ghost use Rattle.flow_law.specs.ChainRun.{gives};
 ghost use Rattle.flow_law.specs.Chain.{scan_meaning, meaning_of};
 ghost use Rattle.flow_law.specs.OperatorRuns.{scan_run};
+ghost use Rattle.flow_cold.specs.Behind.{Leaves, after_scan};
 ghost use Rattle.flow_cold.specs.Kept.{unless_ended, scan_rest};
 ghost use Rattle.flow_cold.specs.Closures.{Computes};
 
@@ -38,6 +39,8 @@ where
     ghost rest = { λ s. unless_ended s.ended (scan_rest (M.image s.given.meaning) s.begun s.initial s.last (C.rest s.upstream)) };
 
     ghost IsOver = { λ s. s.ended ≡ true };
+
+    ghost AsksBehind = { λ old result new. Leaves (after_scan old.begun (C.rest old.upstream)) result (C.rest new.upstream) };
 
     fn ask(&mut self) -> Asked<U> {
         if self.ended {

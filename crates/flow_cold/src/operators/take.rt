@@ -1,6 +1,7 @@
 //! `take`: the first items.
 ghost use Rattle.std.specs.Prelude.{◌≡◌, ◌⊎◌, ◌↔◌, IfOk, IfErr};
 ghost use Rattle.flow_law.specs.Chain.{take_meaning, meaning_of};
+ghost use Rattle.flow_cold.specs.Behind.{AsksOnce};
 ghost use Rattle.flow_cold.specs.Asking.{AskGives, IsFinal};
 ghost use Rattle.flow_cold.specs.Taking.{items_left, left_after};
 ghost use Rattle.flow_law.specs.OperatorRuns.{take_run};
@@ -51,6 +52,8 @@ impl<C: Cold> Cold for Take<C> {
 
     ghost IsOver = { λ s. (s.left ≡ 0) ⊎ C.IsOver s.upstream };
 
+    ghost AsksBehind = { λ old result new. AsksOnce (C.rest old.upstream) result (C.rest new.upstream) };
+
     // The trait's clauses, and how many items are left. After the last one the upstream is left as it is.
     fn ask(&mut self) -> Asked<C::Item>
         requires { ⟦<Take<C> as Cold>⟧.sound self.old }
@@ -58,6 +61,7 @@ impl<C: Cold> Cold for Take<C> {
         ensures whole { ⟦<Take<C> as Cold>⟧.whole self.new ≡ ⟦<Take<C> as Cold>⟧.whole self.old }
         ensures gives { AskGives (⟦<Take<C> as Cold>⟧.rest self.old) result (⟦<Take<C> as Cold>⟧.rest self.new) }
         ensures over { IsFinal result → ⟦<Take<C> as Cold>⟧.IsOver self.new }
+        ensures behind { (¬ ⟦<Take<C> as Cold>⟧.IsOver self.old) → ⟦<Take<C> as Cold>⟧.AsksBehind self.old result self.new }
         ensures end { ⟦<Take<C> as Cold>⟧.IsOver self.old → (result ≡ Asked.End) × self.new ≡ self.old }
         ensures left { items_left self.new ≡ left_after result (items_left self.old) }
         ensures last { items_left self.old ≡ 0 → (result ≡ Asked.End) × self.new ≡ self.old }

@@ -2,6 +2,7 @@
 ghost use Rattle.std.specs.Prelude.{◌≡◌, true};
 ghost use Rattle.flow_law.specs.Chain.{transform_meaning, meaning_of};
 ghost use Rattle.flow_law.specs.OperatorRuns.{transform_run};
+ghost use Rattle.flow_cold.specs.Behind.{Leaves, after_images, after_transform};
 ghost use Rattle.flow_cold.specs.Kept.{unless_ended, images_rest};
 ghost use Rattle.flow_cold.specs.Closures.{ComputesBy};
 
@@ -35,6 +36,8 @@ where
     ghost rest = { λ s. unless_ended s.ended (images_rest (λ v. v.items) s.images (transform_run (M.images s.given.meaning) (C.rest s.upstream))) };
 
     ghost IsOver = { λ s. s.ended ≡ true };
+
+    ghost AsksBehind = { λ old result new. Leaves (after_images (λ v. v.items) old.images (C.rest old.upstream) (after_transform (M.images old.given.meaning) (C.rest old.upstream))) result (C.rest new.upstream) };
 
     fn ask(&mut self) -> Asked<U> {
         if self.ended {

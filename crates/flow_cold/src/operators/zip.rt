@@ -2,6 +2,7 @@
 ghost use Rattle.std.specs.Prelude.{◌≡◌, true};
 ghost use Rattle.flow_law.specs.Chain.{zip_meaning, meaning_of};
 ghost use Rattle.flow_law.specs.OperatorRuns.{zip_run};
+ghost use Rattle.flow_cold.specs.Behind.{AsksLeft, AsksRight};
 ghost use Rattle.flow_cold.specs.Kept.{unless_ended, with_kept};
 ghost use Rattle.flow_cold.specs.Closures.{Computes};
 
@@ -42,6 +43,8 @@ where
     ghost rest = { λ s. unless_ended s.ended (zip_run (M.image s.given.meaning) (with_kept s.kept (L.rest s.left)) (R.rest s.right)) };
 
     ghost IsOver = { λ s. s.ended ≡ true };
+
+    ghost AsksBehind = { λ old result new. AsksLeft old.kept (L.rest old.left) result (L.rest new.left) × AsksRight (with_kept old.kept (L.rest old.left)) (R.rest old.right) result (R.rest new.right) };
 
     fn ask(&mut self) -> Asked<U> {
         if self.ended {

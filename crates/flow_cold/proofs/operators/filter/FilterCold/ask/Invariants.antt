@@ -1,5 +1,6 @@
 use Rattle.std.proofs.Common.{◌≡◌, false}
 use Rattle.std.specs.Fn.{FnReturnsAt}
+use Rattle.flow_cold.specs.Behind.{after_filter}
 use Rattle.flow_cold.specs.Closures.{Decides}
 use Rattle.flow_law.specs.ChainRun.{asks}
 use Rattle.flow_law.specs.OperatorRuns.{filter_run}
@@ -15,6 +16,8 @@ invariant-loop-item g l = record {
   keeps : g.C.Cold.whole l.self.upstream ≡ g.C.Cold.whole l.fn.self.upstream;
   rest : filter_run (g.M.TestMeaning.passes l.fn.self.given.meaning) (g.C.Cold.rest l.fn.self.upstream)
       ≡ filter_run (g.M.TestMeaning.passes l.fn.self.given.meaning) (g.C.Cold.rest l.self.upstream);
+  behind : after_filter (g.M.TestMeaning.passes l.fn.self.given.meaning) (g.C.Cold.rest l.fn.self.upstream)
+      ≡ after_filter (g.M.TestMeaning.passes l.fn.self.given.meaning) (g.C.Cold.rest l.self.upstream);
 }
 
 abbrev pub decreases-loop-item : goal.decreases-loop-item
