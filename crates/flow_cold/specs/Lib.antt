@@ -5,6 +5,7 @@ pub mod Closures
 pub mod Sources
 pub mod Kept
 pub mod Numbers
+pub mod OperatorAsks
 pub mod Operators
 pub mod Pairing
 pub mod Part
