@@ -7,6 +7,7 @@
 -- Want of memory may come in place of any answer. The chain is over then, too.
 use Rattle.std.specs.Prelude.{◌≡◌, ◌⊎◌}
 use Rattle.flow_law.specs.declared.chain.ChainFault.TheVariants.{OutOfMemory}
+use Rattle.flow_law.specs.declared.chain.End.{End}
 use Rattle.flow_law.specs.declared.chain.End.TheVariants.{Completed, Failed}
 use Rattle.flow_law.specs.ChainRun.{ChainRun, gives, pends, ends}
 use Rattle.flow_cold.specs.declared.cold.Asked.{Asked}
@@ -31,3 +32,10 @@ module _ {T : Type 0} where
   IsItem Pending = ⊥
   IsItem Ended = ⊥
   IsItem (Fault fault) = ⊥
+
+  -- the end that an answer tells
+  abbrev pub OnEnd : Asked T → (End → Type 0) → Type 0
+  OnEnd (Item x) P = Unit {0}
+  OnEnd Pending P = Unit {0}
+  OnEnd Ended P = P Completed
+  OnEnd (Fault fault) P = P (Failed fault)

@@ -2,6 +2,7 @@ pub mod Asking
 pub mod Behind
 pub mod Build
 pub mod Closures
+pub mod Collecting
 pub mod Sources
 pub mod Kept
 pub mod Numbers

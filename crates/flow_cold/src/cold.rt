@@ -1,7 +1,7 @@
 //! The trait of cold chains.
 ghost use Rattle.std.specs.Prelude.{◌≡◌};
 ghost use Rattle.flow_law.specs.ChainRun.{ChainRun};
-ghost use Rattle.flow_cold.specs.Asking.{AskGives, IsFinal};
+ghost use Rattle.flow_cold.specs.Asking.{AskGives, IsFinal, OnEnd};
 
 use flow_law::{ChainFault, FlowValue};
 
@@ -21,6 +21,7 @@ pub enum Asked<T> {
 ///
 /// Contracts see a chain as two runs, each an entry for every ask and then the end: the whole, and what is left of it.
 pub trait Cold: Drop {
+    ghost use Rattle.flow_law.specs.declared.chain.End.{End};
     ghost use Rattle.flow_cold.specs.declared.cold.Asked.{Asked};
 
     type Item: FlowValue;
@@ -37,6 +38,9 @@ pub trait Cold: Drop {
     /// That the chain has ended or failed since it was started.
     ghost IsOver: { Self → Type 0 };
 
+    /// That the chain has answered this end since it was started. A chain need not keep which: who asks is told.
+    ghost HasAnswered: { Self → End → Type 0 } = { λ _ _. Unit {0} };
+
     /// What an ask does to the chains that stand behind: each gives just the entries that the answer needs. A source has none.
     ghost AsksBehind: { Self → Asked Self.Item → Self → Type 0 } = { λ _ _ _. Unit {0} };
 
@@ -47,6 +51,7 @@ pub trait Cold: Drop {
         ensures whole { whole self.new ≡ whole self.old }
         ensures gives { AskGives (rest self.old) result (rest self.new) }
         ensures over { IsFinal result → IsOver self.new }
+        ensures answered { OnEnd result (HasAnswered self.new) }
         ensures behind { (¬ IsOver self.old) → AsksBehind self.old result self.new }
         // A chain that is over is left as it is, and so is all that stands behind it.
         ensures end { IsOver self.old → (result ≡ Asked.End) × self.new ≡ self.old };

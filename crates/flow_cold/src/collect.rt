@@ -1,6 +1,7 @@
 //! Collecting a chain to its end.
 ghost use Rattle.std.specs.Prelude.{◌≡◌, IfOk, IfErr};
 ghost use Rattle.flow_law.specs.ChainRun.{Collects};
+ghost use Rattle.flow_cold.specs.Collecting.{StandsAfterItem};
 
 use crate::cold::{Asked, Cold};
 use flow_law::{ChainFault, End};
@@ -25,7 +26,12 @@ pub fn collect_all<C: Cold, A: Allocator>(
     ensures sound { C.sound chain.new }
     ensures whole { C.whole chain.new ≡ C.whole chain.old }
     ensures collects { IfOk result (λ collected. Collects (C.whole chain.old) collected.items.items collected.end) }
+    // The end is the chain's own last answer. So is want of memory in place of one; the items before it are given.
+    ensures over { IfOk result (λ _. C.IsOver chain.new) }
+    ensures answered { IfOk result (λ collected. C.HasAnswered chain.new collected.end) }
+    // The list had no room for the item that came last.
     ensures memory { IfErr result (λ fault. fault ≡ ChainFault.OutOfMemory) }
+    ensures refused { IfErr result (λ _. StandsAfterItem (C.whole chain.old) (C.rest chain.new)) }
 {
     chain.rewind();
     let mut items = Vec::new(alloc);

@@ -2,7 +2,7 @@
 ghost use Rattle.std.specs.Prelude.{◌≡◌, ◌⊎◌, ◌↔◌, IfOk, IfErr};
 ghost use Rattle.flow_law.specs.Chain.{take_meaning, meaning_of};
 ghost use Rattle.flow_cold.specs.Behind.{AsksOnce};
-ghost use Rattle.flow_cold.specs.Asking.{AskGives, IsFinal};
+ghost use Rattle.flow_cold.specs.Asking.{AskGives, IsFinal, OnEnd};
 ghost use Rattle.flow_cold.specs.Taking.{items_left, left_after};
 ghost use Rattle.flow_law.specs.OperatorRuns.{take_run};
 
@@ -61,6 +61,7 @@ impl<C: Cold> Cold for Take<C> {
         ensures whole { ⟦<Take<C> as Cold>⟧.whole self.new ≡ ⟦<Take<C> as Cold>⟧.whole self.old }
         ensures gives { AskGives (⟦<Take<C> as Cold>⟧.rest self.old) result (⟦<Take<C> as Cold>⟧.rest self.new) }
         ensures over { IsFinal result → ⟦<Take<C> as Cold>⟧.IsOver self.new }
+        ensures answered { OnEnd result (⟦<Take<C> as Cold>⟧.HasAnswered self.new) }
         ensures behind { (¬ ⟦<Take<C> as Cold>⟧.IsOver self.old) → ⟦<Take<C> as Cold>⟧.AsksBehind self.old result self.new }
         ensures end { ⟦<Take<C> as Cold>⟧.IsOver self.old → (result ≡ Asked.End) × self.new ≡ self.old }
         ensures left { items_left self.new ≡ left_after result (items_left self.old) }
