@@ -9,7 +9,7 @@ use Rattle.flow_law.specs.OperatorRuns.{take_run}
 use Rattle.flow_cold.specs.declared.script_chain.operator.Operator.{Operator}
 use Rattle.flow_cold.specs.declared.script_chain.operator.Operator.TheVariants.{Map, Filter, TakeWhile, Transform, Take, DropFirst, Scan, FlatMapRange, FlatMapRepeat, Distinct}
 use Rattle.flow_cold.specs.declared.script_chain.node.Stage.{Stage}
-use Rattle.flow_cold.specs.Behind.{after_take}
+use Rattle.flow_operators.specs.Behind.{after_take}
 use Rattle.flow_cold.specs.OperatorAsks.{after_operator}
 use Rattle.flow_cold.specs.Operators.{IsReady, operator_rest, stage_rest}
 

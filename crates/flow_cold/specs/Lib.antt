@@ -1,15 +1,7 @@
-pub mod Asking
-pub mod Behind
 pub mod Build
-pub mod Closures
-pub mod Collecting
-pub mod Sources
-pub mod Kept
 pub mod Numbers
 pub mod OperatorAsks
 pub mod Operators
 pub mod Pairing
 pub mod Part
 pub mod ScriptChain
-pub mod Streams
-pub mod Taking

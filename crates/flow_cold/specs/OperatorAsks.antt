@@ -2,8 +2,8 @@
 use Rattle.std.specs.Prelude.{◌≡◌, ℤ, drop, replicate}
 use Rattle.std.specs.Ordering.{int_eq}
 use Rattle.flow_law.specs.ChainRun.{ChainRun, list_run}
-use Rattle.flow_cold.specs.Behind.{after_ask, after_take, after_filter, after_drop, after_distinct, after_scan, unless_empty, after_transform, unless_completed, after_flat_map}
-use Rattle.flow_cold.specs.Kept.{unless_ended}
+use Rattle.flow_operators.specs.Behind.{after_ask, after_take, after_filter, after_drop, after_distinct, after_scan, unless_empty, after_transform, unless_completed, after_flat_map}
+use Rattle.flow_operators.specs.Kept.{unless_ended}
 use Rattle.flow_cold.specs.declared.script_chain.op.Spread.TheVariants as spread
 use Rattle.flow_cold.specs.declared.script_chain.operator.Operator.{Operator}
 use Rattle.flow_cold.specs.declared.script_chain.operator.Operator.TheVariants.{Map, Filter, TakeWhile, Transform, Take, DropFirst, Scan, FlatMapRange, FlatMapRepeat, Distinct}
@@ -13,7 +13,7 @@ use Rattle.flow_cold.specs.declared.script_chain.state.Repeating.{Repeating}
 use Rattle.flow_cold.specs.declared.script_chain.operator.Step.{Step}
 use Rattle.flow_cold.specs.declared.script_chain.operator.Step.TheVariants.{Nothing}
 use Rattle.flow_cold.specs.Numbers.{passes, sums, spread_run}
-use Rattle.flow_cold.specs.Sources.{range_run}
+use Rattle.flow_operators.specs.Sources.{range_run}
 
 abbrev pub after_adding : Adding → ChainRun ℤ → ChainRun ℤ
 after_adding s r = unless_empty (drop s.at s.entries.items) r (after_transform (sums s.entries.items) r)

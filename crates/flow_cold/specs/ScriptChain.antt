@@ -2,15 +2,15 @@
 use Rattle.std.specs.Prelude.{◌≡◌, ℕ, ◌+◌, ◌≤◌, max, ℤ, true, length, drop}
 use Rattle.flow_law.specs.ChainRun.{ChainRun, list_run}
 use Rattle.flow_law.specs.OperatorRuns.{zip_run}
-use Rattle.flow_cold.specs.Behind.{Leaves, AsksLeft, AsksRight}
-use Rattle.flow_cold.specs.Kept.{unless_ended, with_kept}
-use Rattle.flow_cold.specs.declared.cold.Asked.{Asked}
+use Rattle.flow_operators.specs.Behind.{Leaves, AsksLeft, AsksRight}
+use Rattle.flow_operators.specs.Kept.{unless_ended, with_kept}
+use Rattle.flow_operators.specs.declared.cold.Asked.{Asked}
 use Rattle.flow_cold.specs.declared.script_chain.node.Node.{Node, List, Range, Script, On', Zip'}
 use Rattle.flow_cold.specs.Numbers.{joined}
 use Rattle.flow_cold.specs.Operators.{operator_whole, stage_rest, is_over}
 use Rattle.flow_cold.specs.OperatorAsks.{after_operator}
 use Rattle.flow_cold.specs.Pairing.{pairing_rest}
-use Rattle.flow_cold.specs.Sources.{range_run, scripted_run}
+use Rattle.flow_operators.specs.Sources.{range_run, scripted_run}
 
 -- a source is 1 deep, an operator one deeper than its deeper side
 abbrev pub node_depth : Node → ℕ

@@ -6,7 +6,6 @@ ghost use Rattle.flow_cold.specs.Build.{AddsDepth, Refuses, RefusesDepth, depth_
 ghost use Rattle.flow_cold.specs.Part.{part_depth, part_rest, part_whole};
 ghost use Rattle.flow_cold.specs.ScriptChain.{IsNodeOver, NodeAsksBehind, node_depth, node_rest, node_whole};
 
-use crate::cold::{Asked, Cold};
 use crate::script_chain::ScriptChain;
 use crate::script_chain::node::{Node, Stage, ask_node, rewind_node};
 use crate::script_chain::op::{Joining, Op, Source, Spread};
@@ -16,6 +15,7 @@ use crate::script_chain::state::{
     Adding, Comparing, Counting, Following, Mapping, Repeating, Scanning,
 };
 use flow_law::ChainFault;
+use flow_operators::{Asked, Cold};
 use std::alloc::Global;
 
 /// What an operator of a script becomes in the tree.

@@ -1,13 +1,12 @@
 //! A chain of whole numbers as a tree: sources at its leaves, operators above them.
 ghost use Rattle.std.specs.Prelude.{◌≡◌, ◌≤◌};
 ghost use Rattle.flow_cold.specs.declared.script_chain.node.Node.{size-Node};
-ghost use Rattle.flow_cold.specs.Asking.{AskGives, IsFinal};
+ghost use Rattle.flow_operators.specs.Asking.{AskGives, IsFinal};
 ghost use Rattle.flow_cold.specs.ScriptChain.{IsNodeOver, NodeAsksBehind, node_depth, node_rest, node_whole};
 
-use crate::cold::{Asked, Cold};
 use crate::script_chain::operator::Operator;
 use crate::script_chain::pairing::Pairing;
-use crate::sources::{OfList, OfRange, Scripted};
+use flow_operators::{Asked, Cold, OfList, OfRange, Scripted};
 
 /// An operator in a chain, and whether it has ended.
 #[derive(Drop)]

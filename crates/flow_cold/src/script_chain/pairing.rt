@@ -2,13 +2,13 @@
 ghost use Rattle.std.specs.Prelude.{◌≡◌, ℤ, true, false, None};
 ghost use Rattle.flow_law.specs.ChainRun.{ChainRun, gives};
 ghost use Rattle.flow_law.specs.OperatorRuns.{zip_run};
-ghost use Rattle.flow_cold.specs.Asking.{AskGives, IsFinal, IsItem};
-ghost use Rattle.flow_cold.specs.Behind.{AsksOnce, AsksRight};
+ghost use Rattle.flow_operators.specs.Asking.{AskGives, IsFinal, IsItem};
+ghost use Rattle.flow_operators.specs.Behind.{AsksOnce, AsksRight};
 ghost use Rattle.flow_cold.specs.Numbers.{joined};
 ghost use Rattle.flow_cold.specs.Pairing.{pairing_rest};
 
-use crate::cold::Asked;
 use crate::script_chain::op::Joining;
+use flow_operators::Asked;
 
 /// `kept` is a left item whose right one is still to come.
 #[derive(Drop)]

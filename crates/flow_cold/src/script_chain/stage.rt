@@ -1,14 +1,14 @@
 //! An operator with one upstream, in a chain.
 ghost use Rattle.std.specs.Prelude.{◌≡◌, ℤ, true, false, None, MatchOption, IfSome};
 ghost use Rattle.flow_law.specs.ChainRun.{ChainRun};
-ghost use Rattle.flow_cold.specs.Asking.{AskGives, IsFinal, IsItem};
-ghost use Rattle.flow_cold.specs.Behind.{Leaves};
+ghost use Rattle.flow_operators.specs.Asking.{AskGives, IsFinal, IsItem};
+ghost use Rattle.flow_operators.specs.Behind.{Leaves};
 ghost use Rattle.flow_cold.specs.OperatorAsks.{StepLeaves, after_operator};
 ghost use Rattle.flow_cold.specs.Operators.{IsReady, StepGives, is_over, operator_rest, operator_whole, stage_rest};
 
-use crate::cold::Asked;
 use crate::script_chain::node::Stage;
 use crate::script_chain::operator::{Operator, Step};
+use flow_operators::Asked;
 
 impl Stage {
     /// It has not ended.

@@ -3,7 +3,7 @@ ghost use Rattle.std.specs.Ordering.{int_eq};
 ghost use Rattle.std.specs.Prelude.{◌≡◌, ◌≢◌, ℤ, true, [], drop};
 ghost use Rattle.flow_law.specs.ChainRun.{ChainRun, gives};
 ghost use Rattle.flow_law.specs.OperatorRuns.{distinct_run, drop_run, take_run};
-ghost use Rattle.flow_cold.specs.Behind.{after_distinct, after_drop, after_scan, after_take};
+ghost use Rattle.flow_operators.specs.Behind.{after_distinct, after_drop, after_scan, after_take};
 ghost use Rattle.flow_cold.specs.OperatorAsks.{StepLeaves, after_adding, after_following, after_repeating};
 ghost use Rattle.flow_cold.specs.Operators.{OnNothing, StepGives, adding_rest, following_rest, repeating_rest, scanning_rest};
 
