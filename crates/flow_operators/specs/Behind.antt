@@ -8,7 +8,7 @@
 use Rattle.std.specs.Prelude.{◌≡◌, ◌⊎◌, ℕ, zero, suc, Bool, cond, List, [], ◌∷◌, reverse, Option, Some, None, Result, Ok, Err}
 use Rattle.flow_law.specs.declared.chain.ChainFault.{ChainFault}
 use Rattle.flow_law.specs.declared.chain.ChainFault.TheVariants.{OutOfMemory}
-use Rattle.flow_law.specs.declared.chain.End.TheVariants.{Completed, Failed}
+use Rattle.flow_law.specs.declared.chain.End.TheVariants.{Completed}
 use Rattle.flow_law.specs.ChainRun.{ChainRun, gives, pends, ends}
 use Rattle.flow_law.specs.OperatorRuns.{is_repeated}
 use Rattle.flow_operators.specs.declared.cold.Asked.{Asked}

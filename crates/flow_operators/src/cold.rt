@@ -38,10 +38,11 @@ pub trait Cold: Drop {
     /// That the chain has ended or failed since it was started.
     ghost IsOver: { Self → Type 0 };
 
-    /// That the chain has answered this end since it was started. A chain need not keep which: who asks is told.
+    /// That the chain has answered this end since it was started. It need not keep which: who asks is told.
     ghost HasAnswered: { Self → End → Type 0 } = { λ _ _. Unit {0} };
 
-    /// What an ask does to the chains that stand behind: each gives just the entries that the answer needs. A source has none.
+    /// What an ask does to the chains that stand behind: each gives just the entries that the answer needs.
+    /// A source has none.
     ghost AsksBehind: { Self → Asked Self.Item → Self → Type 0 } = { λ _ _ _. Unit {0} };
 
     /// Takes the next entry off what is left. Want of memory may come in place of it, and ends the chain.

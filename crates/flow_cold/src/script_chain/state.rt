@@ -30,7 +30,8 @@ impl Counting {
     /// The end, where nothing may be given any more.
     pub fn first(&self) -> Step
         ensures gives { (r : ChainRun ℤ) → StepGives (take_run self.now.left r) result (take_run self.now.left r) }
-        ensures behind { (r : ChainRun ℤ) → StepLeaves (after_take self.now.left r) result r (after_take self.now.left r) }
+        ensures behind { (r : ChainRun ℤ)
+            → StepLeaves (after_take self.now.left r) result r (after_take self.now.left r) }
         ensures ready { OnNothing result (self.now.left ≢ 0) }
     {
         if self.left == 0 {
@@ -45,7 +46,8 @@ impl Counting {
         requires { self.old.left ≢ 0 }
         ensures count { self.new.count ≡ self.old.count }
         ensures gives { (r : ChainRun ℤ) → StepGives (take_run self.old.left (gives item r)) result (take_run self.new.left r) }
-        ensures behind { (r : ChainRun ℤ) → StepLeaves (after_take self.old.left (gives item r)) result r (after_take self.new.left r) }
+        ensures behind { (r : ChainRun ℤ)
+            → StepLeaves (after_take self.old.left (gives item r)) result r (after_take self.new.left r) }
     {
         self.left -= 1;
         Step::Item(item)
@@ -55,7 +57,8 @@ impl Counting {
     pub fn drop_first(&mut self, item: i64) -> Step
         ensures count { self.new.count ≡ self.old.count }
         ensures gives { (r : ChainRun ℤ) → StepGives (drop_run (gives item r) self.old.left) result (drop_run r self.new.left) }
-        ensures behind { (r : ChainRun ℤ) → StepLeaves (after_drop (gives item r) self.old.left) result r (after_drop r self.new.left) }
+        ensures behind { (r : ChainRun ℤ)
+            → StepLeaves (after_drop (gives item r) self.old.left) result r (after_drop r self.new.left) }
     {
         if self.left == 0 {
             return Step::Item(item);
@@ -91,7 +94,8 @@ impl Adding {
     pub fn first(&mut self) -> Step
         ensures entries { self.new.entries ≡ self.old.entries }
         ensures gives { (r : ChainRun ℤ) → StepGives (adding_rest self.old r) result (adding_rest self.new r) }
-        ensures behind { (r : ChainRun ℤ) → StepLeaves (after_adding self.old r) result r (after_adding self.new r) }
+        ensures behind { (r : ChainRun ℤ)
+            → StepLeaves (after_adding self.old r) result r (after_adding self.new r) }
         ensures ready { OnNothing result (drop self.new.at self.new.entries.items ≡ []) }
     {
         if self.at >= self.entries.len() {
@@ -110,7 +114,8 @@ impl Adding {
         requires { drop self.old.at self.old.entries.items ≡ [] }
         ensures entries { self.new.entries ≡ self.old.entries }
         ensures gives { (r : ChainRun ℤ) → StepGives (adding_rest self.old (gives item r)) result (adding_rest self.new r) }
-        ensures behind { (r : ChainRun ℤ) → StepLeaves (after_adding self.old (gives item r)) result r (after_adding self.new r) }
+        ensures behind { (r : ChainRun ℤ)
+            → StepLeaves (after_adding self.old (gives item r)) result r (after_adding self.new r) }
     {
         if !all_sums_fit(&self.entries, item) {
             return Step::Fault(ChainFault::Overflow);
@@ -136,7 +141,8 @@ impl Scanning {
         ensures by { self.new.by ≡ self.old.by }
         ensures initial { self.new.initial ≡ self.old.initial }
         ensures gives { (r : ChainRun ℤ) → StepGives (scanning_rest self.old r) result (scanning_rest self.new r) }
-        ensures behind { (r : ChainRun ℤ) → StepLeaves (after_scan self.old.begun r) result r (after_scan self.new.begun r) }
+        ensures behind { (r : ChainRun ℤ)
+            → StepLeaves (after_scan self.old.begun r) result r (after_scan self.new.begun r) }
         ensures ready { OnNothing result (self.new.begun ≡ true) }
     {
         if self.begun {
@@ -153,7 +159,8 @@ impl Scanning {
         ensures by { self.new.by ≡ self.old.by }
         ensures initial { self.new.initial ≡ self.old.initial }
         ensures gives { (r : ChainRun ℤ) → StepGives (scanning_rest self.old (gives item r)) result (scanning_rest self.new r) }
-        ensures behind { (r : ChainRun ℤ) → StepLeaves (after_scan self.old.begun (gives item r)) result r (after_scan self.new.begun r) }
+        ensures behind { (r : ChainRun ℤ)
+            → StepLeaves (after_scan self.old.begun (gives item r)) result r (after_scan self.new.begun r) }
     {
         match self.by.compute(self.last, item) {
             Ok(result) => {
@@ -192,7 +199,8 @@ impl Following {
     pub fn first(&mut self) -> Step
         ensures count { self.new.count ≡ self.old.count }
         ensures gives { (r : ChainRun ℤ) → StepGives (following_rest self.old r) result (following_rest self.new r) }
-        ensures behind { (r : ChainRun ℤ) → StepLeaves (after_following self.old r) result r (after_following self.new r) }
+        ensures behind { (r : ChainRun ℤ)
+            → StepLeaves (after_following self.old r) result r (after_following self.new r) }
         ensures ready { OnNothing result (self.new.closed ≡ true) }
     {
         if self.closed {
@@ -216,7 +224,8 @@ impl Following {
         requires { self.old.closed ≡ true }
         ensures count { self.new.count ≡ self.old.count }
         ensures gives { (r : ChainRun ℤ) → StepGives (following_rest self.old (gives item r)) result (following_rest self.new r) }
-        ensures behind { (r : ChainRun ℤ) → StepLeaves (after_following self.old (gives item r)) result r (after_following self.new r) }
+        ensures behind { (r : ChainRun ℤ)
+            → StepLeaves (after_following self.old (gives item r)) result r (after_following self.new r) }
     {
         if self.count == 0 {
             return Step::Nothing;
@@ -258,7 +267,8 @@ impl Repeating {
     pub fn first(&mut self) -> Step
         ensures count { self.new.count ≡ self.old.count }
         ensures gives { (r : ChainRun ℤ) → StepGives (repeating_rest self.old r) result (repeating_rest self.new r) }
-        ensures behind { (r : ChainRun ℤ) → StepLeaves (after_repeating self.old r) result r (after_repeating self.new r) }
+        ensures behind { (r : ChainRun ℤ)
+            → StepLeaves (after_repeating self.old r) result r (after_repeating self.new r) }
         ensures ready { OnNothing result (self.new.left ≡ 0) }
     {
         if self.left == 0 {
@@ -273,7 +283,8 @@ impl Repeating {
         requires { self.old.left ≡ 0 }
         ensures count { self.new.count ≡ self.old.count }
         ensures gives { (r : ChainRun ℤ) → StepGives (repeating_rest self.old (gives item r)) result (repeating_rest self.new r) }
-        ensures behind { (r : ChainRun ℤ) → StepLeaves (after_repeating self.old (gives item r)) result r (after_repeating self.new r) }
+        ensures behind { (r : ChainRun ℤ)
+            → StepLeaves (after_repeating self.old (gives item r)) result r (after_repeating self.new r) }
     {
         self.item = item;
         self.left = self.count;
@@ -291,7 +302,8 @@ impl Comparing {
     /// The item, unless it is the one before.
     pub fn on_item(&mut self, item: i64) -> Step
         ensures gives { (r : ChainRun ℤ) → StepGives (distinct_run int_eq self.old.last (gives item r)) result (distinct_run int_eq self.new.last r) }
-        ensures behind { (r : ChainRun ℤ) → StepLeaves (after_distinct int_eq self.old.last (gives item r)) result r (after_distinct int_eq self.new.last r) }
+        ensures behind { (r : ChainRun ℤ)
+            → StepLeaves (after_distinct int_eq self.old.last (gives item r)) result r (after_distinct int_eq self.new.last r) }
     {
         if self.last == Some(item) {
             return Step::Nothing;

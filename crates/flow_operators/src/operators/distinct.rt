@@ -27,7 +27,8 @@ impl<C: Cold> Cold for Distinct<C> {
 
     ghost IsOver = { λ s. s.ended ≡ true };
 
-    ghost AsksBehind = { λ old result new. Leaves (after_distinct C.Item.is_same old.last (C.rest old.upstream)) result (C.rest new.upstream) };
+    ghost AsksBehind = { λ old result new.
+        Leaves (after_distinct C.Item.is_same old.last (C.rest old.upstream)) result (C.rest new.upstream) };
 
     fn ask(&mut self) -> Asked<C::Item> {
         if self.ended {

@@ -27,7 +27,8 @@ impl<C: Cold> Cold for DropFirst<C> {
 
     ghost IsOver = { λ s. s.ended ≡ true };
 
-    ghost AsksBehind = { λ old result new. Leaves (after_drop (C.rest old.upstream) old.left) result (C.rest new.upstream) };
+    ghost AsksBehind = { λ old result new.
+        Leaves (after_drop (C.rest old.upstream) old.left) result (C.rest new.upstream) };
 
     fn ask(&mut self) -> Asked<C::Item> {
         if self.ended {

@@ -35,7 +35,8 @@ where
 
     ghost IsOver = { λ s. s.ended ≡ true };
 
-    ghost AsksBehind = { λ old result new. Leaves (after_filter (M.passes old.given.meaning) (C.rest old.upstream)) result (C.rest new.upstream) };
+    ghost AsksBehind = { λ old result new.
+        Leaves (after_filter (M.passes old.given.meaning) (C.rest old.upstream)) result (C.rest new.upstream) };
 
     fn ask(&mut self) -> Asked<C::Item> {
         if self.ended {

@@ -40,7 +40,9 @@ where
 
     ghost IsOver = { λ s. s.ended ≡ true };
 
-    ghost AsksBehind = { λ old result new. Leaves (after_inner ⟦<Scripted<U> as Cold>⟧.rest old.inner (C.rest old.upstream) (after_flat_map (M.inner old.given.meaning) (C.rest old.upstream))) result (C.rest new.upstream) };
+    ghost AsksBehind = { λ old result new.
+        Leaves (after_inner ⟦<Scripted<U> as Cold>⟧.rest old.inner (C.rest old.upstream)
+        (after_flat_map (M.inner old.given.meaning) (C.rest old.upstream))) result (C.rest new.upstream) };
 
     fn ask(&mut self) -> Asked<U> {
         if self.ended {

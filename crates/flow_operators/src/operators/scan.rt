@@ -40,7 +40,8 @@ where
 
     ghost IsOver = { λ s. s.ended ≡ true };
 
-    ghost AsksBehind = { λ old result new. Leaves (after_scan old.begun (C.rest old.upstream)) result (C.rest new.upstream) };
+    ghost AsksBehind = { λ old result new.
+        Leaves (after_scan old.begun (C.rest old.upstream)) result (C.rest new.upstream) };
 
     fn ask(&mut self) -> Asked<U> {
         if self.ended {

@@ -62,7 +62,8 @@ impl<C: Cold> Cold for Take<C> {
         ensures gives { AskGives (⟦<Take<C> as Cold>⟧.rest self.old) result (⟦<Take<C> as Cold>⟧.rest self.new) }
         ensures over { IsFinal result → ⟦<Take<C> as Cold>⟧.IsOver self.new }
         ensures answered { OnEnd result (⟦<Take<C> as Cold>⟧.HasAnswered self.new) }
-        ensures behind { (¬ ⟦<Take<C> as Cold>⟧.IsOver self.old) → ⟦<Take<C> as Cold>⟧.AsksBehind self.old result self.new }
+        ensures behind { (¬ ⟦<Take<C> as Cold>⟧.IsOver self.old)
+            → ⟦<Take<C> as Cold>⟧.AsksBehind self.old result self.new }
         ensures end { ⟦<Take<C> as Cold>⟧.IsOver self.old → (result ≡ Asked.End) × self.new ≡ self.old }
         ensures left { items_left self.new ≡ left_after result (items_left self.old) }
         ensures last { items_left self.old ≡ 0 → (result ≡ Asked.End) × self.new ≡ self.old }

@@ -37,7 +37,9 @@ where
 
     ghost IsOver = { λ s. s.ended ≡ true };
 
-    ghost AsksBehind = { λ old result new. Leaves (after_images (λ v. v.items) old.images (C.rest old.upstream) (after_transform (M.images old.given.meaning) (C.rest old.upstream))) result (C.rest new.upstream) };
+    ghost AsksBehind = { λ old result new.
+        Leaves (after_images (λ v. v.items) old.images (C.rest old.upstream)
+        (after_transform (M.images old.given.meaning) (C.rest old.upstream))) result (C.rest new.upstream) };
 
     fn ask(&mut self) -> Asked<U> {
         if self.ended {

@@ -44,7 +44,9 @@ where
 
     ghost IsOver = { λ s. s.ended ≡ true };
 
-    ghost AsksBehind = { λ old result new. AsksLeft old.kept (L.rest old.left) result (L.rest new.left) × AsksRight (with_kept old.kept (L.rest old.left)) (R.rest old.right) result (R.rest new.right) };
+    ghost AsksBehind = { λ old result new.
+        AsksLeft old.kept (L.rest old.left) result (L.rest new.left)
+        × AsksRight (with_kept old.kept (L.rest old.left)) (R.rest old.right) result (R.rest new.right) };
 
     fn ask(&mut self) -> Asked<U> {
         if self.ended {
