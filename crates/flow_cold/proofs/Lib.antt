@@ -1,5 +1,3 @@
-pub mod AskLemmas
 pub mod OpLemmas
 pub mod OperatorLemmas
-pub mod StreamLemmas
 pub mod SumLemmas

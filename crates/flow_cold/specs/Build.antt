@@ -4,8 +4,9 @@ use Rattle.std.specs.Ordering.{int_eq}
 use Rattle.flow_law.specs.declared.chain.ChainFault.{ChainFault}
 use Rattle.flow_law.specs.declared.chain.ChainFault.TheVariants.{OutOfMemory, NotPositive, TooDeep}
 use Rattle.flow_law.specs.Chain.{Meaning, meaning_of, map_meaning, filter_meaning, take_while_meaning, transform_meaning, take_meaning, drop_meaning, scan_meaning, flat_map_meaning, zip_meaning, distinct_meaning}
-use Rattle.flow_law.specs.ChainRun.{ChainRun, gives, list_run, unless_ended}
+use Rattle.flow_law.specs.ChainRun.{ChainRun, gives, list_run}
 use Rattle.flow_law.specs.OperatorRuns.{map_run, filter_run, take_while_run, transform_run, take_run, drop_run, scan_run, flat_map_run, zip_run, distinct_run}
+use Rattle.flow_operators.specs.Kept.{unless_ended}
 use Rattle.flow_cold.specs.declared.script_chain.op.Op.{Op}
 use Rattle.flow_cold.specs.declared.script_chain.op.Op.TheVariants as op
 use Rattle.flow_cold.specs.declared.script_chain.op.Source.{Source}
@@ -13,7 +14,7 @@ use Rattle.flow_cold.specs.declared.script_chain.op.Source.TheVariants as source
 use Rattle.flow_cold.specs.declared.script_chain.ScriptChain.{ScriptChain}
 use Rattle.flow_cold.specs.Numbers.{computed, joined, passes, sums, spread_run}
 use Rattle.flow_cold.specs.ScriptChain.{node_whole, node_rest}
-use Rattle.flow_cold.specs.Sources.{range_run, scripted_run}
+use Rattle.flow_operators.specs.Sources.{range_run, scripted_run}
 
 abbrev pub depth_of : ScriptChain → ℕ
 depth_of chain = chain.depth

@@ -1,11 +1,7 @@
-pub mod Asking
 pub mod Build
-pub mod Closures
-pub mod Sources
 pub mod Numbers
+pub mod OperatorAsks
 pub mod Operators
 pub mod Pairing
 pub mod Part
 pub mod ScriptChain
-pub mod Streams
-pub mod Taking

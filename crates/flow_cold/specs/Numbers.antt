@@ -14,7 +14,7 @@ use Rattle.flow_cold.specs.declared.script_chain.op.Spread.{Spread}
 use Rattle.flow_cold.specs.declared.script_chain.op.Spread.TheVariants as spread
 use Rattle.flow_cold.specs.declared.script_chain.op.Test.{Test}
 use Rattle.flow_cold.specs.declared.script_chain.op.Test.TheVariants as test
-use Rattle.flow_cold.specs.Sources.{range_run}
+use Rattle.flow_operators.specs.Sources.{range_run}
 
 abbrev pub is_i64 : ℤ → Bool
 is_i64 x = not (int_lt x (negsuc 9223372036854775807)) && not (int_lt (pos 9223372036854775807) x)

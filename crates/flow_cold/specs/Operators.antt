@@ -2,8 +2,9 @@
 use Rattle.std.specs.Prelude.{◌≡◌, ◌≢◌, ◌==◌, ℤ, ◌+ℤ◌, Bool, true, false, cond, ◌||◌, List, [], ◌∷◌, drop, replicate, None}
 use Rattle.std.specs.Ordering.{int_eq}
 use Rattle.flow_law.specs.declared.chain.End.TheVariants.{Completed, Failed}
-use Rattle.flow_law.specs.ChainRun.{ChainRun, gives, ends, list_run, unless_ended}
+use Rattle.flow_law.specs.ChainRun.{ChainRun, gives, ends, list_run}
 use Rattle.flow_law.specs.OperatorRuns.{continued, map_run, filter_run, take_while_run, take_run, drop_run, distinct_run, scan_run, transform_run, followed, flat_map_run}
+use Rattle.flow_operators.specs.Kept.{unless_ended}
 use Rattle.flow_cold.specs.declared.script_chain.op.Spread.TheVariants as spread
 use Rattle.flow_cold.specs.declared.script_chain.operator.Operator.{Operator}
 use Rattle.flow_cold.specs.declared.script_chain.operator.Operator.TheVariants.{Map, Filter, TakeWhile, Transform, Take, DropFirst, Scan, FlatMapRange, FlatMapRepeat, Distinct}
@@ -15,7 +16,7 @@ use Rattle.flow_cold.specs.declared.script_chain.state.Scanning.{Scanning}
 use Rattle.flow_cold.specs.declared.script_chain.operator.Step.{Step}
 use Rattle.flow_cold.specs.declared.script_chain.operator.Step.TheVariants.{Item, Nothing, End, Fault}
 use Rattle.flow_cold.specs.Numbers.{computed, passes, sums, ranged, spread_run}
-use Rattle.flow_cold.specs.Sources.{range_run}
+use Rattle.flow_operators.specs.Sources.{range_run}
 
 abbrev pub operator_whole : Operator → ChainRun ℤ → ChainRun ℤ
 operator_whole (Map s) r = map_run (λ x. computed s.by (x, s.k)) r

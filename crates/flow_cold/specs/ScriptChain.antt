@@ -1,12 +1,16 @@
 -- Chains of whole numbers that are built at run time: how deep they are, and what they mean.
 use Rattle.std.specs.Prelude.{◌≡◌, ℕ, ◌+◌, ◌≤◌, max, ℤ, true, length, drop}
-use Rattle.flow_law.specs.ChainRun.{ChainRun, list_run, unless_ended}
+use Rattle.flow_law.specs.ChainRun.{ChainRun, list_run}
 use Rattle.flow_law.specs.OperatorRuns.{zip_run}
+use Rattle.flow_operators.specs.Behind.{Leaves, AsksLeft, AsksRight}
+use Rattle.flow_operators.specs.Kept.{unless_ended, with_kept}
+use Rattle.flow_operators.specs.declared.cold.Asked.{Asked}
 use Rattle.flow_cold.specs.declared.script_chain.node.Node.{Node, List, Range, Script, On', Zip'}
 use Rattle.flow_cold.specs.Numbers.{joined}
 use Rattle.flow_cold.specs.Operators.{operator_whole, stage_rest, is_over}
+use Rattle.flow_cold.specs.OperatorAsks.{after_operator}
 use Rattle.flow_cold.specs.Pairing.{pairing_rest}
-use Rattle.flow_cold.specs.Sources.{range_run, scripted_run}
+use Rattle.flow_operators.specs.Sources.{range_run, scripted_run}
 
 -- a source is 1 deep, an operator one deeper than its deeper side
 abbrev pub node_depth : Node → ℕ
@@ -39,3 +43,14 @@ IsNodeOver (Range source) = source.ended ≡ true
 IsNodeOver (Script source) = length source.entries.items ≤ source.at
 IsNodeOver (On' p upstream stage) = is_over stage ≡ true
 IsNodeOver (Zip' p left q right pairing) = pairing.ended ≡ true
+
+-- what an ask does to the chains behind the last operator: each gives just the entries that the answer needs
+abbrev pub NodeAsksBehind : Node → Asked ℤ → Node → Type 0
+NodeAsksBehind (On' p upstream stage) result (On' q upstream_after stage_after) = Leaves (after_operator stage.operator (node_rest upstream)) result (node_rest upstream_after)
+NodeAsksBehind (Zip' p left q right pairing) result (Zip' r left_after s right_after pairing_after) =
+    AsksLeft pairing.kept (node_rest left) result (node_rest left_after)
+    × AsksRight (with_kept pairing.kept (node_rest left)) (node_rest right) result (node_rest right_after)
+NodeAsksBehind (List source) result node = Unit {0}
+NodeAsksBehind (Range source) result node = Unit {0}
+NodeAsksBehind (Script source) result node = Unit {0}
+NodeAsksBehind _ result _ = ⊥

@@ -1,37 +1,14 @@
 //! Cold flows: chains of operators that are asked for one item at a time, each time they are collected anew.
 //!
-//! A chain is a source (`OfList`, `OfRange`, `Scripted`) and operators on it (`Map`, `Filter`, `Take` and the others). It
-//! does nothing until it is asked. `collect_all` gathers what it gives, `Streamed` makes a stream of it, and
-//! `ScriptChain` is a chain that is built at run time.
-//!
-//! # Asking and starting anew
-//! `ask` answers an item, `Pending`, the end or a fault; after the end or a fault it answers the end, until `rewind`
-//! starts the producer anew.
-//!
-//! # Closures
-//! An operator takes the caller's closure, and beside it a value that tells its meaning: the function that it computes.
-//! That value is for contracts alone, and a unit struct will do.
-//!
-//! # Faults
-//! A closure that computes items may answer a fault. It ends the chain, and of that item nothing is given.
+//! A chain is a source and operators on it. `flow_operators` has those that take the caller's closures, the trait `Cold`
+//! and `collect_all`; all of it is reached from here. Begin here with `ScriptChain`, a chain that is built at run time.
 #![tactic(auto)]
 
-mod cold;
-mod collect;
-mod meaning;
-mod operators;
 mod script_chain;
-mod sources;
-mod streamed;
-mod with_meaning;
 
-pub use cold::{Asked, Cold};
-pub use collect::{Collected, collect_all};
-pub use flow_law::{ChainFault, End};
-pub use meaning::{InnerMeaning, ItemMeaning, ListMeaning, PairMeaning, TestMeaning};
-pub use operators::{
-    Distinct, DropFirst, Filter, FlatMapConcat, Map, Scan, Take, TakeWhile, Transform, Zip,
+pub use flow_operators::{
+    Asked, ChainFault, Cold, Collected, Distinct, DropFirst, End, Entry, Filter, FlatMapConcat,
+    InnerMeaning, ItemMeaning, ListMeaning, Map, OfList, OfRange, PairMeaning, Scan, Scripted,
+    Streamed, Take, TakeWhile, TestMeaning, Transform, Zip, collect_all,
 };
 pub use script_chain::{Arithmetic, Joining, Op, ScriptChain, Source, Spread, Test};
-pub use sources::{Entry, OfList, OfRange, Scripted};
-pub use streamed::Streamed;

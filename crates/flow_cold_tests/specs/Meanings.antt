@@ -4,9 +4,9 @@ use Rattle.flow_law.specs.declared.chain.ChainFault.{ChainFault}
 use Rattle.flow_law.specs.declared.chain.ChainFault.TheVariants.{OutOfMemory}
 use Rattle.flow_law.specs.declared.chain.End.TheVariants.{Completed}
 use Rattle.flow_law.specs.ChainRun.{ChainRun, gives, ends}
-use Rattle.flow_cold.specs.declared.sources.scripted.Scripted.{Scripted}
+use Rattle.flow_operators.specs.declared.sources.scripted.Scripted.{Scripted}
 use Rattle.flow_cold.specs.Numbers.{ranged}
-use Rattle.flow_cold.specs.Sources.{scripted_run}
+use Rattle.flow_operators.specs.Sources.{scripted_run}
 
 abbrev pub add_one : ℤ → Result ℤ ChainFault
 add_one x = ranged (x +ℤ pos 1)

@@ -11,6 +11,8 @@ mod asks;
 #[cfg(test)]
 mod operators;
 #[cfg(test)]
+mod refused_copies;
+#[cfg(test)]
 mod script_chains;
 #[cfg(test)]
 mod streams;

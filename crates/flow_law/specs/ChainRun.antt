@@ -4,7 +4,7 @@
 --   items      5, 6                        what a collection of the chain emits
 --   ending     Completed
 -- A chain's meaning by lists, of which pending entries are no part, is `meaning_of` of `Chain`.
-use Rattle.std.specs.Prelude.{◌≡◌, ◌⊎◌, ℕ, ◌+◌, List, [], ◌∷◌, ◌++◌, Option, Some, None, Bool, cond}
+use Rattle.std.specs.Prelude.{◌≡◌, ◌⊎◌, ℕ, ◌+◌, List, [], ◌∷◌, ◌++◌, Option, Some, None}
 use Rattle.flow_law.specs.declared.chain.ChainFault.TheVariants.{OutOfMemory}
 use Rattle.flow_law.specs.declared.chain.End.{End}
 use Rattle.flow_law.specs.declared.chain.End.TheVariants.{Completed, Failed}
@@ -41,10 +41,6 @@ module _ {T : Type 0} where
   abbrev pub list_run : List T → ChainRun T
   list_run [] = ends Completed
   list_run (x ∷ xs) = gives x (list_run xs)
-
-  -- nothing once the chain has ended
-  abbrev pub unless_ended : Bool → ChainRun T → ChainRun T
-  unless_ended is_ended r = cond is_ended (ends Completed) r
 
   -- all items and the end, or a first part of the items and want of memory
   abbrev pub Collects : ChainRun T → List T → End → Type 0

@@ -1,6 +1,6 @@
 -- What each operator makes of the run of its upstream. A pending turn stays where it is; nothing follows the item at
 -- which the operator ends the chain. What this means by lists is in `Chain`.
-use Rattle.std.specs.Prelude.{ℕ, zero, suc, Bool, true, false, cond, Result, Ok, Err, Option, Some, None, List, [], ◌∷◌, reverse}
+use Rattle.std.specs.Prelude.{ℕ, zero, suc, Bool, false, cond, Result, Ok, Err, Option, Some, None, List, [], ◌∷◌}
 use Rattle.flow_law.specs.declared.chain.ChainFault.{ChainFault}
 use Rattle.flow_law.specs.declared.chain.End.TheVariants.{Completed, Failed}
 use Rattle.flow_law.specs.ChainRun.{ChainRun, gives, pends, ends}
@@ -59,12 +59,6 @@ scan_run f last (gives x r) = continued (f (last, x)) (λ y. gives y (scan_run f
 scan_run f last (pends r) = pends (scan_run f last r)
 scan_run f last (ends e) = ends e
 
--- the same, with the initial value first where it was not given yet; None: the initial value is the last result
-abbrev pub scan_rest : {A B : Type 0} → (B × A → Result B ChainFault) → Bool → B → Option B → ChainRun A → ChainRun B
-scan_rest f true initial (Some last) r = scan_run f last r
-scan_rest f true initial None r = scan_run f initial r
-scan_rest f false initial last r = gives initial (scan_run f initial r)
-
 -- the left item x and the right side's next item; k says what follows
 abbrev pub pair_run : {A B C : Type 0} → (A × B → Result C ChainFault) → A → (ChainRun B → ChainRun C) → ChainRun B → ChainRun C
 pair_run f x k (gives y q) = continued (f (x, y)) (λ z. gives z (k q))
@@ -77,11 +71,6 @@ zip_run f (gives x r) = λ q. pair_run f x (zip_run f r) q
 zip_run f (pends r) = λ q. pends (zip_run f r q)
 zip_run f (ends e) = λ q. ends e
 
--- a left item that was kept stands before the left side
-abbrev pub with_kept : {A : Type 0} → Option A → ChainRun A → ChainRun A
-with_kept (Some x) r = gives x r
-with_kept None r = r
-
 -- the items xs, then r
 abbrev pub prepended : {A : Type 0} → List A → ChainRun A → ChainRun A
 prepended [] r = r
@@ -92,11 +81,6 @@ abbrev pub transform_run : {A B : Type 0} → (A → Result (List B) ChainFault)
 transform_run f (gives x r) = continued (f x) (λ ys. prepended ys (transform_run f r))
 transform_run f (pends r) = pends (transform_run f r)
 transform_run f (ends e) = ends e
-
--- the images that are left, which are kept in reverse, come first
-abbrev pub images_rest : {A V : Type 0} → (V → List A) → Option V → ChainRun A → ChainRun A
-images_rest view (Some kept) r = prepended (reverse (view kept)) r
-images_rest view None r = r
 
 -- r, then q where r completes
 abbrev pub followed : {A : Type 0} → ChainRun A → ChainRun A → ChainRun A
@@ -110,8 +94,3 @@ abbrev pub flat_map_run : {A B : Type 0} → (A → Result (ChainRun B) ChainFau
 flat_map_run f (gives x r) = continued (f x) (λ inner. followed inner (flat_map_run f r))
 flat_map_run f (pends r) = pends (flat_map_run f r)
 flat_map_run f (ends e) = ends e
-
--- what an open inner chain has left comes first
-abbrev pub inner_rest : {A S : Type 0} → (S → ChainRun A) → Option S → ChainRun A → ChainRun A
-inner_rest view (Some inner) r = followed (view inner) r
-inner_rest view None r = r

@@ -6,9 +6,9 @@ use Rattle.std.specs.Str.{bytes_eq}
 use Rattle.serde_json.specs.Data.{Data, Items, no_items, item}
 use Rattle.serde_json.specs.Find.{get, as_number, as_i64, as_str, as_array}
 use Rattle.flow_law.specs.ChainRun.{ChainRun, list_run}
-use Rattle.flow_cold.specs.declared.sources.scripted.Entry.{Entry}
-use Rattle.flow_cold.specs.declared.sources.scripted.Entry.TheVariants as entry
-use Rattle.flow_cold.specs.Sources.{range_run, scripted_run, span}
+use Rattle.flow_operators.specs.declared.sources.scripted.Entry.{Entry}
+use Rattle.flow_operators.specs.declared.sources.scripted.Entry.TheVariants as entry
+use Rattle.flow_operators.specs.Sources.{range_run, scripted_run, span}
 use Rattle.flow_script.specs.declared.fault.ScriptFault.{ScriptFault}
 use Rattle.flow_script.specs.declared.fault.ScriptFault.TheVariants.{BadShape, TooLarge}
 use Rattle.flow_script.specs.Format.{u32_at, has_members, where_true}

@@ -4,9 +4,8 @@ ghost use Rattle.flow_law.specs.Chain.{meaning_of};
 ghost use Rattle.flow_law.specs.ChainRun.{ChainRun};
 ghost use Rattle.flow_cold.specs.Build.{AddsDepth, Refuses, RefusesDepth, depth_of, op_depth, op_meaning, op_rest, op_whole, source_rest, source_whole};
 ghost use Rattle.flow_cold.specs.Part.{part_depth, part_rest, part_whole};
-ghost use Rattle.flow_cold.specs.ScriptChain.{IsNodeOver, node_depth, node_rest, node_whole};
+ghost use Rattle.flow_cold.specs.ScriptChain.{IsNodeOver, NodeAsksBehind, node_depth, node_rest, node_whole};
 
-use crate::cold::{Asked, Cold};
 use crate::script_chain::ScriptChain;
 use crate::script_chain::node::{Node, Stage, ask_node, rewind_node};
 use crate::script_chain::op::{Joining, Op, Source, Spread};
@@ -16,6 +15,7 @@ use crate::script_chain::state::{
     Adding, Comparing, Counting, Following, Mapping, Repeating, Scanning,
 };
 use flow_law::ChainFault;
+use flow_operators::{Asked, Cold};
 use std::alloc::Global;
 
 /// What an operator of a script becomes in the tree.
@@ -143,6 +143,8 @@ impl Cold for ScriptChain {
     ghost rest = { λ s. node_rest s.node };
 
     ghost IsOver = { λ s. IsNodeOver s.node };
+
+    ghost AsksBehind = { λ old result new. NodeAsksBehind old.node result new.node };
 
     fn ask(&mut self) -> Asked<i64> {
         ask_node(&mut self.node)

@@ -1,13 +1,12 @@
 //! A chain of whole numbers as a tree: sources at its leaves, operators above them.
 ghost use Rattle.std.specs.Prelude.{◌≡◌, ◌≤◌};
 ghost use Rattle.flow_cold.specs.declared.script_chain.node.Node.{size-Node};
-ghost use Rattle.flow_cold.specs.Asking.{AskGives, IsFinal};
-ghost use Rattle.flow_cold.specs.ScriptChain.{IsNodeOver, node_depth, node_rest, node_whole};
+ghost use Rattle.flow_operators.specs.Asking.{AskGives, IsFinal};
+ghost use Rattle.flow_cold.specs.ScriptChain.{IsNodeOver, NodeAsksBehind, node_depth, node_rest, node_whole};
 
-use crate::cold::{Asked, Cold};
 use crate::script_chain::operator::Operator;
 use crate::script_chain::pairing::Pairing;
-use crate::sources::{OfList, OfRange, Scripted};
+use flow_operators::{Asked, Cold, OfList, OfRange, Scripted};
 
 /// An operator in a chain, and whether it has ended.
 #[derive(Drop)]
@@ -31,6 +30,7 @@ pub fn ask_node(node: &mut Node) -> Asked<i64>
     ensures whole { node_whole node.new ≡ node_whole node.old }
     ensures gives { AskGives (node_rest node.old) result (node_rest node.new) }
     ensures over { IsFinal result → IsNodeOver node.new }
+    ensures behind { (¬ IsNodeOver node.old) → NodeAsksBehind node.old result node.new }
     // So a take that has given its last item leaves all that stands behind it as it is.
     ensures end { IsNodeOver node.old → (result ≡ Asked.End) × node.new ≡ node.old }
     ensures depth { node_depth node.new ≡ node_depth node.old }

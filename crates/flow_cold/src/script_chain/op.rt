@@ -1,7 +1,7 @@
 //! What a chain that is built at run time is built of.
 
 use crate::script_chain::ScriptChain;
-use crate::sources::{OfList, OfRange, Scripted};
+use flow_operators::{OfList, OfRange, Scripted};
 
 /// Where a chain of whole numbers begins.
 #[derive(Drop)]

@@ -1,6 +1,7 @@
 //! The operators with one upstream: what each makes of its upstream's items, one step at a time.
 ghost use Rattle.std.specs.Prelude.{◌≡◌, ℤ};
 ghost use Rattle.flow_law.specs.ChainRun.{ChainRun, gives};
+ghost use Rattle.flow_cold.specs.OperatorAsks.{StepLeaves, after_operator};
 ghost use Rattle.flow_cold.specs.Operators.{IsReady, OnNothing, StepGives, operator_rest, operator_whole};
 
 use crate::script_chain::op::Test;
@@ -38,6 +39,8 @@ impl Operator {
     pub fn first(&mut self) -> Step
         ensures whole { (r : ChainRun ℤ) → operator_whole self.new r ≡ operator_whole self.old r }
         ensures gives { (r : ChainRun ℤ) → StepGives (operator_rest self.old r) result (operator_rest self.new r) }
+        ensures behind { (r : ChainRun ℤ)
+            → StepLeaves (after_operator self.old r) result r (after_operator self.new r) }
         ensures ready { OnNothing result (IsReady self.new) }
     {
         match self {
@@ -59,6 +62,8 @@ impl Operator {
         requires { IsReady self.old }
         ensures whole { (r : ChainRun ℤ) → operator_whole self.new r ≡ operator_whole self.old r }
         ensures gives { (r : ChainRun ℤ) → StepGives (operator_rest self.old (gives item r)) result (operator_rest self.new r) }
+        ensures behind { (r : ChainRun ℤ)
+            → StepLeaves (after_operator self.old (gives item r)) result r (after_operator self.new r) }
     {
         match self {
             Operator::Filter(test) => {

@@ -2,12 +2,13 @@
 ghost use Rattle.std.specs.Prelude.{◌≡◌, ℤ, true, false, None};
 ghost use Rattle.flow_law.specs.ChainRun.{ChainRun, gives};
 ghost use Rattle.flow_law.specs.OperatorRuns.{zip_run};
-ghost use Rattle.flow_cold.specs.Asking.{AskGives, IsFinal, IsItem};
+ghost use Rattle.flow_operators.specs.Asking.{AskGives, IsFinal, IsItem};
+ghost use Rattle.flow_operators.specs.Behind.{AsksOnce, AsksRight};
 ghost use Rattle.flow_cold.specs.Numbers.{joined};
 ghost use Rattle.flow_cold.specs.Pairing.{pairing_rest};
 
-use crate::cold::Asked;
 use crate::script_chain::op::Joining;
+use flow_operators::Asked;
 
 /// `kept` is a left item whose right one is still to come.
 #[derive(Drop)]
@@ -36,6 +37,8 @@ impl Pairing {
         requires no_item { ¬ IsItem asked }
         ensures by { self.new.by ≡ self.old.by }
         ensures gives { (before after right : ChainRun ℤ) → AskGives before asked after → AskGives (pairing_rest self.old before right) result (pairing_rest self.new after right) }
+        ensures behind { (before after right : ChainRun ℤ)
+            → AskGives before asked after → AsksOnce before result after × AsksRight before right result right }
         ensures over { IsFinal result → self.new.ended ≡ true }
     {
         match &asked {
@@ -52,6 +55,8 @@ impl Pairing {
         requires { self.old.ended ≡ false }
         ensures by { self.new.by ≡ self.old.by }
         ensures gives { (left before after : ChainRun ℤ) → AskGives before asked after → AskGives (zip_run (joined self.old.by) (gives first left) before) result (pairing_rest self.new left after) }
+        ensures behind { (before after : ChainRun ℤ)
+            → AskGives before asked after → AsksOnce before result after }
         ensures over { IsFinal result → self.new.ended ≡ true }
     {
         self.kept = None;

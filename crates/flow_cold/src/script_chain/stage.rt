@@ -1,12 +1,14 @@
 //! An operator with one upstream, in a chain.
 ghost use Rattle.std.specs.Prelude.{◌≡◌, ℤ, true, false, None, MatchOption, IfSome};
 ghost use Rattle.flow_law.specs.ChainRun.{ChainRun};
-ghost use Rattle.flow_cold.specs.Asking.{AskGives, IsFinal, IsItem};
+ghost use Rattle.flow_operators.specs.Asking.{AskGives, IsFinal, IsItem};
+ghost use Rattle.flow_operators.specs.Behind.{Leaves};
+ghost use Rattle.flow_cold.specs.OperatorAsks.{StepLeaves, after_operator};
 ghost use Rattle.flow_cold.specs.Operators.{IsReady, StepGives, is_over, operator_rest, operator_whole, stage_rest};
 
-use crate::cold::Asked;
 use crate::script_chain::node::Stage;
 use crate::script_chain::operator::{Operator, Step};
+use flow_operators::Asked;
 
 impl Stage {
     /// It has not ended.
@@ -37,6 +39,9 @@ impl Stage {
         requires { self.old.ended ≡ false }
         ensures whole { (r : ChainRun ℤ) → operator_whole self.new.operator r ≡ operator_whole self.old.operator r }
         ensures gives { (r : ChainRun ℤ) → MatchOption result (stage_rest self.new r ≡ stage_rest self.old r) (λ asked. AskGives (stage_rest self.old r) asked (stage_rest self.new r)) }
+        ensures behind { (r : ChainRun ℤ)
+            → MatchOption result (after_operator self.old.operator r ≡ after_operator self.new.operator r)
+            (λ _. after_operator self.old.operator r ≡ r) }
         ensures ready { result ≡ None → (self.new.ended ≡ false) × IsReady self.new.operator }
         ensures over { IfSome result (λ asked. IsFinal asked → self.new.ended ≡ true) }
     {
@@ -50,6 +55,9 @@ impl Stage {
         requires ready { IsReady self.old.operator }
         ensures whole { (r : ChainRun ℤ) → operator_whole self.new.operator r ≡ operator_whole self.old.operator r }
         ensures gives { (before after : ChainRun ℤ) → AskGives before asked after → MatchOption result (stage_rest self.new after ≡ stage_rest self.old before) (λ given. AskGives (stage_rest self.old before) given (stage_rest self.new after)) }
+        ensures behind { (before after : ChainRun ℤ) → AskGives before asked after
+            → MatchOption result (after_operator self.old.operator before ≡ after_operator self.new.operator after)
+            (λ given. Leaves (after_operator self.old.operator before) given after) }
         ensures runs { result ≡ None → self.new.ended ≡ false }
         ensures again { result ≡ None → IsItem asked }
         ensures over { IfSome result (λ given. IsFinal given → self.new.ended ≡ true) }
@@ -76,6 +84,8 @@ impl Stage {
         requires { self.old.ended ≡ false }
         ensures operator { self.new.operator ≡ self.old.operator }
         ensures gives { (before r : ChainRun ℤ) → StepGives before step (operator_rest self.old.operator r) → MatchOption result (stage_rest self.new r ≡ before) (λ given. AskGives before given (stage_rest self.new r)) }
+        ensures behind { (due r further : ChainRun ℤ) → StepLeaves due step r further
+            → MatchOption result (due ≡ further) (λ _. due ≡ r) }
         ensures runs { result ≡ None → (self.new ≡ self.old) × (step ≡ Step.Nothing) }
         ensures over { IfSome result (λ given. IsFinal given → self.new.ended ≡ true) }
     {

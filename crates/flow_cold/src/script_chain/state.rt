@@ -3,6 +3,8 @@ ghost use Rattle.std.specs.Ordering.{int_eq};
 ghost use Rattle.std.specs.Prelude.{◌≡◌, ◌≢◌, ℤ, true, [], drop};
 ghost use Rattle.flow_law.specs.ChainRun.{ChainRun, gives};
 ghost use Rattle.flow_law.specs.OperatorRuns.{distinct_run, drop_run, take_run};
+ghost use Rattle.flow_operators.specs.Behind.{after_distinct, after_drop, after_scan, after_take};
+ghost use Rattle.flow_cold.specs.OperatorAsks.{StepLeaves, after_adding, after_following, after_repeating};
 ghost use Rattle.flow_cold.specs.Operators.{OnNothing, StepGives, adding_rest, following_rest, repeating_rest, scanning_rest};
 
 use crate::script_chain::numbers::{all_sums_fit, last_of};
@@ -28,6 +30,8 @@ impl Counting {
     /// The end, where nothing may be given any more.
     pub fn first(&self) -> Step
         ensures gives { (r : ChainRun ℤ) → StepGives (take_run self.now.left r) result (take_run self.now.left r) }
+        ensures behind { (r : ChainRun ℤ)
+            → StepLeaves (after_take self.now.left r) result r (after_take self.now.left r) }
         ensures ready { OnNothing result (self.now.left ≢ 0) }
     {
         if self.left == 0 {
@@ -42,6 +46,8 @@ impl Counting {
         requires { self.old.left ≢ 0 }
         ensures count { self.new.count ≡ self.old.count }
         ensures gives { (r : ChainRun ℤ) → StepGives (take_run self.old.left (gives item r)) result (take_run self.new.left r) }
+        ensures behind { (r : ChainRun ℤ)
+            → StepLeaves (after_take self.old.left (gives item r)) result r (after_take self.new.left r) }
     {
         self.left -= 1;
         Step::Item(item)
@@ -51,6 +57,8 @@ impl Counting {
     pub fn drop_first(&mut self, item: i64) -> Step
         ensures count { self.new.count ≡ self.old.count }
         ensures gives { (r : ChainRun ℤ) → StepGives (drop_run (gives item r) self.old.left) result (drop_run r self.new.left) }
+        ensures behind { (r : ChainRun ℤ)
+            → StepLeaves (after_drop (gives item r) self.old.left) result r (after_drop r self.new.left) }
     {
         if self.left == 0 {
             return Step::Item(item);
@@ -86,6 +94,8 @@ impl Adding {
     pub fn first(&mut self) -> Step
         ensures entries { self.new.entries ≡ self.old.entries }
         ensures gives { (r : ChainRun ℤ) → StepGives (adding_rest self.old r) result (adding_rest self.new r) }
+        ensures behind { (r : ChainRun ℤ)
+            → StepLeaves (after_adding self.old r) result r (after_adding self.new r) }
         ensures ready { OnNothing result (drop self.new.at self.new.entries.items ≡ []) }
     {
         if self.at >= self.entries.len() {
@@ -104,6 +114,8 @@ impl Adding {
         requires { drop self.old.at self.old.entries.items ≡ [] }
         ensures entries { self.new.entries ≡ self.old.entries }
         ensures gives { (r : ChainRun ℤ) → StepGives (adding_rest self.old (gives item r)) result (adding_rest self.new r) }
+        ensures behind { (r : ChainRun ℤ)
+            → StepLeaves (after_adding self.old (gives item r)) result r (after_adding self.new r) }
     {
         if !all_sums_fit(&self.entries, item) {
             return Step::Fault(ChainFault::Overflow);
@@ -129,6 +141,8 @@ impl Scanning {
         ensures by { self.new.by ≡ self.old.by }
         ensures initial { self.new.initial ≡ self.old.initial }
         ensures gives { (r : ChainRun ℤ) → StepGives (scanning_rest self.old r) result (scanning_rest self.new r) }
+        ensures behind { (r : ChainRun ℤ)
+            → StepLeaves (after_scan self.old.begun r) result r (after_scan self.new.begun r) }
         ensures ready { OnNothing result (self.new.begun ≡ true) }
     {
         if self.begun {
@@ -145,6 +159,8 @@ impl Scanning {
         ensures by { self.new.by ≡ self.old.by }
         ensures initial { self.new.initial ≡ self.old.initial }
         ensures gives { (r : ChainRun ℤ) → StepGives (scanning_rest self.old (gives item r)) result (scanning_rest self.new r) }
+        ensures behind { (r : ChainRun ℤ)
+            → StepLeaves (after_scan self.old.begun (gives item r)) result r (after_scan self.new.begun r) }
     {
         match self.by.compute(self.last, item) {
             Ok(result) => {
@@ -183,6 +199,8 @@ impl Following {
     pub fn first(&mut self) -> Step
         ensures count { self.new.count ≡ self.old.count }
         ensures gives { (r : ChainRun ℤ) → StepGives (following_rest self.old r) result (following_rest self.new r) }
+        ensures behind { (r : ChainRun ℤ)
+            → StepLeaves (after_following self.old r) result r (after_following self.new r) }
         ensures ready { OnNothing result (self.new.closed ≡ true) }
     {
         if self.closed {
@@ -206,6 +224,8 @@ impl Following {
         requires { self.old.closed ≡ true }
         ensures count { self.new.count ≡ self.old.count }
         ensures gives { (r : ChainRun ℤ) → StepGives (following_rest self.old (gives item r)) result (following_rest self.new r) }
+        ensures behind { (r : ChainRun ℤ)
+            → StepLeaves (after_following self.old (gives item r)) result r (after_following self.new r) }
     {
         if self.count == 0 {
             return Step::Nothing;
@@ -247,6 +267,8 @@ impl Repeating {
     pub fn first(&mut self) -> Step
         ensures count { self.new.count ≡ self.old.count }
         ensures gives { (r : ChainRun ℤ) → StepGives (repeating_rest self.old r) result (repeating_rest self.new r) }
+        ensures behind { (r : ChainRun ℤ)
+            → StepLeaves (after_repeating self.old r) result r (after_repeating self.new r) }
         ensures ready { OnNothing result (self.new.left ≡ 0) }
     {
         if self.left == 0 {
@@ -261,6 +283,8 @@ impl Repeating {
         requires { self.old.left ≡ 0 }
         ensures count { self.new.count ≡ self.old.count }
         ensures gives { (r : ChainRun ℤ) → StepGives (repeating_rest self.old (gives item r)) result (repeating_rest self.new r) }
+        ensures behind { (r : ChainRun ℤ)
+            → StepLeaves (after_repeating self.old (gives item r)) result r (after_repeating self.new r) }
     {
         self.item = item;
         self.left = self.count;
@@ -277,7 +301,9 @@ pub struct Comparing {
 impl Comparing {
     /// The item, unless it is the one before.
     pub fn on_item(&mut self, item: i64) -> Step
-        ensures { (r : ChainRun ℤ) → StepGives (distinct_run int_eq self.old.last (gives item r)) result (distinct_run int_eq self.new.last r) }
+        ensures gives { (r : ChainRun ℤ) → StepGives (distinct_run int_eq self.old.last (gives item r)) result (distinct_run int_eq self.new.last r) }
+        ensures behind { (r : ChainRun ℤ)
+            → StepLeaves (after_distinct int_eq self.old.last (gives item r)) result r (after_distinct int_eq self.new.last r) }
     {
         if self.last == Some(item) {
             return Step::Nothing;

@@ -1,5 +1,5 @@
 use Rattle.std.proofs.Common.{refl}
-use Rattle.flow_cold.proofs.AskLemmas.{asks-item}
+use Rattle.flow_operators.proofs.AskLemmas.{asks-item}
 use Rattle.flow_cold.proofs.script_chain.node.+ask_node.Goals as goal
 
 pub loop-answer-smaller : goal.loop-answer-smaller

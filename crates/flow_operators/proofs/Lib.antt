@@ -1,0 +1,2 @@
+pub mod AskLemmas
+pub mod StreamLemmas

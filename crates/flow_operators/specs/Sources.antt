@@ -1,0 +1,30 @@
+-- The runs of the sources. A list's is `list_run`.
+use Rattle.std.specs.Prelude.{ℕ, zero, suc, ◌+◌, ℤ, pos, ◌+ℤ◌, ◌-ℤ◌, int_lt, nat_abs, cond, List, [], ◌∷◌, drop}
+use Rattle.flow_law.specs.declared.chain.ChainFault.TheVariants.{Source}
+use Rattle.flow_law.specs.declared.chain.End.TheVariants.{Completed, Failed}
+use Rattle.flow_law.specs.ChainRun.{ChainRun, gives, pends, ends, list_run}
+use Rattle.flow_operators.specs.declared.sources.scripted.Entry.{Entry}
+use Rattle.flow_operators.specs.declared.sources.scripted.Entry.TheVariants.{Item, Pending, Fault}
+use Rattle.flow_operators.specs.declared.sources.scripted.Scripted.{Scripted}
+
+-- first, first + 1, and so on, n of them
+abbrev pub count_up : ℤ → ℕ → List ℤ
+count_up first zero = []
+count_up first (suc n) = first ∷ count_up (first +ℤ pos 1) n
+
+-- how many numbers there are from first to last
+abbrev pub span : ℤ → ℤ → ℕ
+span first last = cond (int_lt last first) 0 (nat_abs (last -ℤ first) + 1)
+
+abbrev pub range_run : ℤ → ℤ → ChainRun ℤ
+range_run first last = list_run (count_up first (span first last))
+
+-- the entries up to the first fault, which is the end
+abbrev pub scripted_run : {T : Type 0} → List (Entry T) → ChainRun T
+scripted_run [] = ends Completed
+scripted_run (Item x ∷ es) = gives x (scripted_run es)
+scripted_run (Pending ∷ es) = pends (scripted_run es)
+scripted_run (Fault number ∷ es) = ends (Failed (Source number))
+
+abbrev pub scripted_rest : {T A : Type 0} → Scripted T A → ChainRun T
+scripted_rest s = scripted_run (drop s.at s.entries.items)

@@ -1,0 +1,13 @@
+-- How many items a `Take` may still give.
+use Rattle.std.specs.Prelude.{ℕ, ◌-◌}
+use Rattle.flow_operators.specs.declared.cold.Asked.{Asked}
+use Rattle.flow_operators.specs.declared.cold.Asked.TheVariants.{Item}
+use Rattle.flow_operators.specs.declared.operators.take.Take.{Take}
+
+abbrev pub items_left : {C : Type 0} → Take C → ℕ
+items_left take = take.left
+
+-- an item is one less to give
+abbrev pub left_after : {T : Type 0} → Asked T → ℕ → ℕ
+left_after (Item x) left = left - 1
+left_after _ left = left

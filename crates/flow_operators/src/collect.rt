@@ -1,0 +1,60 @@
+//! Collecting a chain to its end.
+ghost use Rattle.std.specs.Prelude.{◌≡◌, IfOk, IfErr};
+ghost use Rattle.flow_law.specs.ChainRun.{Collects};
+ghost use Rattle.flow_operators.specs.Collecting.{StandsAfterItem};
+
+use crate::cold::{Asked, Cold};
+use flow_law::{ChainFault, End};
+use std::alloc::{Allocator, Global};
+
+/// What a collection gave.
+#[derive(Debug, Drop)]
+pub struct Collected<T, A: Allocator = Global> {
+    pub items: Vec<T, A>,
+    pub end: End,
+}
+
+/// Starts the chain anew, and asks it to its end. A turn that pends is followed by the next ask.
+///
+/// It is refused where memory is wanted for the list of items; the items so far are dropped then. What the chain itself
+/// is refused is its end.
+pub fn collect_all<C: Cold, A: Allocator>(
+    alloc: A,
+    chain: &mut C,
+) -> Result<Collected<C::Item, A>, ChainFault>
+    requires { C.sound chain.old }
+    ensures sound { C.sound chain.new }
+    ensures whole { C.whole chain.new ≡ C.whole chain.old }
+    ensures collects { IfOk result (λ collected. Collects (C.whole chain.old) collected.items.items collected.end) }
+    // The end is the chain's own last answer. So is want of memory in place of one; the items before it are given.
+    ensures over { IfOk result (λ _. C.IsOver chain.new) }
+    ensures answered { IfOk result (λ collected. C.HasAnswered chain.new collected.end) }
+    // The list had no room for the item that came last.
+    ensures memory { IfErr result (λ fault. fault ≡ ChainFault.OutOfMemory) }
+    ensures refused { IfErr result (λ _. StandsAfterItem (C.whole chain.old) (C.rest chain.new)) }
+{
+    chain.rewind();
+    let mut items = Vec::new(alloc);
+    loop {
+        match chain.ask() {
+            Asked::Item(item) => {
+                if items.push(item).is_err() {
+                    return Err(ChainFault::OutOfMemory);
+                }
+            }
+            Asked::Pending => {}
+            Asked::End => {
+                return Ok(Collected {
+                    items,
+                    end: End::Completed,
+                });
+            }
+            Asked::Fault(fault) => {
+                return Ok(Collected {
+                    items,
+                    end: End::Failed(fault),
+                });
+            }
+        }
+    }
+}

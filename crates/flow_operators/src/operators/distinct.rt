@@ -1,0 +1,99 @@
+//! `distinctUntilChanged`: items that differ from the one before.
+ghost use Rattle.std.specs.Prelude.{◌≡◌, true, None};
+ghost use Rattle.flow_law.specs.Chain.{distinct_meaning, meaning_of};
+ghost use Rattle.flow_law.specs.OperatorRuns.{distinct_run, is_repeated};
+ghost use Rattle.flow_operators.specs.Behind.{Leaves, after_distinct};
+ghost use Rattle.flow_operators.specs.Kept.{unless_ended};
+
+use crate::cold::{Asked, Cold};
+use flow_law::{ChainFault, FlowValue};
+
+/// Drops each item that is the same as the one before.
+#[derive(Drop)]
+pub struct Distinct<C: Cold> {
+    upstream: C,
+    last: Option<C::Item>,
+    ended: bool,
+}
+
+impl<C: Cold> Cold for Distinct<C> {
+    type Item = C::Item;
+
+    ghost sound = { λ s. C.sound s.upstream };
+
+    ghost whole = { λ s. distinct_run C.Item.is_same None (C.whole s.upstream) };
+
+    ghost rest = { λ s. unless_ended s.ended (distinct_run C.Item.is_same s.last (C.rest s.upstream)) };
+
+    ghost IsOver = { λ s. s.ended ≡ true };
+
+    ghost AsksBehind = { λ old result new.
+        Leaves (after_distinct C.Item.is_same old.last (C.rest old.upstream)) result (C.rest new.upstream) };
+
+    fn ask(&mut self) -> Asked<C::Item> {
+        if self.ended {
+            return Asked::End;
+        }
+        loop {
+            match self.upstream.ask() {
+                Asked::Item(item) => {
+                    if !is_last(&self.last, &item) {
+                        return match item.try_copy() {
+                            Ok(copy) => {
+                                self.last = Some(copy);
+                                Asked::Item(item)
+                            }
+                            Err(_) => {
+                                self.ended = true;
+                                Asked::Fault(ChainFault::OutOfMemory)
+                            }
+                        };
+                    }
+                }
+                Asked::Pending => return Asked::Pending,
+                Asked::End => {
+                    self.ended = true;
+                    return Asked::End;
+                }
+                Asked::Fault(fault) => {
+                    self.ended = true;
+                    return Asked::Fault(fault);
+                }
+            }
+        }
+    }
+
+    fn rewind(&mut self) {
+        self.ended = false;
+        self.last = None;
+        self.upstream.rewind();
+    }
+}
+
+/// Whether `item` is the same as the last one.
+fn is_last<T: FlowValue>(last: &Option<T>, item: &T) -> bool
+    ensures { result ≡ is_repeated T.is_same last.now item.now }
+{
+    match last {
+        Some(last) => last.same(item),
+        None => false,
+    }
+}
+
+impl<C: Cold> Distinct<C> {
+    /// Items are compared as values of flows are.
+    #[tactic(auto, using(flow_law::proofs::ChainLemmas::distinct_means))]
+    pub fn new(upstream: C) -> Self
+        requires { C.sound upstream }
+        ensures sound { ⟦<Distinct<C> as Cold>⟧.sound result }
+        ensures whole { ⟦<Distinct<C> as Cold>⟧.whole result ≡ distinct_run C.Item.is_same None (C.whole upstream) }
+        ensures meaning { meaning_of (⟦<Distinct<C> as Cold>⟧.whole result) ≡ distinct_meaning C.Item.is_same (meaning_of (C.whole upstream)) }
+        ensures rest { ⟦<Distinct<C> as Cold>⟧.rest result ≡ distinct_run C.Item.is_same None (C.rest upstream) }
+    {
+        Distinct {
+            upstream,
+            last: None,
+            ended: false,
+        }
+    }
+}

@@ -1,0 +1,82 @@
+//! `drop`: all but the first items.
+ghost use Rattle.std.specs.Prelude.{◌≡◌, true};
+ghost use Rattle.flow_law.specs.Chain.{drop_meaning, meaning_of};
+ghost use Rattle.flow_law.specs.OperatorRuns.{drop_run};
+ghost use Rattle.flow_operators.specs.Behind.{Leaves, after_drop};
+ghost use Rattle.flow_operators.specs.Kept.{unless_ended};
+
+use crate::cold::{Asked, Cold};
+
+/// Gives a chain's items after the first `count`.
+#[derive(Drop)]
+pub struct DropFirst<C> {
+    upstream: C,
+    count: u64,
+    left: u64,
+    ended: bool,
+}
+
+impl<C: Cold> Cold for DropFirst<C> {
+    type Item = C::Item;
+
+    ghost sound = { λ s. C.sound s.upstream };
+
+    ghost whole = { λ s. drop_run (C.whole s.upstream) s.count };
+
+    ghost rest = { λ s. unless_ended s.ended (drop_run (C.rest s.upstream) s.left) };
+
+    ghost IsOver = { λ s. s.ended ≡ true };
+
+    ghost AsksBehind = { λ old result new.
+        Leaves (after_drop (C.rest old.upstream) old.left) result (C.rest new.upstream) };
+
+    fn ask(&mut self) -> Asked<C::Item> {
+        if self.ended {
+            return Asked::End;
+        }
+        loop {
+            match self.upstream.ask() {
+                Asked::Item(item) => {
+                    if self.left == 0 {
+                        return Asked::Item(item);
+                    }
+                    self.left -= 1;
+                }
+                Asked::Pending => return Asked::Pending,
+                Asked::End => {
+                    self.ended = true;
+                    return Asked::End;
+                }
+                Asked::Fault(fault) => {
+                    self.ended = true;
+                    return Asked::Fault(fault);
+                }
+            }
+        }
+    }
+
+    fn rewind(&mut self) {
+        self.ended = false;
+        self.left = self.count;
+        self.upstream.rewind();
+    }
+}
+
+impl<C: Cold> DropFirst<C> {
+    #[tactic(auto, using(flow_law::proofs::ChainLemmas::drop_means))]
+    /// A count of 0 gives the chain as it is.
+    pub fn new(upstream: C, count: u64) -> Self
+        requires { C.sound upstream }
+        ensures sound { ⟦<DropFirst<C> as Cold>⟧.sound result }
+        ensures whole { ⟦<DropFirst<C> as Cold>⟧.whole result ≡ drop_run (C.whole upstream) count }
+        ensures meaning { meaning_of (⟦<DropFirst<C> as Cold>⟧.whole result) ≡ drop_meaning count (meaning_of (C.whole upstream)) }
+        ensures rest { ⟦<DropFirst<C> as Cold>⟧.rest result ≡ drop_run (C.rest upstream) count }
+    {
+        DropFirst {
+            upstream,
+            count,
+            left: count,
+            ended: false,
+        }
+    }
+}

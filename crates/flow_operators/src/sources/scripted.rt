@@ -1,0 +1,80 @@
+//! A scripted source.
+ghost use Rattle.std.specs.Prelude.{◌≡◌, ◌≤◌, drop, length, ⊤};
+
+use crate::cold::{Asked, Cold};
+use flow_law::{ChainFault, FlowValue};
+use std::alloc::{Allocator, Global};
+
+/// An entry of a scripted source.
+#[derive(Debug, Drop)]
+pub enum Entry<T> {
+    Item(T),
+    /// One ask that pends.
+    Pending,
+    /// The source fails with this number.
+    Fault(u32),
+}
+
+/// Items, turns that pend, and faults, in order. It ends at its first fault, or after its last entry.
+#[derive(Drop)]
+pub struct Scripted<T, A: Allocator = Global> {
+    entries: Vec<Entry<T>, A>,
+    at: usize,
+}
+
+impl<T: FlowValue, A: Allocator> Scripted<T, A> {
+    ghost use Rattle.flow_operators.specs.Sources.{scripted_run};
+
+    /// Each item is copied as it is given. Entries after the first fault are never reached.
+    pub fn new(entries: Vec<Entry<T>, A>) -> Self
+        ensures whole { ⟦<Scripted<T, A> as Cold>⟧.whole result ≡ scripted_run entries.items }
+        ensures rest { ⟦<Scripted<T, A> as Cold>⟧.rest result ≡ scripted_run entries.items }
+    {
+        Scripted { entries, at: 0 }
+    }
+}
+
+impl<T: FlowValue, A: Allocator> Cold for Scripted<T, A> {
+    ghost use Rattle.flow_operators.specs.Sources.{scripted_run};
+
+    type Item = T;
+
+    ghost sound = { λ _. ⊤ };
+
+    ghost whole = { λ s. scripted_run s.entries.items };
+
+    ghost rest = { λ s. scripted_run (drop s.at s.entries.items) };
+
+    ghost IsOver = { λ s. length s.entries.items ≤ s.at };
+
+    fn ask(&mut self) -> Asked<T> {
+        if self.at >= self.entries.len() {
+            return Asked::End;
+        }
+        match &self.entries[self.at] {
+            Entry::Item(item) => match item.try_copy() {
+                Ok(copy) => {
+                    self.at += 1;
+                    Asked::Item(copy)
+                }
+                Err(_) => {
+                    self.at = self.entries.len();
+                    Asked::Fault(ChainFault::OutOfMemory)
+                }
+            },
+            Entry::Pending => {
+                self.at += 1;
+                Asked::Pending
+            }
+            Entry::Fault(number) => {
+                let fault = ChainFault::Source(*number);
+                self.at = self.entries.len();
+                Asked::Fault(fault)
+            }
+        }
+    }
+
+    fn rewind(&mut self) {
+        self.at = 0;
+    }
+}
