@@ -13,6 +13,11 @@ pub mod OneHistory
 pub mod Tokens
 pub mod Standing
 pub mod Sharing
+pub mod Steps
+pub mod SharingCalls
+pub mod SharingTurn
+pub mod TurnMeaning
+pub mod SharingFlows
 pub mod TurnAccount
 pub mod ChainRun
 pub mod OperatorRuns

@@ -13,6 +13,7 @@ mod guarded;
 mod history;
 mod laws;
 mod outcome;
+pub mod report;
 mod sharing;
 mod states;
 mod value;

@@ -1,6 +1,2 @@
-pub mod AfterCommandLemmas
-pub mod AccountLemmas
-pub mod TurnLemmas
-pub mod OverCoreLemmas
-pub mod OverStateCoreLemmas
-pub mod QuietLemmas
+pub mod StepLemmas
+pub mod OverCoresLemmas

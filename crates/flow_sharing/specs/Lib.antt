@@ -2,13 +2,10 @@ pub mod CoreHub
 pub mod CoreLending
 pub mod Hub
 pub mod Lending
-pub mod OverCore
-pub mod OverStateCore
+pub mod OverCores
 pub mod Policy
 pub mod ShareIn
-pub mod SharingState
+pub mod SharingViews
 pub mod StateHub
 pub mod StateLending
-pub mod Turn
-pub mod TurnMeaning
 pub mod TurnClauses

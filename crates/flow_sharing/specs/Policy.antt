@@ -25,9 +25,26 @@ pub record HasSeen (chosen : Started) (policy : Policy) (seen : List SharingObse
 abbrev pub runs : Policy → Bool
 runs policy = policy.running
 
--- What an observation is answered after those seen before. Its moment is not before the last one, and the command is the one of all observations;
--- or it is before the last one, which the refusal carries.
-abbrev pub Observes : Started → List SharingObservation → SharingObservation → Result Command Backwards → Policy → Type 0
-Observes started seen o (Ok command) new =
+-- ---- one observation more, whatever was observed before
+
+-- the idle moment that is kept after it
+abbrev pub GivesSince : Policy → SharingObservation → Option ℕ → Type 0
+GivesSince policy o since =
+    (started : Started) (seen : List SharingObservation) → HasSeen started policy seen → since ≡ kept_since started (o ∷ seen)
+
+-- whether it runs after it, with that idle moment
+abbrev pub GivesRunning : Policy → SharingObservation → Option ℕ → Bool → Type 0
+GivesRunning policy o since runs =
+    (started : Started) (seen : List SharingObservation) → HasSeen started policy seen → since ≡ kept_since started (o ∷ seen) →
+    runs ≡ is_running started (o ∷ seen)
+
+-- Its moment is not before the last one, and the command is the one of all observations; or it is before the last one, which the refusal carries.
+abbrev pub ObservesAfter : Started → List SharingObservation → SharingObservation → Result Command Backwards → Policy → Type 0
+ObservesAfter started seen o (Ok command) new =
     (last_moment seen ≤ o.moment) × (command ≡ newest_command started (o ∷ seen)) × HasSeen started new (o ∷ seen)
-Observes started seen o (Err backwards) new = (o.moment < last_moment seen) × (backwards.last ≡ last_moment seen)
+ObservesAfter started seen o (Err backwards) new = (o.moment < last_moment seen) × (backwards.last ≡ last_moment seen)
+
+-- what an observation is answered
+abbrev pub Observes : Policy → SharingObservation → Result Command Backwards → Policy → Type 0
+Observes old o result new =
+    (started : Started) (seen : List SharingObservation) → HasSeen started old seen → ObservesAfter started seen o result new

@@ -1,11 +1,11 @@
 -- What each call of a sharing does to a `StateCore`. Begin with `StateHubDoes`.
-use Rattle.std.specs.Prelude.{◌≡◌, Bool, false}
+use Rattle.std.specs.Prelude.{◌≡◌, Bool, false, Ok, Err}
 use Rattle.flow_law.specs.declared.call.StateCall.TheVariants as call
 use Rattle.flow_law.specs.declared.call.StateReply.TheVariants as reply
 use Rattle.flow_law.specs.declared.states.StateFlowState.{StateFlowState}
+use Rattle.flow_law.specs.SharingCalls.{HubCall, HubAnswer, counts, puts, polls, cancels}
 use Rattle.flow_law.specs.Standing.{StateConforms}
 use Rattle.flow_sharing.specs.declared.state_hub.StateHub.{StateHub}
-use Rattle.flow_sharing.specs.Hub.{HubCall, HubReply, counts, puts, polls, cancels, counted, answered}
 
 module _ {T A : Type 0} where
   -- the core, as contracts see it: the documented state
@@ -17,9 +17,9 @@ module _ {T A : Type 0} where
   never_waits hub = false
 
   -- A put is a `set` of the core. Polls and cancels do nothing, and nothing is refused.
-  abbrev pub StateHubDoes : StateHub T A → HubCall T → HubReply → StateHub T A → Type 0
-  StateHubDoes old counts (counted count) new = StateConforms old.core call.SubscriptionCount (reply.Counted count) new.core
-  StateHubDoes old (puts x) (answered false) new = StateConforms old.core (call.Set x) reply.Done new.core
-  StateHubDoes old polls (answered false) new = new ≡ old
-  StateHubDoes old cancels (answered false) new = new ≡ old
-  StateHubDoes old call reply new = ⊥
+  abbrev pub StateHubDoes : (c : HubCall T) → StateHub T A → HubAnswer c → StateHub T A → Type 0
+  StateHubDoes counts old (Ok count) new = StateConforms old.core call.SubscriptionCount (reply.Counted count) new.core
+  StateHubDoes counts old (Err fault) new = ⊥
+  StateHubDoes (puts x) old answer new = StateConforms old.core (call.Set x) reply.Done new.core × (answer ≡ Ok false)
+  StateHubDoes polls old answer new = (new ≡ old) × (answer ≡ Ok false)
+  StateHubDoes cancels old answer new = (new ≡ old) × (answer ≡ Ok false)

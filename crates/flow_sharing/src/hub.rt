@@ -1,7 +1,8 @@
 //! The flow into which a sharing emits.
 ghost use Rattle.std.specs.Prelude.{◌≡◌, ◌≢◌, Bool, false, IfErr};
 ghost use Rattle.flow_law.specs.declared.fault.FlowFault.{FlowFault};
-ghost use Rattle.flow_sharing.specs.Hub.{HubCall, HubReply, HubStep, counts, puts, polls, cancels, count_reply, test_reply, put_reply};
+ghost use Rattle.flow_law.specs.SharingCalls.{HubCall, HubAnswer, HubStep, counts, puts, polls, cancels};
+ghost use Rattle.flow_sharing.specs.Hub.{put_answer};
 
 use flow_law::{FlowFault, Refused};
 
@@ -15,27 +16,27 @@ pub trait Hub: Drop {
     /// Whether the hub has an emission that waited when it was last asked.
     ghost waits: { Self → Bool };
 
-    /// The hub before a call, the call, its reply, and the hub after it.
-    ghost does: { Self → HubCall Self.Item → HubReply → Self → Type 0 };
+    /// A call, the hub before it, what it answers, and the hub after it.
+    ghost does: { (c : HubCall Self.Item) → Self → HubAnswer c → Self → Type 0 };
 
     /// How many subscribers there are.
     fn count(&mut self) -> Result<u64, FlowFault>
-        ensures counts { HubStep does waits self.old counts (count_reply result) self.new }
+        ensures counts { HubStep does waits counts self.old result self.new }
         ensures memory { IfErr result (λ fault. fault ≢ FlowFault.OutOfMemory) };
 
     /// Emits a value. True where the emission waits. The value is handed back where it is refused.
     fn put(&mut self, value: Self::Item) -> Result<bool, Refused<Self::Item>>
         requires { waits self.old ≡ false }
-        ensures puts { HubStep does waits self.old (puts value) (put_reply result) self.new }
+        ensures puts { HubStep does waits (puts value) self.old (put_answer result) self.new }
         ensures handed_back { IfErr result (λ refused. refused.value ≡ value) };
 
     /// Whether the hub's emission still waits.
     fn poll(&mut self) -> Result<bool, FlowFault>
-        ensures polls { HubStep does waits self.old polls (test_reply result) self.new }
+        ensures polls { HubStep does waits polls self.old result self.new }
         ensures memory { IfErr result (λ fault. fault ≢ FlowFault.OutOfMemory) };
 
     /// Takes the hub's emission back, if it still waits. True where it did.
     fn cancel(&mut self) -> Result<bool, FlowFault>
-        ensures cancels { HubStep does waits self.old cancels (test_reply result) self.new }
+        ensures cancels { HubStep does waits cancels self.old result self.new }
         ensures memory { IfErr result (λ fault. fault ≢ FlowFault.OutOfMemory) };
 }

@@ -2,7 +2,7 @@
 ghost use Rattle.std.specs.Prelude.{◌≡◌};
 ghost use Rattle.std.specs.Borrow.{sem};
 ghost use Rattle.flow_sharing.specs.Lending.{LendsHub};
-ghost use Rattle.flow_sharing.specs.SharingState.{hub_of};
+ghost use Rattle.flow_sharing.specs.SharingViews.{hub_of};
 
 use crate::hub::Hub;
 use crate::sharing::Sharing;

@@ -2,11 +2,9 @@
 //!
 //! A policy keeps no list of observations: the last moment, the first moment of the zero counts at the end, and whether
 //! it runs are enough. Its clauses speak of every list of observations that leads to what it keeps.
-ghost use Rattle.std.specs.Prelude.{◌≡◌, ◌≤◌, ◌<◌, ◌∷◌, [], List, true, IfOk, OnErr};
+ghost use Rattle.std.specs.Prelude.{◌≡◌, ◌≤◌, ◌<◌, [], true, IfOk, OnErr};
 ghost use Rattle.std.specs.Option.{ForSome};
-ghost use Rattle.flow_law.specs.declared.sharing.SharingObservation.{SharingObservation};
-ghost use Rattle.flow_law.specs.declared.sharing.Started.{Started};
-ghost use Rattle.flow_law.specs.Sharing.{command_of, runs_after, is_running};
+ghost use Rattle.flow_law.specs.Sharing.{command_of, runs_after};
 
 use flow_law::{Command, Started};
 
@@ -42,7 +40,7 @@ fn change(ran: bool, runs: bool) -> Command
 }
 
 impl Policy {
-    ghost use Rattle.flow_sharing.specs.Policy.{HasSeen, kept_since, runs, Observes};
+    ghost use Rattle.flow_sharing.specs.Policy.{HasSeen, runs, GivesSince, GivesRunning, Observes};
 
     /// A policy that has observed nothing, and does not run.
     pub fn new(started: Started) -> Self
@@ -66,7 +64,7 @@ impl Policy {
     /// The first moment of the zero counts at the end, after one more observation.
     fn since_after(&self, now: u64, count: u64) -> Option<u64>
         requires { self.now.last ≤ now }
-        ensures since { (started : Started) (seen : List SharingObservation) → HasSeen started self.now seen → result ≡ kept_since started (record { moment = now; count = count } ∷ seen) }
+        ensures since { GivesSince self.now (record { moment = now; count = count }) result }
         ensures in_order { ForSome result (λ moment. moment ≤ now) }
     {
         match self.started {
@@ -86,7 +84,7 @@ impl Policy {
     /// Whether it runs, after one more observation.
     fn runs_after(&self, since: Option<u64>, now: u64, count: u64) -> bool
         requires { ForSome since (λ moment. moment ≤ now) }
-        ensures { (started : Started) (seen : List SharingObservation) → HasSeen started self.now seen → since ≡ kept_since started (record { moment = now; count = count } ∷ seen) → result ≡ is_running started (record { moment = now; count = count } ∷ seen) }
+        ensures { GivesRunning self.now (record { moment = now; count = count }) since result }
     {
         match self.started {
             Started::Eagerly => true,
@@ -104,7 +102,7 @@ impl Policy {
     /// Accepts the number of subscribers at a moment, in milliseconds, and says what it asks for.
     pub fn observe(&mut self, now: u64, count: u64) -> Result<Command, Backwards>
         // Whatever was observed before, the command is the one of those observations and the new one.
-        ensures observes { (started : Started) (seen : List SharingObservation) → HasSeen started self.old seen → Observes started seen (record { moment = now; count = count }) result self.new }
+        ensures observes { Observes self.old (record { moment = now; count = count }) result self.new }
         ensures runs { IfOk result (λ command. runs self.new ≡ runs_after command (runs self.old)) }
         ensures unchanged { OnErr result (self.new ≡ self.old) }
     {

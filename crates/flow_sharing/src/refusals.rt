@@ -1,9 +1,9 @@
 //! What a flow that refuses, queues or is busy leaves of a turn, and how often a chain is asked. Over a flow for one thread
 //! some of it cannot come: without subscribers nothing waits there, and it is never busy.
 use crate::hub::Hub;
-use crate::report::{Event, Report, ShareFault};
 use crate::sharing::Sharing;
 use flow_cold::{Asked, Cold, OfList};
+use flow_law::report::{Event, Report, ShareFault};
 use flow_law::{Command, FlowFault, Refused, Started};
 use std::alloc::AllocError;
 use std::cell::Cell;
@@ -32,7 +32,7 @@ impl Hub for TestHub {
 
     ghost waits = { λ hub. hub.waits };
 
-    ghost does = { λ old call reply new. ⊤ };
+    ghost does = { λ call old answer new. ⊤ };
 
     fn count(&mut self) -> Result<u64, FlowFault> {
         Ok(self.subscribers)

@@ -4,17 +4,19 @@ ghost use Rattle.flow_law.specs.declared.fault.FlowFault.{FlowFault};
 ghost use Rattle.flow_law.specs.SharedFlow.{config_fault, first_state};
 ghost use Rattle.flow_law.specs.Standing.{StandsFor};
 ghost use Rattle.flow_law.specs.StateFlow.{first_state_flow};
+ghost use Rattle.flow_law.specs.SharingTurn.{at_rest};
+ghost use Rattle.flow_law.specs.TurnMeaning.{BetweenTurns, IsQuiet};
 ghost use Rattle.flow_sharing.specs.CoreHub.{core_of, is_waiting};
 ghost use Rattle.flow_sharing.specs.ShareIn.{share_config};
 ghost use Rattle.flow_sharing.specs.StateHub.{state_core_of, never_waits};
-ghost use Rattle.flow_sharing.specs.SharingState.{state_of, resting, hub_of, IsSound, HasObserved, BetweenTurns, IsQuiet};
+ghost use Rattle.flow_sharing.specs.SharingViews.{state_of, chain_and_hub, hub_of, IsSound, HasObserved};
 
 use crate::core_hub::CoreHub;
-use crate::report::ShareFault;
 use crate::sharing::Sharing;
 use crate::state_hub::StateHub;
 use flow_cold::Cold;
 use flow_core::{SharedCore, StateCore};
+use flow_law::report::ShareFault;
 use flow_law::{Config, Overflow, Started};
 use std::alloc::Allocator;
 
@@ -33,13 +35,19 @@ pub fn share_in<C: Cold, A: Allocator + Copy>(
 ) -> Result<Sharing<C, CoreHub<C::Item, A>>, ShareFault>
     requires { C.sound chain }
     ensures flow { MatchResult result
-        (λ sharing. (config_fault (share_config replay limit) ≡ None) × StandsFor (core_of (hub_of sharing)) (first_state (share_config replay limit)))
-        (λ fault. (refusal : FlowFault) × (config_fault (share_config replay limit) ≡ Some refusal) × (fault ≡ ShareFault.Flow refusal)) }
+        (λ sharing. (config_fault (share_config replay limit) ≡ None)
+        × StandsFor (core_of (hub_of sharing)) (first_state (share_config replay limit)))
+        (λ fault. (refusal : FlowFault) × (config_fault (share_config replay limit) ≡ Some refusal)
+        × (fault ≡ ShareFault.Flow refusal)) }
     ensures nothing { IfOk result (λ sharing. HasObserved started sharing []) }
     ensures sound { IfOk result (λ sharing. IsSound C.sound sharing) }
-    ensures state { IfOk result (λ sharing. state_of C.whole C.rest sharing ≡ resting (C.whole chain) (C.rest chain) (hub_of sharing)) }
-    ensures between { IfOk result (λ sharing. BetweenTurns (state_of C.whole C.rest sharing)) }
-    ensures quiet { IfOk result (λ sharing. IsQuiet is_waiting (state_of C.whole C.rest sharing)) }
+    ensures state { IfOk result (λ sharing. state_of sharing ≡ at_rest) }
+    ensures chain { IfOk result (λ sharing. chain_and_hub C.whole C.rest sharing
+        ≡ record { whole = C.whole chain; rest = C.rest chain; hub = hub_of sharing }) }
+    ensures between { IfOk result (λ sharing.
+        BetweenTurns (state_of sharing) (chain_and_hub C.whole C.rest sharing)) }
+    ensures quiet { IfOk result (λ sharing.
+        IsQuiet is_waiting (state_of sharing) (chain_and_hub C.whole C.rest sharing)) }
 {
     let config = Config {
         replay,
@@ -67,9 +75,13 @@ pub fn state_in<C: Cold, A: Allocator + Copy>(
     ensures flow { IfOk result (λ sharing. state_core_of (hub_of sharing) ≡ first_state_flow limit initial) }
     ensures nothing { IfOk result (λ sharing. HasObserved started sharing []) }
     ensures sound { IfOk result (λ sharing. IsSound C.sound sharing) }
-    ensures state { IfOk result (λ sharing. state_of C.whole C.rest sharing ≡ resting (C.whole chain) (C.rest chain) (hub_of sharing)) }
-    ensures between { IfOk result (λ sharing. BetweenTurns (state_of C.whole C.rest sharing)) }
-    ensures quiet { IfOk result (λ sharing. IsQuiet never_waits (state_of C.whole C.rest sharing)) }
+    ensures state { IfOk result (λ sharing. state_of sharing ≡ at_rest) }
+    ensures chain { IfOk result (λ sharing. chain_and_hub C.whole C.rest sharing
+        ≡ record { whole = C.whole chain; rest = C.rest chain; hub = hub_of sharing }) }
+    ensures between { IfOk result (λ sharing.
+        BetweenTurns (state_of sharing) (chain_and_hub C.whole C.rest sharing)) }
+    ensures quiet { IfOk result (λ sharing.
+        IsQuiet never_waits (state_of sharing) (chain_and_hub C.whole C.rest sharing)) }
 {
     let core = StateCore::new(alloc, initial, limit);
     Ok(Sharing::new(chain, started, StateHub::new(core)))

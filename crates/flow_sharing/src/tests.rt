@@ -4,11 +4,11 @@ use crate::core_hub::CoreHub;
 use crate::hub::Hub;
 use crate::laws::{law_turn_over_core, law_turn_over_state_core};
 use crate::policy::{Backwards, Policy};
-use crate::report::{Event, Report, ShareFault};
 use crate::share::{share_in, state_in};
 use crate::state_hub::StateHub;
 use flow_cold::{Entry, OfList, OfRange, Scripted};
 use flow_core::{SharedCore, StateCore};
+use flow_law::report::{Event, Report, ShareFault};
 use flow_law::{ChainFault, Command, Config, Next, Overflow, Started};
 use std::alloc::{AllocError, Global};
 

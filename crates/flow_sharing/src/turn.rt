@@ -1,18 +1,18 @@
-//! Turns of a sharing: the caller drives them, and hands in the moment.
-ghost use Rattle.std.specs.Prelude.{◌≡◌, ◌∷◌, [], List, MatchResult, OnErr, false, true, IsTrue, ◌↔◌, Err};
-ghost use Rattle.flow_law.specs.declared.sharing.SharingObservation.{SharingObservation};
-ghost use Rattle.flow_law.specs.declared.sharing.Started.{Started};
-ghost use Rattle.flow_sharing.specs.Policy.{Observes};
-ghost use Rattle.flow_sharing.specs.Hub.{HubStep, counts, count_reply, test_reply};
-ghost use Rattle.flow_sharing.specs.SharingState.{state_of, resting, commanded, IsSound, HasObserved, BetweenTurns, IsQuiet, has_ended};
-ghost use Rattle.flow_sharing.specs.Turn.{refusal, reported, Cancels, Polls, Sends, AfterCommand, ended_after};
-ghost use Rattle.flow_sharing.specs.TurnClauses.{TakesTurn, MeansAnswer, StaysBetween, StaysQuiet};
+//! Turns of a sharing: the caller drives them, and hands in the moment. Each method here is one part of `turn_steps` of
+//! flow_law, in its order.
+ghost use Rattle.std.specs.Prelude.{◌≡◌, ◌≢◌, [], None, MatchResult, false, IsTrue, ◌↔◌, Err};
+ghost use Rattle.flow_law.specs.SharingCalls.{counts, polls, cancels};
+ghost use Rattle.flow_law.specs.SharingTurn as steps;
+ghost use Rattle.flow_law.specs.SharingTurn.{at_rest, refusal, reported};
+ghost use Rattle.flow_law.specs.TurnMeaning.{BetweenTurns, IsQuiet};
+ghost use Rattle.flow_sharing.specs.SharingViews.{state_of, chain_and_hub, IsSound, HasObserved, has_ended};
+ghost use Rattle.flow_sharing.specs.TurnClauses.{CallsHub, ComesTo, Begins, TakesTurn, MeansAnswer, StaysBetween, StaysQuiet, ended_after};
 
 use crate::hub::Hub;
-use crate::policy::{Backwards, Policy};
-use crate::report::{Event, Report, ShareFault};
+use crate::policy::Policy;
 use crate::sharing::Sharing;
 use flow_cold::{Asked, Cold};
+use flow_law::report::{Event, Report, ShareFault};
 use flow_law::{Command, FlowFault, Refused, Started};
 
 /// A call of the hub was refused: busy is an event, each other refusal a fault.
@@ -40,9 +40,11 @@ impl<C: Cold, H: Hub<Item = C::Item>> Sharing<C, H> {
         requires free { H.waits hub ≡ false }
         ensures sound { IsSound C.sound result }
         ensures nothing { HasObserved started result [] }
-        ensures state { state_of C.whole C.rest result ≡ resting (C.whole chain) (C.rest chain) hub }
-        ensures between { BetweenTurns (state_of C.whole C.rest result) }
-        ensures quiet { IsQuiet H.waits (state_of C.whole C.rest result) }
+        ensures state { state_of result ≡ at_rest }
+        ensures chain { chain_and_hub C.whole C.rest result
+            ≡ record { whole = C.whole chain; rest = C.rest chain; hub = hub } }
+        ensures between { BetweenTurns (state_of result) (chain_and_hub C.whole C.rest result) }
+        ensures quiet { IsQuiet H.waits (state_of result) (chain_and_hub C.whole C.rest result) }
     {
         Sharing {
             chain,
@@ -55,84 +57,26 @@ impl<C: Cold, H: Hub<Item = C::Item>> Sharing<C, H> {
         }
     }
 
-    /// Observes, and does at once what the command asks of the chain.
-    fn begin(&mut self, now: u64, count: u64) -> Result<Command, Backwards>
-        requires { IsSound C.sound self.old }
-        ensures sound { IsSound C.sound self.new }
-        ensures observes { (started : Started) (seen : List SharingObservation) → HasObserved started self.old seen → Observes started seen (record { moment = now; count = count }) result self.new.policy }
-        ensures commanded { MatchResult result (λ command. state_of C.whole C.rest self.new ≡ commanded command (state_of C.whole C.rest self.old)) (λ _. self.new ≡ self.old) }
-    {
-        let command = match self.policy.observe(now, count) {
-            Ok(command) => command,
-            Err(backwards) => return Err(backwards),
-        };
-        match command {
-            Command::Start => {
-                self.chain.rewind();
-                self.completed = false;
-            }
-            Command::Stop => {
-                self.kept = None;
-                self.cancel_due = true;
-            }
-            Command::Keep => {}
-        }
-        Ok(command)
-    }
-
-    /// Does the cancel, where it is due.
-    fn cancel(&mut self) -> Result<(), FlowFault>
-        requires { IsSound C.sound self.old }
-        ensures sound { IsSound C.sound self.new }
-        ensures policy { self.new.policy ≡ self.old.policy }
-        ensures cancels { Cancels (HubStep H.does H.waits) (state_of C.whole C.rest self.old) result (state_of C.whole C.rest self.new) }
-    {
-        if self.cancel_due {
-            match self.hub.cancel() {
-                Ok(_) => self.cancel_due = false,
-                Err(fault) => return Err(fault),
-            }
-        }
-        Ok(())
-    }
-
-    /// Whether an emission waits.
-    fn is_waiting(&mut self) -> Result<bool, FlowFault>
-        requires { IsSound C.sound self.old }
-        ensures sound { IsSound C.sound self.new }
-        ensures policy { self.new.policy ≡ self.old.policy }
-        ensures polls { Polls (HubStep H.does H.waits) (state_of C.whole C.rest self.old) (test_reply result) (state_of C.whole C.rest self.new) }
-        ensures waits { MatchResult result (λ waits. H.waits self.new.hub ≡ waits) (λ _. H.waits self.new.hub ≡ H.waits self.old.hub) }
-    {
-        self.hub.poll()
-    }
-
-    /// Puts the kept item, or the chain's next one.
-    fn send(&mut self) -> Result<Event, ShareFault>
+    /// Puts an item, which is kept where the hub refuses it.
+    fn put(&mut self, item: C::Item) -> Result<Event, ShareFault>
         requires sound { IsSound C.sound self.old }
         requires free { H.waits self.old.hub ≡ false }
+        requires empty { self.old.kept ≡ None }
         ensures sound { IsSound C.sound self.new }
         ensures policy { self.new.policy ≡ self.old.policy }
-        ensures sends { Sends (HubStep H.does H.waits) (state_of C.whole C.rest self.old) result (state_of C.whole C.rest self.new) }
+        ensures ended { has_ended self.new ≡ ended_after result (has_ended self.old) }
+        ensures not_ended { result ≢ Err ShareFault.Ended }
+        ensures steps { ComesTo C.whole C.rest H.does H.waits
+            (λ command seen. steps.put command seen item) self.old result self.new }
     {
-        let item = match self.kept.take() {
-            Some(item) => item,
-            None => match self.chain.ask() {
-                Asked::Item(item) => item,
-                Asked::Pending => return Ok(Event::Pending),
-                Asked::End => {
-                    self.completed = true;
-                    return Ok(Event::Completed);
-                }
-                Asked::Fault(fault) => {
-                    self.ended = true;
-                    return Err(ShareFault::Chain(fault));
-                }
-            },
-        };
         match self.hub.put(item) {
-            Ok(true) => Ok(Event::Queued),
-            Ok(false) => Ok(Event::Put),
+            Ok(waits) => {
+                if waits {
+                    Ok(Event::Queued)
+                } else {
+                    Ok(Event::Put)
+                }
+            }
             Err(refused) => {
                 let Refused { value, fault } = refused;
                 self.kept = Some(value);
@@ -141,17 +85,58 @@ impl<C: Cold, H: Hub<Item = C::Item>> Sharing<C, H> {
         }
     }
 
-    /// What a turn does after its command.
-    fn work(&mut self) -> Result<Event, ShareFault>
+    /// Puts the kept item, or the chain's next one.
+    fn send(&mut self) -> Result<Event, ShareFault>
+        requires sound { IsSound C.sound self.old }
+        requires free { H.waits self.old.hub ≡ false }
+        ensures sound { IsSound C.sound self.new }
+        ensures policy { self.new.policy ≡ self.old.policy }
+        ensures ended { has_ended self.new ≡ ended_after result (has_ended self.old) }
+        ensures not_ended { result ≢ Err ShareFault.Ended }
+        ensures steps { ComesTo C.whole C.rest H.does H.waits
+            (λ command seen s. steps.send command seen s.kept s) self.old result self.new }
+    {
+        if let Some(item) = self.kept.take() {
+            return self.put(item);
+        }
+        match self.chain.ask() {
+            Asked::Item(item) => self.put(item),
+            Asked::Pending => Ok(Event::Pending),
+            Asked::End => {
+                self.completed = true;
+                Ok(Event::Completed)
+            }
+            Asked::Fault(fault) => {
+                self.ended = true;
+                Err(ShareFault::Chain(fault))
+            }
+        }
+    }
+
+    /// Whether an emission waits.
+    fn is_waiting(&mut self) -> Result<bool, FlowFault>
         requires { IsSound C.sound self.old }
         ensures sound { IsSound C.sound self.new }
         ensures policy { self.new.policy ≡ self.old.policy }
-        ensures works { AfterCommand (HubStep H.does H.waits) (state_of C.whole C.rest self.old) result (state_of C.whole C.rest self.new) }
+        ensures state { state_of self.new ≡ state_of self.old }
+        ensures polls { CallsHub C.whole C.rest H.does H.waits polls self.old result self.new }
+        ensures waits { MatchResult result
+            (λ waits. H.waits self.new.hub ≡ waits)
+            (λ _. H.waits self.new.hub ≡ H.waits self.old.hub) }
     {
-        match self.cancel() {
-            Ok(()) => {}
-            Err(fault) => return refusal_of(fault),
-        }
+        self.hub.poll()
+    }
+
+    /// While it runs, polls an emission that waits, and else sends the next item.
+    fn collect(&mut self) -> Result<Event, ShareFault>
+        requires { IsSound C.sound self.old }
+        ensures sound { IsSound C.sound self.new }
+        ensures policy { self.new.policy ≡ self.old.policy }
+        ensures ended { has_ended self.new ≡ ended_after result (has_ended self.old) }
+        ensures not_ended { result ≢ Err ShareFault.Ended }
+        ensures steps { ComesTo C.whole C.rest H.does H.waits
+            steps.collect_while_running self.old result self.new }
+    {
         if !self.policy.is_running() {
             return Ok(Event::Idle);
         }
@@ -168,13 +153,70 @@ impl<C: Cold, H: Hub<Item = C::Item>> Sharing<C, H> {
         self.send()
     }
 
+    /// Takes the hub's emission back. The cancel stays due where the hub refuses it.
+    fn cancel(&mut self) -> Result<bool, FlowFault>
+        requires { IsSound C.sound self.old }
+        ensures sound { IsSound C.sound self.new }
+        ensures policy { self.new.policy ≡ self.old.policy }
+        ensures state { MatchResult result
+            (λ _. state_of self.new ≡ record (state_of self.old) { cancel_due = false })
+            (λ _. state_of self.new ≡ state_of self.old) }
+        ensures cancels { CallsHub C.whole C.rest H.does H.waits cancels self.old result self.new }
+    {
+        let waited = self.hub.cancel()?;
+        self.cancel_due = false;
+        Ok(waited)
+    }
+
+    /// What a turn does after its command: the cancel first, where it is due.
+    fn work(&mut self) -> Result<Event, ShareFault>
+        requires { IsSound C.sound self.old }
+        ensures sound { IsSound C.sound self.new }
+        ensures policy { self.new.policy ≡ self.old.policy }
+        ensures ended { has_ended self.new ≡ ended_after result (has_ended self.old) }
+        ensures not_ended { result ≢ Err ShareFault.Ended }
+        ensures steps { ComesTo C.whole C.rest H.does H.waits steps.work self.old result self.new }
+    {
+        if !self.cancel_due {
+            return self.collect();
+        }
+        match self.cancel() {
+            Ok(_) => self.collect(),
+            Err(fault) => refusal_of(fault),
+        }
+    }
+
+    /// Does what the command asks of the chain, and what follows it.
+    fn begin(&mut self, command: Command) -> Result<Event, ShareFault>
+        requires { IsSound C.sound self.old }
+        ensures sound { IsSound C.sound self.new }
+        ensures policy { self.new.policy ≡ self.old.policy }
+        ensures ended { has_ended self.new ≡ ended_after result (has_ended self.old) }
+        ensures not_ended { result ≢ Err ShareFault.Ended }
+        ensures steps { Begins C.whole C.rest H.does H.waits command self.old result self.new }
+    {
+        match command {
+            Command::Start => {
+                self.chain.rewind();
+                self.completed = false;
+                self.work()
+            }
+            Command::Stop => {
+                self.kept = None;
+                self.cancel_due = true;
+                self.work()
+            }
+            Command::Keep => self.work(),
+        }
+    }
+
     /// How many subscribers there are.
     fn counted(&mut self) -> Result<u64, FlowFault>
         requires { IsSound C.sound self.old }
         ensures sound { IsSound C.sound self.new }
         ensures policy { self.new.policy ≡ self.old.policy }
-        ensures counts { HubStep H.does H.waits self.old.hub counts (count_reply result) self.new.hub }
-        ensures state { state_of C.whole C.rest self.new ≡ record (state_of C.whole C.rest self.old) { hub = self.new.hub } }
+        ensures state { state_of self.new ≡ state_of self.old }
+        ensures counts { CallsHub C.whole C.rest H.does H.waits counts self.old result self.new }
     {
         self.hub.count()
     }
@@ -207,11 +249,11 @@ impl<C: Cold, H: Hub<Item = C::Item>> Sharing<C, H> {
             Ok(count) => count,
             Err(fault) => return report_of(Command::Keep, refusal_of(fault)),
         };
-        let command = match self.begin(now, count) {
+        let command = match self.policy.observe(now, count) {
             Ok(command) => command,
             Err(backwards) => return Err(ShareFault::Backwards(backwards.last)),
         };
-        let outcome = self.work();
+        let outcome = self.begin(command);
         report_of(command, outcome)
     }
 }

@@ -1,4 +1,4 @@
-use Rattle.flow_sharing.proofs.OverCoreLemmas.{turn-over_core}
+use Rattle.flow_sharing.proofs.OverCoresLemmas.{turn-over_core}
 use Rattle.flow_sharing.proofs.laws.law_turn_over_core.Goals as goal
 
 pub returns : goal.returns

@@ -1,4 +1,4 @@
-use Rattle.flow_sharing.proofs.OverStateCoreLemmas.{turn-over_state_core}
+use Rattle.flow_sharing.proofs.OverCoresLemmas.{turn-over_state_core}
 use Rattle.flow_sharing.proofs.laws.law_turn_over_state_core.Goals as goal
 
 pub returns : goal.returns

@@ -1,7 +1,9 @@
-//! What a turn of a sharing reports.
+//! What a turn of a sharing reports, and why it is refused.
 ghost use Rattle.std.specs.Prelude.{◌≡◌};
 
-use flow_law::{ChainFault, Command, FlowFault};
+use crate::chain::ChainFault;
+use crate::fault::FlowFault;
+use crate::sharing::Command;
 
 /// What a turn came to.
 #[derive(Clone, Copy, Debug, PartialEq, Eq)]

@@ -1,0 +1,124 @@
+-- What a documented flow answers a sharing. A turn over it is `flow_turn`, want of memory aside.
+-- Begin with `shared_reply` and `state_reply`.
+use Rattle.std.specs.Prelude.{◌≡◌, ◌≢◌, ◌⊎◌, ℕ, Bool, true, false, if◌then◌else◌, List, length, Option, Some, None, Result, Ok, Err}
+use Rattle.flow_law.specs.declared.fault.FlowFault.{FlowFault}
+use Rattle.flow_law.specs.declared.fault.FlowFault.TheVariants.{OutOfMemory}
+use Rattle.flow_law.specs.declared.chain.ChainFault.TheVariants as chain_fault
+use Rattle.flow_law.specs.declared.call.SharedCall.TheVariants as call
+use Rattle.flow_law.specs.declared.call.SharedReply.TheVariants as reply
+use Rattle.flow_law.specs.declared.outcome.Emit.{Emit}
+use Rattle.flow_law.specs.declared.outcome.Emit.TheVariants.{Done, Queued}
+use Rattle.flow_law.specs.declared.sharing.Started.{Started}
+use Rattle.flow_law.specs.declared.sharing.SharingObservation.{SharingObservation}
+use Rattle.flow_law.specs.declared.report.Event.TheVariants as event
+use Rattle.flow_law.specs.declared.report.Report.{Report}
+use Rattle.flow_law.specs.declared.report.ShareFault.{ShareFault}
+use Rattle.flow_law.specs.declared.report.ShareFault.TheVariants.{Chain, Flow}
+use Rattle.flow_law.specs.declared.states.SharedFlowState.{SharedFlowState}
+use Rattle.flow_law.specs.declared.states.StateFlowState.{StateFlowState}
+use Rattle.flow_law.specs.SharedHistory.{Replies}
+use Rattle.flow_law.specs.SharedStep as flow
+use Rattle.flow_law.specs.Sharing.{is_running}
+use Rattle.flow_law.specs.Steps.{After, Takes, plays}
+use Rattle.flow_law.specs.SharingCalls.{HubCall, HubAnswer, counts, puts, polls, cancels, ChainAndHub, CallDoes, call_reply}
+use Rattle.flow_law.specs.TurnMeaning.{HasAccount, BetweenTurns, TurnMeans}
+use Rattle.flow_law.specs.SharingTurn.{SharingState, Turned, turn_steps}
+
+-- ---- a shared flow
+
+-- with the number of the sharing's emission, where it waited when it was last asked
+pub record EmittingFlow (T : Type 0) : Type 0 where
+  pub flow : SharedFlowState T
+  pub waiting : Option ℕ
+
+module _ {T : Type 0} where
+  -- an emission, if there is one, still waits
+  abbrev pub still_waits : Option ℕ → SharedFlowState T → Bool
+  still_waits None f = false
+  still_waits (Some number) f = flow.is_waiting number f
+
+  -- an emission, if there is one, is taken back
+  abbrev pub cancelled : Option ℕ → SharedFlowState T → SharedFlowState T
+  cancelled None f = f
+  cancelled (Some number) f = (flow.cancel number f).after
+
+  -- what an emission comes to; a refused one changes nothing
+  abbrev pub emitted : EmittingFlow T → Result Emit FlowFault → SharedFlowState T → After (Result Bool FlowFault) (EmittingFlow T)
+  emitted s (Ok Done) after = record { result = Ok false; state = record { flow = after; waiting = None } }
+  emitted s (Ok (Queued number)) after = record { result = Ok true; state = record { flow = after; waiting = Some number } }
+  emitted s (Err fault) after = record { result = Err fault; state = s }
+
+  -- a put emits; polls and cancels are of the emission that waited, if there is one
+  abbrev pub shared_reply : (c : HubCall T) → EmittingFlow T → After (HubAnswer c) (EmittingFlow T)
+  shared_reply counts s = record { result = Ok (length s.flow.subscribers); state = s }
+  shared_reply (puts x) s = emitted s (flow.emit x s.flow).reply (flow.emit x s.flow).after
+  shared_reply polls s = record {
+    result = Ok (still_waits s.waiting s.flow);
+    state = record s { waiting = if still_waits s.waiting s.flow then s.waiting else None };
+  }
+  shared_reply cancels s = record {
+    result = Ok (still_waits s.waiting s.flow);
+    state = record { flow = cancelled s.waiting s.flow; waiting = None };
+  }
+
+  -- a put may be refused for want of memory
+  abbrev pub MayLackMemory : HubCall T → EmittingFlow T → Type 0
+  MayLackMemory counts s = ⊥
+  MayLackMemory (puts x) s = Replies s.flow (call.Emit x) (reply.Refused OutOfMemory)
+  MayLackMemory polls s = ⊥
+  MayLackMemory cancels s = ⊥
+
+  -- the flow answers, or is refused for want of memory and does nothing
+  abbrev pub SharedDoes : (c : HubCall T) → EmittingFlow T → HubAnswer c → EmittingFlow T → Type 0
+  SharedDoes call old answer new =
+      (shared_reply call old ≡ record { result = answer; state = new })
+      ⊎ (MayLackMemory call old × (answer ≡ Err OutOfMemory) × (new ≡ old))
+
+-- ---- a state flow
+
+module _ {T : Type 0} where
+  -- a put sets the value; nothing waits, and nothing is refused
+  abbrev pub state_reply : (c : HubCall T) → StateFlowState T → After (HubAnswer c) (StateFlowState T)
+  state_reply counts s = record { result = Ok (length s.subscribers); state = s }
+  state_reply (puts x) s = record { result = Ok false; state = record s { value = x } }
+  state_reply polls s = record { result = Ok false; state = s }
+  state_reply cancels s = record { result = Ok false; state = s }
+
+  abbrev pub StateDoes : (c : HubCall T) → StateFlowState T → HubAnswer c → StateFlowState T → Type 0
+  StateDoes call old answer new = state_reply call old ≡ record { result = answer; state = new }
+
+-- ---- a turn
+
+-- a turn over a flow that answers so, where memory is ample
+abbrev pub flow_turn : {T F : Type 0} → ((c : HubCall T) → F → After (HubAnswer c) F) → Started → ℕ → List SharingObservation → SharingState T → ChainAndHub T F → After (Turned T) (ChainAndHub T F)
+flow_turn reply started now seen s both = plays (call_reply reply) (turn_steps started now seen s) both
+
+-- the answer tells no want of memory
+abbrev pub HadMemory : {R : Type 0} → Result R ShareFault → Type 0
+HadMemory (Err (Flow OutOfMemory)) = ⊥
+HadMemory (Err (Chain chain_fault.OutOfMemory)) = ⊥
+HadMemory answer = Unit {0}
+
+-- an answer of a turn over a flow of one thread: nobody else is inside it
+abbrev pub IsNotBusy : Result Report ShareFault → Type 0
+IsNotBusy (Ok report) = report.event ≢ event.Busy
+IsNotBusy (Err fault) = Unit {0}
+
+-- an answer of a turn over a flow that refuses nothing, and in which nothing waits
+abbrev pub IsAtOnce : Result Report ShareFault → Type 0
+IsAtOnce (Ok report) = (report.event ≢ event.Busy) × (report.event ≢ event.Queued) × (report.event ≢ event.Waiting)
+IsAtOnce (Err (Flow fault)) = ⊥
+IsAtOnce (Err fault) = Unit {0}
+
+-- A turn over a documented flow, from `old` to `new`. `reply` is what the flow answers, `does` has want of memory, too.
+pub record DocumentedTurn {T F : Type 0} (does : (c : HubCall T) → F → HubAnswer c → F → Type 0) (reply : (c : HubCall T) → F → After (HubAnswer c) F) (Is : Result Report ShareFault → Type 0) (started : Started) (now : ℕ) (seen : List SharingObservation) (s : SharingState T) (old : ChainAndHub T F) (turned : Turned T) (new : ChainAndHub T F) : Type 0 where
+  -- its steps
+  pub steps : Takes (CallDoes does) (turn_steps started now seen s) old turned new
+  -- what it comes to, where the answer tells no want of memory
+  pub computed : HadMemory turned.answer → flow_turn reply started now seen s old ≡ record { result = turned; state = new }
+  pub answered : Is turned.answer
+  -- no cancel is left for a later turn
+  pub cancelled : s.cancel_due ≡ false → turned.state.cancel_due ≡ false
+  -- the account
+  pub means : s.runs ≡ is_running started seen → BetweenTurns s old → (accepted : List T) → HasAccount accepted s old
+      → TurnMeans does accepted s old turned.answer turned.state new

@@ -1,0 +1,128 @@
+-- One turn of a sharing (`shareIn`, `stateIn`): a chain, collected into a flow while a policy says so.
+-- Begin with `turn_steps`. When a sharing runs, and the command, are those of `Sharing`; the calls are those of `SharingCalls`.
+use Rattle.std.specs.Prelude.{ℕ, Bool, true, false, nat_lt, if◌then◌else◌, List, ◌∷◌, Option, Some, None, Result, Ok, Err}
+use Rattle.flow_law.specs.declared.fault.FlowFault.{FlowFault}
+use Rattle.flow_law.specs.declared.fault.FlowFault.TheVariants.{Busy as LockTaken}
+use Rattle.flow_law.specs.declared.chain.End.TheVariants.{Completed as AtEnd, Failed}
+use Rattle.flow_law.specs.declared.sharing.Started.{Started}
+use Rattle.flow_law.specs.declared.sharing.Command.{Command}
+use Rattle.flow_law.specs.declared.sharing.Command.TheVariants.{Start, Stop, Keep}
+use Rattle.flow_law.specs.declared.sharing.SharingObservation.{SharingObservation}
+use Rattle.flow_law.specs.declared.report.Event.{Event}
+use Rattle.flow_law.specs.declared.report.Event.TheVariants.{Busy, Idle, Put, Queued, Waiting, Pending, Completed}
+use Rattle.flow_law.specs.declared.report.Report.{Report}
+use Rattle.flow_law.specs.declared.report.ShareFault.{ShareFault}
+use Rattle.flow_law.specs.declared.report.ShareFault.TheVariants.{Backwards, Ended, Chain, Flow}
+use Rattle.flow_law.specs.Sharing.{newest_command, last_moment}
+use Rattle.flow_law.specs.Steps.{Steps, answers, calls}
+use Rattle.flow_law.specs.SharingCalls.{TurnCall, TurnAnswer, ChainAnswer, to_hub, asks, rewinds, counts, puts, polls, cancels, item, pending, end}
+
+-- what a sharing keeps, beside its chain, its hub and what was observed
+pub record SharingState (T : Type 0) : Type 0 where
+  -- an item that the chain gave and the hub has not accepted
+  pub kept : Option T
+  -- whether it runs since the last observation
+  pub runs : Bool
+  -- the hub's emission is still to be cancelled, since a stop
+  pub cancel_due : Bool
+  -- the chain has ended normally since the last start
+  pub completed : Bool
+  -- the chain has failed
+  pub ended : Bool
+
+-- before any turn
+abbrev pub at_rest : {T : Type 0} → SharingState T
+at_rest = record { kept = None; runs = false; cancel_due = false; completed = false; ended = false }
+
+-- what a turn answers, the observations that were accepted, the newest one first, and what the sharing keeps then
+pub record Turned (T : Type 0) : Type 0 where
+  pub answer : Result Report ShareFault
+  pub seen : List SharingObservation
+  pub state : SharingState T
+
+abbrev pub TurnSteps : Type 0 → Type 0
+TurnSteps T = Steps (TurnCall T) TurnAnswer (Turned T)
+
+-- ---- answers
+
+-- a call of the hub was refused: busy is an event, each other refusal a fault
+abbrev pub refusal : FlowFault → Result Event ShareFault
+refusal LockTaken = Ok Busy
+refusal fault = Err (Flow fault)
+
+-- what a turn answers that had this command
+abbrev pub reported : Command → Result Event ShareFault → Result Report ShareFault
+reported command (Ok event) = Ok (record { command = command; event = event })
+reported command (Err fault) = Err fault
+
+module _ {T : Type 0} where
+  -- the turn ends with this answer
+  abbrev pub turned : Result Report ShareFault → List SharingObservation → SharingState T → TurnSteps T
+  turned answer seen s = answers (record { answer = answer; seen = seen; state = s })
+
+  -- ---- what follows the command, where these observations were accepted
+
+  module _ (command : Command) (seen : List SharingObservation) where
+    abbrev pub comes_to : Result Event ShareFault → SharingState T → TurnSteps T
+    comes_to outcome s = turned (reported command outcome) seen s
+
+    -- an item that the hub refuses is kept
+    abbrev pub after_put : T → SharingState T → Result Bool FlowFault → TurnSteps T
+    after_put x s (Ok false) = comes_to (Ok Put) (record s { kept = None })
+    after_put x s (Ok true) = comes_to (Ok Queued) (record s { kept = None })
+    after_put x s (Err fault) = comes_to (refusal fault) (record s { kept = Some x })
+
+    abbrev pub put : T → SharingState T → TurnSteps T
+    put x s = calls (to_hub (puts x)) (after_put x s)
+
+    abbrev pub after_ask : SharingState T → ChainAnswer T → TurnSteps T
+    after_ask s (item x) = put x s
+    after_ask s pending = comes_to (Ok Pending) s
+    after_ask s (end AtEnd) = comes_to (Ok Completed) (record s { completed = true })
+    after_ask s (end (Failed fault)) = comes_to (Err (Chain fault)) (record s { ended = true })
+
+    -- the kept item is put, or else the chain's next one
+    abbrev pub send : Option T → SharingState T → TurnSteps T
+    send (Some x) s = put x s
+    send None s = calls asks (after_ask s)
+
+    abbrev pub after_poll : SharingState T → Result Bool FlowFault → TurnSteps T
+    after_poll s (Ok true) = comes_to (Ok Waiting) s
+    after_poll s (Ok false) = send s.kept s
+    after_poll s (Err fault) = comes_to (refusal fault) s
+
+    -- an emission that waits is polled first
+    abbrev pub collect : SharingState T → TurnSteps T
+    collect s = if s.completed then comes_to (Ok Completed) s else calls (to_hub polls) (after_poll s)
+
+    abbrev pub collect_while_running : SharingState T → TurnSteps T
+    collect_while_running s = if s.runs then collect s else comes_to (Ok Idle) s
+
+    abbrev pub after_cancel : SharingState T → Result Bool FlowFault → TurnSteps T
+    after_cancel s (Ok waited) = collect_while_running (record s { cancel_due = false })
+    after_cancel s (Err fault) = comes_to (refusal fault) s
+
+    -- a cancel that is due comes before anything else
+    abbrev pub work : SharingState T → TurnSteps T
+    work s = if s.cancel_due then calls (to_hub cancels) (after_cancel s) else collect_while_running s
+
+  -- a start collects the chain from its beginning; a stop drops the kept item, and the hub's emission is to be cancelled
+  abbrev pub begin : List SharingObservation → Command → SharingState T → TurnSteps T
+  begin all Start s = calls rewinds (λ done. work Start all (record s { runs = true; completed = false }))
+  begin all Stop s = work Stop all (record s { runs = false; kept = None; cancel_due = true })
+  begin all Keep s = work Keep all s
+
+  -- ---- the turn
+
+  -- no moment comes before the last one
+  abbrev pub after_count : Started → ℕ → List SharingObservation → SharingState T → Result ℕ FlowFault → TurnSteps T
+  after_count started now seen s (Ok count) =
+      let all = record { moment = now; count = count } ∷ seen in
+      if nat_lt now (last_moment seen) then turned (Err (Backwards (last_moment seen))) seen s
+      else begin all (newest_command started all) s
+  after_count started now seen s (Err fault) = turned (reported Keep (refusal fault)) seen s
+
+  -- a turn at the moment `now`; a chain that failed is not collected any more
+  abbrev pub turn_steps : Started → ℕ → List SharingObservation → SharingState T → TurnSteps T
+  turn_steps started now seen s =
+      if s.ended then turned (Err Ended) seen s else calls (to_hub counts) (after_count started now seen s)

@@ -1,0 +1,24 @@
+-- What is done step by step: calls, each chosen by what the ones before it answered, and a result at the end.
+-- It is told once as a tree, and read in two ways. `Takes` says that calls which do so and so lead from one state to another with this
+-- result; `plays` gives the result and the state, where calls answer by a function.
+use Rattle.std.specs.Prelude.{◌≡◌}
+
+-- `Answer c` is what may come back from the call c
+pub data Steps (C : Type 0) (Answer : C → Type 0) (R : Type 0) : Type 0 where
+  answers : R → Steps C Answer R
+  calls : (c : C) → (Answer c → Steps C Answer R) → Steps C Answer R
+
+-- a result, and the state after it
+pub record After (R S : Type 0) : Type 0 where
+  pub result : R
+  pub state : S
+
+module _ {C : Type 0} {Answer : C → Type 0} {R S : Type 0} where
+  -- `does` says what a call may answer in a state, and which state it leaves
+  abbrev pub Takes : ((c : C) → S → Answer c → S → Type 0) → Steps C Answer R → S → R → S → Type 0
+  Takes does (answers r) old result new = (result ≡ r) × (new ≡ old)
+  Takes does (calls c next) old result new = (a : Answer c) × (s : S) × does c old a s × Takes does (next a) s result new
+
+  abbrev pub plays : ((c : C) → S → After (Answer c) S) → Steps C Answer R → S → After R S
+  plays reply (answers r) s = record { result = r; state = s }
+  plays reply (calls c next) s = plays reply (next (reply c s).result) (reply c s).state

@@ -1,0 +1,91 @@
+-- What a turn of a sharing means for the items that its hub has accepted, and what is true between turns. Begin with `TurnMeans`.
+use Rattle.std.specs.Prelude.{◌≡◌, ◌≢◌, ◌⊎◌, ℕ, Bool, true, false, List, [], ◌∷◌, ◌++◌, None, Result, Ok, Err}
+use Rattle.flow_law.specs.declared.fault.FlowFault.{FlowFault}
+use Rattle.flow_law.specs.declared.fault.FlowFault.TheVariants.{Busy as LockTaken}
+use Rattle.flow_law.specs.declared.chain.ChainFault.TheVariants.{OutOfMemory}
+use Rattle.flow_law.specs.declared.chain.End.TheVariants.{Completed as AtEnd, Failed}
+use Rattle.flow_law.specs.declared.sharing.Command.{Command}
+use Rattle.flow_law.specs.declared.sharing.Command.TheVariants.{Start, Stop, Keep}
+use Rattle.flow_law.specs.declared.report.Event.{Event}
+use Rattle.flow_law.specs.declared.report.Event.TheVariants.{Busy, Idle, Put, Queued, Waiting, Pending, Completed}
+use Rattle.flow_law.specs.declared.report.Report.{Report}
+use Rattle.flow_law.specs.declared.report.ShareFault.{ShareFault}
+use Rattle.flow_law.specs.declared.report.ShareFault.TheVariants.{Backwards, Ended, Chain, Flow}
+use Rattle.flow_law.specs.ChainRun.{ChainRun, pends, ends, items}
+use Rattle.flow_law.specs.TurnAccount.{IsAccountOf}
+use Rattle.flow_law.specs.SharingCalls.{HubCall, HubAnswer, counts, puts, polls, ChainAndHub}
+use Rattle.flow_law.specs.SharingTurn.{SharingState}
+
+-- ---- between turns
+
+module _ {T H : Type 0} where
+  -- the chain's list is made of the items that the hub accepted, the kept one, and those that the chain still has
+  abbrev pub Accounts : List T → SharingState T → ChainAndHub T H → Type 0
+  Accounts accepted s both = IsAccountOf (items both.whole) s.kept (items both.rest) accepted
+
+  -- while the sharing runs and has not ended, these are the items that the hub accepted since the last start
+  abbrev pub HasAccount : List T → SharingState T → ChainAndHub T H → Type 0
+  HasAccount accepted s both = s.runs ≡ true → s.ended ≡ false → Accounts accepted s both
+
+-- What is true between turns, whatever is done through the hub meanwhile.
+pub record BetweenTurns {T H : Type 0} (s : SharingState T) (both : ChainAndHub T H) : Type 0 where
+  -- while it does not run, no item is kept
+  pub rested : s.runs ≡ false → s.kept ≡ None
+  -- once the chain has ended normally, no item is kept and the chain has none
+  pub done : s.runs ≡ true → s.completed ≡ true → (s.kept ≡ None) × (both.rest ≡ ends AtEnd)
+
+-- While it does not run, no emission waits but one that is still to be cancelled: this holds unless somebody else emits through the hub.
+abbrev pub IsQuiet : {T H : Type 0} → (H → Bool) → SharingState T → ChainAndHub T H → Type 0
+IsQuiet waits s both = s.runs ≡ false → s.cancel_due ≡ false → waits both.hub ≡ false
+
+-- ---- what a turn's answer means
+
+-- the items that were accepted since the last start, at a command
+abbrev pub since_start : {T : Type 0} → Command → List T → List T
+since_start Start accepted = []
+since_start Stop accepted = accepted
+since_start Keep accepted = accepted
+
+-- what the chain has to give, at a command
+abbrev pub rest_at : {T H : Type 0} → Command → ChainAndHub T H → ChainRun T
+rest_at Start both = both.whole
+rest_at Stop both = both.rest
+rest_at Keep both = both.rest
+
+-- `does` says what a call of the hub does
+module _ {T H : Type 0} (does : (c : HubCall T) → H → HubAnswer c → H → Type 0) where
+  -- the hub accepted one item more, which is the next one of the chain's list, and answered whether it waits
+  abbrev pub AcceptsOne : List T → Bool → SharingState T → ChainAndHub T H → Type 0
+  AcceptsOne accepted waits t new = (x : T) × ((h : H) × does (puts x) h (Ok waits) new.hub) × Accounts (accepted ++ x ∷ []) t new
+
+  -- the last call of the hub was refused with this fault
+  abbrev pub WasRefused : FlowFault → ChainAndHub T H → Type 0
+  WasRefused fault new = (h : H) × ((call : HubCall T) × does call h (Err fault) new.hub)
+
+  -- what an event or a fault means, where the hub had accepted these items since the last start, and the chain had still to give `before`
+  abbrev pub OutcomeMeans : ChainRun T → List T → Result Event ShareFault → SharingState T → ChainAndHub T H → Type 0
+  OutcomeMeans before accepted (Ok Put) t new = AcceptsOne accepted false t new
+  OutcomeMeans before accepted (Ok Queued) t new = AcceptsOne accepted true t new
+  OutcomeMeans before accepted (Ok Busy) t new = HasAccount accepted t new × WasRefused LockTaken new
+  OutcomeMeans before accepted (Ok Idle) t new = (t.runs ≡ false) × (t.kept ≡ None)
+  OutcomeMeans before accepted (Ok Waiting) t new = Accounts accepted t new × ((h : H) × does polls h (Ok true) new.hub)
+  OutcomeMeans before accepted (Ok Pending) t new = Accounts accepted t new × (before ≡ pends new.rest)
+  OutcomeMeans before accepted (Ok Completed) t new = Accounts accepted t new × (t.kept ≡ None) × (before ≡ ends AtEnd)
+  OutcomeMeans before accepted (Err (Flow fault)) t new = HasAccount accepted t new × WasRefused fault new × (fault ≢ LockTaken)
+  -- after want of memory the chain has lost its place, and nothing is claimed of what is left
+  OutcomeMeans before accepted (Err (Chain fault)) t new =
+      (fault ≢ OutOfMemory → Accounts accepted t new × (before ≡ ends (Failed fault))) × (t.ended ≡ true)
+  OutcomeMeans before accepted (Err Ended) t new = ⊥
+  OutcomeMeans before accepted (Err (Backwards last)) t new = ⊥
+
+  -- what a turn's answer means, where the hub had accepted these items since the last start. A fault carries no command: it may come after a start.
+  abbrev pub TurnMeans : List T → SharingState T → ChainAndHub T H → Result Report ShareFault → SharingState T → ChainAndHub T H → Type 0
+  TurnMeans accepted s old (Ok report) t new =
+      OutcomeMeans (rest_at report.command old) (since_start report.command accepted) (Ok report.event) t new
+  TurnMeans accepted s old (Err Ended) t new = (s.ended ≡ true) × (t ≡ s) × (new ≡ old)
+  TurnMeans accepted s old (Err (Backwards last)) t new =
+      (s.ended ≡ false) × ((count : ℕ) × does counts old.hub (Ok count) new.hub) × (t ≡ s) × (new ≡ record old { hub = new.hub })
+  TurnMeans accepted s old (Err (Chain fault)) t new =
+      OutcomeMeans old.rest accepted (Err (Chain fault)) t new ⊎ OutcomeMeans old.whole [] (Err (Chain fault)) t new
+  TurnMeans accepted s old (Err (Flow fault)) t new =
+      OutcomeMeans old.rest accepted (Err (Flow fault)) t new ⊎ OutcomeMeans old.whole [] (Err (Flow fault)) t new

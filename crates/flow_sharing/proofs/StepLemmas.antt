@@ -1,0 +1,75 @@
+-- The steps of a turn, put together: what a sharing finds and what its calls did lead along the turn of flow_law.
+use Rattle.std.proofs.Common.{◌≡◌, ◌<◌, ◌≤◌, ℕ, Bool, true, false, nat_lt, if◌then◌else◌, List, ◌∷◌, Option, Some, None, Result, Ok, Err, sym, ap, ◌∙◌, subst, arith}
+use Rattle.std.proofs.lemmas.Bool.Decides.{nat_tests}
+use Rattle.flow_law.specs.declared.fault.FlowFault.{FlowFault}
+use Rattle.flow_law.specs.declared.sharing.Started.{Started}
+use Rattle.flow_law.specs.declared.sharing.Command.{Command}
+use Rattle.flow_law.specs.declared.sharing.SharingObservation.{SharingObservation}
+use Rattle.flow_law.specs.declared.report.Report.{Report}
+use Rattle.flow_law.specs.declared.report.ShareFault.{ShareFault}
+use Rattle.flow_law.specs.declared.report.ShareFault.TheVariants.{Backwards}
+use Rattle.flow_law.specs.ChainRun.{ChainRun}
+use Rattle.flow_law.specs.Sharing.{newest_command, last_moment}
+use Rattle.flow_law.specs.Steps.{Takes}
+use Rattle.flow_law.specs.SharingCalls.{TurnCall, TurnAnswer, ChainAnswer, ChainAndHub, to_hub, asks, counts, polls, cancels}
+use Rattle.flow_law.specs.SharingTurn.{SharingState, Turned, after_ask, put, send, after_poll, collect_while_running, after_cancel, work, begin, after_count, turn_steps}
+
+pub if-true : {X : Type 0} (P : X → Type 0) (b : Bool) (x y : X) → b ≡ true → P x → P (if b then x else y)
+if-true P true x y is p = p
+if-true P false x y is p = let e : false ≡ true = is in cc
+
+pub if-false : {X : Type 0} (P : X → Type 0) (b : Bool) (x y : X) → b ≡ false → P y → P (if b then x else y)
+if-false P false x y is p = p
+if-false P true x y is p = let e : true ≡ false = is in cc
+
+-- the same chain and hub
+pub same-parts : {T H : Type 0} (whole whole' rest rest' : ChainRun T) (hub : H) → whole ≡ whole' → rest ≡ rest'
+    → ◌≡◌ {A = ChainAndHub T H} (record { whole = whole; rest = rest; hub = hub }) (record { whole = whole'; rest = rest'; hub = hub })
+same-parts {T} {H} whole whole' rest rest' hub w r =
+    ap (λ (x : ChainRun T). record { whole = x; rest = rest; hub = hub }) w ∙ ap (λ (x : ChainRun T). record { whole = whole'; rest = x; hub = hub }) r
+
+-- the same end of a turn
+pub same-end : {T : Type 0} (seen : List SharingObservation) (a b : Result Report ShareFault) (s t : SharingState T) → a ≡ b → s ≡ t
+    → ◌≡◌ {A = Turned T} (record { answer = a; seen = seen; state = s }) (record { answer = b; seen = seen; state = t })
+same-end {T} seen a b s t e same =
+    ap (λ x. record { answer = x; seen = seen; state = s }) e ∙ ap (λ (x : SharingState T). record { answer = b; seen = seen; state = x }) same
+
+module _ {T H : Type 0} (does : (c : TurnCall T) → ChainAndHub T H → TurnAnswer c → ChainAndHub T H → Type 0) (old new : ChainAndHub T H) (r : Turned T) where
+  module _ (command : Command) (seen : List SharingObservation) (s : SharingState T) where
+    pub puts-kept : (x : T) → s.kept ≡ Some x → Takes does (put command seen x s) old r new → Takes does (send command seen s.kept s) old r new
+    puts-kept x is h = let P : Option T → Type 0 = λ k. Takes does (send command seen k s) old r new in subst P (sym is) h
+
+    pub asks-chain : (mid : ChainAndHub T H) (a : ChainAnswer T) → s.kept ≡ None → does asks old a mid → Takes does (after_ask command seen s a) mid r new
+        → Takes does (send command seen s.kept s) old r new
+    asks-chain mid a is told h = let P : Option T → Type 0 = λ k. Takes does (send command seen k s) old r new in subst P (sym is) (a, mid, told, h)
+
+    pub polls-hub : (mid : ChainAndHub T H) (a : Result Bool FlowFault) → s.runs ≡ true → s.completed ≡ false → does (to_hub polls) old a mid → Takes does (after_poll command seen s a) mid r new
+        → Takes does (collect_while_running command seen s) old r new
+    polls-hub mid a runs on told h =
+        if-true (λ steps. Takes does steps old r new) s.runs _ _ runs
+        (if-false (λ steps. Takes does steps old r new) s.completed _ _ on (a, mid, told, h))
+
+    pub cancels-hub : (mid : ChainAndHub T H) (a : Result Bool FlowFault) → s.cancel_due ≡ true → does (to_hub cancels) old a mid → Takes does (after_cancel command seen s a) mid r new
+        → Takes does (work command seen s) old r new
+    cancels-hub mid a due told h = if-true (λ steps. Takes does steps old r new) s.cancel_due _ _ due (a, mid, told, h)
+
+    pub cancels-nothing : s.cancel_due ≡ false → Takes does (collect_while_running command seen s) old r new → Takes does (work command seen s) old r new
+    cancels-nothing none h = if-false (λ steps. Takes does steps old r new) s.cancel_due _ _ none h
+
+  module _ (started : Started) (now : ℕ) (seen : List SharingObservation) (s : SharingState T) where
+    pub counts-hub : (mid : ChainAndHub T H) (a : Result ℕ FlowFault) → s.ended ≡ false → does (to_hub counts) old a mid → Takes does (after_count started now seen s a) mid r new
+        → Takes does (turn_steps started now seen s) old r new
+    counts-hub mid a going told h = if-false (λ steps. Takes does steps old r new) s.ended _ _ going (a, mid, told, h)
+
+    pub observes-count : (count : ℕ) → last_moment seen ≤ now
+        → Takes does (begin (record { moment = now; count = count } ∷ seen) (newest_command started (record { moment = now; count = count } ∷ seen)) s) old r new
+        → Takes does (after_count started now seen s (Ok count)) old r new
+    observes-count count le h =
+        let after : nat_lt now (last_moment seen) ≡ false = grind (arith, nat_tests) in
+        if-false (λ steps. Takes does steps old r new) (nat_lt now (last_moment seen)) _ _ after h
+
+    pub goes-back : (count : ℕ) → now < last_moment seen → r ≡ record { answer = Err (Backwards (last_moment seen)); seen = seen; state = s } → new ≡ old
+        → Takes does (after_count started now seen s (Ok count)) old r new
+    goes-back count lt is stays =
+        let back : nat_lt now (last_moment seen) ≡ true = grind (arith, nat_tests) in
+        if-true (λ steps. Takes does steps old r new) (nat_lt now (last_moment seen)) _ _ back (is, stays)
