@@ -17,6 +17,7 @@ use Rattle.flow_law.specs.declared.report.ShareFault.TheVariants.{Chain, Flow}
 use Rattle.flow_law.specs.declared.states.SharedFlowState.{SharedFlowState}
 use Rattle.flow_law.specs.declared.states.StateFlowState.{StateFlowState}
 use Rattle.flow_law.specs.SharedHistory.{Replies}
+pub use Rattle.flow_law.specs.declared.states.EmittingFlow.{EmittingFlow}
 use Rattle.flow_law.specs.SharedStep as flow
 use Rattle.flow_law.specs.Sharing.{is_running}
 use Rattle.flow_law.specs.Steps.{After, Takes, plays}
@@ -25,11 +26,6 @@ use Rattle.flow_law.specs.TurnMeaning.{HasAccount, BetweenTurns, TurnMeans}
 use Rattle.flow_law.specs.SharingTurn.{SharingState, Turned, turn_steps}
 
 -- ---- a shared flow
-
--- with the number of the sharing's emission, where it waited when it was last asked
-pub record EmittingFlow (T : Type 0) : Type 0 where
-  pub flow : SharedFlowState T
-  pub waiting : Option ℕ
 
 module _ {T : Type 0} where
   -- an emission, if there is one, still waits

@@ -47,3 +47,10 @@ pub struct StateFlowState<T> {
     /// How many numbers were issued. The next one is one more.
     pub issued: u64,
 }
+
+/// A documented shared flow into which a sharing emits.
+pub struct EmittingFlow<T> {
+    pub flow: SharedFlowState<T>,
+    /// The number of the sharing's emission, where it waited when it was last asked.
+    pub waiting: Option<u64>,
+}

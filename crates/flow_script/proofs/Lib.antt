@@ -7,6 +7,4 @@ pub mod MeaningLemmas
 pub mod ChainLemmas
 pub mod StateLemmas
 pub mod LineLemmas
-pub mod SharingTurnLemmas
-pub mod StateTurnLemmas
 pub mod SharingLemmas

@@ -1,50 +1,42 @@
 -- A turn of a sharing that scripts play on, as the documented turn.
-use Rattle.std.proofs.Common.{◌≡◌, ℕ, ℤ, Bool, true, false, List, [], ◌∷◌, ◌++◌, Option, Some, None, Result, Ok, Err, refl, sym, ap, subst, ◌∙◌, inl, inr}
+use Rattle.std.proofs.Common.{◌≡◌, ℕ, ℤ, Bool, List, [], Option, Some, None, Result, Ok, Err, true, false, refl, sym, ap, subst, ◌∙◌}
 use Rattle.std.specs.Prelude.{is_some}
 use Rattle.flow_law.specs.declared.sharing.Started.{Started}
 use Rattle.flow_law.specs.declared.sharing.SharingObservation.{SharingObservation}
-use Rattle.flow_law.specs.Sharing.{is_running}
+use Rattle.flow_law.specs.declared.chain.ChainFault.TheVariants as chain_fault
+use Rattle.flow_law.specs.declared.fault.FlowFault.TheVariants as flow_fault
+use Rattle.flow_law.specs.declared.report.Report.{Report}
+use Rattle.flow_law.specs.declared.report.ShareFault.{ShareFault}
+use Rattle.flow_law.specs.declared.report.ShareFault.TheVariants.{Backwards, Ended, Chain, Flow}
 use Rattle.flow_law.specs.ChainRun.{ChainRun}
+use Rattle.flow_law.specs.SharingCalls.{HubCall, HubAnswer, HubStep, ChainAndHub, CallDoes, with_hub}
+use Rattle.flow_law.specs.SharingFlows.{HadMemory, flow_turn}
+use Rattle.flow_law.specs.SharingTurn.{SharingState, Turned, turn_steps, at_rest}
+use Rattle.flow_law.specs.Steps.{After, Takes}
 use Rattle.flow_cold.specs.declared.script_chain.ScriptChain.{ScriptChain}
 use Rattle.flow_sharing.specs.declared.sharing.Sharing.{Sharing}
-use Rattle.flow_sharing.specs.declared.report.Event.{Event}
-use Rattle.flow_sharing.specs.declared.report.Event.TheVariants.{Busy, Idle, Put, Queued, Waiting, Pending, Completed}
-use Rattle.flow_sharing.specs.declared.report.Report.{Report}
-use Rattle.flow_sharing.specs.declared.report.ShareFault.{ShareFault}
-use Rattle.flow_sharing.specs.declared.report.ShareFault.TheVariants.{Backwards, Ended, Chain, Flow}
-use Rattle.flow_sharing.specs.SharingState.{SharingState, commanded, resting, HasAccount, HasObserved, BetweenTurns}
-use Rattle.flow_sharing.specs.Hub.{HubCall, HubReply, HubStep}
-use Rattle.flow_sharing.specs.TurnMeaning.{OutcomeMeans, TurnMeans, since_start}
-use Rattle.flow_sharing.specs.Turn.{Turn}
+use Rattle.flow_sharing.specs.SharingViews.{state_of, HasObserved}
 use Rattle.flow_script.specs.Lines.{turn_text}
+use Rattle.flow_script.specs.Memory.{IsToldFault}
 use Rattle.flow_script.specs.Numbers.{Numbers}
 use Rattle.flow_script.specs.SharingMeaning.{SharingPlay, first_sharing, turn_at}
-use Rattle.flow_script.specs.SharingTurn.{Target, IsTold, seen_as, sharing_turn}
-use Rattle.flow_script.specs.Sharings.{ShowsSharing, TurnsAsDocumented, sharing_state}
+use Rattle.flow_script.specs.Sharings.{ShowsSharing, TurnsAsDocumented, both_of}
 
--- ---- the account after a turn
-
-event-account : {H : Type 0} (does : H → HubCall ℤ → HubReply → H → Type 0) (before : ChainRun ℤ) (acc : List ℤ) (event : Event) (t : SharingState ℤ H)
-    → OutcomeMeans does before acc (Ok event) t → (more : List ℤ) × HasAccount more t
-event-account does before acc Put t o = (acc ++ o.0 ∷ [], λ _ _. o.2)
-event-account does before acc Queued t o = (acc ++ o.0 ∷ [], λ _ _. o.2)
-event-account does before acc Busy t o = (acc, o.0)
-event-account does before acc Idle t o = ([], λ runs _. let both : true ≡ false = sym runs ∙ o.0 in (cc))
-event-account does before acc Waiting t o = (acc, λ _ _. o.0)
-event-account does before acc Pending t o = (acc, λ _ _. o.0)
-event-account does before acc Completed t o = (acc, λ _ _. o.0)
-
--- the items that the flow has accepted are accounted for after a turn, too
-pub turn-account : {H : Type 0} (does : H → HubCall ℤ → HubReply → H → Type 0) (acc : List ℤ) (s : SharingState ℤ H) (result : Result Report ShareFault) (t : SharingState ℤ H)
-    → TurnMeans does acc s result t → HasAccount acc s → (more : List ℤ) × HasAccount more t
-turn-account does acc s (Ok report) t o has =
-    event-account does (commanded report.command s).rest (since_start report.command acc) report.event t o
-turn-account does acc s (Err Ended) t o has = (acc, subst (HasAccount acc) (sym o.1) has)
-turn-account does acc s (Err (Backwards last)) t o has = (acc, subst (HasAccount acc) (sym o.2) has)
-turn-account does acc s (Err (Chain fault)) t (inl o) has = ([], λ _ on. let both : true ≡ false = sym o.1 ∙ on in (cc))
-turn-account does acc s (Err (Chain fault)) t (inr o) has = ([], λ _ on. let both : true ≡ false = sym o.1 ∙ on in (cc))
-turn-account does acc s (Err (Flow fault)) t (inl o) has = (acc, o.0)
-turn-account does acc s (Err (Flow fault)) t (inr o) has = ([], o.0)
+-- a fault that a line tells is no want of memory
+pub told-had : (fault : ShareFault) → IsToldFault fault → HadMemory {R = Report} (Err fault)
+told-had (Backwards last) told = tt
+told-had Ended told = tt
+told-had (Flow flow_fault.OutOfMemory) told = absurd told
+told-had (Flow flow_fault.TooLarge) told = tt
+told-had (Flow flow_fault.NeedsBuffer) told = tt
+told-had (Flow flow_fault.Exhausted) told = tt
+told-had (Flow flow_fault.Unsupported) told = tt
+told-had (Flow flow_fault.Busy) told = tt
+told-had (Chain chain_fault.OutOfMemory) told = absurd told
+told-had (Chain chain_fault.Overflow) told = tt
+told-had (Chain chain_fault.NotPositive) told = tt
+told-had (Chain (chain_fault.Source n)) told = tt
+told-had (Chain chain_fault.TooDeep) told = tt
 
 -- ---- before any turn
 
@@ -52,49 +44,44 @@ pub none-waits : (o : Option ℕ) → is_some o ≡ false → o ≡ None
 none-waits None e = refl
 none-waits (Some n) e = cc
 
-module _ {H S : Type 0} (Stands : H → S → Type 0) (waiting : H → Option ℕ) where
+abbrev pub chained : {H : Type 0} → ChainRun ℤ → ChainRun ℤ → H → ChainAndHub ℤ H
+chained whole rest hub = record { whole = whole; rest = rest; hub = hub }
+
+module _ {H F : Type 0} (Stands : H → F → Type 0) where
   -- a sharing that was just made is the documented one before any turn
-  pub begun : (sharing : Sharing ScriptChain H ℤ) (started : Started) (run : ChainRun ℤ) (s : S) → HasObserved started sharing []
-      → sharing_state sharing ≡ resting run run sharing.hub → BetweenTurns (sharing_state sharing) → Stands sharing.hub s → waiting sharing.hub ≡ None
-      → ShowsSharing Stands waiting sharing (first_sharing run started s)
-  begun sharing started run s nothing is between stands free = record {
+  pub begun : (sharing : Sharing ScriptChain H ℤ) (started : Started) (run : ChainRun ℤ) (f : F) → HasObserved started sharing [] → state_of sharing ≡ at_rest
+      → both_of sharing ≡ record { whole = run; rest = run; hub = sharing.hub } → Stands sharing.hub f → ShowsSharing Stands sharing (first_sharing run started f)
+  begun sharing started run f nothing rests is stands = record {
     observed = nothing;
-    chain = ap (λ w. seen_as w [] (sharing_state sharing) s) free ∙ ap (λ z. seen_as None [] z s) is;
+    state = rests;
+    both = ap (λ (b : ChainAndHub ℤ H). with_hub b f) is;
     flow = stands;
-    account = ([], λ runs _. let both : true ≡ false = sym runs ∙ ap (λ z. z.runs) is in (cc));
-    between = between;
-    no_cancel = ap (λ z. z.cancel_due) is;
   }
 
 -- ---- a turn
 
-module _ {H S : Type 0} (does : H → HubCall ℤ → HubReply → H → Type 0) (waits : H → Bool) (Stands : H → S → Type 0) (waiting : H → Option ℕ) (to : Target S) where
+module _ {H F : Type 0} (does : (c : HubCall ℤ) → H → HubAnswer c → H → Type 0) (waits : H → Bool) (Stands : H → F → Type 0) (reply : (c : HubCall ℤ) → F → After (HubAnswer c) F) where
   -- a turn of a sharing that is shown is the documented turn
-  pub turned : (now : ℕ) (n : Numbers) (result : Result Report ShareFault) (old new : Sharing ScriptChain H ℤ) (p : SharingPlay S)
-      → ShowsSharing Stands waiting old p → TurnsAsDocumented does waits Stands waiting to
+  pub turned : (now : ℕ) (n : Numbers) (result : Result Report ShareFault) (old new : Sharing ScriptChain H ℤ) (p : SharingPlay F)
+      → ShowsSharing Stands old p → TurnsAsDocumented does waits Stands reply
       → ((started : Started) (seen : List SharingObservation) → HasObserved started old seen
-      → (all : List SharingObservation) × HasObserved started new all × Turn (HubStep does waits) started seen now (sharing_state old) result all (sharing_state new))
-      → ((started : Started) (seen : List SharingObservation) (acc : List ℤ) → HasObserved started old seen → BetweenTurns (sharing_state old)
-      → HasAccount acc (sharing_state old) → TurnMeans (HubStep does waits) acc (sharing_state old) result (sharing_state new))
-      → ((started : Started) (seen : List SharingObservation) → HasObserved started old seen → BetweenTurns (sharing_state old)
-      → BetweenTurns (sharing_state new))
-      → IsTold result → ShowsSharing Stands waiting new (turn_at to now p n).after × (turn_text result ≡ (turn_at to now p n).line)
-  turned now n result old new p shows law turn means between told =
-      let s = sharing_state old in
-      let t = sharing_state new in
-      let seen = p.chain.seen in
-      let acc = shows.account.0 in
-      let observed = turn p.started seen shows.observed in
+      → (all : List SharingObservation) × HasObserved started new all
+      × Takes (CallDoes (HubStep does waits)) (turn_steps started now seen (state_of old)) (both_of old) (record { answer = result; seen = all; state = state_of new }) (both_of new))
+      → HadMemory result → ShowsSharing Stands new (turn_at reply now p n).after × (turn_text result ≡ (turn_at reply now p n).line)
+  turned now n result old new p shows law takes had =
+      let observed = takes p.started p.seen shows.observed in
       let all = observed.0 in
-      let runs : s.runs ≡ is_running p.started seen = shows.observed.running in
-      let done = law p.started p.chain.flow acc seen all now s t result shows.flow shows.no_cancel shows.account.1 shows.between runs observed.2 told in
-      let whole = ap (sharing_turn to p.started now) (sym shows.chain) ∙ done.2 in
-      let shown : ShowsSharing Stands waiting new (record p { chain = seen_as (waiting new.hub) all t done.0 }) = record {
+      let after : Turned ℤ = record { answer = result; seen = all; state = state_of new } in
+      let done = law p.started now p.seen (state_of old) p.both.hub (both_of old) (both_of new) after shows.flow observed.2 had in
+      let whole : flow_turn reply p.started now p.seen p.state p.both ≡ record { result = after; state = with_hub (both_of new) done.0 } =
+      ap (λ s. flow_turn reply p.started now p.seen s p.both) (sym shows.state) ∙ ap (flow_turn reply p.started now p.seen (state_of old)) (sym shows.both) ∙ done.2 in
+      let shown : ShowsSharing Stands new (record p { seen = all; state = state_of new; both = with_hub (both_of new) done.0 }) = record {
         observed = observed.1;
-        chain = refl;
+        state = refl;
+        both = refl;
         flow = done.1;
-        account = turn-account (HubStep does waits) acc s result t (means p.started seen acc shows.observed shows.between shows.account.1) shows.account.1;
-        between = between p.started seen shows.observed shows.between;
-        no_cancel = done.3;
       } in
-      (subst (λ z. ShowsSharing Stands waiting new (record p { chain = z.after })) (sym whole) shown, ap (λ z. turn_text z.result) (sym whole))
+      (
+        subst (λ (z : After (Turned ℤ) (ChainAndHub ℤ F)). ShowsSharing Stands new (record p { seen = z.result.seen; state = z.result.state; both = z.state })) (sym whole) shown,
+        ap (λ (z : After (Turned ℤ) (ChainAndHub ℤ F)). turn_text z.result.answer) (sym whole),
+      )

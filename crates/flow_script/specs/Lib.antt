@@ -13,7 +13,6 @@ pub mod Numbers
 pub mod FlowMeaning
 pub mod StateMeaning
 pub mod SharedMeaning
-pub mod SharingTurn
 pub mod SharingMeaning
 pub mod ScriptMeaning
 pub mod Playing

@@ -15,11 +15,11 @@ use Rattle.flow_law.specs.declared.call.StateReply.{StateReply}
 use Rattle.flow_law.specs.declared.call.StateReply.TheVariants as state
 use Rattle.flow_law.specs.declared.sharing.Command.{Command}
 use Rattle.flow_law.specs.declared.sharing.Command.TheVariants as command
-use Rattle.flow_sharing.specs.declared.report.Event.{Event}
-use Rattle.flow_sharing.specs.declared.report.Event.TheVariants as event
-use Rattle.flow_sharing.specs.declared.report.Report.{Report}
-use Rattle.flow_sharing.specs.declared.report.ShareFault.{ShareFault}
-use Rattle.flow_sharing.specs.declared.report.ShareFault.TheVariants as share_fault
+use Rattle.flow_law.specs.declared.report.Event.{Event}
+use Rattle.flow_law.specs.declared.report.Event.TheVariants as event
+use Rattle.flow_law.specs.declared.report.Report.{Report}
+use Rattle.flow_law.specs.declared.report.ShareFault.{ShareFault}
+use Rattle.flow_law.specs.declared.report.ShareFault.TheVariants as share_fault
 use Rattle.flow_script.specs.ChainFormat.{Build}
 use Rattle.flow_law.specs.declared.outcome.Emit.TheVariants.{Done, Queued}
 use Rattle.flow_law.specs.declared.outcome.Next.{Next}

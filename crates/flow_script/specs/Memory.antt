@@ -5,8 +5,8 @@ use Rattle.flow_law.specs.declared.chain.ChainFault.{ChainFault}
 use Rattle.flow_law.specs.declared.chain.ChainFault.TheVariants as chain_fault
 use Rattle.flow_law.specs.declared.chain.End.{End}
 use Rattle.flow_law.specs.declared.chain.End.TheVariants.{Completed, Failed}
-use Rattle.flow_sharing.specs.declared.report.ShareFault.{ShareFault}
-use Rattle.flow_sharing.specs.declared.report.ShareFault.TheVariants.{Chain, Flow}
+use Rattle.flow_law.specs.declared.report.ShareFault.{ShareFault}
+use Rattle.flow_law.specs.declared.report.ShareFault.TheVariants.{Chain, Flow}
 
 abbrev pub IsToldFlowFault : FlowFault → Type 0
 IsToldFlowFault flow_fault.OutOfMemory = ⊥

@@ -3,9 +3,11 @@ use Rattle.std.specs.Prelude.{◌≡◌, ◌++◌, ℕ, List, Option, Some, None
 use Rattle.flow_law.specs.Standing.{StandsFor}
 use Rattle.flow_cold.specs.declared.script_chain.ScriptChain.{ScriptChain}
 use Rattle.flow_cold.specs.ScriptChain.{node_whole, node_rest}
-use Rattle.flow_sharing.specs.declared.report.ShareFault.{ShareFault}
-use Rattle.flow_sharing.specs.declared.report.ShareFault.TheVariants.{Chain}
+use Rattle.flow_law.specs.declared.report.ShareFault.{ShareFault}
+use Rattle.flow_law.specs.declared.report.ShareFault.TheVariants.{Chain}
 use Rattle.flow_law.specs.declared.chain.ChainFault.{ChainFault}
+use Rattle.flow_sharing.specs.OverCores.{Emits}
+use Rattle.flow_sharing.specs.StateHub.{state_core_of}
 use Rattle.flow_script.specs.declared.player.Player.{Player}
 use Rattle.flow_script.specs.declared.player.Player.TheVariants.{Idle, Shared, State, Share, StateIn}
 use Rattle.flow_script.specs.ChainFormat.{BuiltChain}
@@ -20,8 +22,8 @@ abbrev pub Shows : Player → player.Player → Type 0
 Shows Idle player.idle = Unit {0}
 Shows (Shared core) (player.shared s) = StandsFor core s
 Shows (State core) (player.state s) = core ≡ s
-Shows (Share sharing) (player.share p) = ShowsSharing (λ hub s. StandsFor hub.core s) (λ hub. hub.emission) sharing p
-Shows (StateIn sharing) (player.state_in p) = ShowsSharing (λ hub s. hub.core ≡ s) (λ hub. None) sharing p
+Shows (Share sharing) (player.share p) = ShowsSharing Emits sharing p
+Shows (StateIn sharing) (player.state_in p) = ShowsSharing (λ hub s. state_core_of hub ≡ s) sharing p
 Shows _ _ = ⊥
 
 -- the player before the first step, or the line of a flow that is itself refused

@@ -1,6 +1,6 @@
 -- What a script means: the text that it writes, or the fault that it is refused by.
 -- Begin with `meaning`: the checks of Checks, then the steps over the documented flow, each with its line.
-use Rattle.std.specs.Prelude.{ℕ, ℤ, List, [], ◌∷◌, ◌++◌, Result, Ok, Err}
+use Rattle.std.specs.Prelude.{ℕ, ℤ, List, [], ◌∷◌, ◌++◌, None, Result, Ok, Err}
 use Rattle.std.specs.Option.{option_map_or}
 use Rattle.flow_law.specs.SharedFlow.{config_fault, first_state}
 use Rattle.flow_script.specs.declared.fault.ScriptFault.{ScriptFault}
@@ -9,18 +9,19 @@ use Rattle.flow_script.specs.Heads as head
 use Rattle.flow_script.specs.Actions.{Action, on_flow, collect}
 use Rattle.flow_script.specs.Checks.{result_map, read_script}
 use Rattle.flow_script.specs.Lines.{lined, refusal_text, share_fault_text, collection_text}
-use Rattle.flow_sharing.specs.declared.report.ShareFault.TheVariants.{Chain, Flow}
+use Rattle.flow_law.specs.declared.report.ShareFault.TheVariants.{Chain, Flow}
 use Rattle.flow_sharing.specs.ShareIn.{share_config}
+use Rattle.flow_law.specs.declared.states.EmittingFlow.{EmittingFlow}
 use Rattle.flow_law.specs.declared.states.SharedFlowState.{SharedFlowState}
 use Rattle.flow_law.specs.declared.states.StateFlowState.{StateFlowState}
 use Rattle.flow_law.specs.SharedHistory.{shared_flow}
+use Rattle.flow_law.specs.SharingFlows.{shared_reply, state_reply}
 use Rattle.flow_law.specs.StateFlow.{first_state_flow, state_flow}
 use Rattle.flow_script.specs.declared.script.FlowStep.{FlowStep}
 use Rattle.flow_script.specs.FlowMeaning.{Turn, flow_turn, without_call}
 use Rattle.flow_script.specs.Numbers.{Numbers, no_numbers}
 use Rattle.flow_script.specs.SharedMeaning.{plays_shared}
-use Rattle.flow_script.specs.SharingMeaning.{SharingPlay, first_sharing, sharing_step}
-use Rattle.flow_script.specs.SharingTurn.{shared_target, state_target}
+use Rattle.flow_script.specs.SharingMeaning.{SharingPlay, first_sharing, beside_emission, sharing_step}
 use Rattle.flow_script.specs.StateMeaning.{plays_state}
 
 -- ---- players
@@ -30,7 +31,7 @@ pub data Player : Type 0 where
   idle : Player
   shared : SharedFlowState ℤ → Player
   state : StateFlowState ℤ → Player
-  share : SharingPlay (SharedFlowState ℤ) → Player
+  share : SharingPlay (EmittingFlow ℤ) → Player
   state_in : SharingPlay (StateFlowState ℤ) → Player
 
 -- ---- steps
@@ -48,8 +49,8 @@ abbrev pub player_turn : FlowStep → Player → Numbers → Turn Player
 player_turn step idle n = without_call step idle n
 player_turn step (shared s) n = played_as shared (shared_turn step s n)
 player_turn step (state s) n = played_as state (state_turn step s n)
-player_turn step (share p) n = played_as share (sharing_step shared_turn shared_target step p n)
-player_turn step (state_in p) n = played_as state_in (sharing_step state_turn state_target step p n)
+player_turn step (share p) n = played_as share (sharing_step (beside_emission shared_turn) shared_reply step p n)
+player_turn step (state_in p) n = played_as state_in (sharing_step state_turn state_reply step p n)
 
 -- a collection is about no flow
 abbrev pub turn : Action → Player → Numbers → Turn Player
@@ -70,7 +71,7 @@ player_of (head.state_flow initial limit) = Ok (state (first_state_flow limit in
 player_of (shared_chain (Err fault) started replay limit) = Err (share_fault_text (Chain fault))
 player_of (shared_chain (Ok chain) started replay limit) =
     option_map_or (λ fault. Err (share_fault_text (Flow fault))) (config_fault (share_config replay limit))
-    (Ok (share (first_sharing chain.run started (first_state (share_config replay limit)))))
+    (Ok (share (first_sharing chain.run started (record { flow = first_state (share_config replay limit); waiting = None }))))
 player_of (state_chain (Err fault) started initial limit) = Err (share_fault_text (Chain fault))
 player_of (state_chain (Ok chain) started initial limit) = Ok (state_in (first_sharing chain.run started (first_state_flow limit initial)))
 

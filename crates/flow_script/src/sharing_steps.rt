@@ -20,7 +20,7 @@ fn turn<H: ScriptHub>(
     text: &mut String,
     now: u64,
 ) -> Result<(), ScriptFault>
-    ensures plays { OnOk result (Follows (ShowsSharing H.stands H.waiting) (turn_at H.target now)
+    ensures plays { OnOk result (Follows (ShowsSharing H.stands) (turn_at H.reply now)
         sharing.old sharing.new numbers.now numbers.now text.old text.new) }
     ensures fault { IfErr result (λ fault. fault ≡ ScriptFault.OutOfMemory) }
 {
@@ -54,7 +54,7 @@ fn read<H: ScriptHub>(
     text: &mut String,
     step: FlowStep,
 ) -> Result<(), ScriptFault>
-    ensures plays { OnOk result (Follows (ShowsSharing H.stands H.waiting) (meaning.reading H.flow step)
+    ensures plays { OnOk result (Follows (ShowsSharing H.stands) (meaning.reading H.flow step)
         sharing.old sharing.new numbers.old numbers.new text.old text.new) }
     ensures fault { IfErr result (λ fault. fault ≡ ScriptFault.OutOfMemory) }
 {
@@ -72,7 +72,7 @@ pub fn sharing_step<H: ScriptHub>(
     text: &mut String,
     step: FlowStep,
 ) -> Result<(), ScriptFault>
-    ensures plays { OnOk result (Follows (ShowsSharing H.stands H.waiting) (documented_step H.flow H.target step)
+    ensures plays { OnOk result (Follows (ShowsSharing H.stands) (documented_step H.flow H.reply step)
         sharing.old sharing.new numbers.old numbers.new text.old text.new) }
     ensures fault { IfErr result (λ fault. fault ≡ ScriptFault.OutOfMemory) }
 {

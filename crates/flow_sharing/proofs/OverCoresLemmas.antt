@@ -16,7 +16,8 @@ use Rattle.flow_law.specs.Standing.{StandsFor}
 use Rattle.flow_law.specs.Steps.{Takes}
 use Rattle.flow_law.specs.SharingCalls.{HubCall, HubAnswer, counts, puts, polls, cancels, HubStep, CallDoes, with_hub}
 use Rattle.flow_law.specs.SharingTurn.{turn_steps}
-use Rattle.flow_law.specs.SharingFlows.{EmittingFlow, still_waits, cancelled, emitted, SharedDoes, state_reply, StateDoes}
+use Rattle.flow_law.specs.declared.states.EmittingFlow.{EmittingFlow}
+use Rattle.flow_law.specs.SharingFlows.{still_waits, cancelled, emitted, SharedDoes, state_reply, StateDoes}
 use Rattle.flow_law.proofs.TurnLemmas.{turn-along}
 use Rattle.flow_law.proofs.SharingFlowLemmas.{shared-turn, state-turn}
 use Rattle.flow_law.proofs.ReplyLemmas.{replies_cases}

@@ -6,7 +6,8 @@ use Rattle.flow_law.specs.Standing.{StandsFor}
 use Rattle.flow_law.specs.Steps.{Takes}
 use Rattle.flow_law.specs.SharingCalls.{ChainAndHub, with_hub, CallDoes, HubStep}
 use Rattle.flow_law.specs.SharingTurn.{SharingState, Turned, turn_steps}
-use Rattle.flow_law.specs.SharingFlows.{EmittingFlow, shared_reply, SharedDoes, state_reply, StateDoes, IsNotBusy, IsAtOnce, DocumentedTurn}
+use Rattle.flow_law.specs.declared.states.EmittingFlow.{EmittingFlow}
+use Rattle.flow_law.specs.SharingFlows.{shared_reply, SharedDoes, state_reply, StateDoes, IsNotBusy, IsAtOnce, DocumentedTurn}
 use Rattle.flow_sharing.specs.declared.core_hub.CoreHub.{CoreHub}
 use Rattle.flow_sharing.specs.declared.state_hub.StateHub.{StateHub}
 use Rattle.flow_sharing.specs.CoreHub.{CoreHubDoes, is_waiting, emission_of, core_of}
