@@ -1,7 +1,11 @@
 //! A chain of whole numbers as a tree: sources at its leaves, operators above them.
-ghost use Rattle.std.specs.Prelude.{◌≡◌, ◌≤◌};
+ghost use Rattle.std.specs.Prelude.{◌≡◌, ◌≤◌, ℤ, true, false};
+ghost use Rattle.flow_law.specs.ChainRun.{ChainRun};
 ghost use Rattle.flow_cold.specs.declared.script_chain.node.Node.{size-Node};
 ghost use Rattle.flow_operators.specs.Asking.{AskGives, IsFinal};
+ghost use Rattle.flow_operators.specs.Behind.{Leaves};
+ghost use Rattle.flow_cold.specs.OperatorAsks.{after_operator};
+ghost use Rattle.flow_cold.specs.Operators.{is_over, operator_whole, stage_rest};
 ghost use Rattle.flow_cold.specs.ScriptChain.{IsNodeOver, NodeAsksBehind, node_depth, node_rest, node_whole};
 
 use crate::script_chain::operator::Operator;
@@ -26,6 +30,7 @@ pub enum Node {
 }
 
 /// Gives the chain's next answer.
+#[cycle(asking)]
 pub fn ask_node(node: &mut Node) -> Asked<i64>
     ensures whole { node_whole node.new ≡ node_whole node.old }
     ensures gives { AskGives (node_rest node.old) result (node_rest node.new) }
@@ -44,15 +49,7 @@ pub fn ask_node(node: &mut Node) -> Asked<i64>
             if stage.is_over() {
                 return Asked::End;
             }
-            loop {
-                if let Some(answer) = stage.first() {
-                    return answer;
-                }
-                let asked = ask_node(upstream);
-                if let Some(answer) = stage.on_answer(asked) {
-                    return answer;
-                }
-            }
+            ask_stage(upstream, stage)
         }
         Node::Zip(left, right, pairing) => {
             if pairing.ended {
@@ -67,6 +64,32 @@ pub fn ask_node(node: &mut Node) -> Asked<i64>
             };
             let asked = ask_node(right);
             pairing.on_right(first, asked)
+        }
+    }
+}
+
+/// Gives the next answer of an operator that is not over: its upstream is asked until there is one.
+#[cycle(asking)]
+fn ask_stage(upstream: &mut Node, stage: &mut Stage) -> Asked<i64>
+    requires { is_over stage.old ≡ false }
+    ensures whole { node_whole upstream.new ≡ node_whole upstream.old }
+    ensures operator { (r : ChainRun ℤ)
+        → operator_whole stage.new.operator r ≡ operator_whole stage.old.operator r }
+    ensures gives { AskGives (stage_rest stage.old (node_rest upstream.old)) result
+        (stage_rest stage.new (node_rest upstream.new)) }
+    ensures over { IsFinal result → stage.new.ended ≡ true }
+    ensures behind { Leaves (after_operator stage.old.operator (node_rest upstream.old)) result
+        (node_rest upstream.new) }
+    ensures depth { node_depth upstream.new ≡ node_depth upstream.old }
+    ensures size { size-Node upstream.new ≤ size-Node upstream.old }
+{
+    loop {
+        if let Some(answer) = stage.first() {
+            return answer;
+        }
+        let asked = ask_node(upstream);
+        if let Some(answer) = stage.on_answer(asked) {
+            return answer;
         }
     }
 }
