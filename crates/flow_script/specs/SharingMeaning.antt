@@ -3,8 +3,8 @@
 use Rattle.std.specs.Prelude.{ℕ, ℤ, Bool, true, false, if◌then◌else◌}
 use Rattle.flow_law.specs.declared.sharing.Started.{Started}
 use Rattle.flow_law.specs.ChainRun.{ChainRun}
-use Rattle.flow_script.specs.declared.script.FlowStep.{FlowStep}
-use Rattle.flow_script.specs.declared.script.FlowStep.TheVariants as step
+use Rattle.flow_format.specs.declared.script.FlowStep.{FlowStep}
+use Rattle.flow_format.specs.declared.script.FlowStep.TheVariants as step
 use Rattle.flow_script.specs.FlowMeaning.{Turn, without_call}
 use Rattle.flow_script.specs.Lines.{turn_text}
 use Rattle.flow_script.specs.Numbers.{Numbers}

@@ -1,16 +1,15 @@
 //! The flows of sharings, as scripts play on them.
 ghost use Rattle.std.specs.Prelude.{◌≡◌, ℕ, Option, OnOk, IfErr};
-ghost use Rattle.flow_script.specs.declared.script.FlowStep.{FlowStep};
+ghost use Rattle.flow_format.specs.declared.script.FlowStep.{FlowStep};
 ghost use Rattle.flow_script.specs.Numbers.{Numbers};
 ghost use Rattle.flow_script.specs.FlowMeaning.{Turn};
 ghost use Rattle.flow_script.specs.SharingTurn.{Target};
 ghost use Rattle.flow_script.specs.Shown.{Follows};
 ghost use Rattle.flow_script.specs.Sharings.{TurnsAsDocumented};
 
-use crate::fault::ScriptFault;
 use crate::flow_steps::flow_step;
 use crate::numbers::Numbers;
-use crate::script::FlowStep;
+use flow_format::{FlowStep, ScriptFault};
 use flow_law::{SharedFlowState, StateFlowState};
 use flow_sharing::{CoreHub, Hub, StateHub, law_turn_over_core, law_turn_over_state_core};
 use std::alloc::Global;
