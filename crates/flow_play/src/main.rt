@@ -6,7 +6,7 @@ mod program;
 mod tests;
 
 use flow_script::Watched;
-use program::{run, usage};
+use program::{refuse_arguments, run};
 use std::env::args;
 use std::io;
 use std::process::ExitCode;
@@ -22,7 +22,7 @@ fn main(rt: HostRuntime) -> ExitCode {
     let mut output = Watched::new(rt.stdout());
     let status = match arguments(&rt) {
         Ok(words) => run(rt.alloc(), words.as_slice(), &mut input, &mut output),
-        Err(_) => usage(&mut output),
+        Err(error) => refuse_arguments(&mut output, error.kind()),
     };
     ExitCode::from(status)
 }

@@ -2,7 +2,7 @@
 use Rattle.std.proofs.Common.{◌≡◌, ℕ, ℤ, true, List, ◌++◌, Option, Some, refl, sym, ap, subst, ◌∙◌}
 use Rattle.flow_law.specs.History.{Kind}
 use Rattle.flow_law.specs.Standing.{Documents}
-use Rattle.flow_script.specs.declared.script.FlowStep.{FlowStep}
+use Rattle.flow_format.specs.declared.script.FlowStep.{FlowStep}
 use Rattle.flow_script.specs.FlowMeaning.{Played, HasLines, IsLine, given, turn_by, with_number}
 use Rattle.flow_script.specs.Lines.{lined}
 use Rattle.flow_script.specs.Numbers.{Numbers}

@@ -1,7 +1,7 @@
 -- Lines that are written step by step.
 use Rattle.std.proofs.Common.{◌≡◌, ℕ, ℤ, Result, Ok, Err, OnOk, String, Global, List, [], ◌∷◌, ◌++◌, length, refl, sym, ap, ◌∙◌, append_assoc, arith}
-use Rattle.flow_script.specs.declared.script.Step.{Step}
-use Rattle.flow_script.specs.Actions.{action_of, actions_of}
+use Rattle.flow_format.specs.declared.script.Step.{Step}
+use Rattle.flow_format.specs.Actions.{action_of, actions_of}
 use Rattle.flow_script.specs.Lines.{lined}
 use Rattle.flow_script.specs.Numbers.{Numbers}
 use Rattle.flow_script.specs.ScriptMeaning.{Player, idle, shared, state, share, state_in, state_turn, player_turn, turn, lines_from}
@@ -9,7 +9,7 @@ use Rattle.flow_script.specs.Shown.{Follows}
 use Rattle.flow_script.specs.Players.{Shows}
 use Rattle.flow_script.specs.declared.numbers.Numbers.{Numbers as Kept}
 use Rattle.flow_script.specs.declared.player.Player.TheVariants.{State}
-use Rattle.flow_script.specs.declared.script.FlowStep.{FlowStep}
+use Rattle.flow_format.specs.declared.script.FlowStep.{FlowStep}
 use Rattle.flow_core.specs.declared.state.StateCore.{StateCore}
 
 -- where what is written so far and what the rest will write is all, so it is one step later

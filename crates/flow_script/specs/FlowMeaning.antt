@@ -6,8 +6,8 @@ use Rattle.flow_law.specs.declared.fault.FlowFault.{FlowFault}
 use Rattle.flow_law.specs.declared.outcome.Next.{Next}
 use Rattle.flow_law.specs.History.{Kind}
 use Rattle.flow_law.specs.Lawful.{number_in}
-use Rattle.flow_script.specs.declared.script.FlowStep.{FlowStep}
-use Rattle.flow_script.specs.declared.script.FlowStep.TheVariants as step
+use Rattle.flow_format.specs.declared.script.FlowStep.{FlowStep}
+use Rattle.flow_format.specs.declared.script.FlowStep.TheVariants as step
 use Rattle.flow_script.specs.Lines.{not_allowed, refusal_text, test_text, next_text, list_text}
 use Rattle.flow_script.specs.Memory.{IsToldFlowFault}
 use Rattle.flow_script.specs.Numbers.{Numbers, number_at, with_emission, with_subscriber}

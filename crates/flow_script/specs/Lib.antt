@@ -1,12 +1,3 @@
-pub mod Results
-pub mod Format
-pub mod SourceFormat
-pub mod ChainFormat
-pub mod Heads
-pub mod Actions
-pub mod Checks
-pub mod Names
-pub mod Chains
 pub mod Lines
 pub mod Memory
 pub mod Numbers
@@ -20,4 +11,3 @@ pub mod Watching
 pub mod Shown
 pub mod Sharings
 pub mod Players
-pub mod HeadViews

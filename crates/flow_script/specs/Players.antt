@@ -10,9 +10,9 @@ use Rattle.flow_sharing.specs.OverCores.{Emits}
 use Rattle.flow_sharing.specs.StateHub.{state_core_of}
 use Rattle.flow_script.specs.declared.player.Player.{Player}
 use Rattle.flow_script.specs.declared.player.Player.TheVariants.{Idle, Shared, State, Share, StateIn}
-use Rattle.flow_script.specs.ChainFormat.{BuiltChain}
-use Rattle.flow_script.specs.Chains.{build_of}
-use Rattle.flow_script.specs.Heads.{Head}
+use Rattle.flow_format.specs.ChainFormat.{BuiltChain}
+use Rattle.flow_format.specs.Chains.{build_of}
+use Rattle.flow_format.specs.Heads.{Head}
 use Rattle.flow_script.specs.Lines.{lined, share_fault_text}
 use Rattle.flow_script.specs.ScriptMeaning.{player_of}
 use Rattle.flow_script.specs.ScriptMeaning as player

@@ -3,9 +3,9 @@
 use Rattle.std.specs.Prelude.{◌≡◌, ◌⊎◌, ◌≤◌, ◌+◌, ℕ, Bool, true, false, not, ◌&&◌, ◌==◌, List, length, take, Option, Result, Ok, Err, IfSome, String, string_bytes}
 use Rattle.std.specs.declared.alloc.Global.{Global}
 use Rattle.std.specs.Io.KnownBytes.{Appends, Keeps, Consumes}
-use Rattle.flow_script.specs.declared.fault.ScriptFault.{ScriptFault}
-use Rattle.flow_script.specs.declared.fault.ScriptFault.TheVariants.{OutOfMemory, ReadFailed, WriteFailed, NotJson, BadVersion, BadShape, UnknownName, DuplicateName, TooLarge}
-use Rattle.flow_script.specs.Checks.{result_map, most_bytes}
+use Rattle.flow_format.specs.declared.fault.ScriptFault.{ScriptFault}
+use Rattle.flow_format.specs.declared.fault.ScriptFault.TheVariants.{OutOfMemory, ReadFailed, WriteFailed, NotJson, BadVersion, BadShape, UnknownName, DuplicateName, TooLarge}
+use Rattle.flow_format.specs.Checks.{result_map, most_bytes}
 use Rattle.flow_script.specs.ScriptMeaning.{meaning}
 
 -- ---- readers and writers that failed
@@ -26,9 +26,13 @@ abbrev pub is_read_failed : {A : Type 0} → Result A ScriptFault → Bool
 is_read_failed (Ok a) = false
 is_read_failed (Err fault) = read_failed fault
 
+abbrev pub write_failed : ScriptFault → Bool
+write_failed WriteFailed = true
+write_failed _ = false
+
 abbrev pub is_write_failed : {A : Type 0} → Result A ScriptFault → Bool
-is_write_failed (Err WriteFailed) = true
-is_write_failed _ = false
+is_write_failed (Ok a) = false
+is_write_failed (Err fault) = write_failed fault
 
 -- ---- runs
 

@@ -3,11 +3,11 @@
 use Rattle.std.specs.Prelude.{ℕ, ℤ, List, [], ◌∷◌, ◌++◌, None, Result, Ok, Err}
 use Rattle.std.specs.Option.{option_map_or}
 use Rattle.flow_law.specs.SharedFlow.{config_fault, first_state}
-use Rattle.flow_script.specs.declared.fault.ScriptFault.{ScriptFault}
-use Rattle.flow_script.specs.Heads.{Head, no_flow, shared_chain, state_chain}
-use Rattle.flow_script.specs.Heads as head
-use Rattle.flow_script.specs.Actions.{Action, on_flow, collect}
-use Rattle.flow_script.specs.Checks.{result_map, read_script}
+use Rattle.flow_format.specs.declared.fault.ScriptFault.{ScriptFault}
+use Rattle.flow_format.specs.Heads.{Head, no_flow, shared_chain, state_chain}
+use Rattle.flow_format.specs.Heads as head
+use Rattle.flow_format.specs.Actions.{Action, on_flow, collect}
+use Rattle.flow_format.specs.Checks.{result_map, read_script}
 use Rattle.flow_script.specs.Lines.{lined, refusal_text, share_fault_text, collection_text}
 use Rattle.flow_law.specs.declared.report.ShareFault.TheVariants.{Chain, Flow}
 use Rattle.flow_sharing.specs.ShareIn.{share_config}
@@ -17,7 +17,7 @@ use Rattle.flow_law.specs.declared.states.StateFlowState.{StateFlowState}
 use Rattle.flow_law.specs.SharedHistory.{shared_flow}
 use Rattle.flow_law.specs.SharingFlows.{shared_reply, state_reply}
 use Rattle.flow_law.specs.StateFlow.{first_state_flow, state_flow}
-use Rattle.flow_script.specs.declared.script.FlowStep.{FlowStep}
+use Rattle.flow_format.specs.declared.script.FlowStep.{FlowStep}
 use Rattle.flow_script.specs.FlowMeaning.{Turn, flow_turn, without_call}
 use Rattle.flow_script.specs.Numbers.{Numbers, no_numbers}
 use Rattle.flow_script.specs.SharedMeaning.{plays_shared}

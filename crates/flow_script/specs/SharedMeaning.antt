@@ -5,8 +5,8 @@ use Rattle.flow_law.specs.declared.call.SharedCall.TheVariants as call
 use Rattle.flow_law.specs.declared.call.SharedReply.{SharedReply}
 use Rattle.flow_law.specs.declared.states.SharedFlowState.{SharedFlowState}
 use Rattle.flow_law.specs.SharedHistory.{answer_to}
-use Rattle.flow_script.specs.declared.script.FlowStep.{FlowStep}
-use Rattle.flow_script.specs.declared.script.FlowStep.TheVariants as step
+use Rattle.flow_format.specs.declared.script.FlowStep.{FlowStep}
+use Rattle.flow_format.specs.declared.script.FlowStep.TheVariants as step
 use Rattle.flow_script.specs.FlowMeaning.{Played}
 use Rattle.flow_script.specs.Lines.{line_of}
 use Rattle.flow_script.specs.Numbers.{number_at}

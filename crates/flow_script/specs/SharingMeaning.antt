@@ -10,8 +10,8 @@ use Rattle.flow_law.specs.SharingCalls.{HubCall, HubAnswer, ChainAndHub, with_hu
 use Rattle.flow_law.specs.SharingFlows as sharing
 use Rattle.flow_law.specs.SharingTurn.{SharingState, at_rest}
 use Rattle.flow_law.specs.Steps.{After}
-use Rattle.flow_script.specs.declared.script.FlowStep.{FlowStep}
-use Rattle.flow_script.specs.declared.script.FlowStep.TheVariants as step
+use Rattle.flow_format.specs.declared.script.FlowStep.{FlowStep}
+use Rattle.flow_format.specs.declared.script.FlowStep.TheVariants as step
 use Rattle.flow_script.specs.FlowMeaning.{Turn, without_call}
 use Rattle.flow_script.specs.Lines.{turn_text}
 use Rattle.flow_script.specs.Numbers.{Numbers}

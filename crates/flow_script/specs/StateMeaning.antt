@@ -10,8 +10,8 @@ use Rattle.flow_law.specs.declared.call.StateReply.{StateReply}
 use Rattle.flow_law.specs.declared.call.StateReply.TheVariants as reply
 use Rattle.flow_law.specs.declared.states.StateFlowState.{StateFlowState}
 use Rattle.flow_law.specs.StateFlow.{last_of, is_exhausted}
-use Rattle.flow_script.specs.declared.script.FlowStep.{FlowStep}
-use Rattle.flow_script.specs.declared.script.FlowStep.TheVariants as step
+use Rattle.flow_format.specs.declared.script.FlowStep.{FlowStep}
+use Rattle.flow_format.specs.declared.script.FlowStep.TheVariants as step
 use Rattle.flow_script.specs.FlowMeaning.{Played}
 use Rattle.flow_script.specs.Lines.{state_line_of}
 

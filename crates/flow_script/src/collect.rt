@@ -1,13 +1,12 @@
 //! Collecting a chain, and the line of that.
 ghost use Rattle.std.specs.Prelude.{◌≡◌, ◌++◌, Ok, OnOk, IfErr, string_bytes};
-ghost use Rattle.flow_script.specs.Chains.{build_of, built_of};
+ghost use Rattle.flow_format.specs.Chains.{build_of, built_of};
 ghost use Rattle.flow_script.specs.Lines as lines;
 
-use crate::fault::ScriptFault;
 use crate::lines::add_items;
 use crate::memory::ends_for_memory;
-use crate::script::Build;
 use flow_cold::{ChainFault, End, ScriptChain, collect_all};
+use flow_format::{Build, ScriptFault};
 use std::alloc::{AllocError, Global};
 
 pub fn add_chain_fault(text: &mut String, fault: ChainFault) -> Result<(), AllocError>

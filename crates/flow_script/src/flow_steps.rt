@@ -3,13 +3,12 @@ ghost use Rattle.std.specs.Prelude.{◌≡◌, OnOk, IfErr};
 ghost use Rattle.flow_script.specs.FlowMeaning.{flow_turn};
 ghost use Rattle.flow_script.specs.Shown.{Follows};
 
-use crate::fault::ScriptFault;
 use crate::lines::{
     add_count, add_line, add_line_without_call, add_list, add_next, add_refusal, add_test,
 };
 use crate::numbers::Numbers;
-use crate::script::FlowStep;
 use crate::script_core::ScriptCore;
+use flow_format::{FlowStep, ScriptFault};
 
 fn try_emit<F: ScriptCore>(
     core: &mut F,

@@ -4,25 +4,13 @@
 //! that is refused writes nothing, and the refusal names the step.
 #![tactic(auto)]
 
-mod chain_words;
 mod collect;
-mod fault;
 mod flow_steps;
 mod lines;
-mod members;
 mod memory;
-mod names;
 mod numbers;
 mod player;
 mod playing;
-mod read;
-mod read_chain;
-mod read_head;
-mod read_op;
-mod read_share;
-mod read_source;
-mod read_step;
-mod script;
 mod script_core;
 mod script_hub;
 mod share_lines;
@@ -30,11 +18,10 @@ mod shared_calls;
 mod sharing_steps;
 mod state_calls;
 mod transfer;
-mod verb;
 mod watched;
 
-pub use fault::ScriptFault;
+pub use flow_format::{Build, FlowStep, Script, ScriptFault, ScriptFlow, Step, read_script};
+pub use player::ScriptLines;
 pub use playing::play;
-pub use read::read_script;
-pub use script::{Build, FlowStep, Script, ScriptFlow, Step};
+pub use transfer::write_all;
 pub use watched::Watched;

@@ -5,9 +5,8 @@ ghost use Rattle.flow_script.specs.FlowMeaning.{line_without_call};
 ghost use Rattle.flow_script.specs.Lines as lines;
 ghost use Rattle.flow_script.specs.Memory.{IsToldFlowFault};
 
-use crate::fault::ScriptFault;
 use crate::memory::is_flow_memory;
-use crate::script::FlowStep;
+use flow_format::{FlowStep, ScriptFault};
 use flow_law::{FlowFault, Next};
 use std::alloc::AllocError;
 

@@ -4,8 +4,8 @@ ghost use Rattle.flow_core.specs.SubId.{number_of};
 ghost use Rattle.flow_script.specs.Numbers.{no_numbers, number_at, with_emission, with_subscriber};
 ghost use Rattle.flow_script.specs.Shown.{numbers_of};
 
-use crate::fault::ScriptFault;
 use flow_core::SubId;
+use flow_format::ScriptFault;
 use std::alloc::Global;
 
 /// What the names of a script stand for, each kind in the order of introduction.

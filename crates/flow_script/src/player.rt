@@ -1,22 +1,21 @@
 //! Playing the steps of a script.
 ghost use Rattle.std.specs.Prelude.{◌≡◌, OnOk, IfOk, IfErr, MatchResult, Err, string_bytes};
-ghost use Rattle.flow_script.specs.Actions.{action_of, actions_of, head_of_flow};
-ghost use Rattle.flow_script.specs.Chains.{build_of, built_of};
-ghost use Rattle.flow_script.specs.Heads.{Head, shared_chain, state_chain};
+ghost use Rattle.flow_format.specs.Actions.{action_of, actions_of, head_of_flow};
+ghost use Rattle.flow_format.specs.Chains.{build_of, built_of};
+ghost use Rattle.flow_format.specs.Heads.{Head, shared_chain, state_chain};
 ghost use Rattle.flow_script.specs.ScriptMeaning as meaning;
 ghost use Rattle.flow_script.specs.Players.{Begins, Makes, Rewinds, Shows};
 ghost use Rattle.flow_script.specs.Shown.{Follows};
 
 use crate::collect::add_collection;
-use crate::fault::ScriptFault;
 use crate::flow_steps::flow_step;
 use crate::lines::{add_line_without_call, add_refusal};
 use crate::numbers::Numbers;
-use crate::script::{Build, FlowStep, Script, ScriptFlow, Step};
 use crate::share_lines::add_share_fault;
 use crate::sharing_steps::sharing_step;
 use flow_cold::{Cold, ScriptChain};
 use flow_core::{SharedCore, StateCore};
+use flow_format::{Build, FlowStep, Script, ScriptFault, ScriptFlow, Step};
 use flow_law::Started;
 use flow_sharing::{CoreHub, ShareFault, Sharing, StateHub, share_in, state_in};
 use std::alloc::Global;
@@ -173,9 +172,14 @@ impl Player {
     }
 }
 
-impl Script {
+/// What a script that was read writes.
+pub trait ScriptLines {
+    fn lines(self, alloc: Global) -> Result<String, ScriptFault>;
+}
+
+impl ScriptLines for Script {
     /// The lines that the steps write, each ended by a line feed. Where the flow itself is refused, its line is the only one.
-    pub fn lines(self, alloc: Global) -> Result<String, ScriptFault>
+    fn lines(self, alloc: Global) -> Result<String, ScriptFault>
         ensures text { IfOk result (λ text. string_bytes text ≡ meaning.text_of (head_of_flow self.flow) (actions_of self.steps.items)) }
         ensures fault { IfErr result (λ fault. fault ≡ ScriptFault.OutOfMemory) }
     {

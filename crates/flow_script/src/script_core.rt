@@ -5,10 +5,9 @@ ghost use Rattle.flow_law.specs.Standing.{Documents};
 ghost use Rattle.flow_script.specs.FlowMeaning.{Played, HasLines, own_turn};
 ghost use Rattle.flow_script.specs.Shown.{Follows};
 
-use crate::fault::ScriptFault;
 use crate::numbers::Numbers;
-use crate::script::FlowStep;
 use flow_core::FlowCore;
+use flow_format::{FlowStep, ScriptFault};
 use flow_law::FlowFault;
 
 /// A flow for one thread that scripts play on.

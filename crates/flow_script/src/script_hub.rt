@@ -2,16 +2,15 @@
 ghost use Rattle.std.specs.Prelude.{◌≡◌, ℤ, OnOk, IfErr};
 ghost use Rattle.flow_law.specs.SharingCalls.{HubCall, HubAnswer};
 ghost use Rattle.flow_law.specs.Steps.{After};
-ghost use Rattle.flow_script.specs.declared.script.FlowStep.{FlowStep};
+ghost use Rattle.flow_format.specs.declared.script.FlowStep.{FlowStep};
 ghost use Rattle.flow_script.specs.Numbers.{Numbers};
 ghost use Rattle.flow_script.specs.FlowMeaning.{Turn};
 ghost use Rattle.flow_script.specs.Shown.{Follows};
 ghost use Rattle.flow_script.specs.Sharings.{TurnsAsDocumented};
 
-use crate::fault::ScriptFault;
 use crate::flow_steps::flow_step;
 use crate::numbers::Numbers;
-use crate::script::FlowStep;
+use flow_format::{FlowStep, ScriptFault};
 use flow_law::{EmittingFlow, StateFlowState};
 use flow_sharing::{CoreHub, Hub, StateHub, law_turn_over_core, law_turn_over_state_core};
 use std::alloc::Global;

@@ -4,9 +4,9 @@ ghost use Rattle.flow_script.specs.Lines as lines;
 ghost use Rattle.flow_script.specs.Memory.{IsToldFault};
 
 use crate::collect::add_chain_fault;
-use crate::fault::ScriptFault;
 use crate::lines::add_flow_fault;
 use crate::memory::is_memory;
+use flow_format::ScriptFault;
 use flow_law::Command;
 use flow_sharing::{Event, Report, ShareFault};
 use std::alloc::AllocError;

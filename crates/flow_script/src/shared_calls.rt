@@ -6,12 +6,11 @@ ghost use Rattle.flow_script.specs.FlowMeaning.{own_turn};
 ghost use Rattle.flow_script.specs.SharedMeaning.{plays_shared};
 ghost use Rattle.flow_script.specs.Shown.{Follows};
 
-use crate::fault::ScriptFault;
 use crate::lines::{add_line, add_line_without_call, add_refusal, add_test, add_wait};
 use crate::numbers::Numbers;
-use crate::script::FlowStep;
 use crate::script_core::ScriptCore;
 use flow_core::SharedCore;
+use flow_format::{FlowStep, ScriptFault};
 use flow_law::{Emit, FlowFault};
 
 fn emit(

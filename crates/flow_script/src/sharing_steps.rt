@@ -5,13 +5,12 @@ ghost use Rattle.flow_script.specs.SharingMeaning as meaning;
 ghost use Rattle.flow_script.specs.Shown.{Follows};
 ghost use Rattle.flow_script.specs.Sharings.{ShowsSharing};
 
-use crate::fault::ScriptFault;
 use crate::lines::add_line_without_call;
 use crate::numbers::Numbers;
-use crate::script::FlowStep;
 use crate::script_hub::ScriptHub;
 use crate::share_lines::{add_report, add_share_fault};
 use flow_cold::ScriptChain;
+use flow_format::{FlowStep, ScriptFault};
 use flow_sharing::Sharing;
 
 fn turn<H: ScriptHub>(

@@ -5,12 +5,11 @@ ghost use Rattle.flow_script.specs.FlowMeaning.{own_turn};
 ghost use Rattle.flow_script.specs.StateMeaning.{IsState, plays_state};
 ghost use Rattle.flow_script.specs.Shown.{Follows};
 
-use crate::fault::ScriptFault;
 use crate::lines::{add_line, add_line_without_call, add_refusal, add_test, add_value};
 use crate::numbers::Numbers;
-use crate::script::FlowStep;
 use crate::script_core::ScriptCore;
 use flow_core::StateCore;
+use flow_format::{FlowStep, ScriptFault};
 use flow_law::FlowFault;
 
 fn value(core: &StateCore<i64>, numbers: &Numbers, text: &mut String) -> Result<(), ScriptFault>

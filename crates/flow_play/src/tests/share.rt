@@ -30,82 +30,20 @@ fn a_chain_runs_while_it_has_subscribers(rt: HostRuntime) -> Result<(), Fail> {
 
 #[test]
 fn a_slow_subscriber_holds_the_chain(rt: HostRuntime) -> Result<(), Fail> {
-    plays(
-        &rt,
+    let mut script = String::from_str(
         rt.alloc(),
-        r#""kind":"share","chain":{"from":{"range":[1,66]},"ops":[]},"started":"eagerly","replay":0"#,
-        &[
-            (r#""do":"subscribe","name":"a""#, "subscribed"),
-            (r#""do":"turn","at":0"#, "start put"),
-            (r#""do":"turn","at":1"#, "keep put"),
-            (r#""do":"turn","at":2"#, "keep put"),
-            (r#""do":"turn","at":3"#, "keep put"),
-            (r#""do":"turn","at":4"#, "keep put"),
-            (r#""do":"turn","at":5"#, "keep put"),
-            (r#""do":"turn","at":6"#, "keep put"),
-            (r#""do":"turn","at":7"#, "keep put"),
-            (r#""do":"turn","at":8"#, "keep put"),
-            (r#""do":"turn","at":9"#, "keep put"),
-            (r#""do":"turn","at":10"#, "keep put"),
-            (r#""do":"turn","at":11"#, "keep put"),
-            (r#""do":"turn","at":12"#, "keep put"),
-            (r#""do":"turn","at":13"#, "keep put"),
-            (r#""do":"turn","at":14"#, "keep put"),
-            (r#""do":"turn","at":15"#, "keep put"),
-            (r#""do":"turn","at":16"#, "keep put"),
-            (r#""do":"turn","at":17"#, "keep put"),
-            (r#""do":"turn","at":18"#, "keep put"),
-            (r#""do":"turn","at":19"#, "keep put"),
-            (r#""do":"turn","at":20"#, "keep put"),
-            (r#""do":"turn","at":21"#, "keep put"),
-            (r#""do":"turn","at":22"#, "keep put"),
-            (r#""do":"turn","at":23"#, "keep put"),
-            (r#""do":"turn","at":24"#, "keep put"),
-            (r#""do":"turn","at":25"#, "keep put"),
-            (r#""do":"turn","at":26"#, "keep put"),
-            (r#""do":"turn","at":27"#, "keep put"),
-            (r#""do":"turn","at":28"#, "keep put"),
-            (r#""do":"turn","at":29"#, "keep put"),
-            (r#""do":"turn","at":30"#, "keep put"),
-            (r#""do":"turn","at":31"#, "keep put"),
-            (r#""do":"turn","at":32"#, "keep put"),
-            (r#""do":"turn","at":33"#, "keep put"),
-            (r#""do":"turn","at":34"#, "keep put"),
-            (r#""do":"turn","at":35"#, "keep put"),
-            (r#""do":"turn","at":36"#, "keep put"),
-            (r#""do":"turn","at":37"#, "keep put"),
-            (r#""do":"turn","at":38"#, "keep put"),
-            (r#""do":"turn","at":39"#, "keep put"),
-            (r#""do":"turn","at":40"#, "keep put"),
-            (r#""do":"turn","at":41"#, "keep put"),
-            (r#""do":"turn","at":42"#, "keep put"),
-            (r#""do":"turn","at":43"#, "keep put"),
-            (r#""do":"turn","at":44"#, "keep put"),
-            (r#""do":"turn","at":45"#, "keep put"),
-            (r#""do":"turn","at":46"#, "keep put"),
-            (r#""do":"turn","at":47"#, "keep put"),
-            (r#""do":"turn","at":48"#, "keep put"),
-            (r#""do":"turn","at":49"#, "keep put"),
-            (r#""do":"turn","at":50"#, "keep put"),
-            (r#""do":"turn","at":51"#, "keep put"),
-            (r#""do":"turn","at":52"#, "keep put"),
-            (r#""do":"turn","at":53"#, "keep put"),
-            (r#""do":"turn","at":54"#, "keep put"),
-            (r#""do":"turn","at":55"#, "keep put"),
-            (r#""do":"turn","at":56"#, "keep put"),
-            (r#""do":"turn","at":57"#, "keep put"),
-            (r#""do":"turn","at":58"#, "keep put"),
-            (r#""do":"turn","at":59"#, "keep put"),
-            (r#""do":"turn","at":60"#, "keep put"),
-            (r#""do":"turn","at":61"#, "keep put"),
-            (r#""do":"turn","at":62"#, "keep put"),
-            (r#""do":"turn","at":63"#, "keep put"),
-            (r#""do":"turn","at":64"#, "keep queued"),
-            (r#""do":"turn","at":65"#, "keep waiting"),
-            (r#""do":"next","name":"a""#, "value 1"),
-            (r#""do":"turn","at":66"#, "keep queued"),
-        ],
-    )
+        r#"{"version":1,"flow":{"kind":"share","chain":{"from":{"range":[1,66]},"ops":[]},"started":"eagerly","replay":0},"steps":[{"do":"subscribe","name":"a"},{"do":"turn","at":0}"#,
+    )?;
+    let mut lines = String::from_str(rt.alloc(), "subscribed\nstart put\n")?;
+    for at in 1..64 {
+        write!(script, ",{{\"do\":\"turn\",\"at\":{at}}}")?;
+        lines.push_str("keep put\n")?;
+    }
+    script.push_str(
+        r#",{"do":"turn","at":64},{"do":"turn","at":65},{"do":"next","name":"a"},{"do":"turn","at":66}]}"#,
+    )?;
+    lines.push_str("keep queued\nkeep waiting\nvalue 1\nkeep queued\n")?;
+    expect(&rt, rt.alloc(), script.as_bytes(), 0, lines.as_str())
 }
 
 #[test]

@@ -1,6 +1,6 @@
 //! Readers and writers that give or take little, or fail.
 use crate::program::run;
-use flow_script::{Watched, read_script};
+use flow_script::{ScriptLines, Watched, read_script};
 use std::alloc::Global;
 use std::io;
 use std::io::{Read, Write};

@@ -1,5 +1,5 @@
 use Rattle.std.proofs.Common.{string_bytes, refl}
-use Rattle.flow_script.specs.declared.script.FlowStep.TheVariants as step
+use Rattle.flow_format.specs.declared.script.FlowStep.TheVariants as step
 use Rattle.flow_script.specs.Lines.{refusal_text}
 use Rattle.flow_script.specs.Shown.{numbers_of}
 use Rattle.flow_script.proofs.CallLemmas.{tells}

@@ -1,8 +1,8 @@
 use Rattle.std.proofs.Common.{rules, OnOk, ◌≡◌, ap, subst, sym, w64, ◌∙◌}
 use Rattle.std.proofs.Math.Facts.{to_z-of_z}
 use mir.Val.{to_z, of_z}
-use Rattle.flow_script.specs.declared.script.FlowStep.{FlowStep}
-use Rattle.flow_script.specs.declared.script.FlowStep.TheVariants as step
+use Rattle.flow_format.specs.declared.script.FlowStep.{FlowStep}
+use Rattle.flow_format.specs.declared.script.FlowStep.TheVariants as step
 use Rattle.flow_script.specs.FlowMeaning.{flow_turn}
 use Rattle.flow_script.specs.Shown.{Follows}
 use Rattle.flow_script.proofs.flow_steps.flow_step.Goals as goal

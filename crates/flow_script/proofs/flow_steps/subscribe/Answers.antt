@@ -1,7 +1,7 @@
 use Rattle.std.proofs.Common.{[], string_bytes, codes, refl, sym, ap, ◌∙◌}
 use Rattle.flow_core.specs.SubId.{number_of}
 use Rattle.flow_script.specs.Numbers.{with_subscriber}
-use Rattle.flow_script.specs.declared.script.FlowStep.TheVariants as step
+use Rattle.flow_format.specs.declared.script.FlowStep.TheVariants as step
 use Rattle.flow_script.specs.Lines.{refusal_text}
 use Rattle.flow_script.specs.Shown.{numbers_of}
 use Rattle.flow_script.proofs.CallLemmas.{tells}

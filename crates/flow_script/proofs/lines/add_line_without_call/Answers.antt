@@ -1,6 +1,6 @@
 use Rattle.std.proofs.Common.{◌≡◌, ◌++◌, ℕ, string_bytes, refl, sym, ap, ◌∙◌}
-use Rattle.flow_script.specs.declared.script.FlowStep.{FlowStep}
-use Rattle.flow_script.specs.declared.script.FlowStep.TheVariants as step
+use Rattle.flow_format.specs.declared.script.FlowStep.{FlowStep}
+use Rattle.flow_format.specs.declared.script.FlowStep.TheVariants as step
 use Rattle.flow_script.specs.FlowMeaning.{line_without_call}
 use Rattle.flow_script.specs.Lines.{lined, not_allowed}
 use Rattle.flow_script.proofs.lines.add_line_without_call.Goals as goal

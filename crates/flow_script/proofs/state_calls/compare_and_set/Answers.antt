@@ -5,7 +5,7 @@ use Rattle.flow_law.specs.declared.call.StateCall.TheVariants.{CompareAndSet}
 use Rattle.flow_law.specs.declared.call.StateReply.TheVariants.{Answered}
 use Rattle.flow_law.specs.StateFlow.{state_flow}
 use Rattle.flow_law.specs.Standing.{StateConforms}
-use Rattle.flow_script.specs.declared.script.FlowStep.TheVariants as step
+use Rattle.flow_format.specs.declared.script.FlowStep.TheVariants as step
 use Rattle.flow_script.specs.Lines.{test_text}
 use Rattle.flow_script.specs.StateMeaning.{IsState, plays_state}
 use Rattle.flow_script.specs.Shown.{numbers_of}

@@ -4,9 +4,9 @@ use mir.Val.{to_z, of_z}
 use Rattle.std.specs.Option.{option_map_or}
 use Rattle.flow_law.specs.SharedFlow.{first_state}
 use Rattle.flow_law.specs.StateFlow.{first_state_flow}
-use Rattle.flow_script.specs.Actions.{head_of_flow}
-use Rattle.flow_script.specs.Chains.{build_of}
-use Rattle.flow_script.specs.Heads.{state_chain}
+use Rattle.flow_format.specs.Actions.{head_of_flow}
+use Rattle.flow_format.specs.Chains.{build_of}
+use Rattle.flow_format.specs.Heads.{state_chain}
 use Rattle.flow_script.specs.Lines.{refusal_text}
 use Rattle.flow_script.specs.Players.{Makes}
 use Rattle.flow_script.specs.ScriptMeaning.{player_of, shared, state}

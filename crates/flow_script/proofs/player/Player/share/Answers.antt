@@ -8,7 +8,7 @@ use Rattle.flow_law.specs.declared.report.ShareFault.TheVariants.{Flow}
 use Rattle.flow_sharing.specs.ShareIn.{share_config}
 use Rattle.flow_sharing.specs.CoreHub.{emission_of}
 use Rattle.flow_sharing.specs.OverCores.{Emits}
-use Rattle.flow_script.specs.Heads.{shared_chain}
+use Rattle.flow_format.specs.Heads.{shared_chain}
 use Rattle.flow_script.specs.Lines.{share_fault_text}
 use Rattle.flow_script.specs.ScriptMeaning.{player_of, share}
 use Rattle.flow_script.specs.SharingMeaning.{first_sharing}

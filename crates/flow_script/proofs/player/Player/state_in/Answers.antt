@@ -3,7 +3,7 @@ use Rattle.std.proofs.Math.Facts.{to_z-of_z}
 use Rattle.flow_law.specs.StateFlow.{first_state_flow}
 use Rattle.flow_cold.specs.ScriptChain.{node_rest}
 use Rattle.flow_sharing.specs.StateHub.{state_core_of}
-use Rattle.flow_script.specs.Heads.{state_chain}
+use Rattle.flow_format.specs.Heads.{state_chain}
 use Rattle.flow_script.specs.ScriptMeaning.{player_of, state_in}
 use Rattle.flow_script.specs.SharingMeaning.{first_sharing}
 use Rattle.flow_script.proofs.SharingLemmas.{begun, chained}

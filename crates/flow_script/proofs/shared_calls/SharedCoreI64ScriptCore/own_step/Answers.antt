@@ -3,8 +3,8 @@ use Rattle.std.proofs.Math.Facts.{to_z-of_z}
 use mir.Val.{to_z, of_z}
 use Rattle.flow_law.specs.SharedHistory.{shared_flow}
 use Rattle.flow_law.specs.Standing.{StandsFor}
-use Rattle.flow_script.specs.declared.script.FlowStep.{FlowStep}
-use Rattle.flow_script.specs.declared.script.FlowStep.TheVariants.{Emit}
+use Rattle.flow_format.specs.declared.script.FlowStep.{FlowStep}
+use Rattle.flow_format.specs.declared.script.FlowStep.TheVariants.{Emit}
 use Rattle.flow_script.specs.FlowMeaning.{own_turn}
 use Rattle.flow_script.specs.SharedMeaning.{plays_shared}
 use Rattle.flow_script.specs.Shown.{Follows}

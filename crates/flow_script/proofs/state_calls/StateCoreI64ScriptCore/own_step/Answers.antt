@@ -2,8 +2,8 @@ use Rattle.std.proofs.Common.{rules, OnOk, ◌≡◌, ap, subst, sym, w64, ◌�
 use Rattle.std.proofs.Math.Facts.{to_z-of_z}
 use mir.Val.{to_z, of_z}
 use Rattle.flow_law.specs.StateFlow.{state_flow}
-use Rattle.flow_script.specs.declared.script.FlowStep.{FlowStep}
-use Rattle.flow_script.specs.declared.script.FlowStep.TheVariants.{Set, CompareAndSet}
+use Rattle.flow_format.specs.declared.script.FlowStep.{FlowStep}
+use Rattle.flow_format.specs.declared.script.FlowStep.TheVariants.{Set, CompareAndSet}
 use Rattle.flow_script.specs.FlowMeaning.{own_turn}
 use Rattle.flow_script.specs.StateMeaning.{IsState, plays_state}
 use Rattle.flow_script.specs.Shown.{Follows}

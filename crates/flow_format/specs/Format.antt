@@ -1,0 +1,134 @@
+-- What the JSON text of a script says: its head, and the keys of each step.
+-- Begin with `config_of` and `verb_of`. The head is in Heads. What is refused, and in which order, is in Checks.
+use Rattle.std.specs.Prelude.{ℕ, ◌+◌, ◌^◌, ◌-◌, Bool, true, false, ◌&&◌, ◌||◌, ◌==◌, nat_lt, nat_le, if◌then◌else◌, ℤ, List, length, Option, Some, None, option_and_then, is_some, codes}
+use Rattle.std.specs.Option.{option_map_or}
+use Rattle.std.specs.List.{list_all}
+use Rattle.std.specs.Str.{bytes_eq}
+use Rattle.serde_json.specs.Data.{Data}
+use Rattle.serde_json.specs.Events.{members_len}
+use Rattle.serde_json.specs.Find.{get, as_number, as_u64, as_i64, as_str, as_object}
+use Rattle.flow_law.specs.declared.config.Config.{Config}
+use Rattle.flow_law.specs.declared.config.Overflow.{Overflow}
+use Rattle.flow_law.specs.declared.config.Overflow.TheVariants.{Suspend, DropOldest, DropLatest}
+use Rattle.flow_format.specs.declared.verb.Verb.{Verb}
+use Rattle.flow_format.specs.declared.verb.Verb.TheVariants.{TryEmit, Emit, Poll, Cancel, Subscribe, Next, Unsubscribe, Cache, Count, Reset, Collect, Value, Set, CompareAndSet, Turn}
+use Rattle.flow_format.specs.declared.verb.Rule.{Rule}
+use Rattle.flow_format.specs.declared.verb.Kind.{Kind}
+use Rattle.flow_format.specs.declared.verb.Kind.TheVariants as kind
+
+-- ---- members of an object
+
+abbrev pub u64_at : List ℕ → Data → Option ℕ
+u64_at key d = option_and_then as_u64 (option_and_then as_number (get key d))
+
+abbrev pub u32_at : List ℕ → Data → Option ℕ
+u32_at key d = option_and_then (λ n. if nat_lt n (2 ^ 32) then Some n else None) (u64_at key d)
+
+abbrev pub i64_at : List ℕ → Data → Option ℤ
+i64_at key d = option_and_then as_i64 (option_and_then as_number (get key d))
+
+abbrev pub text_at : List ℕ → Data → Option (List ℕ)
+text_at key d = option_and_then as_str (get key d)
+
+-- An object of so many members. Where that many keys were found in it, it has no other
+abbrev pub has_members : ℕ → Data → Bool
+has_members count d = option_map_or (λ ms. members_len ms == count) (as_object d) false
+
+-- the shape, if the test passes
+abbrev pub where_true : {A : Type 0} → Bool → Option A → Option A
+where_true test o = if test then o else None
+
+-- a to z, 0 to 9, and _
+abbrev pub is_name_byte : ℕ → Bool
+is_name_byte b = (nat_le 97 b && nat_le b 122) || (nat_le 48 b && nat_le b 57) || (b == 95)
+
+abbrev pub is_name : List ℕ → Bool
+is_name bs = nat_lt 0 (length bs) && nat_le (length bs) 32 && list_all is_name_byte bs
+
+abbrev pub name_at : Data → Option (List ℕ)
+name_at d = option_and_then (λ name. where_true (is_name name) (Some name)) (text_at (codes "name") d)
+
+-- ---- the head
+
+abbrev pub overflow_named : List ℕ → Option Overflow
+overflow_named text =
+    if bytes_eq text (codes "suspend") then Some Suspend
+    else (if bytes_eq text (codes "drop_oldest") then Some DropOldest
+    else (if bytes_eq text (codes "drop_latest") then Some DropLatest else None))
+
+-- an absent limit is the greatest one
+abbrev pub limit_at : Data → Option ℕ
+limit_at d = option_map_or (λ l. option_and_then as_u64 (as_number l)) (get (codes "limit") d) (Some (2 ^ 64 - 1))
+
+-- how many keys a flow has that may have a limit, beside it
+abbrev pub with_limit : ℕ → Data → ℕ
+with_limit keys d = if is_some (get (codes "limit") d) then keys + 1 else keys
+
+abbrev pub config_of : Data → Option Config
+config_of d =
+    option_and_then (λ replay. option_and_then (λ extra. option_and_then (λ overflow. option_and_then (λ limit.
+    where_true (has_members (with_limit 4 d) d)
+    (Some (record { replay = replay; extra = extra; overflow = overflow; limit = limit })))
+    (limit_at d)) (option_and_then overflow_named (text_at (codes "overflow") d))) (u32_at (codes "extra") d)) (u32_at (codes "replay") d)
+
+abbrev pub has_version : Data → Bool
+has_version d = option_map_or (λ version. version == 1) (u64_at (codes "version") d) false
+
+-- ---- steps
+
+abbrev pub is_flow : Kind → Bool
+is_flow kind.Absent = false
+is_flow _ = true
+
+-- a flow into which the script emits
+abbrev pub is_mutable : Kind → Bool
+is_mutable kind.Shared = true
+is_mutable kind.State = true
+is_mutable _ = false
+
+abbrev pub is_shared : Kind → Bool
+is_shared kind.Shared = true
+is_shared _ = false
+
+abbrev pub is_state : Kind → Bool
+is_state kind.State = true
+is_state _ = false
+
+-- a flow with one current value
+abbrev pub has_value : Kind → Bool
+has_value kind.State = true
+has_value kind.StateIn = true
+has_value _ = false
+
+-- a flow into which a chain is shared
+abbrev pub is_sharing : Kind → Bool
+is_sharing kind.Share = true
+is_sharing kind.StateIn = true
+is_sharing _ = false
+
+abbrev pub rule_of : Verb → ℕ → Bool → Option Rule
+rule_of verb keys allowed = Some (record { verb = verb; keys = keys; allowed = allowed })
+
+-- what a step does by the text of its key `do`, how many keys it has, `do` among them, and which flows allow it
+abbrev pub rule_named : Kind → List ℕ → Option Rule
+rule_named kind text =
+    if bytes_eq text (codes "try_emit") then rule_of TryEmit 2 (is_mutable kind)
+    else (if bytes_eq text (codes "emit") then rule_of Emit 3 (is_shared kind)
+    else (if bytes_eq text (codes "poll") then rule_of Poll 2 (is_shared kind)
+    else (if bytes_eq text (codes "cancel") then rule_of Cancel 2 (is_shared kind)
+    else (if bytes_eq text (codes "subscribe") then rule_of Subscribe 2 (is_flow kind)
+    else (if bytes_eq text (codes "next") then rule_of Next 2 (is_flow kind)
+    else (if bytes_eq text (codes "unsubscribe") then rule_of Unsubscribe 2 (is_flow kind)
+    else (if bytes_eq text (codes "cache") then rule_of Cache 1 (is_flow kind)
+    else (if bytes_eq text (codes "count") then rule_of Count 1 (is_flow kind)
+    else (if bytes_eq text (codes "reset") then rule_of Reset 1 (is_mutable kind)
+    else (if bytes_eq text (codes "collect") then rule_of Collect 2 true
+    else (if bytes_eq text (codes "value") then rule_of Value 1 (has_value kind)
+    else (if bytes_eq text (codes "set") then rule_of Set 2 (is_state kind)
+    else (if bytes_eq text (codes "compare_and_set") then rule_of CompareAndSet 3 (is_state kind)
+    else (if bytes_eq text (codes "turn") then rule_of Turn 2 (is_sharing kind) else None))))))))))))))
+
+-- what a step does, if the flow allows it and it has as many keys as it needs
+abbrev pub verb_of : Kind → Data → Option Verb
+verb_of kind d =
+    option_and_then (λ rule. where_true (rule.allowed && has_members rule.keys d) (Some rule.verb)) (option_and_then (rule_named kind) (text_at (codes "do") d))

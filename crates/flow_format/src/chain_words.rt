@@ -1,0 +1,157 @@
+//! The words of chains: how a number makes a result, which numbers pass, and the like.
+ghost use Rattle.std.specs.Prelude.{◌≡◌};
+ghost use Rattle.serde_json.specs.View.{view};
+ghost use Rattle.flow_format.specs.ChainFormat as chains;
+
+use crate::members::{has_members, i64_at, text_at};
+use flow_cold::{Arithmetic, Joining, Spread, Test};
+use serde_json::Value;
+
+/// What an operator does, by the text of its key `op`.
+#[derive(Clone, Copy, Debug, PartialEq, Eq)]
+pub enum OpName {
+    Map,
+    Filter,
+    TakeWhile,
+    Transform,
+    Take,
+    DropFirst,
+    Scan,
+    FlatMap,
+    Zip,
+    Distinct,
+}
+
+fn op_named(text: &str) -> Option<OpName>
+    ensures { result ≡ chains.op_named text.now }
+{
+    if text == "map" {
+        Some(OpName::Map)
+    } else if text == "filter" {
+        Some(OpName::Filter)
+    } else if text == "take_while" {
+        Some(OpName::TakeWhile)
+    } else if text == "transform" {
+        Some(OpName::Transform)
+    } else if text == "take" {
+        Some(OpName::Take)
+    } else if text == "drop" {
+        Some(OpName::DropFirst)
+    } else if text == "scan" {
+        Some(OpName::Scan)
+    } else if text == "flat_map" {
+        Some(OpName::FlatMap)
+    } else if text == "zip" {
+        Some(OpName::Zip)
+    } else if text == "distinct" {
+        Some(OpName::Distinct)
+    } else {
+        None
+    }
+}
+
+pub fn op_name_of(op: &Value) -> Option<OpName>
+    ensures { result ≡ chains.op_name_of (view op.now) }
+{
+    op_named(text_at(op, "op")?)
+}
+
+fn arithmetic_named(text: &str) -> Option<Arithmetic>
+    ensures { result ≡ chains.arithmetic_named text.now }
+{
+    if text == "add" {
+        Some(Arithmetic::Add)
+    } else if text == "mul" {
+        Some(Arithmetic::Mul)
+    } else {
+        None
+    }
+}
+
+pub fn arithmetic_at(op: &Value) -> Option<Arithmetic>
+    ensures { result ≡ chains.arithmetic_at (view op.now) }
+{
+    arithmetic_named(text_at(op, "by")?)
+}
+
+fn joining_named(text: &str) -> Option<Joining>
+    ensures { result ≡ chains.joining_named text.now }
+{
+    if text == "add" {
+        Some(Joining::Add)
+    } else if text == "mul" {
+        Some(Joining::Mul)
+    } else if text == "left" {
+        Some(Joining::Left)
+    } else if text == "right" {
+        Some(Joining::Right)
+    } else {
+        None
+    }
+}
+
+pub fn joining_at(op: &Value) -> Option<Joining>
+    ensures { result ≡ chains.joining_at (view op.now) }
+{
+    joining_named(text_at(op, "by")?)
+}
+
+fn spread_named(text: &str) -> Option<Spread>
+    ensures { result ≡ chains.spread_named text.now }
+{
+    if text == "range" {
+        Some(Spread::Range)
+    } else if text == "repeat" {
+        Some(Spread::Repeat)
+    } else {
+        None
+    }
+}
+
+pub fn spread_at(op: &Value) -> Option<Spread>
+    ensures { result ≡ chains.spread_at (view op.now) }
+{
+    spread_named(text_at(op, "to")?)
+}
+
+/// The number that a test compares with.
+fn compared_with(op: &Value) -> Option<i64>
+    ensures { result ≡ chains.compared_with (view op.now) }
+{
+    if has_members(op, 3) {
+        i64_at(op, "k")
+    } else {
+        None
+    }
+}
+
+/// The test of a `filter` or a `take_while`: even and odd stand alone, the others have a number beside them.
+pub fn test_of(op: &Value) -> Option<Test>
+    ensures { result ≡ chains.test_of (view op.now) }
+{
+    let by = text_at(op, "by")?;
+    if by == "even" {
+        return if has_members(op, 2) {
+            Some(Test::Even)
+        } else {
+            None
+        };
+    }
+    if by == "odd" {
+        return if has_members(op, 2) {
+            Some(Test::Odd)
+        } else {
+            None
+        };
+    }
+    if by == "lt" {
+        return Some(Test::Less(compared_with(op)?));
+    }
+    if by == "gt" {
+        return Some(Test::Greater(compared_with(op)?));
+    }
+    if by == "ne" {
+        return Some(Test::NotEqual(compared_with(op)?));
+    }
+    None
+}

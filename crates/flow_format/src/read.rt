@@ -1,0 +1,94 @@
+//! Reading a script, and refusing it by the first fault that is found.
+ghost use Rattle.std.specs.Prelude.{◌≡◌, ◌<◌, ◌+◌, Ok, Err, length};
+ghost use Rattle.serde_json.specs.Find.{as_object};
+ghost use Rattle.serde_json.specs.View.{view, items_view};
+ghost use Rattle.flow_format.specs.Checks as checks;
+ghost use Rattle.flow_format.specs.Actions.{head_of_flow};
+
+use crate::fault::ScriptFault;
+use crate::names::Names;
+use crate::read_head::{has_version, head_in, kind_of};
+use crate::read_step::step_of;
+use crate::script::{Script, ScriptFlow, Step};
+use crate::verb::Kind;
+use serde_json::Value;
+use std::alloc::Global;
+
+/// The most bytes that a script may have.
+pub const MOST_BYTES: usize = 1_048_576;
+
+const MOST_STEPS: usize = 10_000;
+
+fn steps_of(alloc: Global, kind: Kind, steps: &[Value]) -> Result<Vec<Step>, ScriptFault>
+    ensures { checks.Gives (checks.steps_of kind 1 checks.no_names (items_view steps.now)) (checks.steps_result result) }
+{
+    let mut names = Names::new(alloc);
+    let mut checked = Vec::new(alloc);
+    for (index, step) in steps.iter().enumerate() {
+        let step = match step_of(alloc, kind, &mut names, index as u64 + 1, step) {
+            Ok(step) => step,
+            Err(fault) => return Err(fault),
+        };
+        if let Err(_refused) = checked.push(step) {
+            return Err(ScriptFault::OutOfMemory);
+        }
+    }
+    Ok(checked)
+}
+
+/// The script of a head of the right shape.
+fn checked(alloc: Global, flow: ScriptFlow, steps: &[Value]) -> Result<Script, ScriptFault>
+    ensures { checks.Gives (checks.checked (head_of_flow flow, items_view steps.now)) (checks.script_result result) }
+{
+    if steps.len() > MOST_STEPS {
+        return Err(ScriptFault::TooLarge(0));
+    }
+    match steps_of(alloc, kind_of(&flow), steps) {
+        Ok(steps) => Ok(Script { flow, steps }),
+        Err(fault) => Err(fault),
+    }
+}
+
+fn script_of(alloc: Global, value: &Value) -> Result<Script, ScriptFault>
+    ensures { checks.Gives (checks.script_of (view value.now)) (checks.script_result result) }
+{
+    if !value.is_object() {
+        return Err(ScriptFault::BadShape(0));
+    }
+    if !has_version(value) {
+        return Err(ScriptFault::BadVersion);
+    }
+    match head_in(alloc, value) {
+        Ok((flow, steps)) => checked(alloc, flow, steps.as_slice()),
+        Err(fault) => Err(fault),
+    }
+}
+
+/// The data of a JSON text.
+fn json_of(alloc: Global, bytes: &[u8]) -> Result<Value, ScriptFault>
+    ensures { checks.Gives (checks.json_of bytes.now) (checks.value_result result) }
+{
+    match Value::from_slice(alloc, bytes) {
+        Ok(value) => Ok(value),
+        Err(error) => {
+            if error.is_memory() {
+                Err(ScriptFault::OutOfMemory)
+            } else {
+                Err(ScriptFault::NotJson)
+            }
+        }
+    }
+}
+
+/// Reads a script whole, and checks each step of it.
+pub fn read_script(alloc: Global, bytes: &[u8]) -> Result<Script, ScriptFault>
+    ensures { checks.Gives (checks.read_script bytes.now) (checks.script_result result) }
+{
+    if bytes.len() > MOST_BYTES {
+        return Err(ScriptFault::TooLarge(0));
+    }
+    match json_of(alloc, bytes) {
+        Ok(value) => script_of(alloc, &value),
+        Err(fault) => Err(fault),
+    }
+}

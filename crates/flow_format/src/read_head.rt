@@ -1,0 +1,174 @@
+//! Reading a script's head.
+ghost use Rattle.std.specs.Prelude.{◌≡◌, codes, Ok, Err, option_map, option_and_then};
+ghost use Rattle.serde_json.specs.View.{view, items_view};
+ghost use Rattle.flow_format.specs.Format as format;
+ghost use Rattle.flow_format.specs.Actions.{head_of_flow};
+ghost use Rattle.flow_format.specs.Heads as heads;
+ghost use Rattle.flow_format.specs.Results.{or_fault};
+ghost use Rattle.flow_format.specs.Checks.{Gives};
+ghost use Rattle.flow_format.specs.HeadViews.{flow_result, head_result};
+
+use crate::fault::ScriptFault;
+use crate::members::{has_members, i64_at, limit_at, text_at, u32_at, u64_at, with_limit};
+use crate::read_share::{share_in, state_in};
+use crate::script::ScriptFlow;
+use crate::verb::Kind;
+use flow_law::{Config, Overflow};
+use serde_json::Value;
+use std::alloc::Global;
+
+fn overflow_named(text: &str) -> Option<Overflow>
+    ensures { result ≡ format.overflow_named text.now }
+{
+    if text == "suspend" {
+        Some(Overflow::Suspend)
+    } else if text == "drop_oldest" {
+        Some(Overflow::DropOldest)
+    } else if text == "drop_latest" {
+        Some(Overflow::DropLatest)
+    } else {
+        None
+    }
+}
+
+fn overflow_at(flow: &Value) -> Option<Overflow>
+    ensures { result ≡ option_and_then format.overflow_named (format.text_at (codes "overflow") (view flow.now)) }
+{
+    let text = text_at(flow, "overflow")?;
+    overflow_named(text)
+}
+
+/// The configuration of a shared flow.
+fn config_of(flow: &Value) -> Option<Config>
+    ensures { result ≡ format.config_of (view flow.now) }
+{
+    let replay = u32_at(flow, "replay")?;
+    let extra = u32_at(flow, "extra")?;
+    let overflow = overflow_at(flow)?;
+    let limit = limit_at(flow)?;
+    if !has_members(flow, with_limit(4, flow)) {
+        return None;
+    }
+    Some(Config {
+        replay,
+        extra,
+        overflow,
+        limit,
+    })
+}
+
+/// A state flow.
+fn state_of(flow: &Value) -> Option<ScriptFlow>
+    ensures { option_map head_of_flow result ≡ heads.state_of (view flow.now) }
+{
+    let initial = i64_at(flow, "initial")?;
+    let limit = limit_at(flow)?;
+    if !has_members(flow, with_limit(2, flow)) {
+        return None;
+    }
+    Some(ScriptFlow::State { initial, limit })
+}
+
+fn none_of(flow: &Value) -> Option<ScriptFlow>
+    ensures { option_map head_of_flow result ≡ heads.none_of (view flow.now) }
+{
+    if has_members(flow, 1) {
+        Some(ScriptFlow::Absent)
+    } else {
+        None
+    }
+}
+
+fn shared_of(flow: &Value) -> Option<ScriptFlow>
+    ensures { option_map head_of_flow result ≡ option_map heads.shared_flow (format.config_of (view flow.now)) }
+{
+    Some(ScriptFlow::Shared(config_of(flow)?))
+}
+
+/// The flow, if the form is right.
+fn formed(flow: Option<ScriptFlow>) -> Result<ScriptFlow, ScriptFault>
+    ensures { Gives (or_fault (ScriptFault.BadShape 0) (option_map head_of_flow flow)) (flow_result result) }
+{
+    match flow {
+        Some(flow) => Ok(flow),
+        None => Err(ScriptFault::BadShape(0)),
+    }
+}
+
+/// The flow that a head names by its kind.
+fn flow_named(alloc: Global, kind: &str, flow: &Value) -> Result<ScriptFlow, ScriptFault>
+    ensures { Gives (heads.flow_named kind.now (view flow.now)) (flow_result result) }
+{
+    if kind == "none" {
+        return formed(none_of(flow));
+    }
+    if kind == "shared" {
+        return formed(shared_of(flow));
+    }
+    if kind == "state" {
+        return formed(state_of(flow));
+    }
+    if kind == "share" {
+        return share_in(alloc, flow);
+    }
+    if kind == "state_in" {
+        return state_in(alloc, flow);
+    }
+    Err(ScriptFault::BadShape(0))
+}
+
+fn flow_in(alloc: Global, flow: &Value) -> Result<ScriptFlow, ScriptFault>
+    ensures { Gives (heads.flow_in (view flow.now)) (flow_result result) }
+{
+    match text_at(flow, "kind") {
+        Some(kind) => flow_named(alloc, kind, flow),
+        None => Err(ScriptFault::BadShape(0)),
+    }
+}
+
+/// The kind of a flow, which says what steps there may be.
+pub fn kind_of(flow: &ScriptFlow) -> Kind
+    ensures { result ≡ heads.kind_of (head_of_flow flow.now) }
+{
+    match flow {
+        ScriptFlow::Absent => Kind::Absent,
+        ScriptFlow::Shared(_) => Kind::Shared,
+        ScriptFlow::State { .. } => Kind::State,
+        ScriptFlow::Share { .. } => Kind::Share,
+        ScriptFlow::StateIn { .. } => Kind::StateIn,
+    }
+}
+
+pub fn has_version(value: &Value) -> bool
+    ensures { result ≡ format.has_version (view value.now) }
+{
+    match u64_at(value, "version") {
+        Some(version) => version == 1,
+        None => false,
+    }
+}
+
+fn steps_in(value: &Value) -> Option<&Vec<Value>>
+    ensures { option_map (λ steps. items_view steps.now.items) result ≡ heads.steps_in (view value.now) }
+{
+    if !has_members(value, 3) {
+        return None;
+    }
+    value.get("steps").and_then(Value::as_array)
+}
+
+/// The flow and the steps of a head. A bad form comes before a limit, so the steps are looked at first.
+pub fn head_in(alloc: Global, value: &Value) -> Result<(ScriptFlow, &Vec<Value>), ScriptFault>
+    ensures { Gives (heads.head_in (view value.now)) (head_result result) }
+{
+    let Some(steps) = steps_in(value) else {
+        return Err(ScriptFault::BadShape(0));
+    };
+    let Some(flow) = value.get("flow") else {
+        return Err(ScriptFault::BadShape(0));
+    };
+    match flow_in(alloc, flow) {
+        Ok(flow) => Ok((flow, steps)),
+        Err(fault) => Err(fault),
+    }
+}
