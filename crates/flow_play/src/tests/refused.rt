@@ -48,6 +48,18 @@ fn a_script_of_too_many_bytes_is_refused(rt: HostRuntime) -> Result<(), Fail> {
 }
 
 #[test]
+fn a_long_text_that_is_no_script_is_refused(rt: HostRuntime) -> Result<(), Fail> {
+    let spaces = vec![in rt.alloc(); b' '; 100_000]?;
+    expect(
+        &rt,
+        rt.alloc(),
+        spaces.as_slice(),
+        2,
+        "script refused 3 NotJson\n",
+    )
+}
+
+#[test]
 fn an_argument_prints_the_usage(rt: HostRuntime) -> Result<(), Fail> {
     let words = vec![in rt.alloc(); String::from_str(rt.alloc(), "crowd")?]?;
     let mut printed = Vec::new(rt.alloc());
