@@ -27,5 +27,7 @@ pub use history::{Event, Knowledge, Said};
 pub use laws::{law_conflated, law_delivered, law_idle_since, law_no_idle_queue, law_turn_account};
 pub use outcome::{Emit, Next};
 pub use sharing::{Command, SharingObservation, Started};
-pub use states::{EmittingFlow, Numbered, SharedFlowState, StateFlowState, StateSubscriber, Subscriber};
+pub use states::{
+    EmittingFlow, Numbered, SharedFlowState, StateFlowState, StateSubscriber, Subscriber,
+};
 pub use value::FlowValue;

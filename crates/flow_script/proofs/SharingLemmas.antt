@@ -80,8 +80,7 @@ module _ {H F : Type 0} (does : (c : HubCall ℤ) → H → HubAnswer c → H �
         state = refl;
         both = refl;
         flow = done.1;
-      } in
-      (
+      } in (
         subst (λ (z : After (Turned ℤ) (ChainAndHub ℤ F)). ShowsSharing Stands new (record p { seen = z.result.seen; state = z.result.state; both = z.state })) (sym whole) shown,
         ap (λ (z : After (Turned ℤ) (ChainAndHub ℤ F)). turn_text z.result.answer) (sym whole),
       )
