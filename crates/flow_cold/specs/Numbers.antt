@@ -1,5 +1,5 @@
 -- What the operators on whole numbers compute. A result that is no i64 is Overflow.
-use Rattle.std.specs.Prelude.{ℕ, zero, suc, ◌%◌, ◌==◌, ℤ, pos, negsuc, ◌+ℤ◌, ◌*ℤ◌, int_lt, unsigned_abs, Bool, not, ◌&&◌, cond, List, map, replicate, Result, Ok, Err}
+use Rattle.std.specs.Prelude.{ℕ, zero, suc, ◌%◌, ◌==◌, ℤ, pos, ◌+ℤ◌, ◌*ℤ◌, int_lt, unsigned_abs, Bool, not, cond, List, map, replicate, Result, Ok, Err}
 use Rattle.std.specs.Ordering.{int_eq}
 use Rattle.std.specs.List.{list_all}
 use Rattle.flow_law.specs.declared.chain.ChainFault.{ChainFault}
@@ -14,14 +14,8 @@ use Rattle.flow_cold.specs.declared.script_chain.op.Spread.{Spread}
 use Rattle.flow_cold.specs.declared.script_chain.op.Spread.TheVariants as spread
 use Rattle.flow_cold.specs.declared.script_chain.op.Test.{Test}
 use Rattle.flow_cold.specs.declared.script_chain.op.Test.TheVariants as test
+pub use Rattle.flow_operators.specs.Numbers.{is_i64, ranged}
 use Rattle.flow_operators.specs.Sources.{range_run}
-
-abbrev pub is_i64 : ℤ → Bool
-is_i64 x = not (int_lt x (negsuc 9223372036854775807)) && not (int_lt (pos 9223372036854775807) x)
-
--- x, if it is in range
-abbrev pub ranged : ℤ → Result ℤ ChainFault
-ranged x = cond (is_i64 x) (Ok x) (Err Overflow)
 
 abbrev pub computed : Arithmetic → ℤ × ℤ → Result ℤ ChainFault
 computed arithmetic.Add (x, y) = ranged (x +ℤ y)

@@ -7,8 +7,10 @@
 mod script_chain;
 
 pub use flow_operators::{
-    Asked, ChainFault, Cold, Collected, Distinct, DropFirst, End, Entry, Filter, FlatMapConcat,
-    InnerMeaning, ItemMeaning, ListMeaning, Map, OfList, OfRange, PairMeaning, Scan, Scripted,
-    Streamed, Take, TakeWhile, TestMeaning, Transform, Zip, collect_all,
+    Asked, Chain, ChainFault, Cold, Collected, Distinct, DropFirst, End, Entry, Even, Filter,
+    FilterBy, FlatMapConcat, Greater, InnerMeaning, ItemComputation, ItemMeaning, ItemTest, Less,
+    ListMeaning, Map, MapBy, Not, Odd, OfList, OfRange, PairMeaning, Plus, Scan, Scripted,
+    Streamed, Take, TakeWhile, TakeWhileBy, Terminal, TestMeaning, Times, Transform, Zip,
+    collect_all,
 };
 pub use script_chain::{Arithmetic, Joining, Op, ScriptChain, Source, Spread, Test};

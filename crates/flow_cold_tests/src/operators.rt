@@ -101,7 +101,7 @@ fn pairs_are_made(rt: HostRuntime) -> Result<(), Fail> {
     Ok(())
 }
 
-fn listed(alloc: Global, x: i64) -> Result<Vec<i64>, ChainFault>
+pub fn listed(alloc: Global, x: i64) -> Result<Vec<i64>, ChainFault>
     ensures { GivesTwice x result }
 {
     let mut items = Vec::new(alloc);
@@ -114,7 +114,7 @@ fn listed(alloc: Global, x: i64) -> Result<Vec<i64>, ChainFault>
     Ok(items)
 }
 
-fn opened(alloc: Global, x: i64) -> Result<Scripted<i64>, ChainFault>
+pub fn opened(alloc: Global, x: i64) -> Result<Scripted<i64>, ChainFault>
     ensures { OpensTwice x result }
 {
     let mut entries = Vec::new(alloc);

@@ -19,6 +19,7 @@ pub mod SharingTurn
 pub mod TurnMeaning
 pub mod SharingFlows
 pub mod TurnAccount
+pub mod Values
 pub mod ChainRun
 pub mod OperatorRuns
 pub mod Chain

@@ -24,3 +24,52 @@ pub struct Config {
     pub overflow: Overflow,
     pub limit: u64,
 }
+
+impl Config {
+    /// The defaults of `MutableSharedFlow()`: no value is kept for new subscribers, none for slow ones, emitters wait, and
+    /// there is no limit.
+    pub const fn new() -> Self
+        ensures { result ≡ record { replay = 0; extra = 0; overflow = Overflow.Suspend; limit = 18446744073709551615 } }
+    {
+        Config {
+            replay: 0,
+            extra: 0,
+            overflow: Overflow::Suspend,
+            limit: u64::MAX,
+        }
+    }
+
+    /// So many values for new subscribers.
+    pub const fn replay(self, replay: u32) -> Self
+        ensures { result ≡ record self { replay = replay } }
+    {
+        Config { replay, ..self }
+    }
+
+    /// So many values more for slow subscribers (`extraBufferCapacity`).
+    pub const fn extra(self, extra: u32) -> Self
+        ensures { result ≡ record self { extra = extra } }
+    {
+        Config { extra, ..self }
+    }
+
+    /// What an emission does where some subscriber is a whole buffer behind (`onBufferOverflow`).
+    pub const fn overflow(self, overflow: Overflow) -> Self
+        ensures { result ≡ record self { overflow = overflow } }
+    {
+        Config { overflow, ..self }
+    }
+
+    /// The flow issues at most so many numbers.
+    pub const fn limit(self, limit: u64) -> Self
+        ensures { result ≡ record self { limit = limit } }
+    {
+        Config { limit, ..self }
+    }
+}
+
+impl Default for Config {
+    fn default() -> Self {
+        Config::new()
+    }
+}

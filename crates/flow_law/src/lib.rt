@@ -30,4 +30,4 @@ pub use sharing::{Command, SharingObservation, Started};
 pub use states::{
     EmittingFlow, Numbered, SharedFlowState, StateFlowState, StateSubscriber, Subscriber,
 };
-pub use value::FlowValue;
+pub use value::{FlowValue, Text};

@@ -4,6 +4,7 @@ ghost use Rattle.std.specs.Prelude.{◌≡◌};
 use crate::chain::ChainFault;
 use crate::fault::FlowFault;
 use crate::sharing::Command;
+use thiserror::Error;
 
 /// What a turn came to.
 #[derive(Clone, Copy, Debug, PartialEq, Eq)]
@@ -33,15 +34,19 @@ pub struct Report {
 }
 
 /// Why a turn was refused, or no sharing was made.
-#[derive(Clone, Copy, Debug, PartialEq, Eq)]
+#[derive(Clone, Copy, Debug, PartialEq, Eq, Error)]
 pub enum ShareFault {
     /// The moment is before the last one, which it carries. Nothing has changed.
+    #[error("the moment is before the last one, {0}")]
     Backwards(u64),
     /// A turn before has answered a fault of the chain. Nothing has changed.
+    #[error("the sharing has ended by a fault of its chain")]
     Ended,
     /// The chain failed. It is told once, and the sharing has ended.
+    #[error("the chain failed: {0}")]
     Chain(ChainFault),
     /// The flow refused a call. The command of the observation stands, though no report carries it, and the next turn
     /// goes on there.
+    #[error("the flow refused a call: {0}")]
     Flow(FlowFault),
 }

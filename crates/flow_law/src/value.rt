@@ -1,9 +1,13 @@
 //! The values of flows.
-ghost use Rattle.std.proofs.Common.{rules};
-ghost use Rattle.std.specs.Ordering.{int_eq};
-ghost use Rattle.std.specs.Prelude.{Bool, ◌≡◌, ◌↔◌, IsTrue, Ok, IfOk, IfErr};
+ghost use Rattle.std.specs.Prelude.{Bool, ◌≡◌, ◌↔◌, IsTrue, IfOk, IfErr};
+
+mod compound;
+mod numbers;
+mod owned;
+mod truth;
 
 use crate::fault::FlowFault;
+pub use owned::Text;
 
 /// A value that a flow can keep, and give to several subscribers.
 ///
@@ -24,20 +28,4 @@ pub trait FlowValue: Drop {
 
     /// It holds of equal values and of no others.
     ghost is_same_exact: { (x y : Self) → IsTrue (is_same x y) ↔ x ≡ y };
-}
-
-impl FlowValue for i64 {
-    ghost is_same = { int_eq };
-
-    fn try_copy(&self) -> Result<i64, FlowFault>
-        ensures given { result ≡ Ok self.now }
-    {
-        Ok(*self)
-    }
-
-    fn same(&self, other: &i64) -> bool {
-        *self == *other
-    }
-
-    ghost is_same_exact = { Prim.search rules };
 }

@@ -1,2 +1,3 @@
 pub mod AskLemmas
 pub mod StreamLemmas
+pub mod TerminalLemmas

@@ -3,6 +3,8 @@ pub mod Behind
 pub mod Closures
 pub mod Collecting
 pub mod Kept
+pub mod Numbers
 pub mod Sources
 pub mod Streams
 pub mod Taking
+pub mod Terminal

@@ -3,21 +3,27 @@
 mod distinct;
 mod drop_first;
 mod filter;
+mod filter_by;
 mod flat_map_concat;
 mod map;
+mod map_by;
 mod scan;
 mod take;
 mod take_while;
+mod take_while_by;
 mod transform;
 mod zip;
 
 pub use distinct::Distinct;
 pub use drop_first::DropFirst;
 pub use filter::Filter;
+pub use filter_by::FilterBy;
 pub use flat_map_concat::FlatMapConcat;
 pub use map::Map;
+pub use map_by::MapBy;
 pub use scan::Scan;
 pub use take::Take;
 pub use take_while::TakeWhile;
+pub use take_while_by::TakeWhileBy;
 pub use transform::Transform;
 pub use zip::Zip;

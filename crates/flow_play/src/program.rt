@@ -20,8 +20,8 @@ const OUT_OF_MEMORY: u8 = 4;
 /// Prints a line, and answers this status, or that of a write that failed.
 fn tell<W: Write>(output: &mut Watched<W>, line: &str, status: u8) -> u8
     requires { has_failed output.old ≡ false }
-    ensures { Tells (has_failed output.new) (W.contents (inner_of output.old)) (W.contents (inner_of output.new))
-        line.now status result }
+    ensures { Tells (has_failed output.new)
+        (W.contents (inner_of output.old)) (W.contents (inner_of output.new)) line.now status result }
 {
     match write_all(output, line.as_bytes()) {
         Ok(()) => status,
@@ -31,16 +31,16 @@ fn tell<W: Write>(output: &mut Watched<W>, line: &str, status: u8) -> u8
 
 fn tell_usage<W: Write>(output: &mut Watched<W>) -> u8
     requires { has_failed output.old ≡ false }
-    ensures { Tells (has_failed output.new) (W.contents (inner_of output.old)) (W.contents (inner_of output.new))
-        usage_line 2 result }
+    ensures { Tells (has_failed output.new)
+        (W.contents (inner_of output.old)) (W.contents (inner_of output.new)) usage_line 2 result }
 {
     tell(output, "usage: flow_play\n", REFUSED)
 }
 
 fn tell_memory<W: Write>(output: &mut Watched<W>) -> u8
     requires { has_failed output.old ≡ false }
-    ensures { Tells (has_failed output.new) (W.contents (inner_of output.old)) (W.contents (inner_of output.new))
-        memory_line 4 result }
+    ensures { Tells (has_failed output.new)
+        (W.contents (inner_of output.old)) (W.contents (inner_of output.new)) memory_line 4 result }
 {
     tell(output, "out of memory\n", OUT_OF_MEMORY)
 }
@@ -106,7 +106,8 @@ fn refuse<W: Write>(alloc: Global, output: &mut Watched<W>, fault: ScriptFault) 
 fn tell_fault<W: Write>(alloc: Global, output: &mut Watched<W>, fault: ScriptFault) -> u8
     requires { has_failed output.old ≡ write_failed fault }
     ensures { (told : ScriptFault) × ((told ≡ fault) ⊎ (IsRefusal fault × (told ≡ ScriptFault.OutOfMemory)))
-        × TellsFault told (has_failed output.new) (W.contents (inner_of output.old)) (W.contents (inner_of output.new)) result }
+        × TellsFault told (has_failed output.new)
+        (W.contents (inner_of output.old)) (W.contents (inner_of output.new)) result }
 {
     match fault {
         ScriptFault::WriteFailed => TRANSFER_FAILED,
@@ -131,7 +132,8 @@ pub fn run<R: Read, W: Write>(
     ensures usage { length args.now ≢ 0 → Tells (has_failed output.new)
         (W.contents (inner_of output.old)) (W.contents (inner_of output.new)) usage_line 2 result }
     ensures unread { length args.now ≢ 0 → input.new ≡ input.old }
-    ensures plays { length args.now ≡ 0 → RunsScript (R.remaining (inner_of input.old)) (has_failed input.new) (has_failed output.new)
+    ensures plays { length args.now ≡ 0 → RunsScript
+        (R.remaining (inner_of input.old)) (has_failed input.new) (has_failed output.new)
         (W.contents (inner_of output.old)) (W.contents (inner_of output.new)) result }
 {
     if !args.is_empty() {

@@ -1,5 +1,5 @@
 -- A call of a core, as the documented flow's call with its line.
-use Rattle.std.proofs.Common.{◌≡◌, ℕ, ℤ, true, List, ◌++◌, Option, Some, refl, sym, ap, subst, ◌∙◌}
+use Rattle.std.proofs.Common.{◌≡◌, ℕ, ℤ, List, ◌++◌, Option, Some, sym, ap, subst, ◌∙◌}
 use Rattle.flow_law.specs.History.{Kind}
 use Rattle.flow_law.specs.Standing.{Documents}
 use Rattle.flow_format.specs.declared.script.FlowStep.{FlowStep}

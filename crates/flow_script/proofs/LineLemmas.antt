@@ -1,5 +1,5 @@
 -- What holds of shared flows and of state flows, so that scripts play on them alike.
-use Rattle.std.proofs.Common.{◌≡◌, ℕ, ℤ, Bool, true, false, [], Option, Some, None, refl}
+use Rattle.std.proofs.Common.{◌≡◌, ℤ, Bool, true, false, None, refl}
 use Rattle.flow_law.specs.declared.fault.FlowFault.{FlowFault}
 use Rattle.flow_law.specs.declared.fault.FlowFault.TheVariants.{OutOfMemory}
 use Rattle.flow_law.specs.declared.call.SharedCall.{SharedCall}

@@ -1,6 +1,6 @@
 -- The steps of a script on a documented flow, said once for every kind of flow.
 -- Begin with `flow_turn`. What is said of one kind is a `Played`: of shared flows in SharedMeaning, of state flows in StateMeaning.
-use Rattle.std.specs.Prelude.{◌≡◌, ℕ, ℤ, Bool, true, List, [], ◌∷◌, Option, Some, None, option_map, codes, decimal}
+use Rattle.std.specs.Prelude.{◌≡◌, ℕ, ℤ, Bool, true, List, [], Option, Some, None, option_map, codes, decimal}
 use Rattle.std.specs.Option.{option_map_or}
 use Rattle.flow_law.specs.declared.fault.FlowFault.{FlowFault}
 use Rattle.flow_law.specs.declared.outcome.Next.{Next}

@@ -1,8 +1,7 @@
 -- What the player keeps, and the documented steps that it follows. Begin with `Follows`: the word of each step's contract.
 -- No public clause cites this module.
-use Rattle.std.specs.Prelude.{◌≡◌, ◌++◌, ℕ, List, Option, map, option_map, String, string_bytes}
+use Rattle.std.specs.Prelude.{◌≡◌, ◌++◌, map, option_map, String, string_bytes}
 use Rattle.std.specs.declared.alloc.Global.{Global}
-use Rattle.flow_core.specs.declared.sub_id.SubId.{SubId}
 use Rattle.flow_core.specs.SubId.{number_of}
 use Rattle.flow_script.specs.declared.numbers.Numbers.{Numbers as Kept}
 use Rattle.flow_script.specs.FlowMeaning.{Turn}

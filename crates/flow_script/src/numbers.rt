@@ -60,7 +60,8 @@ impl Numbers {
 
     /// The next name of a subscriber, unless its subscription was refused.
     pub fn add_subscriber(&mut self, id: Option<SubId>) -> Result<(), ScriptFault>
-        ensures added { OnOk result (numbers_of self.new ≡ with_subscriber (option_map number_of id) (numbers_of self.old)) }
+        ensures added { OnOk result (
+            numbers_of self.new ≡ with_subscriber (option_map number_of id) (numbers_of self.old)) }
         ensures fault { IfErr result (λ fault. fault ≡ ScriptFault.OutOfMemory) }
     {
         match self.subscribers.push(id) {

@@ -143,7 +143,8 @@ impl Player {
         text: &mut String,
         step: FlowStep,
     ) -> Result<(), ScriptFault>
-        ensures plays { OnOk result (Follows Shows (meaning.player_turn step) self.old self.new numbers.old numbers.new text.old text.new) }
+        ensures plays { OnOk result (Follows Shows (meaning.player_turn step)
+            self.old self.new numbers.old numbers.new text.old text.new) }
         ensures fault { IfErr result (λ fault. fault ≡ ScriptFault.OutOfMemory) }
     {
         match self {
@@ -162,7 +163,8 @@ impl Player {
         text: &mut String,
         step: Step,
     ) -> Result<(), ScriptFault>
-        ensures plays { OnOk result (Follows Shows (meaning.turn (action_of step)) self.old self.new numbers.old numbers.new text.old text.new) }
+        ensures plays { OnOk result (Follows Shows (meaning.turn (action_of step))
+            self.old self.new numbers.old numbers.new text.old text.new) }
         ensures fault { IfErr result (λ fault. fault ≡ ScriptFault.OutOfMemory) }
     {
         match step {
@@ -178,9 +180,11 @@ pub trait ScriptLines {
 }
 
 impl ScriptLines for Script {
-    /// The lines that the steps write, each ended by a line feed. Where the flow itself is refused, its line is the only one.
+    /// The lines that the steps write, each ended by a line feed. Where the flow itself is refused, its line is the only
+    /// one.
     fn lines(self, alloc: Global) -> Result<String, ScriptFault>
-        ensures text { IfOk result (λ text. string_bytes text ≡ meaning.text_of (head_of_flow self.flow) (actions_of self.steps.items)) }
+        ensures text { IfOk result (λ text.
+            string_bytes text ≡ meaning.text_of (head_of_flow self.flow) (actions_of self.steps.items)) }
         ensures fault { IfErr result (λ fault. fault ≡ ScriptFault.OutOfMemory) }
     {
         let Script { flow, steps } = self;

@@ -16,10 +16,12 @@ pub trait ScriptCore: FlowCore<Item = i64> {
     ghost played: { Played Self.State Self.Call Self.Reply };
 
     fn try_emit_value(&mut self, value: i64) -> Result<bool, FlowFault>
-        ensures { Documents Self.kind Self.stands_as self.old (played.try_emit value) (replied Self.kind Self.kind.tested result) self.new };
+        ensures { Documents Self.kind Self.stands_as
+            self.old (played.try_emit value) (replied Self.kind Self.kind.tested result) self.new };
 
     fn cached_values(&self) -> Result<Vec<i64>, FlowFault>
-        ensures { Documents Self.kind Self.stands_as self.now Self.kind.replay_cache (replied Self.kind (λ values. Self.kind.cached values.items) result) self.now };
+        ensures { Documents Self.kind Self.stands_as self.now Self.kind.replay_cache
+            (replied Self.kind (λ values. Self.kind.cached values.items) result) self.now };
 
     /// Plays a step that not every kind of flow has.
     fn own_step(

@@ -36,7 +36,8 @@ pub trait ScriptHub: Hub<Item = i64> {
         text: &mut String,
         step: FlowStep,
     ) -> Result<(), ScriptFault>
-        ensures plays { OnOk result (Follows stands (flow step) self.old self.new numbers.old numbers.new text.old text.new) }
+        ensures plays { OnOk result (Follows stands (flow step)
+            self.old self.new numbers.old numbers.new text.old text.new) }
         ensures fault { IfErr result (λ fault. fault ≡ ScriptFault.OutOfMemory) };
 
     /// A turn over the hub is the documented turn.

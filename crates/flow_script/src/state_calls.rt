@@ -46,7 +46,8 @@ fn compare_and_set(
     expect: i64,
     update: i64,
 ) -> Result<(), ScriptFault>
-    ensures plays { OnOk result (Follows IsState (own_turn state_flow plays_state (FlowStep.CompareAndSet expect update))
+    ensures plays { OnOk result (Follows IsState
+        (own_turn state_flow plays_state (FlowStep.CompareAndSet expect update))
         core.old core.new numbers.now numbers.now text.old text.new) }
     ensures fault { IfErr result (λ fault. fault ≡ ScriptFault.OutOfMemory) }
 {

@@ -7,9 +7,11 @@ ghost use Rattle.std.specs.Option.{ForSome};
 ghost use Rattle.flow_law.specs.Sharing.{command_of, runs_after};
 
 use flow_law::{Command, Started};
+use thiserror::Error;
 
 /// An observation is refused whose moment is before the last one.
-#[derive(Clone, Copy, Debug, PartialEq, Eq)]
+#[derive(Clone, Copy, Debug, PartialEq, Eq, Error)]
+#[error("the moment is before the last one, {last}")]
 pub struct Backwards {
     /// The last moment that was accepted.
     pub last: u64,

@@ -9,7 +9,7 @@ use crate::state_hub::StateHub;
 use flow_cold::{Entry, OfList, OfRange, Scripted};
 use flow_core::{SharedCore, StateCore};
 use flow_law::report::{Event, Report, ShareFault};
-use flow_law::{ChainFault, Command, Config, Next, Overflow, Started};
+use flow_law::{ChainFault, Command, Config, Next, Started};
 use std::alloc::{AllocError, Global};
 
 fn reports(command: Command, event: Event) -> Result<Report, ShareFault> {
@@ -171,13 +171,7 @@ fn observes_subscribers(rt: HostRuntime) {
 /// Without a buffer an emission waits until its subscriber has received it. A state flow lets nothing wait.
 #[test]
 fn hubs_answer_by_their_flows(rt: HostRuntime) {
-    let config = Config {
-        replay: 0,
-        extra: 0,
-        overflow: Overflow::Suspend,
-        limit: u64::MAX,
-    };
-    let Ok(core) = SharedCore::new(rt.alloc(), config) else {
+    let Ok(core) = SharedCore::new(rt.alloc(), Config::new()) else {
         panic!(rt; "a flow was made");
     };
     let mut hub = CoreHub::new(core);

@@ -7,7 +7,7 @@ mod subscriber;
 ghost use Rattle.std.specs.Prelude.{◌≡◌};
 
 use emitter::emit_all;
-use flow_law::{Config, FlowFault, Overflow};
+use flow_law::{Config, FlowFault};
 use flow_shared::{Seat, SharedFlow, Subscription};
 use std::alloc::Global;
 use std::io;
@@ -16,12 +16,7 @@ use std::thread::{Threads, join};
 use subscriber::{Received, read_all};
 
 /// A flow with little room, so that its emitters wait for its subscribers.
-const CONFIG: Config = Config {
-    replay: 0,
-    extra: 16,
-    overflow: Overflow::Suspend,
-    limit: u64::MAX,
-};
+const CONFIG: Config = Config::new().extra(16);
 
 /// What became of the four threads.
 #[derive(Drop)]

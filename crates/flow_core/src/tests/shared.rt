@@ -2,18 +2,9 @@ use crate::SharedCore;
 use flow_law::{Config, Emit, FlowFault, Next, Overflow};
 use std::test::Fail;
 
-fn config(replay: u32, extra: u32, overflow: Overflow) -> Config {
-    Config {
-        replay,
-        extra,
-        overflow,
-        limit: u64::MAX,
-    }
-}
-
 #[test]
 fn a_new_subscriber_gets_the_cache(rt: HostRuntime) -> Result<(), Fail> {
-    let mut flow = SharedCore::<i64>::new(rt.alloc(), config(2, 0, Overflow::Suspend))?;
+    let mut flow = SharedCore::<i64>::new(rt.alloc(), Config::new().replay(2))?;
     for value in [1, 2, 3] {
         assert_eq!(rt; flow.try_emit(value)?, true);
     }
@@ -33,7 +24,7 @@ fn a_new_subscriber_gets_the_cache(rt: HostRuntime) -> Result<(), Fail> {
 
 #[test]
 fn two_emissions_without_a_buffer_wait_for_each_other(rt: HostRuntime) -> Result<(), Fail> {
-    let mut flow = SharedCore::<i64>::new(rt.alloc(), config(0, 0, Overflow::Suspend))?;
+    let mut flow = SharedCore::<i64>::new(rt.alloc(), Config::new())?;
     let a = flow.subscribe()?;
     assert_eq!(rt; flow.emit(7)?, Emit::Queued(2));
     assert_eq!(rt; flow.emit(8)?, Emit::Queued(3));
@@ -49,7 +40,7 @@ fn two_emissions_without_a_buffer_wait_for_each_other(rt: HostRuntime) -> Result
 
 #[test]
 fn a_cancelled_emission_leaves_the_middle_of_the_queue(rt: HostRuntime) -> Result<(), Fail> {
-    let mut flow = SharedCore::<i64>::new(rt.alloc(), config(1, 0, Overflow::Suspend))?;
+    let mut flow = SharedCore::<i64>::new(rt.alloc(), Config::new().replay(1))?;
     let a = flow.subscribe()?;
     assert_eq!(rt; flow.emit(1)?, Emit::Done);
     assert_eq!(rt; flow.emit(2)?, Emit::Queued(3));
@@ -66,14 +57,17 @@ fn a_cancelled_emission_leaves_the_middle_of_the_queue(rt: HostRuntime) -> Resul
 
 #[test]
 fn a_strategy_that_drops_needs_a_buffer(rt: HostRuntime) -> Result<(), Fail> {
-    let refused = SharedCore::<i64>::new(rt.alloc(), config(0, 0, Overflow::DropLatest));
+    let refused = SharedCore::<i64>::new(rt.alloc(), Config::new().overflow(Overflow::DropLatest));
     assert_eq!(rt; refused.err(), Some(FlowFault::NeedsBuffer));
     Ok(())
 }
 
 #[test]
 fn the_largest_buffer_is_filled_and_more(rt: HostRuntime) -> Result<(), Fail> {
-    let mut flow = SharedCore::<i64>::new(rt.alloc(), config(65_536, 0, Overflow::DropOldest))?;
+    let mut flow = SharedCore::<i64>::new(
+        rt.alloc(),
+        Config::new().replay(65_536).overflow(Overflow::DropOldest),
+    )?;
     let a = flow.subscribe()?;
     for value in 0..65_540_i64 {
         assert_eq!(rt; flow.emit(value)?, Emit::Done);
@@ -85,7 +79,7 @@ fn the_largest_buffer_is_filled_and_more(rt: HostRuntime) -> Result<(), Fail> {
 
 #[test]
 fn two_thousand_emitters_wait_in_order(rt: HostRuntime) -> Result<(), Fail> {
-    let mut flow = SharedCore::<i64>::new(rt.alloc(), config(1, 0, Overflow::Suspend))?;
+    let mut flow = SharedCore::<i64>::new(rt.alloc(), Config::new().replay(1))?;
     let a = flow.subscribe()?;
     assert_eq!(rt; flow.emit(0)?, Emit::Done);
     for value in 1..2_001_u64 {
@@ -100,7 +94,7 @@ fn two_thousand_emitters_wait_in_order(rt: HostRuntime) -> Result<(), Fail> {
 
 #[test]
 fn an_emission_after_a_hundred_thousand(rt: HostRuntime) -> Result<(), Fail> {
-    let mut flow = SharedCore::<i64>::new(rt.alloc(), config(1, 0, Overflow::Suspend))?;
+    let mut flow = SharedCore::<i64>::new(rt.alloc(), Config::new().replay(1))?;
     for value in 0..100_000_i64 {
         assert_eq!(rt; flow.try_emit(value)?, true);
     }

@@ -1,8 +1,7 @@
 //! What becomes of emissions.
-use super::config;
 use crate::Step::{Cache, Cancel, Emit, Next, Poll, Subscribe, TryEmit, Unsubscribe};
 use crate::play;
-use flow_law::Overflow;
+use flow_law::{Config, Overflow};
 use std::test::Fail;
 
 #[test]
@@ -10,7 +9,7 @@ fn try_emit_does_not_wait(rt: HostRuntime) -> Result<(), Fail> {
     let told = play(
         &rt,
         rt.alloc(),
-        config(1, 1, Overflow::Suspend),
+        Config::new().replay(1).extra(1),
         &[Subscribe, TryEmit(1), TryEmit(2), TryEmit(3)],
     )?;
     assert_eq!(rt; told.as_str(), "subscribed, true, true, false, ");
@@ -22,7 +21,7 @@ fn an_emitter_waits_for_room(rt: HostRuntime) -> Result<(), Fail> {
     let told = play(
         &rt,
         rt.alloc(),
-        config(1, 1, Overflow::Suspend),
+        Config::new().replay(1).extra(1),
         &[
             Subscribe,
             TryEmit(1),
@@ -50,7 +49,7 @@ fn drop_oldest_keeps_the_newest(rt: HostRuntime) -> Result<(), Fail> {
     let told = play(
         &rt,
         rt.alloc(),
-        config(0, 2, Overflow::DropOldest),
+        Config::new().extra(2).overflow(Overflow::DropOldest),
         &[
             Subscribe,
             Emit(1),
@@ -76,7 +75,10 @@ fn drop_latest_keeps_the_oldest(rt: HostRuntime) -> Result<(), Fail> {
     let told = play(
         &rt,
         rt.alloc(),
-        config(1, 1, Overflow::DropLatest),
+        Config::new()
+            .replay(1)
+            .extra(1)
+            .overflow(Overflow::DropLatest),
         &[
             Subscribe,
             Emit(1),
@@ -102,7 +104,7 @@ fn without_a_buffer_an_emitter_waits_for_each_subscriber(rt: HostRuntime) -> Res
     let told = play(
         &rt,
         rt.alloc(),
-        config(0, 0, Overflow::Suspend),
+        Config::new(),
         &[
             Subscribe,
             Subscribe,
@@ -126,7 +128,7 @@ fn a_cancelled_offer_is_not_received(rt: HostRuntime) -> Result<(), Fail> {
     let told = play(
         &rt,
         rt.alloc(),
-        config(0, 0, Overflow::Suspend),
+        Config::new(),
         &[
             Subscribe,
             Subscribe,
@@ -149,7 +151,7 @@ fn a_late_subscriber_is_offered_the_value_too(rt: HostRuntime) -> Result<(), Fai
     let told = play(
         &rt,
         rt.alloc(),
-        config(0, 0, Overflow::Suspend),
+        Config::new(),
         &[
             Subscribe,
             Emit(7),
@@ -174,7 +176,7 @@ fn emitters_go_on_when_the_last_subscriber_leaves(rt: HostRuntime) -> Result<(),
     let told = play(
         &rt,
         rt.alloc(),
-        config(1, 0, Overflow::Suspend),
+        Config::new().replay(1),
         &[
             Subscribe,
             Emit(1),
@@ -200,7 +202,7 @@ fn a_cancelled_value_is_never_emitted(rt: HostRuntime) -> Result<(), Fail> {
     let told = play(
         &rt,
         rt.alloc(),
-        config(1, 0, Overflow::Suspend),
+        Config::new().replay(1),
         &[
             Subscribe,
             Emit(1),

@@ -1,5 +1,4 @@
 //! What subscribers receive, and what is refused.
-use super::config;
 use crate::Step::{Cache, Count, Emit, Next, Reset, Subscribe, TryEmit};
 use crate::play;
 use flow_law::{Config, FlowFault, Overflow};
@@ -10,7 +9,7 @@ fn nobody_receives_what_was_emitted_before(rt: HostRuntime) -> Result<(), Fail> 
     let told = play(
         &rt,
         rt.alloc(),
-        config(0, 0, Overflow::Suspend),
+        Config::new(),
         &[TryEmit(5), Cache, Count, Subscribe, Next(0)],
     )?;
     assert_eq!(rt; told.as_str(), "true, [], 0, subscribed, empty, ");
@@ -22,7 +21,7 @@ fn a_new_subscriber_gets_the_cache(rt: HostRuntime) -> Result<(), Fail> {
     let told = play(
         &rt,
         rt.alloc(),
-        config(2, 0, Overflow::Suspend),
+        Config::new().replay(2),
         &[
             TryEmit(1),
             TryEmit(2),
@@ -46,7 +45,7 @@ fn a_slow_subscriber_loses_the_oldest(rt: HostRuntime) -> Result<(), Fail> {
     let told = play(
         &rt,
         rt.alloc(),
-        config(0, 1, Overflow::DropOldest),
+        Config::new().extra(1).overflow(Overflow::DropOldest),
         &[
             Subscribe,
             Subscribe,
@@ -73,7 +72,7 @@ fn a_reset_leaves_old_subscribers_what_they_have(rt: HostRuntime) -> Result<(), 
     let told = play(
         &rt,
         rt.alloc(),
-        config(2, 1, Overflow::Suspend),
+        Config::new().replay(2).extra(1),
         &[
             Subscribe,
             TryEmit(1),
@@ -102,7 +101,7 @@ fn a_reset_leaves_old_subscribers_what_they_have(rt: HostRuntime) -> Result<(), 
 fn no_number_is_issued_beyond_the_limit(rt: HostRuntime) -> Result<(), Fail> {
     let three = Config {
         limit: 3,
-        ..config(1, 1, Overflow::Suspend)
+        ..Config::new().replay(1).extra(1)
     };
     let steps = [
         Subscribe,
@@ -124,9 +123,14 @@ fn no_number_is_issued_beyond_the_limit(rt: HostRuntime) -> Result<(), Fail> {
 
 #[test]
 fn a_flow_is_refused_by_name(rt: HostRuntime) -> Result<(), Fail> {
-    let no_buffer = play(&rt, rt.alloc(), config(0, 0, Overflow::DropOldest), &[]);
+    let no_buffer = play(
+        &rt,
+        rt.alloc(),
+        Config::new().overflow(Overflow::DropOldest),
+        &[],
+    );
     assert_eq!(rt; no_buffer.err(), Some(FlowFault::NeedsBuffer));
-    let too_large = play(&rt, rt.alloc(), config(65_536, 1, Overflow::Suspend), &[]);
+    let too_large = play(&rt, rt.alloc(), Config::new().replay(65_536).extra(1), &[]);
     assert_eq!(rt; too_large.err(), Some(FlowFault::TooLarge));
     Ok(())
 }

@@ -1,9 +1,8 @@
 //! Several threads, and calls that do not wait.
 ghost use Rattle.std.specs.Prelude.{◌≡◌, IfSome};
 
-use super::config;
 use crate::set_and_read;
-use flow_law::{FlowFault, Next, Overflow, Refused};
+use flow_law::{Config, FlowFault, Next, Refused};
 use flow_shared::{Emitted, PolledNow, Seat, SharedFlow, StateFlow, Subscription};
 use std::sync::Wait;
 use std::test::Fail;
@@ -28,7 +27,7 @@ fn emit_once<R: Wait>(
 
 #[test]
 fn what_a_thread_emitted_is_received(rt: HostRuntime) -> Result<(), Fail> {
-    let (flow, mut seat) = SharedFlow::new(rt.alloc(), config(0, 4, Overflow::Suspend))?;
+    let (flow, mut seat) = SharedFlow::new(rt.alloc(), Config::new().extra(4))?;
     let other = flow.seat(&mut seat);
     let Ok(mut subscription) = flow.subscribe(&rt, &mut seat) else {
         panic!(rt; "there is memory")
@@ -102,7 +101,7 @@ fn rounds<R: Wait>(
 
 #[test]
 fn alone_no_call_is_busy(rt: HostRuntime) -> Result<(), Fail> {
-    let (flow, mut seat) = SharedFlow::new(rt.alloc(), config(0, 4, Overflow::Suspend))?;
+    let (flow, mut seat) = SharedFlow::new(rt.alloc(), Config::new().extra(4))?;
     let Ok(mut subscription) = flow.subscribe(&rt, &mut seat) else {
         panic!(rt; "there is memory")
     };
@@ -112,7 +111,7 @@ fn alone_no_call_is_busy(rt: HostRuntime) -> Result<(), Fail> {
 
 #[test]
 fn an_emission_is_polled_and_cancelled_at_once(rt: HostRuntime) -> Result<(), Fail> {
-    let (flow, mut seat) = SharedFlow::new(rt.alloc(), config(0, 0, Overflow::Suspend))?;
+    let (flow, mut seat) = SharedFlow::new(rt.alloc(), Config::new())?;
     let Ok(_subscription) = flow.subscribe(&rt, &mut seat) else {
         panic!(rt; "there is memory")
     };

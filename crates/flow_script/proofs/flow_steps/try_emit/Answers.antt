@@ -1,6 +1,5 @@
-use Rattle.std.proofs.Common.{string_bytes, refl, subst, w64}
+use Rattle.std.proofs.Common.{string_bytes, refl, subst}
 use Rattle.std.proofs.Math.Facts.{to_z-of_z}
-use mir.Val.{to_z, of_z}
 use Rattle.flow_law.specs.Standing.{Documents}
 use Rattle.flow_format.specs.declared.script.FlowStep.TheVariants as step
 use Rattle.flow_script.specs.Lines.{refusal_text, test_text}

@@ -1,6 +1,5 @@
-use Rattle.std.proofs.Common.{string_bytes, refl, subst, w64}
+use Rattle.std.proofs.Common.{string_bytes, refl, subst}
 use Rattle.std.proofs.Math.Facts.{to_z-of_z}
-use mir.Val.{to_z, of_z}
 use Rattle.flow_law.specs.declared.call.SharedCall.TheVariants.{Emit}
 use Rattle.flow_law.specs.declared.call.SharedReply.TheVariants.{Refused}
 use Rattle.flow_law.specs.SharedHistory.{shared_flow}

@@ -1,0 +1,101 @@
+//! Chains as one writes them: operators as methods, ready computations and tests, and terminal operators.
+
+use crate::operators::{Add, AddOne, IsAboveOne, Twice, TwiceRun, increased, listed, opened, sum};
+use flow_cold::{
+    Chain, ChainFault, End, Entry, Even, Greater, Less, Not, Odd, OfList, OfRange, Plus, Scripted,
+    Terminal, Times, collect_all,
+};
+use std::test::Fail;
+
+#[test]
+fn operators_are_methods(rt: HostRuntime) -> Result<(), Fail> {
+    let alloc = rt.alloc();
+    let mut chain = OfList::new([1i64, 2, 2, 3, 9].to_vec(alloc)?)
+        .distinct()
+        .drop_first(1)
+        .map(AddOne, increased)
+        .filter(IsAboveOne, |x| *x > 1);
+    let got = collect_all(alloc, &mut chain)?;
+    assert_eq!(rt; got.items.as_slice(), [3, 4, 10].as_slice());
+    assert_eq!(rt; got.end, End::Completed);
+    Ok(())
+}
+
+#[test]
+fn operators_on_pairs_are_methods(rt: HostRuntime) -> Result<(), Fail> {
+    let mut chain = OfRange::new(2, 5)
+        .take_while(IsAboveOne, |x| *x > 1)
+        .zip(OfRange::new(10, 12), Add, sum)
+        .scan(0, Add, sum)
+        .take(3)?;
+    let got = collect_all(rt.alloc(), &mut chain)?;
+    assert_eq!(rt; got.items.as_slice(), [0, 12, 26].as_slice());
+    assert_eq!(rt; got.end, End::Completed);
+    Ok(())
+}
+
+#[test]
+fn operators_that_give_several_items_are_methods(rt: HostRuntime) -> Result<(), Fail> {
+    let alloc = rt.alloc();
+    let mut chain = OfRange::new(1, 2)
+        .transform(Twice, |x: i64| listed(alloc, x))
+        .flat_map_concat(TwiceRun, |x: i64| opened(alloc, x));
+    let got = collect_all(alloc, &mut chain)?;
+    assert_eq!(rt; got.items.as_slice(), [1, 1, 1, 1, 2, 2, 2, 2].as_slice());
+    Ok(())
+}
+
+#[test]
+fn ready_computations_need_no_closure(rt: HostRuntime) -> Result<(), Fail> {
+    let alloc = rt.alloc();
+    let mut chain = OfRange::new(-3, 12)
+        .filter_by(Even)
+        .filter_by(Not { test: Odd })
+        .filter_by(Greater { k: 0 })
+        .take_while_by(Less { k: 8 })
+        .map_by(Times { k: 2 })
+        .map_by(Plus { k: -1 });
+    let got = collect_all(alloc, &mut chain)?;
+    assert_eq!(rt; got.items.as_slice(), [3, 7, 11].as_slice());
+    assert_eq!(rt; got.end, End::Completed);
+    let mut chain = OfRange::new(i64::MAX - 1, i64::MAX).map_by(Plus { k: 1 });
+    let got = collect_all(alloc, &mut chain)?;
+    assert_eq!(rt; got.items.as_slice(), [i64::MAX].as_slice());
+    assert_eq!(rt; got.end, End::Failed(ChainFault::Overflow));
+    Ok(())
+}
+
+#[test]
+fn a_chain_comes_to_one_answer(rt: HostRuntime) -> Result<(), Fail> {
+    let mut chain = OfRange::new(1, 4);
+    assert_eq!(rt; chain.fold(0, Add, sum)?, 10);
+    assert_eq!(rt; chain.first()?, Some(1));
+    assert_eq!(rt; chain.count()?, 4);
+    assert_eq!(rt; OfRange::new(2, 1).first()?, None);
+    let mut entries = Vec::new(rt.alloc());
+    entries.push(Entry::Item(5i64))?;
+    entries.push(Entry::Pending)?;
+    entries.push(Entry::Item(6))?;
+    entries.push(Entry::Fault(7))?;
+    let mut failing = Scripted::new(entries);
+    assert_eq!(rt; failing.first()?, Some(5));
+    assert_eq!(rt; failing.count(), Err(ChainFault::Source(7)));
+    Ok(())
+}
+
+#[test]
+fn each_item_is_visited_up_to_a_fault(rt: HostRuntime) -> Result<(), Fail> {
+    let mut visited = Vec::new(rt.alloc());
+    let answer = OfRange::new(1, 4).for_each(|x| {
+        if x == 3 {
+            return Err(ChainFault::Source(9));
+        }
+        match visited.push(x) {
+            Ok(()) => Ok(()),
+            Err(_) => Err(ChainFault::OutOfMemory),
+        }
+    });
+    assert_eq!(rt; answer, Err(ChainFault::Source(9)));
+    assert_eq!(rt; visited.as_slice(), [1, 2].as_slice());
+    Ok(())
+}

@@ -1,0 +1,23 @@
+//! A truth value as a value of flows.
+ghost use Rattle.std.proofs.Common.{rules};
+ghost use Rattle.std.specs.Bool.{beq};
+ghost use Rattle.std.specs.Prelude.{◌≡◌, Ok};
+
+use super::FlowValue;
+use crate::fault::FlowFault;
+
+impl FlowValue for bool {
+    ghost is_same = { beq };
+
+    fn try_copy(&self) -> Result<bool, FlowFault>
+        ensures given { result ≡ Ok self.now }
+    {
+        Ok(*self)
+    }
+
+    fn same(&self, other: &bool) -> bool {
+        *self == *other
+    }
+
+    ghost is_same_exact = { Prim.search rules };
+}

@@ -1,0 +1,81 @@
+//! `filter`, by a test in place of a closure.
+ghost use Rattle.std.specs.Prelude.{◌≡◌, true};
+ghost use Rattle.flow_law.specs.Chain.{filter_meaning, meaning_of};
+ghost use Rattle.flow_law.specs.OperatorRuns.{filter_run};
+ghost use Rattle.flow_operators.specs.Behind.{Leaves, after_filter};
+ghost use Rattle.flow_operators.specs.Kept.{unless_ended};
+
+use crate::cold::{Asked, Cold};
+use crate::computation::ItemTest;
+
+/// Gives the items that pass a test.
+#[derive(Drop)]
+pub struct FilterBy<C, M> {
+    upstream: C,
+    test: M,
+    ended: bool,
+}
+
+impl<C: Cold, M: ItemTest<C::Item>> Cold for FilterBy<C, M> {
+    type Item = C::Item;
+
+    ghost sound = { λ s. C.sound s.upstream };
+
+    ghost whole = { λ s. filter_run (M.passes s.test) (C.whole s.upstream) };
+
+    ghost rest = { λ s. unless_ended s.ended (filter_run (M.passes s.test) (C.rest s.upstream)) };
+
+    ghost IsOver = { λ s. s.ended ≡ true };
+
+    ghost AsksBehind = { λ old result new.
+        Leaves (after_filter (M.passes old.test) (C.rest old.upstream)) result (C.rest new.upstream) };
+
+    fn ask(&mut self) -> Asked<C::Item> {
+        if self.ended {
+            return Asked::End;
+        }
+        loop {
+            match self.upstream.ask() {
+                Asked::Item(item) => {
+                    if self.test.test(&item) {
+                        return Asked::Item(item);
+                    }
+                }
+                Asked::Pending => return Asked::Pending,
+                Asked::End => {
+                    self.ended = true;
+                    return Asked::End;
+                }
+                Asked::Fault(fault) => {
+                    self.ended = true;
+                    return Asked::Fault(fault);
+                }
+            }
+        }
+    }
+
+    fn rewind(&mut self) {
+        self.ended = false;
+        self.upstream.rewind();
+    }
+}
+
+impl<C: Cold, M: ItemTest<C::Item>> FilterBy<C, M> {
+    /// The chain from its start, and the test by which its items are asked for.
+    #[tactic(auto, using(flow_law::proofs::ChainLemmas::filter_means))]
+    pub fn new(upstream: C, test: M) -> Self
+        requires { C.sound upstream }
+        ensures sound { ⟦<FilterBy<C, M> as Cold>⟧.sound result }
+        ensures whole { ⟦<FilterBy<C, M> as Cold>⟧.whole result
+            ≡ filter_run (M.passes test) (C.whole upstream) }
+        ensures meaning { meaning_of (⟦<FilterBy<C, M> as Cold>⟧.whole result)
+            ≡ filter_meaning (M.passes test) (meaning_of (C.whole upstream)) }
+        ensures rest { ⟦<FilterBy<C, M> as Cold>⟧.rest result ≡ filter_run (M.passes test) (C.rest upstream) }
+    {
+        FilterBy {
+            upstream,
+            test,
+            ended: false,
+        }
+    }
+}

@@ -1,0 +1,95 @@
+//! `map`, by a computation in place of a closure.
+ghost use Rattle.std.specs.Prelude.{◌≡◌, true};
+ghost use Rattle.flow_law.specs.Chain.{map_meaning, meaning_of};
+ghost use Rattle.flow_law.specs.OperatorRuns.{map_run};
+ghost use Rattle.flow_operators.specs.Behind.{AsksOnce};
+ghost use Rattle.flow_operators.specs.Kept.{unless_ended};
+
+use crate::cold::{Asked, Cold};
+use crate::computation::ItemComputation;
+use flow_law::FlowValue;
+use std::marker::PhantomData;
+
+/// Gives what a computation makes of each item.
+#[derive(Drop)]
+pub struct MapBy<C, U, M> {
+    upstream: C,
+    computation: M,
+    ended: bool,
+    of: PhantomData<U>,
+}
+
+impl<C, U, M> Cold for MapBy<C, U, M>
+where
+    C: Cold,
+    U: FlowValue,
+    M: ItemComputation<C::Item, U>,
+{
+    type Item = U;
+
+    ghost sound = { λ s. C.sound s.upstream };
+
+    ghost whole = { λ s. map_run (M.image s.computation) (C.whole s.upstream) };
+
+    ghost rest = { λ s. unless_ended s.ended (map_run (M.image s.computation) (C.rest s.upstream)) };
+
+    ghost IsOver = { λ s. s.ended ≡ true };
+
+    ghost AsksBehind = { λ old result new. AsksOnce (C.rest old.upstream) result (C.rest new.upstream) };
+
+    fn ask(&mut self) -> Asked<U> {
+        if self.ended {
+            return Asked::End;
+        }
+        match self.upstream.ask() {
+            Asked::Item(item) => match self.computation.compute(item) {
+                Ok(image) => Asked::Item(image),
+                Err(fault) => {
+                    self.ended = true;
+                    Asked::Fault(fault)
+                }
+            },
+            Asked::Pending => Asked::Pending,
+            Asked::End => {
+                self.ended = true;
+                Asked::End
+            }
+            Asked::Fault(fault) => {
+                self.ended = true;
+                Asked::Fault(fault)
+            }
+        }
+    }
+
+    fn rewind(&mut self) {
+        self.ended = false;
+        self.upstream.rewind();
+    }
+}
+
+impl<C, U, M> MapBy<C, U, M>
+where
+    C: Cold,
+    U: FlowValue,
+    M: ItemComputation<C::Item, U>,
+{
+    /// A fault that the computation answers ends the chain; of that item nothing is given.
+    #[tactic(auto, using(flow_law::proofs::ChainLemmas::map_means))]
+    pub fn new(upstream: C, computation: M) -> Self
+        requires { C.sound upstream }
+        ensures sound { ⟦<MapBy<C, U, M> as Cold>⟧.sound result }
+        ensures whole { ⟦<MapBy<C, U, M> as Cold>⟧.whole result
+            ≡ map_run (M.image computation) (C.whole upstream) }
+        ensures meaning { meaning_of (⟦<MapBy<C, U, M> as Cold>⟧.whole result)
+            ≡ map_meaning (M.image computation) (meaning_of (C.whole upstream)) }
+        ensures rest { ⟦<MapBy<C, U, M> as Cold>⟧.rest result
+            ≡ map_run (M.image computation) (C.rest upstream) }
+    {
+        MapBy {
+            upstream,
+            computation,
+            ended: false,
+            of: PhantomData,
+        }
+    }
+}

@@ -1,0 +1,82 @@
+//! `takeWhile`, by a test in place of a closure.
+ghost use Rattle.std.specs.Prelude.{◌≡◌, true};
+ghost use Rattle.flow_law.specs.Chain.{take_while_meaning, meaning_of};
+ghost use Rattle.flow_law.specs.OperatorRuns.{take_while_run};
+ghost use Rattle.flow_operators.specs.Behind.{AsksOnce};
+ghost use Rattle.flow_operators.specs.Kept.{unless_ended};
+
+use crate::cold::{Asked, Cold};
+use crate::computation::ItemTest;
+
+/// Gives a chain's items while they pass a test. The first that does not pass is dropped, and ends the chain.
+#[derive(Drop)]
+pub struct TakeWhileBy<C, M> {
+    upstream: C,
+    test: M,
+    ended: bool,
+}
+
+impl<C: Cold, M: ItemTest<C::Item>> Cold for TakeWhileBy<C, M> {
+    type Item = C::Item;
+
+    ghost sound = { λ s. C.sound s.upstream };
+
+    ghost whole = { λ s. take_while_run (M.passes s.test) (C.whole s.upstream) };
+
+    ghost rest = { λ s. unless_ended s.ended (take_while_run (M.passes s.test) (C.rest s.upstream)) };
+
+    ghost IsOver = { λ s. s.ended ≡ true };
+
+    ghost AsksBehind = { λ old result new. AsksOnce (C.rest old.upstream) result (C.rest new.upstream) };
+
+    fn ask(&mut self) -> Asked<C::Item> {
+        if self.ended {
+            return Asked::End;
+        }
+        match self.upstream.ask() {
+            Asked::Item(item) => {
+                if self.test.test(&item) {
+                    Asked::Item(item)
+                } else {
+                    self.ended = true;
+                    Asked::End
+                }
+            }
+            Asked::Pending => Asked::Pending,
+            Asked::End => {
+                self.ended = true;
+                Asked::End
+            }
+            Asked::Fault(fault) => {
+                self.ended = true;
+                Asked::Fault(fault)
+            }
+        }
+    }
+
+    fn rewind(&mut self) {
+        self.ended = false;
+        self.upstream.rewind();
+    }
+}
+
+impl<C: Cold, M: ItemTest<C::Item>> TakeWhileBy<C, M> {
+    /// The chain from its start, and the test that ends it.
+    #[tactic(auto, using(flow_law::proofs::ChainLemmas::take_while_means))]
+    pub fn new(upstream: C, test: M) -> Self
+        requires { C.sound upstream }
+        ensures sound { ⟦<TakeWhileBy<C, M> as Cold>⟧.sound result }
+        ensures whole { ⟦<TakeWhileBy<C, M> as Cold>⟧.whole result
+            ≡ take_while_run (M.passes test) (C.whole upstream) }
+        ensures meaning { meaning_of (⟦<TakeWhileBy<C, M> as Cold>⟧.whole result)
+            ≡ take_while_meaning (M.passes test) (meaning_of (C.whole upstream)) }
+        ensures rest { ⟦<TakeWhileBy<C, M> as Cold>⟧.rest result
+            ≡ take_while_run (M.passes test) (C.rest upstream) }
+    {
+        TakeWhileBy {
+            upstream,
+            test,
+            ended: false,
+        }
+    }
+}

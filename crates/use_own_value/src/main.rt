@@ -1,0 +1,24 @@
+//! A state flow of values of one's own.
+#![tactic(auto)]
+
+mod position;
+
+use anyhow::Result;
+use flow_core::StateCore;
+use flow_law::Next;
+use position::Position;
+
+fn main(rt: HostRuntime) -> Result<()> {
+    let mut flow = StateCore::new(rt.alloc(), Position { x: 0, y: 0 }, u64::MAX);
+    let reader = flow.subscribe()?;
+    flow.set(Position { x: 3, y: 4 });
+    flow.set(Position { x: 3, y: 4 });
+    for _ in 0..2 {
+        match flow.next(reader)? {
+            Next::Value(at) => println!(rt; "at {}, {}", at.x, at.y)?,
+            Next::Empty => println!(rt; "not moved")?,
+            Next::Gone => println!(rt; "no such reader")?,
+        }
+    }
+    Ok(())
+}

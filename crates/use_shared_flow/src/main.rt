@@ -1,0 +1,22 @@
+//! A shared flow on one thread: a reader that comes late gets the last two values first.
+#![tactic(auto)]
+
+use anyhow::Result;
+use flow_core::SharedCore;
+use flow_law::{Config, Next};
+
+fn main(rt: HostRuntime) -> Result<()> {
+    let mut flow = SharedCore::<i64>::new(rt.alloc(), Config::new().replay(2))?;
+    for value in 1..4 {
+        flow.try_emit(value)?;
+    }
+    let reader = flow.subscribe()?;
+    for _ in 0..3 {
+        match flow.next(reader)? {
+            Next::Value(value) => println!(rt; "value {value}")?,
+            Next::Empty => println!(rt; "no value yet")?,
+            Next::Gone => println!(rt; "no such reader")?,
+        }
+    }
+    Ok(())
+}

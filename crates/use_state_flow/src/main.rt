@@ -1,0 +1,23 @@
+//! A state flow on one thread: a slow reader gets the most recent value alone.
+#![tactic(auto)]
+
+use anyhow::Result;
+use flow_core::StateCore;
+use flow_law::{Next, Text};
+
+fn main(rt: HostRuntime) -> Result<()> {
+    let text = |word: &str| String::from_str(rt.alloc(), word);
+    let mut flow = StateCore::new(rt.alloc(), Text::new(text("loading")?), u64::MAX);
+    let reader = flow.subscribe()?;
+    for word in ["page 1", "page 2", "page 3"] {
+        flow.set(Text::new(text(word)?));
+    }
+    for _ in 0..2 {
+        match flow.next(reader)? {
+            Next::Value(value) => println!(rt; "{}", value.as_str())?,
+            Next::Empty => println!(rt; "nothing new")?,
+            Next::Gone => println!(rt; "no such reader")?,
+        }
+    }
+    Ok(())
+}
