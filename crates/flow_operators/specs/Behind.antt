@@ -5,7 +5,7 @@
 --   scan, begun       gives 1 r                        r
 --   scan, not begun   gives 1 r                        gives 1 r        the initial value is given first
 -- A turn that pends and the end are taken off like an item, and end the ask. Begin with `AsksOnce` and `Leaves`.
-use Rattle.std.specs.Prelude.{◌≡◌, ◌⊎◌, ℕ, zero, suc, Bool, cond, List, [], ◌∷◌, reverse, Option, Some, None, Result, Ok, Err}
+use Rattle.std.specs.Prelude.{◌≡◌, ◌⊎◌, ℕ, zero, suc, Bool, cond, List, [], ◌∷◌, Option, Some, None, Result, Ok, Err}
 use Rattle.flow_law.specs.declared.chain.ChainFault.{ChainFault}
 use Rattle.flow_law.specs.declared.chain.ChainFault.TheVariants.{OutOfMemory}
 use Rattle.flow_law.specs.declared.chain.End.TheVariants.{Completed}
@@ -71,11 +71,6 @@ after_transform f (gives x r) = unless_all_empty (f x) r (after_transform f r)
 after_transform f (pends r) = r
 after_transform f (ends e) = ends Completed
 
--- nothing is asked while there are images left, which are kept in reverse
-abbrev pub after_images : {A B V : Type 0} → (V → List B) → Option V → ChainRun A → ChainRun A → ChainRun A
-after_images view (Some kept) r further = unless_empty (reverse (view kept)) r further
-after_images view None r further = further
-
 -- r where the inner chain has not completed, else what further asks leave
 abbrev pub unless_completed : {A B : Type 0} → ChainRun B → ChainRun A → ChainRun A → ChainRun A
 unless_completed (ends Completed) r further = further
@@ -90,11 +85,6 @@ abbrev pub after_flat_map : {A B : Type 0} → (A → Result (ChainRun B) ChainF
 after_flat_map f (gives x r) = unless_opened_empty (f x) r (after_flat_map f r)
 after_flat_map f (pends r) = r
 after_flat_map f (ends e) = ends Completed
-
--- nothing is asked while the open inner chain answers
-abbrev pub after_inner : {A B S : Type 0} → (S → ChainRun B) → Option S → ChainRun A → ChainRun A → ChainRun A
-after_inner view (Some inner) r further = unless_completed (view inner) r further
-after_inner view None r further = further
 
 -- a zip asks its left side, unless an item of it is kept
 abbrev pub AsksLeft : {A B : Type 0} → Option A → ChainRun A → Asked B → ChainRun A → Type 0

@@ -4,7 +4,10 @@ pub mod Closures
 pub mod Collecting
 pub mod Kept
 pub mod Numbers
+pub mod Pairs
+pub mod Results
 pub mod Sources
 pub mod Streams
 pub mod Taking
 pub mod Terminal
+pub mod Upstreams

@@ -34,6 +34,7 @@ mod ready;
 mod sources;
 mod streamed;
 mod terminal;
+mod upstream;
 mod with_meaning;
 
 pub use chain::Chain;

@@ -7,6 +7,8 @@ mod filter_by;
 mod flat_map_concat;
 mod map;
 mod map_by;
+mod pairs;
+mod results;
 mod scan;
 mod take;
 mod take_while;

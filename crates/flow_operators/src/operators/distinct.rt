@@ -1,70 +1,50 @@
 //! `distinctUntilChanged`: items that differ from the one before.
-ghost use Rattle.std.specs.Prelude.{◌≡◌, true, None};
+ghost use Rattle.std.specs.Prelude.{◌≡◌, true, None, IfOk, IfErr};
 ghost use Rattle.flow_law.specs.Chain.{distinct_meaning, meaning_of};
 ghost use Rattle.flow_law.specs.OperatorRuns.{distinct_run, is_repeated};
 ghost use Rattle.flow_operators.specs.Behind.{Leaves, after_distinct};
-ghost use Rattle.flow_operators.specs.Kept.{unless_ended};
+ghost use Rattle.flow_operators.specs.Upstreams.{chain_of, is_ended, left_of};
 
 use crate::cold::{Asked, Cold};
+use crate::upstream::Upstream;
 use flow_law::{ChainFault, FlowValue};
 
 /// Drops each item that is the same as the one before.
 #[derive(Drop)]
 pub struct Distinct<C: Cold> {
-    upstream: C,
+    upstream: Upstream<C>,
     last: Option<C::Item>,
-    ended: bool,
 }
 
 impl<C: Cold> Cold for Distinct<C> {
     type Item = C::Item;
 
-    ghost sound = { λ s. C.sound s.upstream };
+    ghost sound = { λ s. C.sound (chain_of s.upstream) };
 
-    ghost whole = { λ s. distinct_run C.Item.is_same None (C.whole s.upstream) };
+    ghost whole = { λ s. distinct_run C.Item.is_same None (C.whole (chain_of s.upstream)) };
 
-    ghost rest = { λ s. unless_ended s.ended (distinct_run C.Item.is_same s.last (C.rest s.upstream)) };
+    ghost rest = { λ s. distinct_run C.Item.is_same s.last (left_of C.rest s.upstream) };
 
-    ghost IsOver = { λ s. s.ended ≡ true };
+    ghost IsOver = { λ s. is_ended s.upstream ≡ true };
 
     ghost AsksBehind = { λ old result new.
-        Leaves (after_distinct C.Item.is_same old.last (C.rest old.upstream)) result (C.rest new.upstream) };
+        Leaves (after_distinct C.Item.is_same old.last (C.rest (chain_of old.upstream))) result (C.rest (chain_of new.upstream)) };
 
     fn ask(&mut self) -> Asked<C::Item> {
-        if self.ended {
-            return Asked::End;
-        }
         loop {
-            match self.upstream.ask() {
-                Asked::Item(item) => {
+            match self.upstream.next() {
+                Ok(item) => {
                     if !is_last(&self.last, &item) {
-                        return match item.try_copy() {
-                            Ok(copy) => {
-                                self.last = Some(copy);
-                                Asked::Item(item)
-                            }
-                            Err(_) => {
-                                self.ended = true;
-                                Asked::Fault(ChainFault::OutOfMemory)
-                            }
-                        };
+                        let kept = keep(&mut self.last, item);
+                        return self.upstream.answer(kept);
                     }
                 }
-                Asked::Pending => return Asked::Pending,
-                Asked::End => {
-                    self.ended = true;
-                    return Asked::End;
-                }
-                Asked::Fault(fault) => {
-                    self.ended = true;
-                    return Asked::Fault(fault);
-                }
+                Err(asked) => return asked,
             }
         }
     }
 
     fn rewind(&mut self) {
-        self.ended = false;
         self.last = None;
         self.upstream.rewind();
     }
@@ -80,6 +60,20 @@ fn is_last<T: FlowValue>(last: &Option<T>, item: &T) -> bool
     }
 }
 
+/// Keeps a copy of `item` as the last one. Where it cannot be copied, the last one stays.
+fn keep<T: FlowValue>(last: &mut Option<T>, item: T) -> Result<T, ChainFault>
+    ensures kept { IfOk result (λ given. (given ≡ item) × (last.new ≡ Some item)) }
+    ensures memory { IfErr result (λ fault. fault ≡ ChainFault.OutOfMemory) }
+{
+    match item.try_copy() {
+        Ok(copy) => {
+            *last = Some(copy);
+            Ok(item)
+        }
+        Err(_) => Err(ChainFault::OutOfMemory),
+    }
+}
+
 impl<C: Cold> Distinct<C> {
     /// Items are compared as values of flows are.
     #[tactic(auto, using(flow_law::proofs::ChainLemmas::distinct_means))]
@@ -91,9 +85,8 @@ impl<C: Cold> Distinct<C> {
         ensures rest { ⟦<Distinct<C> as Cold>⟧.rest result ≡ distinct_run C.Item.is_same None (C.rest upstream) }
     {
         Distinct {
-            upstream,
+            upstream: Upstream::new(upstream),
             last: None,
-            ended: false,
         }
     }
 }

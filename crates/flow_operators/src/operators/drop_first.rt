@@ -3,60 +3,48 @@ ghost use Rattle.std.specs.Prelude.{◌≡◌, true};
 ghost use Rattle.flow_law.specs.Chain.{drop_meaning, meaning_of};
 ghost use Rattle.flow_law.specs.OperatorRuns.{drop_run};
 ghost use Rattle.flow_operators.specs.Behind.{Leaves, after_drop};
-ghost use Rattle.flow_operators.specs.Kept.{unless_ended};
+ghost use Rattle.flow_operators.specs.Upstreams.{chain_of, is_ended, left_of};
 
 use crate::cold::{Asked, Cold};
+use crate::upstream::Upstream;
 
 /// Gives a chain's items after the first `count`.
 #[derive(Drop)]
 pub struct DropFirst<C> {
-    upstream: C,
+    upstream: Upstream<C>,
     count: u64,
     left: u64,
-    ended: bool,
 }
 
 impl<C: Cold> Cold for DropFirst<C> {
     type Item = C::Item;
 
-    ghost sound = { λ s. C.sound s.upstream };
+    ghost sound = { λ s. C.sound (chain_of s.upstream) };
 
-    ghost whole = { λ s. drop_run (C.whole s.upstream) s.count };
+    ghost whole = { λ s. drop_run (C.whole (chain_of s.upstream)) s.count };
 
-    ghost rest = { λ s. unless_ended s.ended (drop_run (C.rest s.upstream) s.left) };
+    ghost rest = { λ s. drop_run (left_of C.rest s.upstream) s.left };
 
-    ghost IsOver = { λ s. s.ended ≡ true };
+    ghost IsOver = { λ s. is_ended s.upstream ≡ true };
 
     ghost AsksBehind = { λ old result new.
-        Leaves (after_drop (C.rest old.upstream) old.left) result (C.rest new.upstream) };
+        Leaves (after_drop (C.rest (chain_of old.upstream)) old.left) result (C.rest (chain_of new.upstream)) };
 
     fn ask(&mut self) -> Asked<C::Item> {
-        if self.ended {
-            return Asked::End;
-        }
         loop {
-            match self.upstream.ask() {
-                Asked::Item(item) => {
+            match self.upstream.next() {
+                Ok(item) => {
                     if self.left == 0 {
                         return Asked::Item(item);
                     }
                     self.left -= 1;
                 }
-                Asked::Pending => return Asked::Pending,
-                Asked::End => {
-                    self.ended = true;
-                    return Asked::End;
-                }
-                Asked::Fault(fault) => {
-                    self.ended = true;
-                    return Asked::Fault(fault);
-                }
+                Err(asked) => return asked,
             }
         }
     }
 
     fn rewind(&mut self) {
-        self.ended = false;
         self.left = self.count;
         self.upstream.rewind();
     }
@@ -73,10 +61,9 @@ impl<C: Cold> DropFirst<C> {
         ensures rest { ⟦<DropFirst<C> as Cold>⟧.rest result ≡ drop_run (C.rest upstream) count }
     {
         DropFirst {
-            upstream,
+            upstream: Upstream::new(upstream),
             count,
             left: count,
-            ended: false,
         }
     }
 }

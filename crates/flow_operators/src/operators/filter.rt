@@ -4,19 +4,19 @@ ghost use Rattle.std.specs.Fn.{FnReturnsAt};
 ghost use Rattle.flow_law.specs.Chain.{filter_meaning, meaning_of};
 ghost use Rattle.flow_law.specs.OperatorRuns.{filter_run};
 ghost use Rattle.flow_operators.specs.Behind.{Leaves, after_filter};
-ghost use Rattle.flow_operators.specs.Kept.{unless_ended};
+ghost use Rattle.flow_operators.specs.Upstreams.{chain_of, is_ended, left_of};
 ghost use Rattle.flow_operators.specs.Closures.{Decides};
 
 use crate::cold::{Asked, Cold};
 use crate::meaning::TestMeaning;
+use crate::upstream::Upstream;
 use crate::with_meaning::WithMeaning;
 
 /// Gives the items that pass a test.
 #[derive(Drop)]
 pub struct Filter<C, M, F> {
-    upstream: C,
+    upstream: Upstream<C>,
     given: WithMeaning<M, F>,
-    ended: bool,
 }
 
 impl<C, M, F> Cold for Filter<C, M, F>
@@ -27,43 +27,31 @@ where
 {
     type Item = C::Item;
 
-    ghost sound = { λ s. C.sound s.upstream × F.IsAlwaysCallable s.given.closure × Decides (λ x b. FnReturnsAt F.Fn s.given.closure x b) (M.passes s.given.meaning) };
+    ghost sound = { λ s. C.sound (chain_of s.upstream) × F.IsAlwaysCallable s.given.closure × Decides (λ x b. FnReturnsAt F.Fn s.given.closure x b) (M.passes s.given.meaning) };
 
-    ghost whole = { λ s. filter_run (M.passes s.given.meaning) (C.whole s.upstream) };
+    ghost whole = { λ s. filter_run (M.passes s.given.meaning) (C.whole (chain_of s.upstream)) };
 
-    ghost rest = { λ s. unless_ended s.ended (filter_run (M.passes s.given.meaning) (C.rest s.upstream)) };
+    ghost rest = { λ s. filter_run (M.passes s.given.meaning) (left_of C.rest s.upstream) };
 
-    ghost IsOver = { λ s. s.ended ≡ true };
+    ghost IsOver = { λ s. is_ended s.upstream ≡ true };
 
     ghost AsksBehind = { λ old result new.
-        Leaves (after_filter (M.passes old.given.meaning) (C.rest old.upstream)) result (C.rest new.upstream) };
+        Leaves (after_filter (M.passes old.given.meaning) (C.rest (chain_of old.upstream))) result (C.rest (chain_of new.upstream)) };
 
     fn ask(&mut self) -> Asked<C::Item> {
-        if self.ended {
-            return Asked::End;
-        }
         loop {
-            match self.upstream.ask() {
-                Asked::Item(item) => {
+            match self.upstream.next() {
+                Ok(item) => {
                     if self.given.passes(&item) {
                         return Asked::Item(item);
                     }
                 }
-                Asked::Pending => return Asked::Pending,
-                Asked::End => {
-                    self.ended = true;
-                    return Asked::End;
-                }
-                Asked::Fault(fault) => {
-                    self.ended = true;
-                    return Asked::Fault(fault);
-                }
+                Err(asked) => return asked,
             }
         }
     }
 
     fn rewind(&mut self) {
-        self.ended = false;
         self.upstream.rewind();
     }
 }
@@ -86,9 +74,8 @@ where
         ensures rest { ⟦<Filter<C, M, F> as Cold>⟧.rest result ≡ filter_run (M.passes meaning) (C.rest upstream) }
     {
         Filter {
-            upstream,
+            upstream: Upstream::new(upstream),
             given: WithMeaning { meaning, closure },
-            ended: false,
         }
     }
 }

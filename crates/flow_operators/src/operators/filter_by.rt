@@ -3,59 +3,47 @@ ghost use Rattle.std.specs.Prelude.{◌≡◌, true};
 ghost use Rattle.flow_law.specs.Chain.{filter_meaning, meaning_of};
 ghost use Rattle.flow_law.specs.OperatorRuns.{filter_run};
 ghost use Rattle.flow_operators.specs.Behind.{Leaves, after_filter};
-ghost use Rattle.flow_operators.specs.Kept.{unless_ended};
+ghost use Rattle.flow_operators.specs.Upstreams.{chain_of, is_ended, left_of};
 
 use crate::cold::{Asked, Cold};
 use crate::computation::ItemTest;
+use crate::upstream::Upstream;
 
 /// Gives the items that pass a test.
 #[derive(Drop)]
 pub struct FilterBy<C, M> {
-    upstream: C,
+    upstream: Upstream<C>,
     test: M,
-    ended: bool,
 }
 
 impl<C: Cold, M: ItemTest<C::Item>> Cold for FilterBy<C, M> {
     type Item = C::Item;
 
-    ghost sound = { λ s. C.sound s.upstream };
+    ghost sound = { λ s. C.sound (chain_of s.upstream) };
 
-    ghost whole = { λ s. filter_run (M.passes s.test) (C.whole s.upstream) };
+    ghost whole = { λ s. filter_run (M.passes s.test) (C.whole (chain_of s.upstream)) };
 
-    ghost rest = { λ s. unless_ended s.ended (filter_run (M.passes s.test) (C.rest s.upstream)) };
+    ghost rest = { λ s. filter_run (M.passes s.test) (left_of C.rest s.upstream) };
 
-    ghost IsOver = { λ s. s.ended ≡ true };
+    ghost IsOver = { λ s. is_ended s.upstream ≡ true };
 
     ghost AsksBehind = { λ old result new.
-        Leaves (after_filter (M.passes old.test) (C.rest old.upstream)) result (C.rest new.upstream) };
+        Leaves (after_filter (M.passes old.test) (C.rest (chain_of old.upstream))) result (C.rest (chain_of new.upstream)) };
 
     fn ask(&mut self) -> Asked<C::Item> {
-        if self.ended {
-            return Asked::End;
-        }
         loop {
-            match self.upstream.ask() {
-                Asked::Item(item) => {
+            match self.upstream.next() {
+                Ok(item) => {
                     if self.test.test(&item) {
                         return Asked::Item(item);
                     }
                 }
-                Asked::Pending => return Asked::Pending,
-                Asked::End => {
-                    self.ended = true;
-                    return Asked::End;
-                }
-                Asked::Fault(fault) => {
-                    self.ended = true;
-                    return Asked::Fault(fault);
-                }
+                Err(asked) => return asked,
             }
         }
     }
 
     fn rewind(&mut self) {
-        self.ended = false;
         self.upstream.rewind();
     }
 }
@@ -73,9 +61,8 @@ impl<C: Cold, M: ItemTest<C::Item>> FilterBy<C, M> {
         ensures rest { ⟦<FilterBy<C, M> as Cold>⟧.rest result ≡ filter_run (M.passes test) (C.rest upstream) }
     {
         FilterBy {
-            upstream,
+            upstream: Upstream::new(upstream),
             test,
-            ended: false,
         }
     }
 }

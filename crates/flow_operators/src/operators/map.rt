@@ -3,11 +3,12 @@ ghost use Rattle.std.specs.Prelude.{◌≡◌, true, Result};
 ghost use Rattle.flow_law.specs.Chain.{map_meaning, meaning_of};
 ghost use Rattle.flow_law.specs.OperatorRuns.{map_run};
 ghost use Rattle.flow_operators.specs.Behind.{AsksOnce};
-ghost use Rattle.flow_operators.specs.Kept.{unless_ended};
+ghost use Rattle.flow_operators.specs.Upstreams.{chain_of, is_ended, left_of};
 ghost use Rattle.flow_operators.specs.Closures.{Computes};
 
 use crate::cold::{Asked, Cold};
 use crate::meaning::ItemMeaning;
+use crate::upstream::Upstream;
 use crate::with_meaning::WithMeaning;
 use flow_law::{ChainFault, FlowValue};
 use std::marker::PhantomData;
@@ -15,9 +16,8 @@ use std::marker::PhantomData;
 /// Gives what a closure makes of each item.
 #[derive(Drop)]
 pub struct Map<C, U, M, F> {
-    upstream: C,
+    upstream: Upstream<C>,
     given: WithMeaning<M, F>,
-    ended: bool,
     of: PhantomData<U>,
 }
 
@@ -30,42 +30,24 @@ where
 {
     type Item = U;
 
-    ghost sound = { λ s. C.sound s.upstream × F.IsAlwaysCallable s.given.closure × Computes (F.post s.given.closure) (M.image s.given.meaning) };
+    ghost sound = { λ s. C.sound (chain_of s.upstream) × F.IsAlwaysCallable s.given.closure × Computes (F.post s.given.closure) (M.image s.given.meaning) };
 
-    ghost whole = { λ s. map_run (M.image s.given.meaning) (C.whole s.upstream) };
+    ghost whole = { λ s. map_run (M.image s.given.meaning) (C.whole (chain_of s.upstream)) };
 
-    ghost rest = { λ s. unless_ended s.ended (map_run (M.image s.given.meaning) (C.rest s.upstream)) };
+    ghost rest = { λ s. map_run (M.image s.given.meaning) (left_of C.rest s.upstream) };
 
-    ghost IsOver = { λ s. s.ended ≡ true };
+    ghost IsOver = { λ s. is_ended s.upstream ≡ true };
 
-    ghost AsksBehind = { λ old result new. AsksOnce (C.rest old.upstream) result (C.rest new.upstream) };
+    ghost AsksBehind = { λ old result new. AsksOnce (C.rest (chain_of old.upstream)) result (C.rest (chain_of new.upstream)) };
 
     fn ask(&mut self) -> Asked<U> {
-        if self.ended {
-            return Asked::End;
-        }
-        match self.upstream.ask() {
-            Asked::Item(item) => match self.given.image(item) {
-                Ok(image) => Asked::Item(image),
-                Err(fault) => {
-                    self.ended = true;
-                    Asked::Fault(fault)
-                }
-            },
-            Asked::Pending => Asked::Pending,
-            Asked::End => {
-                self.ended = true;
-                Asked::End
-            }
-            Asked::Fault(fault) => {
-                self.ended = true;
-                Asked::Fault(fault)
-            }
+        match self.upstream.next() {
+            Ok(item) => self.upstream.answer(self.given.image(item)),
+            Err(asked) => asked,
         }
     }
 
     fn rewind(&mut self) {
-        self.ended = false;
         self.upstream.rewind();
     }
 }
@@ -90,9 +72,8 @@ where
         ensures rest { ⟦<Map<C, U, M, F> as Cold>⟧.rest result ≡ map_run (M.image meaning) (C.rest upstream) }
     {
         Map {
-            upstream,
+            upstream: Upstream::new(upstream),
             given: WithMeaning { meaning, closure },
-            ended: false,
             of: PhantomData,
         }
     }

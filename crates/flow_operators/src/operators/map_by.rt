@@ -3,19 +3,19 @@ ghost use Rattle.std.specs.Prelude.{◌≡◌, true};
 ghost use Rattle.flow_law.specs.Chain.{map_meaning, meaning_of};
 ghost use Rattle.flow_law.specs.OperatorRuns.{map_run};
 ghost use Rattle.flow_operators.specs.Behind.{AsksOnce};
-ghost use Rattle.flow_operators.specs.Kept.{unless_ended};
+ghost use Rattle.flow_operators.specs.Upstreams.{chain_of, is_ended, left_of};
 
 use crate::cold::{Asked, Cold};
 use crate::computation::ItemComputation;
+use crate::upstream::Upstream;
 use flow_law::FlowValue;
 use std::marker::PhantomData;
 
 /// Gives what a computation makes of each item.
 #[derive(Drop)]
 pub struct MapBy<C, U, M> {
-    upstream: C,
+    upstream: Upstream<C>,
     computation: M,
-    ended: bool,
     of: PhantomData<U>,
 }
 
@@ -27,42 +27,24 @@ where
 {
     type Item = U;
 
-    ghost sound = { λ s. C.sound s.upstream };
+    ghost sound = { λ s. C.sound (chain_of s.upstream) };
 
-    ghost whole = { λ s. map_run (M.image s.computation) (C.whole s.upstream) };
+    ghost whole = { λ s. map_run (M.image s.computation) (C.whole (chain_of s.upstream)) };
 
-    ghost rest = { λ s. unless_ended s.ended (map_run (M.image s.computation) (C.rest s.upstream)) };
+    ghost rest = { λ s. map_run (M.image s.computation) (left_of C.rest s.upstream) };
 
-    ghost IsOver = { λ s. s.ended ≡ true };
+    ghost IsOver = { λ s. is_ended s.upstream ≡ true };
 
-    ghost AsksBehind = { λ old result new. AsksOnce (C.rest old.upstream) result (C.rest new.upstream) };
+    ghost AsksBehind = { λ old result new. AsksOnce (C.rest (chain_of old.upstream)) result (C.rest (chain_of new.upstream)) };
 
     fn ask(&mut self) -> Asked<U> {
-        if self.ended {
-            return Asked::End;
-        }
-        match self.upstream.ask() {
-            Asked::Item(item) => match self.computation.compute(item) {
-                Ok(image) => Asked::Item(image),
-                Err(fault) => {
-                    self.ended = true;
-                    Asked::Fault(fault)
-                }
-            },
-            Asked::Pending => Asked::Pending,
-            Asked::End => {
-                self.ended = true;
-                Asked::End
-            }
-            Asked::Fault(fault) => {
-                self.ended = true;
-                Asked::Fault(fault)
-            }
+        match self.upstream.next() {
+            Ok(item) => self.upstream.answer(self.computation.compute(item)),
+            Err(asked) => asked,
         }
     }
 
     fn rewind(&mut self) {
-        self.ended = false;
         self.upstream.rewind();
     }
 }
@@ -86,9 +68,8 @@ where
             ≡ map_run (M.image computation) (C.rest upstream) }
     {
         MapBy {
-            upstream,
+            upstream: Upstream::new(upstream),
             computation,
-            ended: false,
             of: PhantomData,
         }
     }

@@ -3,24 +3,20 @@ ghost use Rattle.std.specs.Prelude.{◌≡◌, true};
 ghost use Rattle.flow_law.specs.ChainRun.{gives};
 ghost use Rattle.flow_law.specs.Chain.{scan_meaning, meaning_of};
 ghost use Rattle.flow_law.specs.OperatorRuns.{scan_run};
-ghost use Rattle.flow_operators.specs.Behind.{Leaves, after_scan};
-ghost use Rattle.flow_operators.specs.Kept.{unless_ended, scan_rest};
 ghost use Rattle.flow_operators.specs.Closures.{Computes};
+ghost use Rattle.flow_operators.specs.Results.{AsksScanned, initial_of, is_over, results_rest, scanned};
 
 use crate::cold::{Asked, Cold};
 use crate::meaning::PairMeaning;
+use crate::operators::results::Results;
 use crate::with_meaning::WithMeaning;
 use flow_law::{ChainFault, FlowValue};
 
 /// Gives a first value, then what a closure makes of the last result and each item.
 #[derive(Drop)]
 pub struct Scan<C, U, M, F> {
-    upstream: C,
-    initial: U,
-    last: Option<U>,
+    results: Results<C, U>,
     given: WithMeaning<M, F>,
-    begun: bool,
-    ended: bool,
 }
 
 impl<C, U, M, F> Cold for Scan<C, U, M, F>
@@ -32,79 +28,30 @@ where
 {
     type Item = U;
 
-    ghost sound = { λ s. C.sound s.upstream × F.IsAlwaysCallable s.given.closure × Computes (λ x r. F.post s.given.closure x.0 x.1 r) (M.image s.given.meaning) };
+    ghost sound = { λ s. C.sound (scanned s.results) × F.IsAlwaysCallable s.given.closure × Computes (λ x r. F.post s.given.closure x.0 x.1 r) (M.image s.given.meaning) };
 
-    ghost whole = { λ s. gives s.initial (scan_run (M.image s.given.meaning) s.initial (C.whole s.upstream)) };
+    ghost whole = { λ s.
+        gives (initial_of s.results)
+        (scan_run (M.image s.given.meaning) (initial_of s.results) (C.whole (scanned s.results))) };
 
-    ghost rest = { λ s. unless_ended s.ended (scan_rest (M.image s.given.meaning) s.begun s.initial s.last (C.rest s.upstream)) };
+    ghost rest = { λ s. results_rest C.rest (M.image s.given.meaning) s.results };
 
-    ghost IsOver = { λ s. s.ended ≡ true };
+    ghost IsOver = { λ s. is_over s.results ≡ true };
 
-    ghost AsksBehind = { λ old result new.
-        Leaves (after_scan old.begun (C.rest old.upstream)) result (C.rest new.upstream) };
+    ghost AsksBehind = { λ old result new. AsksScanned C.rest old.results result new.results };
 
     fn ask(&mut self) -> Asked<U> {
-        if self.ended {
-            return Asked::End;
-        }
-        if !self.begun {
-            return match self.initial.try_copy() {
-                Ok(first) => {
-                    self.begun = true;
-                    self.last = None;
-                    Asked::Item(first)
-                }
-                Err(_) => {
-                    self.ended = true;
-                    Asked::Fault(ChainFault::OutOfMemory)
-                }
-            };
-        }
-        let item = match self.upstream.ask() {
-            Asked::Item(item) => item,
-            Asked::Pending => return Asked::Pending,
-            Asked::End => {
-                self.ended = true;
-                return Asked::End;
+        match self.results.next() {
+            Ok((last, item)) => {
+                let made = self.given.image_of_pair(last, item);
+                self.results.keep(made)
             }
-            Asked::Fault(fault) => {
-                self.ended = true;
-                return Asked::Fault(fault);
-            }
-        };
-        let last = match self.last.take() {
-            Some(last) => last,
-            None => match self.initial.try_copy() {
-                Ok(last) => last,
-                Err(_) => {
-                    self.ended = true;
-                    return Asked::Fault(ChainFault::OutOfMemory);
-                }
-            },
-        };
-        match self.given.image_of_pair(last, item) {
-            Ok(next) => match next.try_copy() {
-                Ok(copy) => {
-                    self.last = Some(next);
-                    Asked::Item(copy)
-                }
-                Err(_) => {
-                    self.ended = true;
-                    Asked::Fault(ChainFault::OutOfMemory)
-                }
-            },
-            Err(fault) => {
-                self.ended = true;
-                Asked::Fault(fault)
-            }
+            Err(asked) => asked,
         }
     }
 
     fn rewind(&mut self) {
-        self.ended = false;
-        self.begun = false;
-        self.last = None;
-        self.upstream.rewind();
+        self.results.rewind();
     }
 }
 
@@ -128,12 +75,8 @@ where
         ensures rest { ⟦<Scan<C, U, M, F> as Cold>⟧.rest result ≡ gives initial (scan_run (M.image meaning) initial (C.rest upstream)) }
     {
         Scan {
-            upstream,
-            initial,
-            last: None,
+            results: Results::new(upstream, initial),
             given: WithMeaning { meaning, closure },
-            begun: false,
-            ended: false,
         }
     }
 }

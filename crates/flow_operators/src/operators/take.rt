@@ -1,18 +1,20 @@
 //! `take`: the first items.
-ghost use Rattle.std.specs.Prelude.{◌≡◌, ◌⊎◌, ◌↔◌, IfOk, IfErr};
+ghost use Rattle.std.specs.Prelude.{◌≡◌, ◌⊎◌, ◌↔◌, true, IfOk, IfErr};
 ghost use Rattle.flow_law.specs.Chain.{take_meaning, meaning_of};
 ghost use Rattle.flow_operators.specs.Behind.{AsksOnce};
 ghost use Rattle.flow_operators.specs.Asking.{AskGives, IsFinal, OnEnd};
 ghost use Rattle.flow_operators.specs.Taking.{items_left, left_after};
+ghost use Rattle.flow_operators.specs.Upstreams.{chain_of, is_ended, left_of};
 ghost use Rattle.flow_law.specs.OperatorRuns.{take_run};
 
 use crate::cold::{Asked, Cold};
+use crate::upstream::Upstream;
 use flow_law::ChainFault;
 
 /// Gives the first `count` items of a chain. After the last of them the upstream is not asked again.
 #[derive(Drop)]
 pub struct Take<C> {
-    upstream: C,
+    upstream: Upstream<C>,
     count: u64,
     left: u64,
 }
@@ -34,7 +36,7 @@ impl<C: Cold> Take<C> {
             return Err(ChainFault::NotPositive);
         }
         Ok(Take {
-            upstream,
+            upstream: Upstream::new(upstream),
             count,
             left: count,
         })
@@ -44,15 +46,15 @@ impl<C: Cold> Take<C> {
 impl<C: Cold> Cold for Take<C> {
     type Item = C::Item;
 
-    ghost sound = { λ s. C.sound s.upstream };
+    ghost sound = { λ s. C.sound (chain_of s.upstream) };
 
-    ghost whole = { λ s. take_run s.count (C.whole s.upstream) };
+    ghost whole = { λ s. take_run s.count (C.whole (chain_of s.upstream)) };
 
-    ghost rest = { λ s. take_run s.left (C.rest s.upstream) };
+    ghost rest = { λ s. take_run s.left (left_of C.rest s.upstream) };
 
-    ghost IsOver = { λ s. (s.left ≡ 0) ⊎ C.IsOver s.upstream };
+    ghost IsOver = { λ s. (s.left ≡ 0) ⊎ (is_ended s.upstream ≡ true) };
 
-    ghost AsksBehind = { λ old result new. AsksOnce (C.rest old.upstream) result (C.rest new.upstream) };
+    ghost AsksBehind = { λ old result new. AsksOnce (C.rest (chain_of old.upstream)) result (C.rest (chain_of new.upstream)) };
 
     // The trait's clauses, and how many items are left. After the last one the upstream is left as it is.
     fn ask(&mut self) -> Asked<C::Item>
@@ -71,14 +73,12 @@ impl<C: Cold> Cold for Take<C> {
         if self.left == 0 {
             return Asked::End;
         }
-        match self.upstream.ask() {
-            Asked::Item(item) => {
+        match self.upstream.next() {
+            Ok(item) => {
                 self.left -= 1;
                 Asked::Item(item)
             }
-            Asked::Pending => Asked::Pending,
-            Asked::End => Asked::End,
-            Asked::Fault(fault) => Asked::Fault(fault),
+            Err(asked) => asked,
         }
     }
 

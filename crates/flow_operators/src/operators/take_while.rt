@@ -4,19 +4,19 @@ ghost use Rattle.std.specs.Fn.{FnReturnsAt};
 ghost use Rattle.flow_law.specs.Chain.{take_while_meaning, meaning_of};
 ghost use Rattle.flow_law.specs.OperatorRuns.{take_while_run};
 ghost use Rattle.flow_operators.specs.Behind.{AsksOnce};
-ghost use Rattle.flow_operators.specs.Kept.{unless_ended};
+ghost use Rattle.flow_operators.specs.Upstreams.{chain_of, is_ended, left_of};
 ghost use Rattle.flow_operators.specs.Closures.{Decides};
 
 use crate::cold::{Asked, Cold};
 use crate::meaning::TestMeaning;
+use crate::upstream::Upstream;
 use crate::with_meaning::WithMeaning;
 
 /// Gives a chain's items while they pass a test. The first that does not pass is dropped, and ends the chain.
 #[derive(Drop)]
 pub struct TakeWhile<C, M, F> {
-    upstream: C,
+    upstream: Upstream<C>,
     given: WithMeaning<M, F>,
-    ended: bool,
 }
 
 impl<C, M, F> Cold for TakeWhile<C, M, F>
@@ -27,43 +27,30 @@ where
 {
     type Item = C::Item;
 
-    ghost sound = { λ s. C.sound s.upstream × F.IsAlwaysCallable s.given.closure × Decides (λ x b. FnReturnsAt F.Fn s.given.closure x b) (M.passes s.given.meaning) };
+    ghost sound = { λ s. C.sound (chain_of s.upstream) × F.IsAlwaysCallable s.given.closure × Decides (λ x b. FnReturnsAt F.Fn s.given.closure x b) (M.passes s.given.meaning) };
 
-    ghost whole = { λ s. take_while_run (M.passes s.given.meaning) (C.whole s.upstream) };
+    ghost whole = { λ s. take_while_run (M.passes s.given.meaning) (C.whole (chain_of s.upstream)) };
 
-    ghost rest = { λ s. unless_ended s.ended (take_while_run (M.passes s.given.meaning) (C.rest s.upstream)) };
+    ghost rest = { λ s. take_while_run (M.passes s.given.meaning) (left_of C.rest s.upstream) };
 
-    ghost IsOver = { λ s. s.ended ≡ true };
+    ghost IsOver = { λ s. is_ended s.upstream ≡ true };
 
-    ghost AsksBehind = { λ old result new. AsksOnce (C.rest old.upstream) result (C.rest new.upstream) };
+    ghost AsksBehind = { λ old result new. AsksOnce (C.rest (chain_of old.upstream)) result (C.rest (chain_of new.upstream)) };
 
     fn ask(&mut self) -> Asked<C::Item> {
-        if self.ended {
-            return Asked::End;
-        }
-        match self.upstream.ask() {
-            Asked::Item(item) => {
+        match self.upstream.next() {
+            Ok(item) => {
                 if self.given.passes(&item) {
                     Asked::Item(item)
                 } else {
-                    self.ended = true;
-                    Asked::End
+                    self.upstream.end()
                 }
             }
-            Asked::Pending => Asked::Pending,
-            Asked::End => {
-                self.ended = true;
-                Asked::End
-            }
-            Asked::Fault(fault) => {
-                self.ended = true;
-                Asked::Fault(fault)
-            }
+            Err(asked) => asked,
         }
     }
 
     fn rewind(&mut self) {
-        self.ended = false;
         self.upstream.rewind();
     }
 }
@@ -86,9 +73,8 @@ where
         ensures rest { ⟦<TakeWhile<C, M, F> as Cold>⟧.rest result ≡ take_while_run (M.passes meaning) (C.rest upstream) }
     {
         TakeWhile {
-            upstream,
+            upstream: Upstream::new(upstream),
             given: WithMeaning { meaning, closure },
-            ended: false,
         }
     }
 }

@@ -3,59 +3,46 @@ ghost use Rattle.std.specs.Prelude.{◌≡◌, true};
 ghost use Rattle.flow_law.specs.Chain.{take_while_meaning, meaning_of};
 ghost use Rattle.flow_law.specs.OperatorRuns.{take_while_run};
 ghost use Rattle.flow_operators.specs.Behind.{AsksOnce};
-ghost use Rattle.flow_operators.specs.Kept.{unless_ended};
+ghost use Rattle.flow_operators.specs.Upstreams.{chain_of, is_ended, left_of};
 
 use crate::cold::{Asked, Cold};
 use crate::computation::ItemTest;
+use crate::upstream::Upstream;
 
 /// Gives a chain's items while they pass a test. The first that does not pass is dropped, and ends the chain.
 #[derive(Drop)]
 pub struct TakeWhileBy<C, M> {
-    upstream: C,
+    upstream: Upstream<C>,
     test: M,
-    ended: bool,
 }
 
 impl<C: Cold, M: ItemTest<C::Item>> Cold for TakeWhileBy<C, M> {
     type Item = C::Item;
 
-    ghost sound = { λ s. C.sound s.upstream };
+    ghost sound = { λ s. C.sound (chain_of s.upstream) };
 
-    ghost whole = { λ s. take_while_run (M.passes s.test) (C.whole s.upstream) };
+    ghost whole = { λ s. take_while_run (M.passes s.test) (C.whole (chain_of s.upstream)) };
 
-    ghost rest = { λ s. unless_ended s.ended (take_while_run (M.passes s.test) (C.rest s.upstream)) };
+    ghost rest = { λ s. take_while_run (M.passes s.test) (left_of C.rest s.upstream) };
 
-    ghost IsOver = { λ s. s.ended ≡ true };
+    ghost IsOver = { λ s. is_ended s.upstream ≡ true };
 
-    ghost AsksBehind = { λ old result new. AsksOnce (C.rest old.upstream) result (C.rest new.upstream) };
+    ghost AsksBehind = { λ old result new. AsksOnce (C.rest (chain_of old.upstream)) result (C.rest (chain_of new.upstream)) };
 
     fn ask(&mut self) -> Asked<C::Item> {
-        if self.ended {
-            return Asked::End;
-        }
-        match self.upstream.ask() {
-            Asked::Item(item) => {
+        match self.upstream.next() {
+            Ok(item) => {
                 if self.test.test(&item) {
                     Asked::Item(item)
                 } else {
-                    self.ended = true;
-                    Asked::End
+                    self.upstream.end()
                 }
             }
-            Asked::Pending => Asked::Pending,
-            Asked::End => {
-                self.ended = true;
-                Asked::End
-            }
-            Asked::Fault(fault) => {
-                self.ended = true;
-                Asked::Fault(fault)
-            }
+            Err(asked) => asked,
         }
     }
 
     fn rewind(&mut self) {
-        self.ended = false;
         self.upstream.rewind();
     }
 }
@@ -74,9 +61,8 @@ impl<C: Cold, M: ItemTest<C::Item>> TakeWhileBy<C, M> {
             ≡ take_while_run (M.passes test) (C.rest upstream) }
     {
         TakeWhileBy {
-            upstream,
+            upstream: Upstream::new(upstream),
             test,
-            ended: false,
         }
     }
 }

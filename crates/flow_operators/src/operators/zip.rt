@@ -2,12 +2,12 @@
 ghost use Rattle.std.specs.Prelude.{◌≡◌, true};
 ghost use Rattle.flow_law.specs.Chain.{zip_meaning, meaning_of};
 ghost use Rattle.flow_law.specs.OperatorRuns.{zip_run};
-ghost use Rattle.flow_operators.specs.Behind.{AsksLeft, AsksRight};
-ghost use Rattle.flow_operators.specs.Kept.{unless_ended, with_kept};
 ghost use Rattle.flow_operators.specs.Closures.{Computes};
+ghost use Rattle.flow_operators.specs.Pairs.{AsksSides, is_over, left_chain, pairs_rest, right_chain};
 
 use crate::cold::{Asked, Cold};
 use crate::meaning::PairMeaning;
+use crate::operators::pairs::Pairs;
 use crate::with_meaning::WithMeaning;
 use flow_law::{ChainFault, FlowValue};
 use std::marker::PhantomData;
@@ -18,11 +18,8 @@ use std::marker::PhantomData;
 /// the left item is kept.
 #[derive(Drop)]
 pub struct Zip<L: Cold, R, U, M, F> {
-    left: L,
-    right: R,
-    kept: Option<L::Item>,
+    pairs: Pairs<L, R, L::Item>,
     given: WithMeaning<M, F>,
-    ended: bool,
     of: PhantomData<U>,
 }
 
@@ -36,65 +33,28 @@ where
 {
     type Item = U;
 
-    ghost sound = { λ s. L.sound s.left × R.sound s.right × F.IsAlwaysCallable s.given.closure × Computes (λ x r. F.post s.given.closure x.0 x.1 r) (M.image s.given.meaning) };
+    ghost sound = { λ s. L.sound (left_chain s.pairs) × R.sound (right_chain s.pairs) × F.IsAlwaysCallable s.given.closure × Computes (λ x r. F.post s.given.closure x.0 x.1 r) (M.image s.given.meaning) };
 
-    ghost whole = { λ s. zip_run (M.image s.given.meaning) (L.whole s.left) (R.whole s.right) };
+    ghost whole = { λ s. zip_run (M.image s.given.meaning) (L.whole (left_chain s.pairs)) (R.whole (right_chain s.pairs)) };
 
-    ghost rest = { λ s. unless_ended s.ended (zip_run (M.image s.given.meaning) (with_kept s.kept (L.rest s.left)) (R.rest s.right)) };
+    ghost rest = { λ s. pairs_rest L.rest R.rest (M.image s.given.meaning) s.pairs };
 
-    ghost IsOver = { λ s. s.ended ≡ true };
+    ghost IsOver = { λ s. is_over s.pairs ≡ true };
 
-    ghost AsksBehind = { λ old result new.
-        AsksLeft old.kept (L.rest old.left) result (L.rest new.left)
-        × AsksRight (with_kept old.kept (L.rest old.left)) (R.rest old.right) result (R.rest new.right) };
+    ghost AsksBehind = { λ old result new. AsksSides L.rest R.rest old.pairs result new.pairs };
 
     fn ask(&mut self) -> Asked<U> {
-        if self.ended {
-            return Asked::End;
-        }
-        let left = match self.kept.take() {
-            Some(item) => item,
-            None => match self.left.ask() {
-                Asked::Item(item) => item,
-                Asked::Pending => return Asked::Pending,
-                Asked::End => {
-                    self.ended = true;
-                    return Asked::End;
-                }
-                Asked::Fault(fault) => {
-                    self.ended = true;
-                    return Asked::Fault(fault);
-                }
-            },
-        };
-        match self.right.ask() {
-            Asked::Item(right) => match self.given.image_of_pair(left, right) {
-                Ok(item) => Asked::Item(item),
-                Err(fault) => {
-                    self.ended = true;
-                    Asked::Fault(fault)
-                }
-            },
-            Asked::Pending => {
-                self.kept = Some(left);
-                Asked::Pending
+        match self.pairs.next() {
+            Ok((left, right)) => {
+                let made = self.given.image_of_pair(left, right);
+                self.pairs.left.answer(made)
             }
-            Asked::End => {
-                self.ended = true;
-                Asked::End
-            }
-            Asked::Fault(fault) => {
-                self.ended = true;
-                Asked::Fault(fault)
-            }
+            Err(asked) => asked,
         }
     }
 
     fn rewind(&mut self) {
-        self.ended = false;
-        self.kept = None;
-        self.left.rewind();
-        self.right.rewind();
+        self.pairs.rewind();
     }
 }
 
@@ -119,11 +79,8 @@ where
         ensures rest { ⟦<Zip<L, R, U, M, F> as Cold>⟧.rest result ≡ zip_run (M.image meaning) (L.rest left) (R.rest right) }
     {
         Zip {
-            left,
-            right,
-            kept: None,
+            pairs: Pairs::new(left, right),
             given: WithMeaning { meaning, closure },
-            ended: false,
             of: PhantomData,
         }
     }

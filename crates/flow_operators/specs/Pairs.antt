@@ -1,0 +1,45 @@
+-- What `zip` has left, by its two sides and the left item that it keeps; L and R are the chains' types, A and B their items.
+use Rattle.std.specs.Prelude.{◌≡◌, Bool, false, Option, Result, Ok, Err}
+use Rattle.flow_law.specs.declared.chain.ChainFault.{ChainFault}
+use Rattle.flow_law.specs.ChainRun.{ChainRun, gives}
+use Rattle.flow_law.specs.OperatorRuns.{zip_run}
+use Rattle.flow_operators.specs.declared.cold.Asked.{Asked}
+use Rattle.flow_operators.specs.declared.operators.pairs.Pairs.{Pairs}
+use Rattle.flow_operators.specs.Asking.{AskGives}
+use Rattle.flow_operators.specs.Behind.{AsksLeft, AsksRight}
+use Rattle.flow_operators.specs.Kept.{unless_ended, with_kept}
+
+module _ {L R A : Type 0} where
+  abbrev pub left_chain : Pairs L R A → L
+  left_chain p = p.left.chain
+
+  abbrev pub right_chain : Pairs L R A → R
+  right_chain p = p.right
+
+  abbrev pub kept_item : Pairs L R A → Option A
+  kept_item p = p.kept
+
+  abbrev pub is_over : Pairs L R A → Bool
+  is_over p = p.left.ended
+
+  -- what the left side has left, the kept item first
+  abbrev pub left_side : (L → ChainRun A) → Pairs L R A → ChainRun A
+  left_side rest p = with_kept p.kept (rest p.left.chain)
+
+module _ {L R A B C : Type 0} (left : L → ChainRun A) (right : R → ChainRun B) where
+  abbrev pub pairs_rest : (A × B → Result C ChainFault) → Pairs L R A → ChainRun C
+  pairs_rest f p = unless_ended p.left.ended (zip_run f (left_side left p) (right p.right))
+
+  -- the next pair, or the answer in place of one, whatever is made of pairs
+  abbrev pub PairGives : Pairs L R A → Result (A × B) (Asked C) → Pairs L R A → Type 0
+  PairGives old (Ok pair) new =
+      (old.left.ended ≡ false) × (new.left.ended ≡ false)
+      × (left_side left old ≡ gives pair.0 (left_side left new)) × (right old.right ≡ gives pair.1 (right new.right))
+  PairGives old (Err asked) new =
+      (f : A × B → Result C ChainFault) → AskGives (pairs_rest f old) asked (pairs_rest f new)
+
+  -- how far each side is asked
+  abbrev pub AsksSides : Pairs L R A → Asked C → Pairs L R A → Type 0
+  AsksSides old asked new =
+      AsksLeft old.kept (left old.left.chain) asked (left new.left.chain)
+      × AsksRight (left_side left old) (right old.right) asked (right new.right)

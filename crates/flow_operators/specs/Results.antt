@@ -1,0 +1,47 @@
+-- What `scan` has left, by its upstream, its initial value and its last result.
+use Rattle.std.specs.Prelude.{◌≡◌, ◌⊎◌, Bool, true, false, Option, Some, None, Result, Ok, Err}
+use Rattle.flow_law.specs.declared.chain.ChainFault.{ChainFault}
+use Rattle.flow_law.specs.declared.chain.ChainFault.TheVariants.{OutOfMemory}
+use Rattle.flow_law.specs.ChainRun.{ChainRun, gives}
+use Rattle.flow_operators.specs.declared.cold.Asked.{Asked}
+use Rattle.flow_operators.specs.declared.cold.Asked.TheVariants.{Item, Pending, End as Ended, Fault}
+use Rattle.flow_operators.specs.declared.operators.results.Results.{Results}
+use Rattle.flow_operators.specs.Asking.{AskGives}
+use Rattle.flow_operators.specs.Behind.{Leaves, after_scan}
+use Rattle.flow_operators.specs.Kept.{unless_ended, has_begun, scan_rest}
+
+module _ {C U : Type 0} where
+  abbrev pub scanned : Results C U → C
+  scanned s = s.upstream.chain
+
+  abbrev pub initial_of : Results C U → U
+  initial_of s = s.initial
+
+  abbrev pub last_of : Results C U → Option U
+  last_of s = s.last
+
+  abbrev pub is_over : Results C U → Bool
+  is_over s = s.upstream.ended
+
+  -- what was made of an item is the answer and the last result; it may have failed for want of memory
+  abbrev pub KeepsResult : Result U ChainFault → Asked U → Results C U → Type 0
+  KeepsResult made (Item y) new = (made ≡ Ok y) × (new.last ≡ Some y) × (new.upstream.ended ≡ false)
+  KeepsResult made Pending new = ⊥
+  KeepsResult made Ended new = ⊥
+  KeepsResult made (Fault fault) new = ((made ≡ Err fault) ⊎ (fault ≡ OutOfMemory)) × (new.upstream.ended ≡ true)
+
+module _ {C A U : Type 0} (rest : C → ChainRun A) where
+  abbrev pub results_rest : (U × A → Result U ChainFault) → Results C U → ChainRun U
+  results_rest f s = unless_ended s.upstream.ended (scan_rest f s.initial s.last (rest s.upstream.chain))
+
+  -- the last result and the next item, or the answer in place of them, whatever is made of them
+  abbrev pub ResultGives : Results C U → Result (U × A) (Asked U) → Results C U → Type 0
+  ResultGives old (Ok pair) new =
+      (old.upstream.ended ≡ false) × (new.upstream.ended ≡ false)
+      × (old.last ≡ Some pair.0) × (rest old.upstream.chain ≡ gives pair.1 (rest new.upstream.chain))
+  ResultGives old (Err asked) new =
+      (f : U × A → Result U ChainFault) → AskGives (results_rest f old) asked (results_rest f new)
+
+  -- how far the upstream is asked
+  abbrev pub AsksScanned : Results C U → Asked U → Results C U → Type 0
+  AsksScanned old asked new = Leaves (after_scan (has_begun old.last) (rest old.upstream.chain)) asked (rest new.upstream.chain)

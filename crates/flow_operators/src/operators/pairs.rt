@@ -1,0 +1,80 @@
+//! What the forms of `zip` stand on: pairs of the items of two chains.
+ghost use Rattle.std.specs.Prelude.{◌≡◌, true, false, None, IfErr};
+ghost use Rattle.flow_operators.specs.Asking.{IsFinal};
+ghost use Rattle.flow_operators.specs.Pairs.{AsksSides, PairGives, is_over, kept_item, left_chain, right_chain};
+ghost use Rattle.flow_operators.specs.Upstreams.{WithAnswer};
+
+use crate::cold::{Asked, Cold};
+use crate::upstream::Upstream;
+
+/// Two chains, and an item of the left one for which the right one has pended. They have ended where the left side has.
+#[derive(Drop)]
+pub(crate) struct Pairs<L, R, A> {
+    pub(crate) left: Upstream<L>,
+    right: R,
+    kept: Option<A>,
+}
+
+impl<L: Cold, R: Cold> Pairs<L, R, L::Item> {
+    pub(crate) fn new(left: L, right: R) -> Self
+        ensures left { left_chain result ≡ left }
+        ensures right { right_chain result ≡ right }
+        ensures kept { kept_item result ≡ None }
+        ensures over { is_over result ≡ false }
+    {
+        Pairs {
+            left: Upstream::new(left),
+            right,
+            kept: None,
+        }
+    }
+
+    /// The next pair, or the answer in place of one.
+    pub(crate) fn next<U>(&mut self) -> Result<(L::Item, R::Item), Asked<U>>
+        requires left { L.sound (left_chain self.old) }
+        requires right { R.sound (right_chain self.old) }
+        ensures left { L.sound (left_chain self.new) }
+        ensures right { R.sound (right_chain self.new) }
+        ensures left_whole { L.whole (left_chain self.new) ≡ L.whole (left_chain self.old) }
+        ensures right_whole { R.whole (right_chain self.new) ≡ R.whole (right_chain self.old) }
+        ensures gives { PairGives L.rest R.rest self.old result self.new }
+        ensures over { IfErr result (λ asked. IsFinal asked → is_over self.new ≡ true) }
+        ensures behind { (¬ (is_over self.old ≡ true))
+            → WithAnswer result (λ asked. AsksSides L.rest R.rest self.old asked self.new) }
+        ensures end { is_over self.old ≡ true → (result ≡ Err Asked.End) × self.new ≡ self.old }
+    {
+        if self.left.ended {
+            return Err(Asked::End);
+        }
+        let left = match self.kept.take() {
+            Some(left) => left,
+            None => self.left.next()?,
+        };
+        match self.right.ask() {
+            Asked::Item(right) => Ok((left, right)),
+            Asked::Pending => {
+                self.kept = Some(left);
+                Err(Asked::Pending)
+            }
+            Asked::End => Err(self.left.end()),
+            Asked::Fault(fault) => Err(self.left.fail(fault)),
+        }
+    }
+
+    pub(crate) fn rewind(&mut self)
+        requires left { L.sound (left_chain self.old) }
+        requires right { R.sound (right_chain self.old) }
+        ensures left { L.sound (left_chain self.new) }
+        ensures right { R.sound (right_chain self.new) }
+        ensures left_whole { L.whole (left_chain self.new) ≡ L.whole (left_chain self.old) }
+        ensures right_whole { R.whole (right_chain self.new) ≡ R.whole (right_chain self.old) }
+        ensures left_rest { L.rest (left_chain self.new) ≡ L.whole (left_chain self.old) }
+        ensures right_rest { R.rest (right_chain self.new) ≡ R.whole (right_chain self.old) }
+        ensures kept { kept_item self.new ≡ None }
+        ensures over { is_over self.new ≡ false }
+    {
+        self.kept = None;
+        self.left.rewind();
+        self.right.rewind();
+    }
+}

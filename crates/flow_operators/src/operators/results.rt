@@ -1,0 +1,96 @@
+//! What the forms of `scan` stand on: the results so far.
+ghost use Rattle.std.specs.Prelude.{◌≡◌, true, false, None, IfErr};
+ghost use Rattle.flow_operators.specs.Asking.{IsFinal};
+ghost use Rattle.flow_operators.specs.Results.{AsksScanned, KeepsResult, ResultGives};
+ghost use Rattle.flow_operators.specs.Results.{initial_of, is_over, last_of, scanned};
+ghost use Rattle.flow_operators.specs.Upstreams.{WithAnswer};
+
+use crate::cold::{Asked, Cold};
+use crate::upstream::Upstream;
+use flow_law::{ChainFault, FlowValue};
+
+/// A chain, the value that stands before its first item, and the last result; none before that value was given.
+#[derive(Drop)]
+pub(crate) struct Results<C, U> {
+    upstream: Upstream<C>,
+    initial: U,
+    last: Option<U>,
+}
+
+impl<C: Cold, U: FlowValue> Results<C, U> {
+    pub(crate) fn new(upstream: C, initial: U) -> Self
+        ensures chain { scanned result ≡ upstream }
+        ensures initial { initial_of result ≡ initial }
+        ensures last { last_of result ≡ None }
+        ensures over { is_over result ≡ false }
+    {
+        Results {
+            upstream: Upstream::new(upstream),
+            initial,
+            last: None,
+        }
+    }
+
+    /// The last result and the next item, or the answer in place of them. The first answer is the initial value.
+    pub(crate) fn next(&mut self) -> Result<(U, C::Item), Asked<U>>
+        requires { C.sound (scanned self.old) }
+        ensures sound { C.sound (scanned self.new) }
+        ensures whole { C.whole (scanned self.new) ≡ C.whole (scanned self.old) }
+        ensures initial { initial_of self.new ≡ initial_of self.old }
+        ensures gives { ResultGives C.rest self.old result self.new }
+        ensures over { IfErr result (λ asked. IsFinal asked → is_over self.new ≡ true) }
+        ensures behind { (¬ (is_over self.old ≡ true))
+            → WithAnswer result (λ asked. AsksScanned C.rest self.old asked self.new) }
+        ensures end { is_over self.old ≡ true → (result ≡ Err Asked.End) × self.new ≡ self.old }
+    {
+        if self.upstream.ended {
+            return Err(Asked::End);
+        }
+        match self.last.take() {
+            Some(last) => match self.upstream.next() {
+                Ok(item) => Ok((last, item)),
+                Err(asked) => {
+                    self.last = Some(last);
+                    Err(asked)
+                }
+            },
+            None => match self.initial.try_copy() {
+                Ok(first) => Err(self.keep(Ok(first))),
+                Err(_) => Err(self.upstream.fail(ChainFault::OutOfMemory)),
+            },
+        }
+    }
+
+    /// Answers what was made of an item, and keeps a copy of it as the last result. A fault ends the chain.
+    pub(crate) fn keep(&mut self, made: Result<U, ChainFault>) -> Asked<U>
+        requires { is_over self.old ≡ false }
+        ensures keeps { KeepsResult made result self.new }
+        ensures chain { scanned self.new ≡ scanned self.old }
+        ensures initial { initial_of self.new ≡ initial_of self.old }
+        ensures over { IsFinal result → is_over self.new ≡ true }
+    {
+        match made {
+            Ok(next) => match next.try_copy() {
+                Ok(copy) => {
+                    self.last = Some(copy);
+                    Asked::Item(next)
+                }
+                Err(_) => self.upstream.fail(ChainFault::OutOfMemory),
+            },
+            Err(fault) => self.upstream.fail(fault),
+        }
+    }
+
+    pub(crate) fn rewind(&mut self)
+        requires { C.sound (scanned self.old) }
+        ensures sound { C.sound (scanned self.new) }
+        ensures whole { C.whole (scanned self.new) ≡ C.whole (scanned self.old) }
+        ensures rest { C.rest (scanned self.new) ≡ C.whole (scanned self.old) }
+        ensures initial { initial_of self.new ≡ initial_of self.old }
+        ensures last { last_of self.new ≡ None }
+        ensures over { is_over self.new ≡ false }
+    {
+        self.last = None;
+        self.upstream.rewind();
+    }
+}
