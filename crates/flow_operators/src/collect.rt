@@ -25,7 +25,8 @@ pub fn collect_all<C: Cold, A: Allocator>(
     requires { C.sound chain.old }
     ensures sound { C.sound chain.new }
     ensures whole { C.whole chain.new ≡ C.whole chain.old }
-    ensures collects { IfOk result (λ collected. Collects (C.whole chain.old) collected.items.items collected.end) }
+    ensures collects { IfOk result (λ collected.
+        Collects (C.whole chain.old) collected.items.items collected.end) }
     // The end is the chain's own last answer. So is want of memory in place of one; the items before it are given.
     ensures over { IfOk result (λ _. C.IsOver chain.new) }
     ensures answered { IfOk result (λ collected. C.HasAnswered chain.new collected.end) }

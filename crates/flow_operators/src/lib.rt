@@ -1,8 +1,9 @@
 //! Cold flows: sources and operators over the caller's closures, asked for one item at a time.
 //!
-//! Begin with the trait `Cold`: what an ask answers, what it leaves, and what it does to the chains that stand behind. A
-//! chain is a source (`OfList`, `OfRange`, `Scripted`) and operators on it (`Map`, `Filter`, `Take` and the others). It does
-//! nothing until it is asked. `collect_all` gathers what it gives, and `Streamed` makes a stream of it.
+//! Begin with the trait `Cold`: what an ask answers, what it leaves, and what it does to the chains that stand
+//! behind. A chain is a source (`OfList`, `OfRange`, `Scripted`) and operators on it (`Map`, `Filter`, `Take` and the
+//! others). It does nothing until it is asked. `collect_all` gathers what it gives, and `Streamed` makes a stream of
+//! it.
 //!
 //! `Chain` has the operators as methods, and `Terminal` has `fold`, `first`, `count` and `for_each`: so one writes
 //! `OfRange::new(1, 10).filter_by(Even).map_by(Plus { k: 1 }).take(3)?`.

@@ -19,7 +19,9 @@ impl<C: Cold> Streamed<C> {
     pub fn new(mut chain: C) -> Self
         requires { C.sound chain }
         ensures sound { ⟦<Streamed<C> as Stream>⟧.can_poll result }
-        ensures yields { (xs : List (Result C.Item ChainFault)) (last : Option (Result C.Item ChainFault)) → ⟦<Streamed<C> as Stream>⟧.yields result xs last ↔ Streams (C.whole chain) xs last }
+        ensures yields { (xs : List (Result C.Item ChainFault)) (last : Option (Result C.Item ChainFault))
+            → ⟦<Streamed<C> as Stream>⟧.yields result xs last
+            ↔ Streams (C.whole chain) xs last }
     {
         chain.rewind();
         Streamed {

@@ -1,7 +1,7 @@
 //! What a chain comes to: the terminal operators, each of which starts the chain anew and asks it.
 //!
-//! A turn that pends is followed by the next ask. The chain's fault is the answer, as far as it is reached. A list of all
-//! items is what `collect_all` gathers.
+//! A turn that pends is followed by the next ask. The chain's fault is the answer, as far as it is reached. A list of
+//! all items is what `collect_all` gathers.
 ghost use Rattle.std.specs.Prelude.{◌≡◌, ◌⊎◌, ◌∷◌, IfOk, IfErr, IfSome};
 ghost use Rattle.flow_law.specs.ChainRun.{items, ending};
 ghost use Rattle.flow_operators.specs.Closures.{Computes, Follows};
@@ -47,7 +47,8 @@ pub trait Terminal: Cold {
         requires { Self.sound self.old }
         ensures sound { Self.sound self.new }
         ensures whole { Self.whole self.new ≡ Self.whole self.old }
-        ensures first { Follows (first_of (items (Self.whole self.old)) (ending (Self.whole self.old))) result }
+        ensures first { Follows (first_of
+            (items (Self.whole self.old)) (ending (Self.whole self.old))) result }
         ensures rest { IfOk result (λ found.
             IfSome found (λ item. items (Self.whole self.old) ≡ item ∷ items (Self.rest self.new))) }
         // A fault is the chain's own last answer. So is want of memory.
@@ -69,7 +70,8 @@ pub trait Terminal: Cold {
         requires { Self.sound self.old }
         ensures sound { Self.sound self.new }
         ensures whole { Self.whole self.new ≡ Self.whole self.old }
-        ensures counts { Follows (counted (items (Self.whole self.old)) (ending (Self.whole self.old))) result }
+        ensures counts { Follows (counted
+            (items (Self.whole self.old)) (ending (Self.whole self.old))) result }
         // A fault is the chain's own last answer, unless the count was too large. So is want of memory.
         ensures answered { IfErr result (λ fault.
             (fault ≡ ChainFault.Overflow) ⊎ Self.HasAnswered self.new (End.Failed fault)) }

@@ -43,7 +43,8 @@ impl<M, F> WithMeaning<M, F> {
         M: TestMeaning<A>,
         F: Fn(&A) -> bool,
         requires callable { F.IsAlwaysCallable self.now.closure }
-        requires decides { Decides (λ x b. FnReturnsAt F.Fn self.now.closure x b) (M.passes self.now.meaning) }
+        requires decides { Decides (λ x b. FnReturnsAt F.Fn self.now.closure x b)
+            (M.passes self.now.meaning) }
         ensures { result ≡ M.passes self.now.meaning item.now }
     {
         (self.closure)(item)
@@ -54,7 +55,8 @@ impl<M, F> WithMeaning<M, F> {
         M: InnerMeaning<A, U>,
         F: Fn(A) -> Result<Scripted<U>, ChainFault>,
         requires callable { F.IsAlwaysCallable self.now.closure }
-        requires computes { ComputesBy ⟦<Scripted<U> as Cold>⟧.whole (F.post self.now.closure) (M.inner self.now.meaning) }
+        requires computes { ComputesBy ⟦<Scripted<U> as Cold>⟧.whole (F.post self.now.closure)
+            (M.inner self.now.meaning) }
         ensures { FollowsBy ⟦<Scripted<U> as Cold>⟧.whole (M.inner self.now.meaning item) result }
     {
         (self.closure)(item)

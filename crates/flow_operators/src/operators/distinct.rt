@@ -28,7 +28,8 @@ impl<C: Cold> Cold for Distinct<C> {
     ghost IsOver = { λ s. is_ended s.upstream ≡ true };
 
     ghost AsksBehind = { λ old result new.
-        Leaves (after_distinct C.Item.is_same old.last (C.rest (chain_of old.upstream))) result (C.rest (chain_of new.upstream)) };
+        Leaves (after_distinct C.Item.is_same old.last (C.rest (chain_of old.upstream)))
+        result (C.rest (chain_of new.upstream)) };
 
     fn ask(&mut self) -> Asked<C::Item> {
         loop {
@@ -80,9 +81,12 @@ impl<C: Cold> Distinct<C> {
     pub fn new(upstream: C) -> Self
         requires { C.sound upstream }
         ensures sound { ⟦<Distinct<C> as Cold>⟧.sound result }
-        ensures whole { ⟦<Distinct<C> as Cold>⟧.whole result ≡ distinct_run C.Item.is_same None (C.whole upstream) }
-        ensures meaning { meaning_of (⟦<Distinct<C> as Cold>⟧.whole result) ≡ distinct_meaning C.Item.is_same (meaning_of (C.whole upstream)) }
-        ensures rest { ⟦<Distinct<C> as Cold>⟧.rest result ≡ distinct_run C.Item.is_same None (C.rest upstream) }
+        ensures whole { ⟦<Distinct<C> as Cold>⟧.whole result
+            ≡ distinct_run C.Item.is_same None (C.whole upstream) }
+        ensures meaning { meaning_of (⟦<Distinct<C> as Cold>⟧.whole result)
+            ≡ distinct_meaning C.Item.is_same (meaning_of (C.whole upstream)) }
+        ensures rest { ⟦<Distinct<C> as Cold>⟧.rest result
+            ≡ distinct_run C.Item.is_same None (C.rest upstream) }
     {
         Distinct {
             upstream: Upstream::new(upstream),

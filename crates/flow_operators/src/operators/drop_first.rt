@@ -28,7 +28,8 @@ impl<C: Cold> Cold for DropFirst<C> {
     ghost IsOver = { λ s. is_ended s.upstream ≡ true };
 
     ghost AsksBehind = { λ old result new.
-        Leaves (after_drop (C.rest (chain_of old.upstream)) old.left) result (C.rest (chain_of new.upstream)) };
+        Leaves (after_drop (C.rest (chain_of old.upstream)) old.left)
+        result (C.rest (chain_of new.upstream)) };
 
     fn ask(&mut self) -> Asked<C::Item> {
         loop {
@@ -57,7 +58,8 @@ impl<C: Cold> DropFirst<C> {
         requires { C.sound upstream }
         ensures sound { ⟦<DropFirst<C> as Cold>⟧.sound result }
         ensures whole { ⟦<DropFirst<C> as Cold>⟧.whole result ≡ drop_run (C.whole upstream) count }
-        ensures meaning { meaning_of (⟦<DropFirst<C> as Cold>⟧.whole result) ≡ drop_meaning count (meaning_of (C.whole upstream)) }
+        ensures meaning { meaning_of (⟦<DropFirst<C> as Cold>⟧.whole result)
+            ≡ drop_meaning count (meaning_of (C.whole upstream)) }
         ensures rest { ⟦<DropFirst<C> as Cold>⟧.rest result ≡ drop_run (C.rest upstream) count }
     {
         DropFirst {

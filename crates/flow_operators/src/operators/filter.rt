@@ -27,7 +27,9 @@ where
 {
     type Item = C::Item;
 
-    ghost sound = { λ s. C.sound (chain_of s.upstream) × F.IsAlwaysCallable s.given.closure × Decides (λ x b. FnReturnsAt F.Fn s.given.closure x b) (M.passes s.given.meaning) };
+    ghost sound = { λ s. C.sound (chain_of s.upstream)
+        × F.IsAlwaysCallable s.given.closure
+        × Decides (λ x b. FnReturnsAt F.Fn s.given.closure x b) (M.passes s.given.meaning) };
 
     ghost whole = { λ s. filter_run (M.passes s.given.meaning) (C.whole (chain_of s.upstream)) };
 
@@ -36,7 +38,8 @@ where
     ghost IsOver = { λ s. is_ended s.upstream ≡ true };
 
     ghost AsksBehind = { λ old result new.
-        Leaves (after_filter (M.passes old.given.meaning) (C.rest (chain_of old.upstream))) result (C.rest (chain_of new.upstream)) };
+        Leaves (after_filter (M.passes old.given.meaning) (C.rest (chain_of old.upstream)))
+        result (C.rest (chain_of new.upstream)) };
 
     fn ask(&mut self) -> Asked<C::Item> {
         loop {
@@ -69,9 +72,12 @@ where
         requires callable { F.IsAlwaysCallable closure }
         requires computes { Decides (λ x b. FnReturnsAt F.Fn closure x b) (M.passes meaning) }
         ensures sound { ⟦<Filter<C, M, F> as Cold>⟧.sound result }
-        ensures whole { ⟦<Filter<C, M, F> as Cold>⟧.whole result ≡ filter_run (M.passes meaning) (C.whole upstream) }
-        ensures meaning { meaning_of (⟦<Filter<C, M, F> as Cold>⟧.whole result) ≡ filter_meaning (M.passes meaning) (meaning_of (C.whole upstream)) }
-        ensures rest { ⟦<Filter<C, M, F> as Cold>⟧.rest result ≡ filter_run (M.passes meaning) (C.rest upstream) }
+        ensures whole { ⟦<Filter<C, M, F> as Cold>⟧.whole result
+            ≡ filter_run (M.passes meaning) (C.whole upstream) }
+        ensures meaning { meaning_of (⟦<Filter<C, M, F> as Cold>⟧.whole result)
+            ≡ filter_meaning (M.passes meaning) (meaning_of (C.whole upstream)) }
+        ensures rest { ⟦<Filter<C, M, F> as Cold>⟧.rest result
+            ≡ filter_run (M.passes meaning) (C.rest upstream) }
     {
         Filter {
             upstream: Upstream::new(upstream),

@@ -28,7 +28,8 @@ impl<C: Cold, M: ItemTest<C::Item>> Cold for FilterBy<C, M> {
     ghost IsOver = { λ s. is_ended s.upstream ≡ true };
 
     ghost AsksBehind = { λ old result new.
-        Leaves (after_filter (M.passes old.test) (C.rest (chain_of old.upstream))) result (C.rest (chain_of new.upstream)) };
+        Leaves (after_filter (M.passes old.test) (C.rest (chain_of old.upstream)))
+        result (C.rest (chain_of new.upstream)) };
 
     fn ask(&mut self) -> Asked<C::Item> {
         loop {

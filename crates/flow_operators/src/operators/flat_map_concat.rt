@@ -34,7 +34,9 @@ where
 {
     type Item = U;
 
-    ghost sound = { λ s. C.sound (chain_of s.upstream) × F.IsAlwaysCallable s.given.closure × ComputesBy ⟦<Scripted<U> as Cold>⟧.whole (F.post s.given.closure) (M.inner s.given.meaning) };
+    ghost sound = { λ s. C.sound (chain_of s.upstream)
+        × F.IsAlwaysCallable s.given.closure
+        × ComputesBy ⟦<Scripted<U> as Cold>⟧.whole (F.post s.given.closure) (M.inner s.given.meaning) };
 
     ghost whole = { λ s. flat_map_run (M.inner s.given.meaning) (C.whole (chain_of s.upstream)) };
 
@@ -45,7 +47,8 @@ where
     ghost IsOver = { λ s. is_ended s.upstream ≡ true };
 
     ghost AsksBehind = { λ old result new.
-        Leaves (unless_completed (inner_left ⟦<Scripted<U> as Cold>⟧.rest old.inner) (C.rest (chain_of old.upstream))
+        Leaves (unless_completed (inner_left ⟦<Scripted<U> as Cold>⟧.rest old.inner)
+        (C.rest (chain_of old.upstream))
         (after_flat_map (M.inner old.given.meaning) (C.rest (chain_of old.upstream))))
         result (C.rest (chain_of new.upstream)) };
 
@@ -107,17 +110,20 @@ where
     M: InnerMeaning<C::Item, U>,
     F: Fn(C::Item) -> Result<Scripted<U>, ChainFault>,
 {
-    /// A fault that the closure answers ends the chain, too. `meaning` is for contracts: its type says which chain the closure
-    /// opens.
+    /// A fault that the closure answers ends the chain, too. `meaning` is for contracts: its type says which chain
+    /// the closure opens.
     #[tactic(auto, using(flow_law::proofs::ChainLemmas::flat_map_means))]
     pub fn new(upstream: C, meaning: M, closure: F) -> Self
         requires sound { C.sound upstream }
         requires callable { F.IsAlwaysCallable closure }
         requires computes { ComputesBy ⟦<Scripted<U> as Cold>⟧.whole (F.post closure) (M.inner meaning) }
         ensures sound { ⟦<FlatMapConcat<C, U, M, F> as Cold>⟧.sound result }
-        ensures whole { ⟦<FlatMapConcat<C, U, M, F> as Cold>⟧.whole result ≡ flat_map_run (M.inner meaning) (C.whole upstream) }
-        ensures meaning { meaning_of (⟦<FlatMapConcat<C, U, M, F> as Cold>⟧.whole result) ≡ flat_map_meaning (M.inner meaning) (meaning_of (C.whole upstream)) }
-        ensures rest { ⟦<FlatMapConcat<C, U, M, F> as Cold>⟧.rest result ≡ flat_map_run (M.inner meaning) (C.rest upstream) }
+        ensures whole { ⟦<FlatMapConcat<C, U, M, F> as Cold>⟧.whole result
+            ≡ flat_map_run (M.inner meaning) (C.whole upstream) }
+        ensures meaning { meaning_of (⟦<FlatMapConcat<C, U, M, F> as Cold>⟧.whole result)
+            ≡ flat_map_meaning (M.inner meaning) (meaning_of (C.whole upstream)) }
+        ensures rest { ⟦<FlatMapConcat<C, U, M, F> as Cold>⟧.rest result
+            ≡ flat_map_run (M.inner meaning) (C.rest upstream) }
     {
         FlatMapConcat {
             upstream: Upstream::new(upstream),

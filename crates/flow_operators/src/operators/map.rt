@@ -30,7 +30,8 @@ where
 {
     type Item = U;
 
-    ghost sound = { λ s. C.sound (chain_of s.upstream) × F.IsAlwaysCallable s.given.closure × Computes (F.post s.given.closure) (M.image s.given.meaning) };
+    ghost sound = { λ s. C.sound (chain_of s.upstream)
+        × F.IsAlwaysCallable s.given.closure × Computes (F.post s.given.closure) (M.image s.given.meaning) };
 
     ghost whole = { λ s. map_run (M.image s.given.meaning) (C.whole (chain_of s.upstream)) };
 
@@ -38,7 +39,8 @@ where
 
     ghost IsOver = { λ s. is_ended s.upstream ≡ true };
 
-    ghost AsksBehind = { λ old result new. AsksOnce (C.rest (chain_of old.upstream)) result (C.rest (chain_of new.upstream)) };
+    ghost AsksBehind = { λ old result new.
+        AsksOnce (C.rest (chain_of old.upstream)) result (C.rest (chain_of new.upstream)) };
 
     fn ask(&mut self) -> Asked<U> {
         match self.upstream.next() {
@@ -59,16 +61,18 @@ where
     M: ItemMeaning<C::Item, U>,
     F: Fn(C::Item) -> Result<U, ChainFault>,
 {
-    /// A fault that the closure answers ends the chain; of that item nothing is given. `meaning` is for contracts: its type
-    /// says what the closure computes.
+    /// A fault that the closure answers ends the chain; of that item nothing is given. `meaning` is for contracts:
+    /// its type says what the closure computes.
     #[tactic(auto, using(flow_law::proofs::ChainLemmas::map_means))]
     pub fn new(upstream: C, meaning: M, closure: F) -> Self
         requires sound { C.sound upstream }
         requires callable { F.IsAlwaysCallable closure }
         requires computes { Computes (F.post closure) (M.image meaning) }
         ensures sound { ⟦<Map<C, U, M, F> as Cold>⟧.sound result }
-        ensures whole { ⟦<Map<C, U, M, F> as Cold>⟧.whole result ≡ map_run (M.image meaning) (C.whole upstream) }
-        ensures meaning { meaning_of (⟦<Map<C, U, M, F> as Cold>⟧.whole result) ≡ map_meaning (M.image meaning) (meaning_of (C.whole upstream)) }
+        ensures whole { ⟦<Map<C, U, M, F> as Cold>⟧.whole result
+            ≡ map_run (M.image meaning) (C.whole upstream) }
+        ensures meaning { meaning_of (⟦<Map<C, U, M, F> as Cold>⟧.whole result)
+            ≡ map_meaning (M.image meaning) (meaning_of (C.whole upstream)) }
         ensures rest { ⟦<Map<C, U, M, F> as Cold>⟧.rest result ≡ map_run (M.image meaning) (C.rest upstream) }
     {
         Map {

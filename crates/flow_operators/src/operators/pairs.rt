@@ -1,7 +1,8 @@
 //! What the forms of `zip` stand on: pairs of the items of two chains.
 ghost use Rattle.std.specs.Prelude.{◌≡◌, true, false, None, IfErr};
 ghost use Rattle.flow_operators.specs.Asking.{IsFinal};
-ghost use Rattle.flow_operators.specs.Pairs.{AsksSides, PairGives, is_over, kept_item, left_chain, right_chain};
+ghost use Rattle.flow_operators.specs.Pairs.{AsksSides, PairGives};
+ghost use Rattle.flow_operators.specs.Pairs.{is_over, kept_item, left_chain, right_chain};
 ghost use Rattle.flow_operators.specs.Upstreams.{WithAnswer};
 
 use crate::cold::{Asked, Cold};

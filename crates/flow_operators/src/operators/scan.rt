@@ -28,7 +28,9 @@ where
 {
     type Item = U;
 
-    ghost sound = { λ s. C.sound (scanned s.results) × F.IsAlwaysCallable s.given.closure × Computes (λ x r. F.post s.given.closure x.0 x.1 r) (M.image s.given.meaning) };
+    ghost sound = { λ s. C.sound (scanned s.results)
+        × F.IsAlwaysCallable s.given.closure
+        × Computes (λ x r. F.post s.given.closure x.0 x.1 r) (M.image s.given.meaning) };
 
     ghost whole = { λ s.
         gives (initial_of s.results)
@@ -62,17 +64,20 @@ where
     M: PairMeaning<U, C::Item, U>,
     F: Fn(U, C::Item) -> Result<U, ChainFault>,
 {
-    /// The initial value is given without asking the upstream. A fault that the closure answers ends the chain. `meaning` is
-    /// for contracts: its type says what the closure computes.
+    /// The initial value is given without asking the upstream. A fault that the closure answers ends the chain.
+    /// `meaning` is for contracts: its type says what the closure computes.
     #[tactic(auto, using(flow_law::proofs::ChainLemmas::scan_means))]
     pub fn new(upstream: C, initial: U, meaning: M, closure: F) -> Self
         requires sound { C.sound upstream }
         requires callable { F.IsAlwaysCallable closure }
         requires computes { Computes (λ x r. F.post closure x.0 x.1 r) (M.image meaning) }
         ensures sound { ⟦<Scan<C, U, M, F> as Cold>⟧.sound result }
-        ensures whole { ⟦<Scan<C, U, M, F> as Cold>⟧.whole result ≡ gives initial (scan_run (M.image meaning) initial (C.whole upstream)) }
-        ensures meaning { meaning_of (⟦<Scan<C, U, M, F> as Cold>⟧.whole result) ≡ scan_meaning (M.image meaning) initial (meaning_of (C.whole upstream)) }
-        ensures rest { ⟦<Scan<C, U, M, F> as Cold>⟧.rest result ≡ gives initial (scan_run (M.image meaning) initial (C.rest upstream)) }
+        ensures whole { ⟦<Scan<C, U, M, F> as Cold>⟧.whole result
+            ≡ gives initial (scan_run (M.image meaning) initial (C.whole upstream)) }
+        ensures meaning { meaning_of (⟦<Scan<C, U, M, F> as Cold>⟧.whole result)
+            ≡ scan_meaning (M.image meaning) initial (meaning_of (C.whole upstream)) }
+        ensures rest { ⟦<Scan<C, U, M, F> as Cold>⟧.rest result
+            ≡ gives initial (scan_run (M.image meaning) initial (C.rest upstream)) }
     {
         Scan {
             results: Results::new(upstream, initial),

@@ -26,7 +26,8 @@ impl<C: Cold> Take<C> {
         requires { C.sound upstream }
         ensures sound { IfOk result ⟦<Take<C> as Cold>⟧.sound }
         ensures whole { IfOk result (λ t. ⟦<Take<C> as Cold>⟧.whole t ≡ take_run count (C.whole upstream)) }
-        ensures meaning { IfOk result (λ t. meaning_of (⟦<Take<C> as Cold>⟧.whole t) ≡ take_meaning count (meaning_of (C.whole upstream))) }
+        ensures meaning { IfOk result (λ t. meaning_of (⟦<Take<C> as Cold>⟧.whole t)
+            ≡ take_meaning count (meaning_of (C.whole upstream))) }
         ensures rest { IfOk result (λ t. ⟦<Take<C> as Cold>⟧.rest t ≡ take_run count (C.rest upstream)) }
         ensures left { IfOk result (λ t. items_left t ≡ count) }
         ensures refused { (result ≡ Err ChainFault.NotPositive) ↔ (count ≡ 0) }
@@ -54,14 +55,16 @@ impl<C: Cold> Cold for Take<C> {
 
     ghost IsOver = { λ s. (s.left ≡ 0) ⊎ (is_ended s.upstream ≡ true) };
 
-    ghost AsksBehind = { λ old result new. AsksOnce (C.rest (chain_of old.upstream)) result (C.rest (chain_of new.upstream)) };
+    ghost AsksBehind = { λ old result new.
+        AsksOnce (C.rest (chain_of old.upstream)) result (C.rest (chain_of new.upstream)) };
 
     // The trait's clauses, and how many items are left. After the last one the upstream is left as it is.
     fn ask(&mut self) -> Asked<C::Item>
         requires { ⟦<Take<C> as Cold>⟧.sound self.old }
         ensures sound { ⟦<Take<C> as Cold>⟧.sound self.new }
         ensures whole { ⟦<Take<C> as Cold>⟧.whole self.new ≡ ⟦<Take<C> as Cold>⟧.whole self.old }
-        ensures gives { AskGives (⟦<Take<C> as Cold>⟧.rest self.old) result (⟦<Take<C> as Cold>⟧.rest self.new) }
+        ensures gives { AskGives (⟦<Take<C> as Cold>⟧.rest self.old) result
+            (⟦<Take<C> as Cold>⟧.rest self.new) }
         ensures over { IsFinal result → ⟦<Take<C> as Cold>⟧.IsOver self.new }
         ensures answered { OnEnd result (⟦<Take<C> as Cold>⟧.HasAnswered self.new) }
         ensures behind { (¬ ⟦<Take<C> as Cold>⟧.IsOver self.old)

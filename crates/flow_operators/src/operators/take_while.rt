@@ -27,7 +27,9 @@ where
 {
     type Item = C::Item;
 
-    ghost sound = { λ s. C.sound (chain_of s.upstream) × F.IsAlwaysCallable s.given.closure × Decides (λ x b. FnReturnsAt F.Fn s.given.closure x b) (M.passes s.given.meaning) };
+    ghost sound = { λ s. C.sound (chain_of s.upstream)
+        × F.IsAlwaysCallable s.given.closure
+        × Decides (λ x b. FnReturnsAt F.Fn s.given.closure x b) (M.passes s.given.meaning) };
 
     ghost whole = { λ s. take_while_run (M.passes s.given.meaning) (C.whole (chain_of s.upstream)) };
 
@@ -35,7 +37,8 @@ where
 
     ghost IsOver = { λ s. is_ended s.upstream ≡ true };
 
-    ghost AsksBehind = { λ old result new. AsksOnce (C.rest (chain_of old.upstream)) result (C.rest (chain_of new.upstream)) };
+    ghost AsksBehind = { λ old result new.
+        AsksOnce (C.rest (chain_of old.upstream)) result (C.rest (chain_of new.upstream)) };
 
     fn ask(&mut self) -> Asked<C::Item> {
         match self.upstream.next() {
@@ -68,9 +71,12 @@ where
         requires callable { F.IsAlwaysCallable closure }
         requires computes { Decides (λ x b. FnReturnsAt F.Fn closure x b) (M.passes meaning) }
         ensures sound { ⟦<TakeWhile<C, M, F> as Cold>⟧.sound result }
-        ensures whole { ⟦<TakeWhile<C, M, F> as Cold>⟧.whole result ≡ take_while_run (M.passes meaning) (C.whole upstream) }
-        ensures meaning { meaning_of (⟦<TakeWhile<C, M, F> as Cold>⟧.whole result) ≡ take_while_meaning (M.passes meaning) (meaning_of (C.whole upstream)) }
-        ensures rest { ⟦<TakeWhile<C, M, F> as Cold>⟧.rest result ≡ take_while_run (M.passes meaning) (C.rest upstream) }
+        ensures whole { ⟦<TakeWhile<C, M, F> as Cold>⟧.whole result
+            ≡ take_while_run (M.passes meaning) (C.whole upstream) }
+        ensures meaning { meaning_of (⟦<TakeWhile<C, M, F> as Cold>⟧.whole result)
+            ≡ take_while_meaning (M.passes meaning) (meaning_of (C.whole upstream)) }
+        ensures rest { ⟦<TakeWhile<C, M, F> as Cold>⟧.rest result
+            ≡ take_while_run (M.passes meaning) (C.rest upstream) }
     {
         TakeWhile {
             upstream: Upstream::new(upstream),

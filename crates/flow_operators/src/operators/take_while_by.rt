@@ -27,7 +27,8 @@ impl<C: Cold, M: ItemTest<C::Item>> Cold for TakeWhileBy<C, M> {
 
     ghost IsOver = { λ s. is_ended s.upstream ≡ true };
 
-    ghost AsksBehind = { λ old result new. AsksOnce (C.rest (chain_of old.upstream)) result (C.rest (chain_of new.upstream)) };
+    ghost AsksBehind = { λ old result new.
+        AsksOnce (C.rest (chain_of old.upstream)) result (C.rest (chain_of new.upstream)) };
 
     fn ask(&mut self) -> Asked<C::Item> {
         match self.upstream.next() {

@@ -30,7 +30,9 @@ where
 {
     type Item = U;
 
-    ghost sound = { λ s. C.sound (chain_of s.upstream) × F.IsAlwaysCallable s.given.closure × ComputesBy (λ v. v.items) (F.post s.given.closure) (M.images s.given.meaning) };
+    ghost sound = { λ s. C.sound (chain_of s.upstream)
+        × F.IsAlwaysCallable s.given.closure
+        × ComputesBy (λ v. v.items) (F.post s.given.closure) (M.images s.given.meaning) };
 
     ghost whole = { λ s. transform_run (M.images s.given.meaning) (C.whole (chain_of s.upstream)) };
 
@@ -91,17 +93,20 @@ where
     M: ListMeaning<C::Item, U>,
     F: Fn(C::Item) -> Result<Vec<U>, ChainFault>,
 {
-    /// A fault that the closure answers ends the chain; of that item nothing is given. `meaning` is for contracts: its type
-    /// says which list the closure makes.
+    /// A fault that the closure answers ends the chain; of that item nothing is given. `meaning` is for contracts:
+    /// its type says which list the closure makes.
     #[tactic(auto, using(flow_law::proofs::ChainLemmas::transform_means))]
     pub fn new(upstream: C, meaning: M, closure: F) -> Self
         requires sound { C.sound upstream }
         requires callable { F.IsAlwaysCallable closure }
         requires computes { ComputesBy (λ v. v.items) (F.post closure) (M.images meaning) }
         ensures sound { ⟦<Transform<C, U, M, F> as Cold>⟧.sound result }
-        ensures whole { ⟦<Transform<C, U, M, F> as Cold>⟧.whole result ≡ transform_run (M.images meaning) (C.whole upstream) }
-        ensures meaning { meaning_of (⟦<Transform<C, U, M, F> as Cold>⟧.whole result) ≡ transform_meaning (M.images meaning) (meaning_of (C.whole upstream)) }
-        ensures rest { ⟦<Transform<C, U, M, F> as Cold>⟧.rest result ≡ transform_run (M.images meaning) (C.rest upstream) }
+        ensures whole { ⟦<Transform<C, U, M, F> as Cold>⟧.whole result
+            ≡ transform_run (M.images meaning) (C.whole upstream) }
+        ensures meaning { meaning_of (⟦<Transform<C, U, M, F> as Cold>⟧.whole result)
+            ≡ transform_meaning (M.images meaning) (meaning_of (C.whole upstream)) }
+        ensures rest { ⟦<Transform<C, U, M, F> as Cold>⟧.rest result
+            ≡ transform_run (M.images meaning) (C.rest upstream) }
     {
         Transform {
             upstream: Upstream::new(upstream),

@@ -33,9 +33,12 @@ where
 {
     type Item = U;
 
-    ghost sound = { λ s. L.sound (left_chain s.pairs) × R.sound (right_chain s.pairs) × F.IsAlwaysCallable s.given.closure × Computes (λ x r. F.post s.given.closure x.0 x.1 r) (M.image s.given.meaning) };
+    ghost sound = { λ s. L.sound (left_chain s.pairs) × R.sound (right_chain s.pairs)
+        × F.IsAlwaysCallable s.given.closure
+        × Computes (λ x r. F.post s.given.closure x.0 x.1 r) (M.image s.given.meaning) };
 
-    ghost whole = { λ s. zip_run (M.image s.given.meaning) (L.whole (left_chain s.pairs)) (R.whole (right_chain s.pairs)) };
+    ghost whole = { λ s. zip_run (M.image s.given.meaning)
+        (L.whole (left_chain s.pairs)) (R.whole (right_chain s.pairs)) };
 
     ghost rest = { λ s. pairs_rest L.rest R.rest (M.image s.given.meaning) s.pairs };
 
@@ -66,7 +69,8 @@ where
     M: PairMeaning<L::Item, R::Item, U>,
     F: Fn(L::Item, R::Item) -> Result<U, ChainFault>,
 {
-    /// A fault that the closure answers ends the chain. `meaning` is for contracts: its type says what the closure computes.
+    /// A fault that the closure answers ends the chain. `meaning` is for contracts: its type says what the closure
+    /// computes.
     #[tactic(auto, using(flow_law::proofs::ChainLemmas::zip_means))]
     pub fn new(left: L, right: R, meaning: M, closure: F) -> Self
         requires left { L.sound left }
@@ -74,9 +78,12 @@ where
         requires callable { F.IsAlwaysCallable closure }
         requires computes { Computes (λ x r. F.post closure x.0 x.1 r) (M.image meaning) }
         ensures sound { ⟦<Zip<L, R, U, M, F> as Cold>⟧.sound result }
-        ensures whole { ⟦<Zip<L, R, U, M, F> as Cold>⟧.whole result ≡ zip_run (M.image meaning) (L.whole left) (R.whole right) }
-        ensures meaning { meaning_of (⟦<Zip<L, R, U, M, F> as Cold>⟧.whole result) ≡ zip_meaning (M.image meaning) (meaning_of (L.whole left)) (meaning_of (R.whole right)) }
-        ensures rest { ⟦<Zip<L, R, U, M, F> as Cold>⟧.rest result ≡ zip_run (M.image meaning) (L.rest left) (R.rest right) }
+        ensures whole { ⟦<Zip<L, R, U, M, F> as Cold>⟧.whole result
+            ≡ zip_run (M.image meaning) (L.whole left) (R.whole right) }
+        ensures meaning { meaning_of (⟦<Zip<L, R, U, M, F> as Cold>⟧.whole result)
+            ≡ zip_meaning (M.image meaning) (meaning_of (L.whole left)) (meaning_of (R.whole right)) }
+        ensures rest { ⟦<Zip<L, R, U, M, F> as Cold>⟧.rest result
+            ≡ zip_run (M.image meaning) (L.rest left) (R.rest right) }
     {
         Zip {
             pairs: Pairs::new(left, right),
