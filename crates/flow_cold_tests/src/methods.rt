@@ -65,6 +65,33 @@ fn ready_computations_need_no_closure(rt: HostRuntime) -> Result<(), Fail> {
     Ok(())
 }
 
+/// `runningFold` gives the initial value, and then the sums of the first items.
+#[test]
+fn a_scan_needs_no_closure(rt: HostRuntime) -> Result<(), Fail> {
+    let alloc = rt.alloc();
+    let mut chain = OfRange::new(1, 3).scan_by(0, Add);
+    let got = collect_all(alloc, &mut chain)?;
+    assert_eq!(rt; got.items.as_slice(), [0, 1, 3, 6].as_slice());
+    assert_eq!(rt; got.end, End::Completed);
+    let mut chain = OfRange::new(1, 3).scan_by(i64::MAX - 1, Add);
+    let got = collect_all(alloc, &mut chain)?;
+    assert_eq!(rt; got.items.as_slice(), [i64::MAX - 1, i64::MAX].as_slice());
+    assert_eq!(rt; got.end, End::Failed(ChainFault::Overflow));
+    Ok(())
+}
+
+/// `zip` completes as soon as one of its sides does: the item 40 has no partner.
+#[test]
+fn a_zip_needs_no_closure(rt: HostRuntime) -> Result<(), Fail> {
+    let alloc = rt.alloc();
+    let tens = OfList::new([10i64, 20, 30, 40].to_vec(alloc)?);
+    let mut chain = OfRange::new(1, 3).zip_by(tens, Add);
+    let got = collect_all(alloc, &mut chain)?;
+    assert_eq!(rt; got.items.as_slice(), [11, 22, 33].as_slice());
+    assert_eq!(rt; got.end, End::Completed);
+    Ok(())
+}
+
 #[test]
 fn a_chain_comes_to_one_answer(rt: HostRuntime) -> Result<(), Fail> {
     let mut chain = OfRange::new(1, 4);

@@ -1,11 +1,12 @@
 //! Each operator once, with closures of the caller's.
 ghost use Rattle.std.specs.Prelude.{◌≡◌};
+ghost use Rattle.std.proofs.Common.{rules};
 ghost use Rattle.flow_cold_tests.specs.Meanings.{GivesTwice, OpensTwice, add, add_one, is_above_one, twice, twice_run};
 
 use flow_cold::{
     ChainFault, Distinct, DropFirst, End, Entry, Filter, FlatMapConcat, InnerMeaning, ItemMeaning,
-    ListMeaning, Map, OfList, OfRange, PairMeaning, Scripted, Take, TakeWhile, TestMeaning,
-    Transform, Zip, collect_all,
+    ListMeaning, Map, OfList, OfRange, PairComputation, PairMeaning, Scripted, Take, TakeWhile,
+    TestMeaning, Transform, Zip, collect_all,
 };
 use std::alloc::Global;
 use std::test::Fail;
@@ -22,6 +23,14 @@ pub struct Add;
 
 impl PairMeaning<i64, i64, i64> for Add {
     ghost image = { λ _. add };
+}
+
+impl PairComputation<i64, i64, i64> for Add {
+    fn compute(&self, first: i64, second: i64) -> Result<i64, ChainFault> {
+        sum(first, second)
+    }
+
+    ghost counts = { Prim.search rules };
 }
 
 #[derive(Drop)]

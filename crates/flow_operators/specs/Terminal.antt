@@ -35,6 +35,14 @@ first_of (x ∷ xs) e = Ok (Some x)
 abbrev pub counted : {A : Type 0} → List A → End → Result ℕ ChainFault
 counted xs e = cond (nat_lt (length xs) (2 ^ 64)) (at_ending (length xs) e) (Err Overflow)
 
+-- some call of the closure answers the fault; `post` says what a call may answer
+abbrev pub CallFails : {A B C : Type 0} → (A → B → Result C ChainFault → Type 0) → ChainFault → Type 0
+CallFails {A} {B} post fault = (x : A) × (y : B) × post x y (Err fault)
+
+-- the same of a closure that changes: at some item x, and f is then g
+abbrev pub VisitFails : {A F : Type 0} → (F → A → Result (Unit {0}) ChainFault → F → Type 0) → ChainFault → Type 0
+VisitFails {A} {F} step fault = (f : F) × (x : A) × (g : F) × step f x (Err fault) g
+
 -- f is called at each item, in order, up to its first fault; `step` says what a call answers, and what f is then
 abbrev pub Visits : {A F : Type 0} → (F → A → Result (Unit {0}) ChainFault → F → Type 0) → F → List A → End → Result (Unit {0}) ChainFault → Type 0
 Visits step f [] e result = Follows (at_ending tt e) result

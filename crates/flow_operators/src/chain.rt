@@ -11,11 +11,11 @@ ghost use Rattle.flow_operators.specs.Closures.{Computes, ComputesBy, Decides};
 ghost use Rattle.flow_operators.specs.Taking.{items_left};
 
 use crate::cold::Cold;
-use crate::computation::{ItemComputation, ItemTest};
+use crate::computation::{ItemComputation, ItemTest, PairComputation};
 use crate::meaning::{InnerMeaning, ItemMeaning, ListMeaning, PairMeaning, TestMeaning};
 use crate::operators::{
-    Distinct, DropFirst, Filter, FilterBy, FlatMapConcat, Map, MapBy, Scan, Take, TakeWhile,
-    TakeWhileBy, Transform, Zip,
+    Distinct, DropFirst, Filter, FilterBy, FlatMapConcat, Map, MapBy, Scan, ScanBy, Take,
+    TakeWhile, TakeWhileBy, Transform, Zip, ZipBy,
 };
 use crate::sources::Scripted;
 use flow_law::{ChainFault, FlowValue};
@@ -189,6 +189,24 @@ pub trait Chain: Cold {
         Scan::new(self, initial, meaning, closure)
     }
 
+    /// Gives `initial`, then what the computation makes of the last result and each item. See `ScanBy::new`.
+    final fn scan_by<U, M>(self, initial: U, computation: M) -> ScanBy<Self, U, M>
+    where
+        Self: Sized,
+        U: FlowValue,
+        M: PairComputation<U, Self::Item, U>,
+        requires { Self.sound self }
+        ensures sound { ⟦<ScanBy<Self, U, M> as Cold>⟧.sound result }
+        ensures whole { ⟦<ScanBy<Self, U, M> as Cold>⟧.whole result
+            ≡ gives initial (runs.scan_run (M.image computation) initial (Self.whole self)) }
+        ensures meaning { meaning_of (⟦<ScanBy<Self, U, M> as Cold>⟧.whole result)
+            ≡ means.scan_meaning (M.image computation) initial (meaning_of (Self.whole self)) }
+        ensures rest { ⟦<ScanBy<Self, U, M> as Cold>⟧.rest result
+            ≡ gives initial (runs.scan_run (M.image computation) initial (Self.rest self)) }
+    {
+        ScanBy::new(self, initial, computation)
+    }
+
     /// Drops each item that is the same as the one before. See `Distinct::new`.
     final fn distinct(self) -> Distinct<Self>
     where
@@ -270,6 +288,27 @@ pub trait Chain: Cold {
             ≡ runs.zip_run (M.image meaning) (Self.rest self) (R.rest right) }
     {
         Zip::new(self, right, meaning, closure)
+    }
+
+    /// Gives what the computation makes of each pair; this chain is the left side. See `ZipBy::new`.
+    final fn zip_by<R, U, M>(self, right: R, computation: M) -> ZipBy<Self, R, U, M>
+    where
+        Self: Sized,
+        R: Cold,
+        U: FlowValue,
+        M: PairComputation<Self::Item, R::Item, U>,
+        requires left { Self.sound self }
+        requires right { R.sound right }
+        ensures sound { ⟦<ZipBy<Self, R, U, M> as Cold>⟧.sound result }
+        ensures whole { ⟦<ZipBy<Self, R, U, M> as Cold>⟧.whole result
+            ≡ runs.zip_run (M.image computation) (Self.whole self) (R.whole right) }
+        ensures meaning { meaning_of (⟦<ZipBy<Self, R, U, M> as Cold>⟧.whole result)
+            ≡ means.zip_meaning (M.image computation) (meaning_of (Self.whole self))
+            (meaning_of (R.whole right)) }
+        ensures rest { ⟦<ZipBy<Self, R, U, M> as Cold>⟧.rest result
+            ≡ runs.zip_run (M.image computation) (Self.rest self) (R.rest right) }
+    {
+        ZipBy::new(self, right, computation)
     }
 }
 

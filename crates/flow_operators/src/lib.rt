@@ -18,8 +18,9 @@
 //! An operator takes the caller's closure, and beside it a value that tells its meaning: the function that it computes.
 //! That value is for contracts alone, and a unit struct will do.
 //!
-//! A meaning with code of its own (`ItemComputation`, `ItemTest`) is taken alone, by `map_by`, `filter_by` and
-//! `take_while_by`. Ready ones on whole numbers are `Plus`, `Times`, `Even`, `Odd`, `Less` and `Greater`.
+//! A meaning with code of its own (`ItemComputation`, `PairComputation`, `ItemTest`) is taken alone, by `map_by`,
+//! `scan_by`, `zip_by`, `filter_by` and `take_while_by`. Ready ones on whole numbers are `Plus`, `Times`, `Even`,
+//! `Odd`, `Less` and `Greater`.
 //!
 //! # Faults
 //! A closure that computes items may answer a fault. It ends the chain, and of that item nothing is given.
@@ -41,12 +42,12 @@ mod with_meaning;
 pub use chain::Chain;
 pub use cold::{Asked, Cold};
 pub use collect::{Collected, collect_all};
-pub use computation::{ItemComputation, ItemTest};
+pub use computation::{ItemComputation, ItemTest, PairComputation};
 pub use flow_law::{ChainFault, End};
 pub use meaning::{InnerMeaning, ItemMeaning, ListMeaning, PairMeaning, TestMeaning};
 pub use operators::{
-    Distinct, DropFirst, Filter, FilterBy, FlatMapConcat, Map, MapBy, Scan, Take, TakeWhile,
-    TakeWhileBy, Transform, Zip,
+    Distinct, DropFirst, Filter, FilterBy, FlatMapConcat, Map, MapBy, Scan, ScanBy, Take,
+    TakeWhile, TakeWhileBy, Transform, Zip, ZipBy,
 };
 pub use ready::{Even, Greater, Less, Not, Odd, Plus, Times};
 pub use sources::{Entry, OfList, OfRange, Scripted};

@@ -5,7 +5,7 @@
 ghost use Rattle.std.specs.Prelude.{◌≡◌, ◌⊎◌, ◌∷◌, IfOk, IfErr, IfSome};
 ghost use Rattle.flow_law.specs.ChainRun.{items, ending};
 ghost use Rattle.flow_operators.specs.Closures.{Computes, Follows};
-ghost use Rattle.flow_operators.specs.Terminal.{Visits, counted, first_of, folded};
+ghost use Rattle.flow_operators.specs.Terminal.{CallFails, VisitFails, Visits, counted, first_of, folded};
 
 use crate::cold::{Asked, Cold};
 use crate::meaning::PairMeaning;
@@ -28,6 +28,10 @@ pub trait Terminal: Cold {
         ensures whole { Self.whole self.new ≡ Self.whole self.old }
         ensures folds { Follows (folded (M.image meaning) initial
             (items (Self.whole self.old)) (ending (Self.whole self.old))) result }
+        ensures over { IfOk result (λ _. Self.IsOver self.new) }
+        // A fault is the chain's own last answer, or a call of the closure answered it. So is want of memory.
+        ensures answered { IfErr result (λ fault.
+            Self.HasAnswered self.new (End.Failed fault) ⊎ CallFails (F.post closure) fault) }
     {
         let given = WithMeaning { meaning, closure };
         self.rewind();
@@ -72,6 +76,7 @@ pub trait Terminal: Cold {
         ensures whole { Self.whole self.new ≡ Self.whole self.old }
         ensures counts { Follows (counted
             (items (Self.whole self.old)) (ending (Self.whole self.old))) result }
+        ensures over { IfOk result (λ _. Self.IsOver self.new) }
         // A fault is the chain's own last answer, unless the count was too large. So is want of memory.
         ensures answered { IfErr result (λ fault.
             (fault ≡ ChainFault.Overflow) ⊎ Self.HasAnswered self.new (End.Failed fault)) }
@@ -101,6 +106,10 @@ pub trait Terminal: Cold {
         ensures whole { Self.whole self.new ≡ Self.whole self.old }
         ensures visits { Visits (λ f x r g. F.step f x r g) visit
             (items (Self.whole self.old)) (ending (Self.whole self.old)) result }
+        ensures over { IfOk result (λ _. Self.IsOver self.new) }
+        // A fault is the chain's own last answer, or a call of the closure answered it. So is want of memory.
+        ensures answered { IfErr result (λ fault. Self.HasAnswered self.new (End.Failed fault)
+            ⊎ VisitFails (λ f x r g. F.step f x r g) fault) }
     {
         self.rewind();
         loop {

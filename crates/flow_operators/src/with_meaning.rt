@@ -33,7 +33,8 @@ impl<M, F> WithMeaning<M, F> {
         F: Fn(A, B) -> Result<U, ChainFault>,
         requires callable { F.IsAlwaysCallable self.now.closure }
         requires computes { Computes (λ x r. F.post self.now.closure x.0 x.1 r) (M.image self.now.meaning) }
-        ensures { Follows (M.image self.now.meaning (first, second)) result }
+        ensures follows { Follows (M.image self.now.meaning (first, second)) result }
+        ensures called { F.post self.now.closure first second result }
     {
         (self.closure)(first, second)
     }
