@@ -30,13 +30,16 @@ pub trait FlowCore: Guarded<Said = Said<Self::Call, Self::Reply>> {
     ghost stands_as: { Self → Self.State → Type 0 };
 
     fn subscribe(&mut self) -> Result<SubId, FlowFault>
-        ensures { (name : List ℕ) → Documents kind stands_as self.old (kind.subscribe name) (replied kind (λ id. kind.subscribed (number_of id)) result) self.new };
+        ensures { (name : List ℕ) → Documents kind stands_as self.old (kind.subscribe name)
+            (replied kind (λ id. kind.subscribed (number_of id)) result) self.new };
 
     fn next(&mut self, id: SubId) -> Result<Next<Self::Item>, FlowFault>
-        ensures { Documents kind stands_as self.old (kind.take_next (number_of id)) (replied kind kind.received result) self.new };
+        ensures { Documents kind stands_as self.old (kind.take_next (number_of id))
+            (replied kind kind.received result) self.new };
 
     fn unsubscribe(&mut self, id: SubId) -> bool
-        ensures { Documents kind stands_as self.old (kind.unsubscribe (number_of id)) (kind.tested result) self.new };
+        ensures { Documents kind stands_as self.old (kind.unsubscribe (number_of id))
+            (kind.tested result) self.new };
 
     fn subscription_count(&self) -> u64
         ensures { Documents kind stands_as self.now kind.count (kind.counted result) self.now };
@@ -45,7 +48,9 @@ pub trait FlowCore: Guarded<Said = Said<Self::Call, Self::Reply>> {
     ghost lawful: { Lawful kind };
 
     /// Behind a gate it stands for the histories of its kind.
-    ghost stands_so: { (start core : Self) (h : List (Event (Said Self.Call Self.Reply))) → Self.stands start core h → StandsForHistory kind stands_as (first start) core h };
+    ghost stands_so: { (start core : Self) (h : List (Event (Said Self.Call Self.Reply)))
+        → Self.stands start core h → StandsForHistory kind stands_as (first start) core h };
 
-    ghost stands_then: { (start core : Self) (h : List (Event (Said Self.Call Self.Reply))) → StandsForHistory kind stands_as (first start) core h → Self.stands start core h };
+    ghost stands_then: { (start core : Self) (h : List (Event (Said Self.Call Self.Reply)))
+        → StandsForHistory kind stands_as (first start) core h → Self.stands start core h };
 }

@@ -90,7 +90,8 @@ impl<A: Allocator> Subscribers<A> {
     }
 
     pub(crate) fn push(&mut self, number: u64, position: usize) -> Result<(), AllocError>
-        ensures pushed { OnOk result (self.new ≡ self.old ++ record { number = number; position = position } ∷ []) }
+        ensures pushed { OnOk result (self.new ≡ self.old
+            ++ record { number = number; position = position } ∷ []) }
         ensures unchanged { OnErr result (self.new ≡ self.old) }
     {
         self.rows.push(Row { number, position })?;

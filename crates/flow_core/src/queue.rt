@@ -87,7 +87,8 @@ impl<T: Drop, A: Allocator> Queue<T, A> {
     }
 
     pub(crate) fn pop_front(&mut self) -> Option<Queued<T>>
-        ensures { MatchOption result ((self.old ≡ []) × self.new ≡ []) (λ first. self.old ≡ numbered_of first ∷ self.new) }
+        ensures { MatchOption result ((self.old ≡ []) × self.new ≡ [])
+            (λ first. self.old ≡ numbered_of first ∷ self.new) }
     {
         self.items.pop_front()
     }

@@ -165,7 +165,8 @@ impl<T: FlowValue, A: Allocator + Copy> SharedCore<T, A> {
     ///
     /// A subscriber who does not read blocks emitters or loses values, as the strategy says, until `unsubscribe`.
     pub fn subscribe(&mut self) -> Result<SubId, FlowFault>
-        ensures documented { (name : List ℕ) → Conforms self.old (call.Subscribe name) (subscribe_reply result) self.new }
+        ensures documented { (name : List ℕ)
+            → Conforms self.old (call.Subscribe name) (subscribe_reply result) self.new }
     {
         if self.issued == self.config.limit {
             return Err(FlowFault::Exhausted);
@@ -203,7 +204,8 @@ impl<T: FlowValue, A: Allocator + Copy> SharedCore<T, A> {
 
     /// Ends a subscription, and answers whether it was there. Emitters who waited for it alone go on.
     pub fn unsubscribe(&mut self, id: SubId) -> bool
-        ensures documented { Conforms self.old (call.Unsubscribe (number_of id)) (reply.Tested result) self.new }
+        ensures documented { Conforms self.old (call.Unsubscribe (number_of id))
+            (reply.Tested result) self.new }
     {
         let was_there = self.subscribers.position_of(id.number).is_some();
         self.subscribers.remove(id.number);

@@ -108,7 +108,8 @@ impl<T: FlowValue, A: Allocator + Copy> StateCore<T, A> {
     /// Makes `update` the current value where the current one is `expect`, and answers whether it was. At `false`
     /// `update` is dropped. Where both are the current value the answer is `true`.
     pub fn compare_and_set(&mut self, expect: &T, update: T) -> bool
-        ensures documented { StateConforms self.old (call.CompareAndSet expect.now update) (reply.Answered result) self.new }
+        ensures documented { StateConforms self.old (call.CompareAndSet expect.now update)
+            (reply.Answered result) self.new }
     {
         if self.value.same(expect) {
             self.value = update;
@@ -120,7 +121,8 @@ impl<T: FlowValue, A: Allocator + Copy> StateCore<T, A> {
 
     /// A new subscriber, who gets the current value first.
     pub fn subscribe(&mut self) -> Result<SubId, FlowFault>
-        ensures documented { (name : List ℕ) → StateConforms self.old (call.Subscribe name) (subscribe_reply result) self.new }
+        ensures documented { (name : List ℕ)
+            → StateConforms self.old (call.Subscribe name) (subscribe_reply result) self.new }
     {
         if self.issued == self.limit {
             return Err(FlowFault::Exhausted);
@@ -137,7 +139,8 @@ impl<T: FlowValue, A: Allocator + Copy> StateCore<T, A> {
 
     /// The current value, if it is not the one that the subscriber got last.
     pub fn next(&mut self, id: SubId) -> Result<Next<T>, FlowFault>
-        ensures documented { StateConforms self.old (call.TakeNext (number_of id)) (next_reply result) self.new }
+        ensures documented { StateConforms self.old (call.TakeNext (number_of id))
+            (next_reply result) self.new }
     {
         let Some(place) = place_of(self.rows.as_slice(), id.number) else {
             return Ok(Next::Gone);
@@ -159,7 +162,8 @@ impl<T: FlowValue, A: Allocator + Copy> StateCore<T, A> {
 
     /// Ends a subscription, and answers whether it was there.
     pub fn unsubscribe(&mut self, id: SubId) -> bool
-        ensures documented { StateConforms self.old (call.Unsubscribe (number_of id)) (reply.Answered result) self.new }
+        ensures documented { StateConforms self.old (call.Unsubscribe (number_of id))
+            (reply.Answered result) self.new }
     {
         let was_there = place_of(self.rows.as_slice(), id.number).is_some();
         self.rows.retain(|row| row.number != id.number);

@@ -45,7 +45,8 @@ impl<'a> Names<'a> {
     }
 
     pub fn add_emission(&mut self, at: u64, name: &'a str) -> Result<(), ScriptFault>
-        ensures { checks.Gives (checks.with_emission at name.now (lists_of self.old)) (checks.then_names result (lists_of self.new)) }
+        ensures { checks.Gives (checks.with_emission at name.now (lists_of self.old))
+            (checks.then_names result (lists_of self.new)) }
     {
         if self.is_known(name) {
             return Err(ScriptFault::DuplicateName(at));
@@ -57,7 +58,8 @@ impl<'a> Names<'a> {
     }
 
     pub fn add_subscriber(&mut self, at: u64, name: &'a str) -> Result<(), ScriptFault>
-        ensures { checks.Gives (checks.with_subscriber at name.now (lists_of self.old)) (checks.then_names result (lists_of self.new)) }
+        ensures { checks.Gives (checks.with_subscriber at name.now (lists_of self.old))
+            (checks.then_names result (lists_of self.new)) }
     {
         if self.is_known(name) {
             return Err(ScriptFault::DuplicateName(at));

@@ -20,7 +20,8 @@ pub const MOST_BYTES: usize = 1_048_576;
 const MOST_STEPS: usize = 10_000;
 
 fn steps_of(alloc: Global, kind: Kind, steps: &[Value]) -> Result<Vec<Step>, ScriptFault>
-    ensures { checks.Gives (checks.steps_of kind 1 checks.no_names (items_view steps.now)) (checks.steps_result result) }
+    ensures { checks.Gives (checks.steps_of kind 1 checks.no_names (items_view steps.now))
+        (checks.steps_result result) }
 {
     let mut names = Names::new(alloc);
     let mut checked = Vec::new(alloc);
@@ -38,7 +39,8 @@ fn steps_of(alloc: Global, kind: Kind, steps: &[Value]) -> Result<Vec<Step>, Scr
 
 /// The script of a head of the right shape.
 fn checked(alloc: Global, flow: ScriptFlow, steps: &[Value]) -> Result<Script, ScriptFault>
-    ensures { checks.Gives (checks.checked (head_of_flow flow, items_view steps.now)) (checks.script_result result) }
+    ensures { checks.Gives (checks.checked (head_of_flow flow, items_view steps.now))
+        (checks.script_result result) }
 {
     if steps.len() > MOST_STEPS {
         return Err(ScriptFault::TooLarge(0));

@@ -22,7 +22,8 @@ const MOST_LEVELS: u32 = 127;
 
 /// The source and the operators of a chain.
 fn parts_of(chain: &Value) -> Option<(&Value, &Vec<Value>)>
-    ensures { option_map (λ parts. (view parts.0.now, items_view parts.1.now.items)) result ≡ chains.parts_of (view chain.now) }
+    ensures { option_map (λ parts. (view parts.0.now, items_view parts.1.now.items)) result
+        ≡ chains.parts_of (view chain.now) }
 {
     if !has_members(chain, 2) {
         return None;
@@ -34,7 +35,8 @@ fn parts_of(chain: &Value) -> Option<(&Value, &Vec<Value>)>
 
 /// The chain of a source alone.
 fn start_of(source: Result<Source, ScriptFault>) -> Result<Build, ScriptFault>
-    ensures { (m : Result (ChainRun ℤ) TheScriptFault) → Gives m (source_result source) → Gives (chains.start_of m) (build_result result) }
+    ensures { (m : Result (ChainRun ℤ) TheScriptFault) → Gives m (source_result source)
+        → Gives (chains.start_of m) (build_result result) }
 {
     match source {
         Ok(source) => Ok(Ok(ScriptChain::source(source))),
@@ -57,7 +59,8 @@ fn zipped(
     by: Joining,
     with: Result<Build, ScriptFault>,
 ) -> Result<Result<Op, ChainFault>, ScriptFault>
-    ensures { (m : Result chains.Build TheScriptFault) → Gives m (build_result with) → Gives (chains.zipped by m) (operator_build_result result) }
+    ensures { (m : Result chains.Build TheScriptFault) → Gives m (build_result with)
+        → Gives (chains.zipped by m) (operator_build_result result) }
 {
     match with {
         Ok(with) => Ok(zip_with(by, with)),
@@ -67,7 +70,8 @@ fn zipped(
 
 /// An operator that nothing refuses before it is put onto a chain.
 fn plain(op: Result<Op, ScriptFault>) -> Result<Result<Op, ChainFault>, ScriptFault>
-    ensures { (m : Result chains.Operator TheScriptFault) → Gives m (operator_result op) → Gives (chains.plain m) (operator_build_result result) }
+    ensures { (m : Result chains.Operator TheScriptFault) → Gives m (operator_result op)
+        → Gives (chains.plain m) (operator_build_result result) }
 {
     match op {
         Ok(op) => Ok(Ok(op)),
@@ -115,8 +119,10 @@ fn joined_to(
     chain: Result<Build, ScriptFault>,
     op: Result<Result<Op, ChainFault>, ScriptFault>,
 ) -> Result<Build, ScriptFault>
-    ensures { (m : Result chains.Build TheScriptFault) (o : Result (Result chains.Operator TheChainFault) TheScriptFault)
-        → Gives m (build_result chain) → Gives o (operator_build_result op) → Gives (chains.joined_to m o) (build_result result) }
+    ensures { (m : Result chains.Build TheScriptFault)
+        (o : Result (Result chains.Operator TheChainFault) TheScriptFault)
+        → Gives m (build_result chain) → Gives o (operator_build_result op)
+        → Gives (chains.joined_to m o) (build_result result) }
 {
     match chain {
         Ok(chain) => match op {
@@ -129,8 +135,10 @@ fn joined_to(
 
 /// The fault that comes first: one of a chain's source and operators so far, or one of the operator after them.
 fn first_fault(fault: ScriptFault, op: Result<Result<Op, ChainFault>, ScriptFault>) -> ScriptFault
-    ensures { (m : Result chains.Build TheScriptFault) (o : Result (Result chains.Operator TheChainFault) TheScriptFault)
-        → Gives m (Err fault) → Gives o (operator_build_result op) → Gives (chains.joined_to m o) (Err result) }
+    ensures { (m : Result chains.Build TheScriptFault)
+        (o : Result (Result chains.Operator TheChainFault) TheScriptFault)
+        → Gives m (Err fault) → Gives o (operator_build_result op)
+        → Gives (chains.joined_to m o) (Err result) }
 {
     let ScriptFault::TooLarge(_) = fault else {
         return fault;

@@ -32,7 +32,8 @@ fn overflow_named(text: &str) -> Option<Overflow>
 }
 
 fn overflow_at(flow: &Value) -> Option<Overflow>
-    ensures { result ≡ option_and_then format.overflow_named (format.text_at (codes "overflow") (view flow.now)) }
+    ensures { result ≡ option_and_then format.overflow_named
+        (format.text_at (codes "overflow") (view flow.now)) }
 {
     let text = text_at(flow, "overflow")?;
     overflow_named(text)
@@ -80,7 +81,8 @@ fn none_of(flow: &Value) -> Option<ScriptFlow>
 }
 
 fn shared_of(flow: &Value) -> Option<ScriptFlow>
-    ensures { option_map head_of_flow result ≡ option_map heads.shared_flow (format.config_of (view flow.now)) }
+    ensures { option_map head_of_flow result
+        ≡ option_map heads.shared_flow (format.config_of (view flow.now)) }
 {
     Some(ScriptFlow::Shared(config_of(flow)?))
 }

@@ -123,7 +123,8 @@ fn flat_map_in(at: u64, op: &Value) -> Result<Op, ScriptFault>
 
 /// The operator, if the form is right.
 fn formed(at: u64, op: Option<Op>) -> Result<Op, ScriptFault>
-    ensures { Gives (or_fault (ScriptFault.BadShape at) (option_map operator_of op)) (operator_result result) }
+    ensures { Gives (or_fault (ScriptFault.BadShape at) (option_map operator_of op))
+        (operator_result result) }
 {
     match op {
         Some(op) => Ok(op),

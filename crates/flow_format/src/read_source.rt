@@ -34,7 +34,8 @@ pub fn numbers_in(
 }
 
 fn whole_numbers(alloc: Global, at: u64, values: &[Value]) -> Result<Vec<i64>, ScriptFault>
-    ensures { Gives (or_fault (ScriptFault.BadShape at) (sources.whole_numbers (items_view values.now))) (numbers_result result) }
+    ensures { Gives (or_fault (ScriptFault.BadShape at) (sources.whole_numbers (items_view values.now)))
+        (numbers_result result) }
 {
     let mut numbers = Vec::new(alloc);
     for value in values {
@@ -70,7 +71,8 @@ fn entry_of(value: &Value) -> Option<Entry<i64>>
 }
 
 fn entries_of(alloc: Global, at: u64, values: &[Value]) -> Result<Vec<Entry<i64>>, ScriptFault>
-    ensures { Gives (or_fault (ScriptFault.BadShape at) (sources.entries_of (items_view values.now))) (entries_result result) }
+    ensures { Gives (or_fault (ScriptFault.BadShape at) (sources.entries_of (items_view values.now)))
+        (entries_result result) }
 {
     let mut entries = Vec::new(alloc);
     for value in values {

@@ -65,7 +65,8 @@ fn value_in(at: u64, step: &Value) -> Result<i64, ScriptFault>
 
 /// The step, and its name introduced.
 fn emit_step<'a>(names: &mut Names<'a>, at: u64, step: &'a Value) -> Result<Step, ScriptFault>
-    ensures { checks.Gives (checks.step_by Verb.Emit at (lists_of names.old) (view step.now)) (checks.named_result result (lists_of names.new)) }
+    ensures { checks.Gives (checks.step_by Verb.Emit at (lists_of names.old) (view step.now))
+        (checks.named_result result (lists_of names.new)) }
 {
     let value = value_in(at, step)?;
     let Some(name) = name_at(step) else {
@@ -77,7 +78,8 @@ fn emit_step<'a>(names: &mut Names<'a>, at: u64, step: &'a Value) -> Result<Step
 
 /// The step, and its name introduced.
 fn subscribe_step<'a>(names: &mut Names<'a>, at: u64, step: &'a Value) -> Result<Step, ScriptFault>
-    ensures { checks.Gives (checks.step_by Verb.Subscribe at (lists_of names.old) (view step.now)) (checks.named_result result (lists_of names.new)) }
+    ensures { checks.Gives (checks.step_by Verb.Subscribe at (lists_of names.old) (view step.now))
+        (checks.named_result result (lists_of names.new)) }
 {
     let Some(name) = name_at(step) else {
         return Err(ScriptFault::BadShape(at));
@@ -106,7 +108,8 @@ fn pair_of(step: &Value) -> Option<(i64, i64)>
 }
 
 fn compare_and_set_step(at: u64, step: &Value) -> Result<Step, ScriptFault>
-    ensures { (names : checks.NameLists) → checks.Gives (checks.step_by Verb.CompareAndSet at names (view step.now)) (checks.named_result result names) }
+    ensures { (names : checks.NameLists) → checks.Gives
+        (checks.step_by Verb.CompareAndSet at names (view step.now)) (checks.named_result result names) }
 {
     match pair_of(step) {
         Some((expect, update)) => Ok(Step::Flow(FlowStep::CompareAndSet(expect, update))),
@@ -132,7 +135,8 @@ pub fn step_of<'a>(
     at: u64,
     step: &'a Value,
 ) -> Result<Step, ScriptFault>
-    ensures { checks.Gives (checks.step_of kind at (lists_of names.old) (view step.now)) (checks.named_result result (lists_of names.new)) }
+    ensures { checks.Gives (checks.step_of kind at (lists_of names.old) (view step.now))
+        (checks.named_result result (lists_of names.new)) }
 {
     let Some(verb) = verb_of(kind, step) else {
         return Err(ScriptFault::BadShape(at));

@@ -91,7 +91,8 @@ fn add_fault(line: &mut String, fault: ScriptFault) -> Result<(), AllocError>
 /// Tells the refusal of a script. Where there is no memory for its line, that is told.
 fn refuse<W: Write>(alloc: Global, output: &mut Watched<W>, fault: ScriptFault) -> u8
     requires { has_failed output.old ≡ false }
-    ensures { Tells (has_failed output.new) (W.contents (inner_of output.old)) (W.contents (inner_of output.new))
+    ensures { Tells (has_failed output.new) (W.contents (inner_of output.old))
+        (W.contents (inner_of output.new))
         (fault_line fault) 2 result
         ⊎ Tells (has_failed output.new) (W.contents (inner_of output.old)) (W.contents (inner_of output.new))
         memory_line 4 result }

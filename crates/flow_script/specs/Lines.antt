@@ -1,6 +1,6 @@
 -- The lines that a script writes, by the documented reply to each call.
 -- Begin with `line_of`.
-use Rattle.std.specs.Prelude.{ℕ, ℤ, Bool, List, [], ◌∷◌, ◌++◌, if◌then◌else◌, Result, Ok, Err, codes, decimal}
+use Rattle.std.specs.Prelude.{◌≡◌, ℕ, ℤ, Bool, List, [], ◌∷◌, ◌++◌, if◌then◌else◌, Result, Ok, Err, String, codes, decimal, string_bytes}
 use Rattle.std.specs.Fmt.{signed_decimal}
 use Rattle.std.specs.List.{flat_map}
 use Rattle.flow_law.specs.declared.fault.FlowFault.{FlowFault}
@@ -32,6 +32,13 @@ use Rattle.flow_law.specs.declared.call.SharedReply.TheVariants.{Emitted, Tested
 -- each line ends with one line feed
 abbrev pub lined : List ℕ → List ℕ
 lined text = text ++ 10 ∷ []
+
+-- what a call adds to the text of the lines
+abbrev pub Adds : {Z : Type 0} → List ℕ → String Z → String Z → Type 0
+Adds text old new = string_bytes new ≡ string_bytes old ++ text
+
+abbrev pub AddsLine : {Z : Type 0} → List ℕ → String Z → String Z → Type 0
+AddsLine text = Adds (lined text)
 
 -- the items after the first, each after a comma and a space
 abbrev pub more_items : List ℤ → List ℕ

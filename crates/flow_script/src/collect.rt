@@ -1,5 +1,5 @@
 //! Collecting a chain, and the line of that.
-ghost use Rattle.std.specs.Prelude.{◌≡◌, ◌++◌, Ok, OnOk, IfErr, string_bytes};
+ghost use Rattle.std.specs.Prelude.{◌≡◌, Ok, OnOk, IfErr};
 ghost use Rattle.flow_format.specs.Chains.{build_of, built_of};
 ghost use Rattle.flow_script.specs.Lines as lines;
 
@@ -10,7 +10,7 @@ use flow_format::{Build, ScriptFault};
 use std::alloc::{AllocError, Global};
 
 pub fn add_chain_fault(text: &mut String, fault: ChainFault) -> Result<(), AllocError>
-    ensures { OnOk result (string_bytes text.new ≡ string_bytes text.old ++ lines.lined (lines.chain_fault_text fault)) }
+    ensures { OnOk result (lines.AddsLine (lines.chain_fault_text fault) text.old text.new) }
 {
     match fault {
         ChainFault::OutOfMemory => writeln!(text, "1 OutOfMemory"),
@@ -22,7 +22,7 @@ pub fn add_chain_fault(text: &mut String, fault: ChainFault) -> Result<(), Alloc
 }
 
 fn add_end(text: &mut String, end: End) -> Result<(), AllocError>
-    ensures { OnOk result (string_bytes text.new ≡ string_bytes text.old ++ lines.lined (lines.end_text end)) }
+    ensures { OnOk result (lines.AddsLine (lines.end_text end) text.old text.new) }
 {
     match end {
         End::Completed => writeln!(text, " completed"),
@@ -39,7 +39,8 @@ fn add_collected(
     text: &mut String,
     mut chain: ScriptChain,
 ) -> Result<(), ScriptFault>
-    ensures line { OnOk result (string_bytes text.new ≡ string_bytes text.old ++ lines.lined (lines.collection_text (Ok (built_of chain)))) }
+    ensures line { OnOk result (lines.AddsLine
+        (lines.collection_text (Ok (built_of chain))) text.old text.new) }
     ensures fault { IfErr result (λ fault. fault ≡ ScriptFault.OutOfMemory) }
 {
     let collected = match collect_all(alloc, &mut chain) {
@@ -56,7 +57,7 @@ fn add_collected(
 
 /// Collects a chain, or tells why it could not be built.
 pub fn add_collection(alloc: Global, text: &mut String, build: Build) -> Result<(), ScriptFault>
-    ensures line { OnOk result (string_bytes text.new ≡ string_bytes text.old ++ lines.lined (lines.collection_text (build_of build))) }
+    ensures line { OnOk result (lines.AddsLine (lines.collection_text (build_of build)) text.old text.new) }
     ensures fault { IfErr result (λ fault. fault ≡ ScriptFault.OutOfMemory) }
 {
     match build {

@@ -1,5 +1,5 @@
 //! Writing lines.
-ghost use Rattle.std.specs.Prelude.{◌≡◌, ◌++◌, OnOk, IfErr, string_bytes, decimal};
+ghost use Rattle.std.specs.Prelude.{◌≡◌, OnOk, IfErr, decimal};
 ghost use Rattle.std.specs.Fmt.{signed_decimal};
 ghost use Rattle.flow_script.specs.FlowMeaning.{line_without_call};
 ghost use Rattle.flow_script.specs.Lines as lines;
@@ -11,14 +11,14 @@ use flow_law::{FlowFault, Next};
 use std::alloc::AllocError;
 
 pub fn add_line(text: &mut String, line: &str) -> Result<(), AllocError>
-    ensures { OnOk result (string_bytes text.new ≡ string_bytes text.old ++ lines.lined line.now) }
+    ensures { OnOk result (lines.AddsLine line.now text.old text.new) }
 {
     text.push_str(line)?;
     text.push('\n')
 }
 
 fn add_more_items(text: &mut String, values: &[i64]) -> Result<(), AllocError>
-    ensures { OnOk result (string_bytes text.new ≡ string_bytes text.old ++ lines.more_items values.now) }
+    ensures { OnOk result (lines.Adds (lines.more_items values.now) text.old text.new) }
 {
     for value in values {
         write!(text, ", {value}")?;
@@ -28,7 +28,7 @@ fn add_more_items(text: &mut String, values: &[i64]) -> Result<(), AllocError>
 
 /// A list, in a line that is not ended.
 pub fn add_items(text: &mut String, values: &[i64]) -> Result<(), AllocError>
-    ensures { OnOk result (string_bytes text.new ≡ string_bytes text.old ++ lines.list_text values.now) }
+    ensures { OnOk result (lines.Adds (lines.list_text values.now) text.old text.new) }
 {
     let Some((first, more)) = values.split_first() else {
         return text.push_str("[]");
@@ -39,14 +39,14 @@ pub fn add_items(text: &mut String, values: &[i64]) -> Result<(), AllocError>
 }
 
 pub fn add_list(text: &mut String, values: &[i64]) -> Result<(), AllocError>
-    ensures { OnOk result (string_bytes text.new ≡ string_bytes text.old ++ lines.lined (lines.list_text values.now)) }
+    ensures { OnOk result (lines.AddsLine (lines.list_text values.now) text.old text.new) }
 {
     add_items(text, values)?;
     text.push('\n')
 }
 
 pub fn add_test(text: &mut String, test: bool) -> Result<(), AllocError>
-    ensures { OnOk result (string_bytes text.new ≡ string_bytes text.old ++ lines.lined (lines.test_text test)) }
+    ensures { OnOk result (lines.AddsLine (lines.test_text test) text.old text.new) }
 {
     if test {
         add_line(text, "true")
@@ -56,7 +56,7 @@ pub fn add_test(text: &mut String, test: bool) -> Result<(), AllocError>
 }
 
 pub fn add_wait(text: &mut String, waits: bool) -> Result<(), AllocError>
-    ensures { OnOk result (string_bytes text.new ≡ string_bytes text.old ++ lines.lined (lines.wait_text waits)) }
+    ensures { OnOk result (lines.AddsLine (lines.wait_text waits) text.old text.new) }
 {
     if waits {
         add_line(text, "waiting")
@@ -66,7 +66,7 @@ pub fn add_wait(text: &mut String, waits: bool) -> Result<(), AllocError>
 }
 
 pub fn add_next(text: &mut String, next: Next<i64>) -> Result<(), AllocError>
-    ensures { OnOk result (string_bytes text.new ≡ string_bytes text.old ++ lines.lined (lines.next_text next)) }
+    ensures { OnOk result (lines.AddsLine (lines.next_text next) text.old text.new) }
 {
     match next {
         Next::Value(value) => writeln!(text, "value {value}"),
@@ -76,20 +76,20 @@ pub fn add_next(text: &mut String, next: Next<i64>) -> Result<(), AllocError>
 }
 
 pub fn add_value(text: &mut String, value: i64) -> Result<(), AllocError>
-    ensures { OnOk result (string_bytes text.new ≡ string_bytes text.old ++ lines.lined (signed_decimal value)) }
+    ensures { OnOk result (lines.AddsLine (signed_decimal value) text.old text.new) }
 {
     writeln!(text, "{value}")
 }
 
 pub fn add_count(text: &mut String, count: u64) -> Result<(), AllocError>
-    ensures { OnOk result (string_bytes text.new ≡ string_bytes text.old ++ lines.lined (decimal count)) }
+    ensures { OnOk result (lines.AddsLine (decimal count) text.old text.new) }
 {
     writeln!(text, "{count}")
 }
 
 /// The line of a step that makes no call.
 pub fn add_line_without_call(text: &mut String, step: FlowStep) -> Result<(), ScriptFault>
-    ensures line { OnOk result (string_bytes text.new ≡ string_bytes text.old ++ lines.lined (line_without_call step)) }
+    ensures line { OnOk result (lines.AddsLine (line_without_call step) text.old text.new) }
     ensures refused { IfErr result (λ refused. refused ≡ ScriptFault.OutOfMemory) }
 {
     match step {
@@ -103,7 +103,7 @@ pub fn add_line_without_call(text: &mut String, step: FlowStep) -> Result<(), Sc
 
 /// The rest of a line that tells a fault of a flow.
 pub fn add_flow_fault(text: &mut String, fault: FlowFault) -> Result<(), AllocError>
-    ensures { OnOk result (string_bytes text.new ≡ string_bytes text.old ++ lines.lined (lines.flow_fault_text fault)) }
+    ensures { OnOk result (lines.AddsLine (lines.flow_fault_text fault) text.old text.new) }
 {
     match fault {
         FlowFault::OutOfMemory => add_line(text, "1 OutOfMemory"),
@@ -118,7 +118,7 @@ pub fn add_flow_fault(text: &mut String, fault: FlowFault) -> Result<(), AllocEr
 /// The line of a refused call. Want of memory has none: it ends the script.
 pub fn add_refusal(text: &mut String, fault: FlowFault) -> Result<(), ScriptFault>
     ensures told { OnOk result (IsToldFlowFault fault) }
-    ensures line { OnOk result (string_bytes text.new ≡ string_bytes text.old ++ lines.lined (lines.refusal_text fault)) }
+    ensures line { OnOk result (lines.AddsLine (lines.refusal_text fault) text.old text.new) }
     ensures refused { IfErr result (λ refused. refused ≡ ScriptFault.OutOfMemory) }
 {
     if is_flow_memory(fault) {

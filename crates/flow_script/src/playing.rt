@@ -36,7 +36,8 @@ pub fn play<R: Read, W: Write>(
 ) -> Result<(), ScriptFault>
     requires reads { has_failed input.old ≡ false }
     requires writes { has_failed output.old ≡ false }
-    ensures plays { Plays (R.remaining (inner_of input.old)) (W.contents (inner_of output.old)) (W.contents (inner_of output.new)) result }
+    ensures plays { Plays (R.remaining (inner_of input.old)) (W.contents (inner_of output.old))
+        (W.contents (inner_of output.new)) result }
     ensures taken { TakesWithin (R.remaining (inner_of input.old)) (R.remaining (inner_of input.new)) }
     ensures read_failed { has_failed input.new ≡ is_read_failed result }
     ensures write_failed { has_failed output.new ≡ is_write_failed result }

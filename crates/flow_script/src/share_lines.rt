@@ -1,5 +1,5 @@
 //! The lines of turns.
-ghost use Rattle.std.specs.Prelude.{◌≡◌, ◌++◌, Ok, OnOk, IfErr, string_bytes};
+ghost use Rattle.std.specs.Prelude.{◌≡◌, Ok, OnOk, IfErr};
 ghost use Rattle.flow_script.specs.Lines as lines;
 ghost use Rattle.flow_script.specs.Memory.{IsToldFault};
 
@@ -12,7 +12,7 @@ use flow_sharing::{Event, Report, ShareFault};
 use std::alloc::AllocError;
 
 fn add_command(text: &mut String, command: Command) -> Result<(), AllocError>
-    ensures { OnOk result (string_bytes text.new ≡ string_bytes text.old ++ lines.command_text command) }
+    ensures { OnOk result (lines.Adds (lines.command_text command) text.old text.new) }
 {
     match command {
         Command::Start => text.push_str("start"),
@@ -22,7 +22,7 @@ fn add_command(text: &mut String, command: Command) -> Result<(), AllocError>
 }
 
 fn add_event(text: &mut String, event: Event) -> Result<(), AllocError>
-    ensures { OnOk result (string_bytes text.new ≡ string_bytes text.old ++ lines.lined (lines.event_text event)) }
+    ensures { OnOk result (lines.AddsLine (lines.event_text event) text.old text.new) }
 {
     match event {
         Event::Busy => writeln!(text, "busy"),
@@ -36,7 +36,7 @@ fn add_event(text: &mut String, event: Event) -> Result<(), AllocError>
 }
 
 pub fn add_report(text: &mut String, report: Report) -> Result<(), AllocError>
-    ensures { OnOk result (string_bytes text.new ≡ string_bytes text.old ++ lines.lined (lines.turn_text (Ok report))) }
+    ensures { OnOk result (lines.AddsLine (lines.turn_text (Ok report)) text.old text.new) }
 {
     add_command(text, report.command)?;
     text.push(' ')?;
@@ -46,7 +46,7 @@ pub fn add_report(text: &mut String, report: Report) -> Result<(), AllocError>
 /// The line of a refusal. Want of memory has none: it ends the script.
 pub fn add_share_fault(text: &mut String, fault: ShareFault) -> Result<(), ScriptFault>
     ensures told { OnOk result (IsToldFault fault) }
-    ensures line { OnOk result (string_bytes text.new ≡ string_bytes text.old ++ lines.lined (lines.share_fault_text fault)) }
+    ensures line { OnOk result (lines.AddsLine (lines.share_fault_text fault) text.old text.new) }
     ensures refused { IfErr result (λ refused. refused ≡ ScriptFault.OutOfMemory) }
 {
     if is_memory(fault) {

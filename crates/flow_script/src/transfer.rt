@@ -16,11 +16,13 @@ const CHUNK: usize = 4096;
 /// Reads some bytes, and none only at the end.
 fn read_some<R: Read>(input: &mut Watched<R>, bytes: &mut Vec<u8>) -> Result<usize, ScriptFault>
     requires { vec_len bytes.old ≤ most_bytes }
-    ensures grows { IfOk result (λ count. (vec_len bytes.new ≡ vec_len bytes.old + count) × (vec_len bytes.new ≤ most_bytes + 1)) }
+    ensures grows { IfOk result (λ count. (vec_len bytes.new ≡ vec_len bytes.old + count)
+        × (vec_len bytes.new ≤ most_bytes + 1)) }
     ensures bytes { IfOk result (λ count. (more : List ℕ) × (bytes.new.items ≡ bytes.old.items ++ more)
         × Consumes (R.remaining (inner_of input.old)) (R.remaining (inner_of input.new)) more) }
     ensures end { IfOk result (λ count. count ≡ 0 → IsAtEnd (R.remaining (inner_of input.new))) }
-    ensures taken { (more : List ℕ) × Consumes (R.remaining (inner_of input.old)) (R.remaining (inner_of input.new)) more
+    ensures taken { (more : List ℕ) × Consumes (R.remaining (inner_of input.old))
+        (R.remaining (inner_of input.new)) more
         × (vec_len bytes.old + length more ≤ most_bytes + 1) }
     ensures fault { IfErr result IsReadFault }
     ensures failed { has_failed input.new ≡ (has_failed input.old || is_read_failed result) }
@@ -39,8 +41,10 @@ fn read_some<R: Read>(input: &mut Watched<R>, bytes: &mut Vec<u8>) -> Result<usi
 
 /// Reads to the end, or one byte past the most that a script may have.
 pub fn read_all<R: Read>(alloc: Global, input: &mut Watched<R>) -> Result<Vec<u8>, ScriptFault>
-    ensures bytes { IfOk result (λ bytes. Consumes (R.remaining (inner_of input.old)) (R.remaining (inner_of input.new)) bytes.items) }
-    ensures end { IfOk result (λ bytes. length bytes.items ≤ most_bytes → IsAtEnd (R.remaining (inner_of input.new))) }
+    ensures bytes { IfOk result (λ bytes. Consumes (R.remaining (inner_of input.old))
+        (R.remaining (inner_of input.new)) bytes.items) }
+    ensures end { IfOk result (λ bytes. length bytes.items ≤ most_bytes
+        → IsAtEnd (R.remaining (inner_of input.new))) }
     ensures taken { TakesWithin (R.remaining (inner_of input.old)) (R.remaining (inner_of input.new)) }
     ensures fault { IfErr result IsReadFault }
     ensures failed { has_failed input.new ≡ (has_failed input.old || is_read_failed result) }
@@ -56,8 +60,10 @@ pub fn read_all<R: Read>(alloc: Global, input: &mut Watched<R>) -> Result<Vec<u8
 
 /// Writes all the bytes, or the first of them. A write that takes none is a fault.
 pub fn write_all<W: Write>(output: &mut Watched<W>, text: &[u8]) -> Result<(), ScriptFault>
-    ensures ok { OnOk result (Appends (W.contents (inner_of output.old)) (W.contents (inner_of output.new)) text.now) }
-    ensures err { OnErr result ((count : ℕ) × Appends (W.contents (inner_of output.old)) (W.contents (inner_of output.new)) (take count text.now)) }
+    ensures ok { OnOk result (Appends (W.contents (inner_of output.old))
+        (W.contents (inner_of output.new)) text.now) }
+    ensures err { OnErr result ((count : ℕ) × Appends (W.contents (inner_of output.old))
+        (W.contents (inner_of output.new)) (take count text.now)) }
     ensures fault { IfErr result (λ fault. fault ≡ ScriptFault.WriteFailed) }
     ensures failed { has_failed output.new ≡ (has_failed output.old || is_err result) }
 {

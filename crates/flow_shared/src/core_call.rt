@@ -25,7 +25,8 @@ pub(crate) trait CoreCall<S: FlowCore> {
     ghost also: { Self → Self.Answer → Type 0 };
 
     fn run(self, core: &mut S) -> Self::Answer
-        ensures documented { (name : List ℕ) → Documents S.kind S.stands_as core.old (call self name) (reply result) core.new }
+        ensures documented { (name : List ℕ)
+            → Documents S.kind S.stands_as core.old (call self name) (reply result) core.new }
         ensures also { also self result };
 }
 
@@ -34,8 +35,10 @@ pub(crate) fn call_core<S: FlowCore, A: Allocator + Copy, C: CoreCall<S>>(
     call: C,
 ) -> (Seat<S, A>, C::Answer)
     requires stood { S.stands held.first held.state held.token.knows.seen }
-    requires may { MayCall S.kind (C.call call (subscription_name held.token.knows)) held.token.knows.name held.token.knows.seen }
-    ensures said { SaysIn S.kind (S.first held.entry.first) held.entry (C.call call (subscription_name held.entry.token.knows)) (C.reply result.1) result.0 }
+    requires may { MayCall S.kind (C.call call (subscription_name held.token.knows))
+        held.token.knows.name held.token.knows.seen }
+    ensures said { SaysIn S.kind (S.first held.entry.first) held.entry
+        (C.call call (subscription_name held.entry.token.knows)) (C.reply result.1) result.0 }
     ensures also { C.also call result.1 }
 {
     let mut held = held;

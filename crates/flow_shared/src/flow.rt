@@ -36,8 +36,10 @@ impl<S: FlowCore + Drop, A: Allocator + Copy> Flow<S, A> {
         call: C,
     ) -> (flow_gate::Seat<S, A>, C::Answer)
         requires flow { seat.table_id ≡ self.now.table_id }
-        requires may { MayCall S.kind (C.call call (subscription_name seat.knows)) seat.knows.name seat.knows.seen }
-        ensures called { Calls S.kind self.now seat (C.call call (subscription_name seat.knows)) (C.reply result.1) result.0 }
+        requires may { MayCall S.kind (C.call call (subscription_name seat.knows))
+            seat.knows.name seat.knows.seen }
+        ensures called { Calls S.kind self.now seat (C.call call (subscription_name seat.knows))
+            (C.reply result.1) result.0 }
         ensures also { C.also call result.1 }
     {
         let held = self.gate.enter(rt, seat);
@@ -50,8 +52,10 @@ impl<S: FlowCore + Drop, A: Allocator + Copy> Flow<S, A> {
         call: C,
     ) -> Result<(flow_gate::Seat<S, A>, C::Answer), (flow_gate::Seat<S, A>, C)>
         requires flow { seat.table_id ≡ self.now.table_id }
-        requires may { MayCall S.kind (C.call call (subscription_name seat.knows)) seat.knows.name seat.knows.seen }
-        ensures called { IfOk result (λ done. CallsAtOnce S.kind self.now seat (C.call call (subscription_name seat.knows)) (C.reply done.1) done.0 × C.also call done.1) }
+        requires may { MayCall S.kind (C.call call (subscription_name seat.knows))
+            seat.knows.name seat.knows.seen }
+        ensures called { IfOk result (λ done. CallsAtOnce S.kind self.now seat
+            (C.call call (subscription_name seat.knows)) (C.reply done.1) done.0 × C.also call done.1) }
         ensures busy { IfErr result (λ back. IsBusy seat back.0 × (back.1 ≡ call)) }
     {
         match self.gate.try_enter(seat) {
@@ -69,7 +73,8 @@ impl<S: FlowCore + Drop, A: Allocator + Copy> Flow<S, A> {
     ) -> C::Answer
         requires flow { seat.old.table_id ≡ self.now.table_id }
         requires free { (name : List ℕ) → S.kind.speaks_of (C.call call name) ≡ None }
-        ensures called { Calls S.kind self.now seat.old (C.call call (subscription_name seat.old.knows)) (C.reply result) seat.new }
+        ensures called { Calls S.kind self.now seat.old (C.call call (subscription_name seat.old.knows))
+            (C.reply result) seat.new }
         ensures also { C.also call result }
     {
         let own = seat.seat.take().unwrap();
@@ -86,7 +91,8 @@ impl<S: FlowCore + Drop, A: Allocator + Copy> Flow<S, A> {
     ) -> Result<C::Answer, C>
         requires flow { seat.old.table_id ≡ self.now.table_id }
         requires free { (name : List ℕ) → S.kind.speaks_of (C.call call name) ≡ None }
-        ensures called { IfOk result (λ answer. CallsAtOnce S.kind self.now seat.old (C.call call (subscription_name seat.old.knows)) (C.reply answer) seat.new × C.also call answer) }
+        ensures called { IfOk result (λ answer. CallsAtOnce S.kind self.now seat.old
+            (C.call call (subscription_name seat.old.knows)) (C.reply answer) seat.new × C.also call answer) }
         ensures busy { IfErr result (λ back. IsBusy seat.old seat.new × (back ≡ call)) }
     {
         let own = seat.seat.take().unwrap();

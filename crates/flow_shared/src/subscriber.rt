@@ -216,7 +216,8 @@ impl<S: FlowCore + Drop, A: Allocator + Copy> Flow<S, A> {
         subscription: &mut FlowSubscription<S, A>,
         seat: &mut FlowSeat<S, A>,
     )
-        requires { (subscription.old.token.table_id ≡ self.now.table_id) × (seat.old.table_id ≡ self.now.table_id) }
+        requires { (subscription.old.token.table_id ≡ self.now.table_id)
+            × (seat.old.table_id ≡ self.now.table_id) }
         ensures met { Meets S.kind self.now subscription.old.token seat.old subscription.new.token seat.new }
         ensures number { subscription.new.number ≡ subscription.old.number }
     {

@@ -15,9 +15,6 @@ use std::sync::Wait;
 use std::thread::{Threads, join};
 use subscriber::{Received, read_all};
 
-/// A flow with little room, so that its emitters wait for its subscribers.
-const CONFIG: Config = Config::new().extra(16);
-
 /// What became of the four threads.
 #[derive(Drop)]
 struct Outcome {
@@ -67,8 +64,9 @@ fn read_both<R: Wait + Threads + Sync>(
     )
 }
 
-fn play<R: Wait + Threads + Sync>(rt: &R, alloc: Global) -> Result<Outcome, FlowFault> {
-    let (flow, mut seat) = SharedFlow::new(alloc, CONFIG)?;
+fn emit_and_read<R: Wait + Threads + Sync>(rt: &R, alloc: Global) -> Result<Outcome, FlowFault> {
+    // little room, so that the emitters wait for the subscribers
+    let (flow, mut seat) = SharedFlow::new(alloc, Config::new().extra(16))?;
     let first = flow.subscribe(rt, &mut seat)?;
     let second = flow.subscribe(rt, &mut seat)?;
     let other = flow.seat(&mut seat);
@@ -79,7 +77,8 @@ fn play<R: Wait + Threads + Sync>(rt: &R, alloc: Global) -> Result<Outcome, Flow
             requires { (seat.table_id ≡ shared.now.table_id) × (other.table_id ≡ shared.now.table_id) }
         { emit_both(rt, shared, seat, other) },
         || -> (Received, Received)
-            requires { (first.token.table_id ≡ shared.now.table_id) × (second.token.table_id ≡ shared.now.table_id) }
+            requires { (first.token.table_id ≡ shared.now.table_id)
+                × (second.token.table_id ≡ shared.now.table_id) }
         { read_both(rt, shared, first, second) },
     );
     Ok(Outcome {
@@ -90,7 +89,7 @@ fn play<R: Wait + Threads + Sync>(rt: &R, alloc: Global) -> Result<Outcome, Flow
 }
 
 fn main(rt: HostRuntime) -> io::Result<()> {
-    match play(&rt, rt.alloc()) {
+    match emit_and_read(&rt, rt.alloc()) {
         Ok(outcome) => {
             println!(rt; "subscriber 1 got {}", outcome.first)?;
             println!(rt; "subscriber 2 got {}", outcome.second)?;

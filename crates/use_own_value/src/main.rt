@@ -14,11 +14,16 @@ fn main(rt: HostRuntime) -> Result<()> {
     flow.set(Position { x: 3, y: 4 });
     flow.set(Position { x: 3, y: 4 });
     for _ in 0..2 {
-        match flow.next(reader)? {
-            Next::Value(at) => println!(rt; "at {}, {}", at.x, at.y)?,
-            Next::Empty => println!(rt; "not moved")?,
-            Next::Gone => println!(rt; "no such reader")?,
-        }
+        print(&rt, flow.next(reader)?)?;
+    }
+    Ok(())
+}
+
+fn print(rt: &HostRuntime, next: Next<Position>) -> Result<()> {
+    match next {
+        Next::Value(at) => println!(rt; "at {}, {}", at.x, at.y)?,
+        Next::Empty => println!(rt; "not moved")?,
+        Next::Gone => println!(rt; "no such reader")?,
     }
     Ok(())
 }

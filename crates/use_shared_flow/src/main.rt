@@ -12,11 +12,16 @@ fn main(rt: HostRuntime) -> Result<()> {
     }
     let reader = flow.subscribe()?;
     for _ in 0..3 {
-        match flow.next(reader)? {
-            Next::Value(value) => println!(rt; "value {value}")?,
-            Next::Empty => println!(rt; "no value yet")?,
-            Next::Gone => println!(rt; "no such reader")?,
-        }
+        print(&rt, flow.next(reader)?)?;
+    }
+    Ok(())
+}
+
+fn print(rt: &HostRuntime, next: Next<i64>) -> Result<()> {
+    match next {
+        Next::Value(value) => println!(rt; "value {value}")?,
+        Next::Empty => println!(rt; "no value yet")?,
+        Next::Gone => println!(rt; "no such reader")?,
     }
     Ok(())
 }

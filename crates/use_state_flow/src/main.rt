@@ -13,11 +13,16 @@ fn main(rt: HostRuntime) -> Result<()> {
         flow.set(Text::new(text(word)?));
     }
     for _ in 0..2 {
-        match flow.next(reader)? {
-            Next::Value(value) => println!(rt; "{}", value.as_str())?,
-            Next::Empty => println!(rt; "nothing new")?,
-            Next::Gone => println!(rt; "no such reader")?,
-        }
+        print(&rt, flow.next(reader)?)?;
+    }
+    Ok(())
+}
+
+fn print(rt: &HostRuntime, next: Next<Text>) -> Result<()> {
+    match next {
+        Next::Value(value) => println!(rt; "{}", value.as_str())?,
+        Next::Empty => println!(rt; "nothing new")?,
+        Next::Gone => println!(rt; "no such reader")?,
     }
     Ok(())
 }

@@ -117,10 +117,14 @@ impl ScriptChain {
     /// deep as `TooDeep`, then want of memory. Where it is refused the chain is dropped, and so is the operator.
     #[tactic(auto, using(crate::proofs::OpLemmas::op_means))]
     pub fn then(self, alloc: Global, op: Op) -> Result<ScriptChain, ChainFault>
-        ensures whole { IfOk result (λ chain. ⟦<ScriptChain as Cold>⟧.whole chain ≡ op_whole op (⟦<ScriptChain as Cold>⟧.whole self)) }
-        ensures meaning { IfOk result (λ chain. meaning_of (⟦<ScriptChain as Cold>⟧.whole chain) ≡ op_meaning op (meaning_of (⟦<ScriptChain as Cold>⟧.whole self))) }
-        ensures rest { IfOk result (λ chain. ⟦<ScriptChain as Cold>⟧.rest chain ≡ op_rest op (⟦<ScriptChain as Cold>⟧.rest self)) }
-        ensures depth { MatchResult result (λ chain. AddsDepth op (depth_of self) (depth_of chain)) (Refuses op self) }
+        ensures whole { IfOk result (λ chain. ⟦<ScriptChain as Cold>⟧.whole chain
+            ≡ op_whole op (⟦<ScriptChain as Cold>⟧.whole self)) }
+        ensures meaning { IfOk result (λ chain. meaning_of (⟦<ScriptChain as Cold>⟧.whole chain)
+            ≡ op_meaning op (meaning_of (⟦<ScriptChain as Cold>⟧.whole self))) }
+        ensures rest { IfOk result (λ chain. ⟦<ScriptChain as Cold>⟧.rest chain
+            ≡ op_rest op (⟦<ScriptChain as Cold>⟧.rest self)) }
+        ensures depth { MatchResult result (λ chain. AddsDepth op (depth_of self) (depth_of chain))
+            (Refuses op self) }
     {
         let depth = op.depth_on(self.depth)?;
         let ScriptChain { depth: _, node } = self;

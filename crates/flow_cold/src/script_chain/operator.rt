@@ -38,7 +38,8 @@ impl Operator {
     /// What stands before the upstream's next answer: a number that is still to be given, or the end.
     pub fn first(&mut self) -> Step
         ensures whole { (r : ChainRun ℤ) → operator_whole self.new r ≡ operator_whole self.old r }
-        ensures gives { (r : ChainRun ℤ) → StepGives (operator_rest self.old r) result (operator_rest self.new r) }
+        ensures gives { (r : ChainRun ℤ) → StepGives (operator_rest self.old r) result
+            (operator_rest self.new r) }
         ensures behind { (r : ChainRun ℤ)
             → StepLeaves (after_operator self.old r) result r (after_operator self.new r) }
         ensures ready { OnNothing result (IsReady self.new) }
@@ -61,7 +62,8 @@ impl Operator {
     pub fn on_item(&mut self, item: i64) -> Step
         requires { IsReady self.old }
         ensures whole { (r : ChainRun ℤ) → operator_whole self.new r ≡ operator_whole self.old r }
-        ensures gives { (r : ChainRun ℤ) → StepGives (operator_rest self.old (gives item r)) result (operator_rest self.new r) }
+        ensures gives { (r : ChainRun ℤ) → StepGives (operator_rest self.old (gives item r)) result
+            (operator_rest self.new r) }
         ensures behind { (r : ChainRun ℤ)
             → StepLeaves (after_operator self.old (gives item r)) result r (after_operator self.new r) }
     {

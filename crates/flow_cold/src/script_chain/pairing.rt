@@ -36,9 +36,11 @@ impl Pairing {
         requires none { self.old.kept ≡ None }
         requires no_item { ¬ IsItem asked }
         ensures by { self.new.by ≡ self.old.by }
-        ensures gives { (before after right : ChainRun ℤ) → AskGives before asked after → AskGives (pairing_rest self.old before right) result (pairing_rest self.new after right) }
+        ensures gives { (before after right : ChainRun ℤ) → AskGives before asked after
+            → AskGives (pairing_rest self.old before right) result (pairing_rest self.new after right) }
         ensures behind { (before after right : ChainRun ℤ)
-            → AskGives before asked after → AsksOnce before result after × AsksRight before right result right }
+            → AskGives before asked after → AsksOnce before result after
+            × AsksRight before right result right }
         ensures over { IsFinal result → self.new.ended ≡ true }
     {
         match &asked {
@@ -54,7 +56,9 @@ impl Pairing {
     pub fn on_right(&mut self, first: i64, asked: Asked<i64>) -> Asked<i64>
         requires { self.old.ended ≡ false }
         ensures by { self.new.by ≡ self.old.by }
-        ensures gives { (left before after : ChainRun ℤ) → AskGives before asked after → AskGives (zip_run (joined self.old.by) (gives first left) before) result (pairing_rest self.new left after) }
+        ensures gives { (left before after : ChainRun ℤ) → AskGives before asked after
+            → AskGives (zip_run (joined self.old.by) (gives first left) before) result
+            (pairing_rest self.new left after) }
         ensures behind { (before after : ChainRun ℤ)
             → AskGives before asked after → AsksOnce before result after }
         ensures over { IsFinal result → self.new.ended ≡ true }

@@ -37,8 +37,10 @@ impl Stage {
     /// What can be answered before the upstream is asked.
     pub fn first(&mut self) -> Option<Asked<i64>>
         requires { self.old.ended ≡ false }
-        ensures whole { (r : ChainRun ℤ) → operator_whole self.new.operator r ≡ operator_whole self.old.operator r }
-        ensures gives { (r : ChainRun ℤ) → MatchOption result (stage_rest self.new r ≡ stage_rest self.old r) (λ asked. AskGives (stage_rest self.old r) asked (stage_rest self.new r)) }
+        ensures whole { (r : ChainRun ℤ) → operator_whole self.new.operator r
+            ≡ operator_whole self.old.operator r }
+        ensures gives { (r : ChainRun ℤ) → MatchOption result (stage_rest self.new r ≡ stage_rest self.old r)
+            (λ asked. AskGives (stage_rest self.old r) asked (stage_rest self.new r)) }
         ensures behind { (r : ChainRun ℤ)
             → MatchOption result (after_operator self.old.operator r ≡ after_operator self.new.operator r)
             (λ _. after_operator self.old.operator r ≡ r) }
@@ -53,10 +55,14 @@ impl Stage {
     pub fn on_answer(&mut self, asked: Asked<i64>) -> Option<Asked<i64>>
         requires runs { self.old.ended ≡ false }
         requires ready { IsReady self.old.operator }
-        ensures whole { (r : ChainRun ℤ) → operator_whole self.new.operator r ≡ operator_whole self.old.operator r }
-        ensures gives { (before after : ChainRun ℤ) → AskGives before asked after → MatchOption result (stage_rest self.new after ≡ stage_rest self.old before) (λ given. AskGives (stage_rest self.old before) given (stage_rest self.new after)) }
+        ensures whole { (r : ChainRun ℤ) → operator_whole self.new.operator r
+            ≡ operator_whole self.old.operator r }
+        ensures gives { (before after : ChainRun ℤ) → AskGives before asked after
+            → MatchOption result (stage_rest self.new after ≡ stage_rest self.old before)
+            (λ given. AskGives (stage_rest self.old before) given (stage_rest self.new after)) }
         ensures behind { (before after : ChainRun ℤ) → AskGives before asked after
-            → MatchOption result (after_operator self.old.operator before ≡ after_operator self.new.operator after)
+            → MatchOption result (after_operator self.old.operator before
+            ≡ after_operator self.new.operator after)
             (λ given. Leaves (after_operator self.old.operator before) given after) }
         ensures runs { result ≡ None → self.new.ended ≡ false }
         ensures again { result ≡ None → IsItem asked }
@@ -83,7 +89,9 @@ impl Stage {
     fn answer(&mut self, step: Step) -> Option<Asked<i64>>
         requires { self.old.ended ≡ false }
         ensures operator { self.new.operator ≡ self.old.operator }
-        ensures gives { (before r : ChainRun ℤ) → StepGives before step (operator_rest self.old.operator r) → MatchOption result (stage_rest self.new r ≡ before) (λ given. AskGives before given (stage_rest self.new r)) }
+        ensures gives { (before r : ChainRun ℤ) → StepGives before step (operator_rest self.old.operator r)
+            → MatchOption result (stage_rest self.new r ≡ before)
+            (λ given. AskGives before given (stage_rest self.new r)) }
         ensures behind { (due r further : ChainRun ℤ) → StepLeaves due step r further
             → MatchOption result (due ≡ further) (λ _. due ≡ r) }
         ensures runs { result ≡ None → (self.new ≡ self.old) × (step ≡ Step.Nothing) }
@@ -105,7 +113,8 @@ impl Stage {
 
     /// Starts anew.
     pub fn rewind(&mut self)
-        ensures whole { (r : ChainRun ℤ) → operator_whole self.new.operator r ≡ operator_whole self.old.operator r }
+        ensures whole { (r : ChainRun ℤ) → operator_whole self.new.operator r
+            ≡ operator_whole self.old.operator r }
         ensures rest { (r : ChainRun ℤ) → stage_rest self.new r ≡ operator_whole self.old.operator r }
     {
         self.ended = false;

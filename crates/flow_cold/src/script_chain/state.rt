@@ -29,7 +29,8 @@ pub struct Counting {
 impl Counting {
     /// The end, where nothing may be given any more.
     pub fn first(&self) -> Step
-        ensures gives { (r : ChainRun ℤ) → StepGives (take_run self.now.left r) result (take_run self.now.left r) }
+        ensures gives { (r : ChainRun ℤ) → StepGives (take_run self.now.left r) result
+            (take_run self.now.left r) }
         ensures behind { (r : ChainRun ℤ)
             → StepLeaves (after_take self.now.left r) result r (after_take self.now.left r) }
         ensures ready { OnNothing result (self.now.left ≢ 0) }
@@ -45,7 +46,8 @@ impl Counting {
     pub fn take(&mut self, item: i64) -> Step
         requires { self.old.left ≢ 0 }
         ensures count { self.new.count ≡ self.old.count }
-        ensures gives { (r : ChainRun ℤ) → StepGives (take_run self.old.left (gives item r)) result (take_run self.new.left r) }
+        ensures gives { (r : ChainRun ℤ) → StepGives (take_run self.old.left (gives item r)) result
+            (take_run self.new.left r) }
         ensures behind { (r : ChainRun ℤ)
             → StepLeaves (after_take self.old.left (gives item r)) result r (after_take self.new.left r) }
     {
@@ -56,7 +58,8 @@ impl Counting {
     /// Nothing while items have to be dropped, then the item.
     pub fn drop_first(&mut self, item: i64) -> Step
         ensures count { self.new.count ≡ self.old.count }
-        ensures gives { (r : ChainRun ℤ) → StepGives (drop_run (gives item r) self.old.left) result (drop_run r self.new.left) }
+        ensures gives { (r : ChainRun ℤ) → StepGives (drop_run (gives item r) self.old.left) result
+            (drop_run r self.new.left) }
         ensures behind { (r : ChainRun ℤ)
             → StepLeaves (after_drop (gives item r) self.old.left) result r (after_drop r self.new.left) }
     {
@@ -93,7 +96,8 @@ impl Adding {
     /// The next sum, if one is left.
     pub fn first(&mut self) -> Step
         ensures entries { self.new.entries ≡ self.old.entries }
-        ensures gives { (r : ChainRun ℤ) → StepGives (adding_rest self.old r) result (adding_rest self.new r) }
+        ensures gives { (r : ChainRun ℤ) → StepGives (adding_rest self.old r) result
+            (adding_rest self.new r) }
         ensures behind { (r : ChainRun ℤ)
             → StepLeaves (after_adding self.old r) result r (after_adding self.new r) }
         ensures ready { OnNothing result (drop self.new.at self.new.entries.items ≡ []) }
@@ -113,7 +117,8 @@ impl Adding {
     pub fn on_item(&mut self, item: i64) -> Step
         requires { drop self.old.at self.old.entries.items ≡ [] }
         ensures entries { self.new.entries ≡ self.old.entries }
-        ensures gives { (r : ChainRun ℤ) → StepGives (adding_rest self.old (gives item r)) result (adding_rest self.new r) }
+        ensures gives { (r : ChainRun ℤ) → StepGives (adding_rest self.old (gives item r)) result
+            (adding_rest self.new r) }
         ensures behind { (r : ChainRun ℤ)
             → StepLeaves (after_adding self.old (gives item r)) result r (after_adding self.new r) }
     {
@@ -140,7 +145,8 @@ impl Scanning {
     pub fn first(&mut self) -> Step
         ensures by { self.new.by ≡ self.old.by }
         ensures initial { self.new.initial ≡ self.old.initial }
-        ensures gives { (r : ChainRun ℤ) → StepGives (scanning_rest self.old r) result (scanning_rest self.new r) }
+        ensures gives { (r : ChainRun ℤ) → StepGives (scanning_rest self.old r) result
+            (scanning_rest self.new r) }
         ensures behind { (r : ChainRun ℤ)
             → StepLeaves (after_scan self.old.begun r) result r (after_scan self.new.begun r) }
         ensures ready { OnNothing result (self.new.begun ≡ true) }
@@ -158,7 +164,8 @@ impl Scanning {
         requires { self.old.begun ≡ true }
         ensures by { self.new.by ≡ self.old.by }
         ensures initial { self.new.initial ≡ self.old.initial }
-        ensures gives { (r : ChainRun ℤ) → StepGives (scanning_rest self.old (gives item r)) result (scanning_rest self.new r) }
+        ensures gives { (r : ChainRun ℤ) → StepGives (scanning_rest self.old (gives item r)) result
+            (scanning_rest self.new r) }
         ensures behind { (r : ChainRun ℤ)
             → StepLeaves (after_scan self.old.begun (gives item r)) result r (after_scan self.new.begun r) }
     {
@@ -198,7 +205,8 @@ impl Following {
     /// The next number, if one is left.
     pub fn first(&mut self) -> Step
         ensures count { self.new.count ≡ self.old.count }
-        ensures gives { (r : ChainRun ℤ) → StepGives (following_rest self.old r) result (following_rest self.new r) }
+        ensures gives { (r : ChainRun ℤ) → StepGives (following_rest self.old r) result
+            (following_rest self.new r) }
         ensures behind { (r : ChainRun ℤ)
             → StepLeaves (after_following self.old r) result r (after_following self.new r) }
         ensures ready { OnNothing result (self.new.closed ≡ true) }
@@ -223,7 +231,8 @@ impl Following {
     pub fn on_item(&mut self, item: i64) -> Step
         requires { self.old.closed ≡ true }
         ensures count { self.new.count ≡ self.old.count }
-        ensures gives { (r : ChainRun ℤ) → StepGives (following_rest self.old (gives item r)) result (following_rest self.new r) }
+        ensures gives { (r : ChainRun ℤ) → StepGives (following_rest self.old (gives item r)) result
+            (following_rest self.new r) }
         ensures behind { (r : ChainRun ℤ)
             → StepLeaves (after_following self.old (gives item r)) result r (after_following self.new r) }
     {
@@ -266,7 +275,8 @@ impl Repeating {
     /// The item once more, if it is to be given once more.
     pub fn first(&mut self) -> Step
         ensures count { self.new.count ≡ self.old.count }
-        ensures gives { (r : ChainRun ℤ) → StepGives (repeating_rest self.old r) result (repeating_rest self.new r) }
+        ensures gives { (r : ChainRun ℤ) → StepGives (repeating_rest self.old r) result
+            (repeating_rest self.new r) }
         ensures behind { (r : ChainRun ℤ)
             → StepLeaves (after_repeating self.old r) result r (after_repeating self.new r) }
         ensures ready { OnNothing result (self.new.left ≡ 0) }
@@ -282,7 +292,8 @@ impl Repeating {
     pub fn on_item(&mut self, item: i64) -> Step
         requires { self.old.left ≡ 0 }
         ensures count { self.new.count ≡ self.old.count }
-        ensures gives { (r : ChainRun ℤ) → StepGives (repeating_rest self.old (gives item r)) result (repeating_rest self.new r) }
+        ensures gives { (r : ChainRun ℤ) → StepGives (repeating_rest self.old (gives item r)) result
+            (repeating_rest self.new r) }
         ensures behind { (r : ChainRun ℤ)
             → StepLeaves (after_repeating self.old (gives item r)) result r (after_repeating self.new r) }
     {
@@ -301,9 +312,11 @@ pub struct Comparing {
 impl Comparing {
     /// The item, unless it is the one before.
     pub fn on_item(&mut self, item: i64) -> Step
-        ensures gives { (r : ChainRun ℤ) → StepGives (distinct_run int_eq self.old.last (gives item r)) result (distinct_run int_eq self.new.last r) }
+        ensures gives { (r : ChainRun ℤ) → StepGives
+            (distinct_run int_eq self.old.last (gives item r)) result (distinct_run int_eq self.new.last r) }
         ensures behind { (r : ChainRun ℤ)
-            → StepLeaves (after_distinct int_eq self.old.last (gives item r)) result r (after_distinct int_eq self.new.last r) }
+            → StepLeaves (after_distinct int_eq self.old.last (gives item r)) result r
+            (after_distinct int_eq self.new.last r) }
     {
         if self.last == Some(item) {
             return Step::Nothing;

@@ -15,7 +15,8 @@ use std::alloc::Allocator;
 impl<T: FlowValue, A: Allocator + Copy> Guarded for SharedCore<T, A> {
     type Said = Said<SharedCall<T>, SharedReply<T>>;
 
-    ghost stands = { λ start core h. StandsForHistory shared_flow StandsFor (first_state start.config) core h };
+    ghost stands = { λ start core h. StandsForHistory shared_flow StandsFor
+        (first_state start.config) core h };
 }
 
 impl<T: FlowValue, A: Allocator + Copy> FlowCore for SharedCore<T, A> {

@@ -84,7 +84,8 @@ impl<T: FlowValue, A: Allocator + Copy> Flow<SharedCore<T, A>, A> {
     /// A queued value is lost. An offered one is no more for those who have not received it.
     pub fn cancel<R: Wait>(&self, rt: &R, emission: Emission<T, A>) -> (Seat<T, A>, bool)
         requires { emission.token.table_id ≡ self.now.table_id }
-        ensures { Calls self.now emission.token (call.Cancel emission.number) (reply.Tested result.1) result.0 }
+        ensures { Calls self.now emission.token (call.Cancel emission.number)
+            (reply.Tested result.1) result.0 }
     {
         let Emission { seat, number } = emission;
         let (seat, was_waiting) = self.call_by(rt, seat, Cancel { number });

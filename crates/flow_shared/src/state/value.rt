@@ -79,7 +79,8 @@ impl<T: FlowValue, A: Allocator + Copy> Flow<StateCore<T, A>, A> {
         update: T,
     ) -> bool
         requires { seat.old.table_id ≡ self.now.table_id }
-        ensures { StateCalls self.now seat.old (call.CompareAndSet expect.now update) (reply.Answered result) seat.new }
+        ensures { StateCalls self.now seat.old (call.CompareAndSet expect.now update)
+            (reply.Answered result) seat.new }
     {
         self.call(rt, seat, CompareAndSet { expect, update })
     }
