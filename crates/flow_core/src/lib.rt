@@ -31,6 +31,3 @@ pub use kind::FlowCore;
 pub use shared::SharedCore;
 pub use state::StateCore;
 pub use sub_id::SubId;
-
-#[cfg(test)]
-mod tests;

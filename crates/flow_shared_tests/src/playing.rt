@@ -1,65 +1,37 @@
-//! One caller plays a list of steps on a shared flow.
+//! Steps on a shared flow by one caller, each with what it is to answer.
+use crate::compare::compare;
 use crate::one_caller::{OneCaller, Reader, Waiting};
 use flow_law::{Config, FlowFault, Next};
 use flow_shared::SharedFlow;
 use std::alloc::Global;
-use std::fmt::{self, Write};
+use std::process::Abort;
 use std::sync::Wait;
+use std::test::Fail;
 
-/// A step. Emissions and subscribers are named by the order in which they came, from 0.
-#[derive(Clone, Copy)]
-pub enum Step {
-    TryEmit(i64),
-    Emit(i64),
-    Poll(usize),
-    Cancel(usize),
-    Subscribe,
-    Next(usize),
-    Unsubscribe(usize),
-    Cache,
-    Reset,
-    Count,
-}
-
-/// What a step answered.
-#[derive(Drop)]
-enum Answer {
-    Tested(bool),
+/// What an emission has come to.
+#[derive(Clone, Copy, Debug, PartialEq, Eq)]
+pub enum Emission {
     Done,
-    Queued,
-    Waiting,
-    Value(i64),
-    Empty,
-    Gone,
-    Subscribed,
-    Unsubscribed,
-    Cached(Vec<i64>),
-    Reset,
-    Counted(u64),
-    Refused(FlowFault),
-    /// No token is left for this step.
-    Spent,
+    Waits,
 }
 
-impl fmt::Display for Answer {
-    fn fmt<W: Write>(&self, f: &mut fmt::Formatter<W>) -> fmt::Result {
-        match self {
-            Answer::Tested(answer) => write!(f, "{answer}"),
-            Answer::Done => f.write_str("done"),
-            Answer::Queued => f.write_str("queued"),
-            Answer::Waiting => f.write_str("waiting"),
-            Answer::Value(value) => write!(f, "value {value}"),
-            Answer::Empty => f.write_str("empty"),
-            Answer::Gone => f.write_str("gone"),
-            Answer::Subscribed => f.write_str("subscribed"),
-            Answer::Unsubscribed => f.write_str("unsubscribed"),
-            Answer::Cached(values) => write!(f, "{values:?}"),
-            Answer::Reset => f.write_str("reset"),
-            Answer::Counted(count) => write!(f, "{count}"),
-            Answer::Refused(fault) => write!(f, "refused {fault:?}"),
-            Answer::Spent => f.write_str("spent"),
-        }
-    }
+/// A step, and what it answers. Emissions and subscribers are named by the order in which they came, from 0.
+pub enum Step {
+    /// The value, and whether the flow took or dropped it.
+    TryEmit(i64, bool),
+    TryEmitRefused(i64, FlowFault),
+    Emit(i64, Emission),
+    EmitRefused(i64, FlowFault),
+    Poll(usize, Emission),
+    /// An emission, and whether it waited.
+    Cancel(usize, bool),
+    Subscribe,
+    SubscribeRefused(FlowFault),
+    Next(usize, Next<i64>),
+    Unsubscribe(usize),
+    Cache(&'static [i64]),
+    Reset,
+    Count(u64),
 }
 
 #[derive(Drop)]
@@ -77,131 +49,101 @@ fn take<X>(tokens: &mut Vec<Option<X>>, index: usize) -> Option<X> {
     }
 }
 
-fn tested(answer: Result<bool, FlowFault>) -> Answer {
-    match answer {
-        Ok(answer) => Answer::Tested(answer),
-        Err(fault) => Answer::Refused(fault),
-    }
-}
-
-fn received(next: Result<Next<i64>, FlowFault>) -> Answer {
-    match next {
-        Ok(Next::Value(value)) => Answer::Value(value),
-        Ok(Next::Empty) => Answer::Empty,
-        Ok(Next::Gone) => Answer::Gone,
-        Err(fault) => Answer::Refused(fault),
-    }
-}
-
 impl<'a> Player<'a> {
-    fn emit<R: Wait>(&mut self, rt: &R, value: i64) -> Answer {
-        match self.caller.emit(rt, value) {
-            Err(fault) => Answer::Refused(fault),
-            Ok(emission) => {
-                let waits = emission.is_some();
-                match self.emissions.push(emission) {
-                    Err(_refused) => Answer::Refused(FlowFault::OutOfMemory),
-                    Ok(()) if waits => Answer::Queued,
-                    Ok(()) => Answer::Done,
-                }
-            }
+    fn emit<R: Wait>(&mut self, rt: &R, value: i64) -> Result<Emission, FlowFault> {
+        let emission = self.caller.emit(rt, value)?;
+        let waits = emission.is_some();
+        match self.emissions.push(emission) {
+            Err(_refused) => Err(FlowFault::OutOfMemory),
+            Ok(()) if waits => Ok(Emission::Waits),
+            Ok(()) => Ok(Emission::Done),
         }
     }
 
-    fn poll<R: Wait>(&mut self, rt: &R, index: usize) -> Answer {
-        let Some(emission) = take(&mut self.emissions, index) else {
-            return Answer::Spent;
-        };
+    fn poll<R: Wait>(&mut self, rt: &R, index: usize) -> Result<Emission, Fail> {
+        let emission = take(&mut self.emissions, index).ok_or("an emission that waits")?;
         match emission.poll(rt) {
-            None => Answer::Done,
+            None => Ok(Emission::Done),
             Some(left) => {
                 if let Some(place) = self.emissions.get_mut(index) {
                     *place = Some(left);
                 }
-                Answer::Waiting
+                Ok(Emission::Waits)
             }
         }
     }
 
-    fn cancel<R: Wait>(&mut self, rt: &R, index: usize) -> Answer {
-        match take(&mut self.emissions, index) {
-            None => Answer::Spent,
-            Some(emission) => Answer::Tested(emission.cancel(rt)),
+    fn cancel<R: Wait>(&mut self, rt: &R, index: usize) -> Result<bool, Fail> {
+        let emission = take(&mut self.emissions, index).ok_or("an emission that waits")?;
+        Ok(emission.cancel(rt))
+    }
+
+    fn subscribe<R: Wait>(&mut self, rt: &R) -> Result<(), FlowFault> {
+        let reader = self.caller.subscribe(rt)?;
+        match self.readers.push(Some(reader)) {
+            Err(_refused) => Err(FlowFault::OutOfMemory),
+            Ok(()) => Ok(()),
         }
     }
 
-    fn subscribe<R: Wait>(&mut self, rt: &R) -> Answer {
-        match self.caller.subscribe(rt) {
-            Err(fault) => Answer::Refused(fault),
-            Ok(reader) => match self.readers.push(Some(reader)) {
-                Err(_refused) => Answer::Refused(FlowFault::OutOfMemory),
-                Ok(()) => Answer::Subscribed,
-            },
-        }
-    }
-
-    fn next<R: Wait>(&mut self, rt: &R, index: usize) -> Answer {
+    fn next<R: Wait>(&mut self, rt: &R, index: usize) -> Result<Next<i64>, Fail> {
         match self.readers.get_mut(index) {
-            Some(Some(reader)) => received(reader.next(rt)),
-            Some(None) | None => Answer::Spent,
+            Some(Some(reader)) => Ok(reader.next(rt)?),
+            Some(None) | None => Ok(Next::Gone),
         }
     }
 
-    fn unsubscribe<R: Wait>(&mut self, rt: &R, index: usize) -> Answer {
-        match take(&mut self.readers, index) {
-            None => Answer::Spent,
-            Some(reader) => {
-                reader.unsubscribe(rt);
-                Answer::Unsubscribed
-            }
-        }
+    fn unsubscribe<R: Wait>(&mut self, rt: &R, index: usize) -> Result<(), Fail> {
+        let reader = take(&mut self.readers, index).ok_or("a subscriber")?;
+        reader.unsubscribe(rt);
+        Ok(())
     }
 
-    fn cache<R: Wait>(&mut self, rt: &R) -> Answer {
-        match self.caller.replay_cache(rt) {
-            Ok(values) => Answer::Cached(values),
-            Err(fault) => Answer::Refused(fault),
-        }
-    }
-
-    fn step<R: Wait>(&mut self, rt: &R, step: Step) -> Answer {
+    /// Takes a step, and compares what it answers.
+    fn take<R: Wait + Abort>(&mut self, rt: &R, place: usize, step: &Step) -> Result<(), Fail> {
         match step {
-            Step::TryEmit(value) => tested(self.caller.try_emit(rt, value)),
-            Step::Emit(value) => self.emit(rt, value),
-            Step::Poll(index) => self.poll(rt, index),
-            Step::Cancel(index) => self.cancel(rt, index),
-            Step::Subscribe => self.subscribe(rt),
-            Step::Next(index) => self.next(rt, index),
-            Step::Unsubscribe(index) => self.unsubscribe(rt, index),
-            Step::Cache => self.cache(rt),
-            Step::Reset => {
-                self.caller.reset_replay_cache(rt);
-                Answer::Reset
+            Step::TryEmit(value, taken) => {
+                compare(rt, place, self.caller.try_emit(rt, *value), Ok(*taken));
             }
-            Step::Count => Answer::Counted(self.caller.subscription_count(rt)),
+            Step::TryEmitRefused(value, fault) => {
+                compare(rt, place, self.caller.try_emit(rt, *value), Err(*fault));
+            }
+            Step::Emit(value, emission) => compare(rt, place, self.emit(rt, *value), Ok(*emission)),
+            Step::EmitRefused(value, fault) => {
+                compare(rt, place, self.emit(rt, *value), Err(*fault));
+            }
+            Step::Poll(index, emission) => compare(rt, place, self.poll(rt, *index)?, *emission),
+            Step::Cancel(index, waited) => compare(rt, place, self.cancel(rt, *index)?, *waited),
+            Step::Subscribe => compare(rt, place, self.subscribe(rt), Ok(())),
+            Step::SubscribeRefused(fault) => compare(rt, place, self.subscribe(rt), Err(*fault)),
+            Step::Next(index, next) => compare(rt, place, &self.next(rt, *index)?, next),
+            Step::Unsubscribe(index) => self.unsubscribe(rt, *index)?,
+            Step::Cache(values) => {
+                compare(rt, place, self.caller.replay_cache(rt)?.as_slice(), *values);
+            }
+            Step::Reset => self.caller.reset_replay_cache(rt),
+            Step::Count(count) => compare(rt, place, self.caller.subscription_count(rt), *count),
         }
+        Ok(())
     }
 }
 
-/// Plays the steps on a new flow of this configuration, and answers what they answered, with commas between.
-pub fn play<R: Wait>(
+/// Takes the steps on a new flow of this configuration, and compares what they answer. A wrong answer is told by the
+/// place of its step, from 0.
+pub fn answers<R: Wait + Abort>(
     rt: &R,
     alloc: Global,
     config: Config,
     steps: &[Step],
-) -> Result<String, FlowFault> {
+) -> Result<(), Fail> {
     let (flow, seat) = SharedFlow::new(alloc, config)?;
     let mut player = Player {
         caller: OneCaller::new(&flow, seat),
         emissions: Vec::new(alloc),
         readers: Vec::new(alloc),
     };
-    let mut told = String::new(alloc);
-    for step in steps {
-        let answer = player.step(rt, *step);
-        if write!(told, "{answer}, ").is_err() {
-            return Err(FlowFault::OutOfMemory);
-        }
+    for place in 0..steps.len() {
+        player.take(rt, place, &steps[place])?;
     }
-    Ok(told)
+    Ok(())
 }

@@ -1,57 +1,30 @@
-//! One caller plays a list of steps on a state flow.
+//! Steps on a state flow by one caller, each with what it is to answer.
 ghost use Rattle.std.specs.Prelude.{◌≡◌};
 
+use crate::compare::compare;
 use flow_law::{FlowFault, Next};
 use flow_shared::{StateFlow, StateSeat, StateSubscription};
 use std::alloc::Global;
-use std::fmt::{self, Write};
+use std::process::Abort;
 use std::sync::Wait;
+use std::test::Fail;
 
-/// A step on a state flow that has one subscriber.
-#[derive(Clone, Copy)]
+/// A step on a state flow that has one subscriber, and what it answers.
 pub enum StateStep {
-    Value,
-    Set(i64),
-    TryEmit(i64),
-    /// The value that is expected, and the update.
-    CompareAndSet(i64, i64),
-    Next,
-    Cache,
-    Reset,
-    Count,
-}
-
-/// What a step answered.
-#[derive(Drop)]
-enum StateAnswer {
     Value(i64),
-    Done,
-    Tested(bool),
-    Empty,
-    Gone,
-    Cached(Vec<i64>),
-    Counted(u64),
-    Refused(FlowFault),
-}
-
-impl fmt::Display for StateAnswer {
-    fn fmt<W: Write>(&self, f: &mut fmt::Formatter<W>) -> fmt::Result {
-        match self {
-            StateAnswer::Value(value) => write!(f, "value {value}"),
-            StateAnswer::Done => f.write_str("done"),
-            StateAnswer::Tested(answer) => write!(f, "{answer}"),
-            StateAnswer::Empty => f.write_str("empty"),
-            StateAnswer::Gone => f.write_str("gone"),
-            StateAnswer::Cached(values) => write!(f, "{values:?}"),
-            StateAnswer::Counted(count) => write!(f, "{count}"),
-            StateAnswer::Refused(fault) => write!(f, "refused {fault:?}"),
-        }
-    }
+    Set(i64),
+    TryEmit(i64, bool),
+    /// The value that is expected, the update, and whether it was set.
+    CompareAndSet(i64, i64, bool),
+    Next(Next<i64>),
+    Cache(&'static [i64]),
+    ResetRefused(FlowFault),
+    Count(u64),
 }
 
 /// A caller with a seat of a state flow, and a subscriber.
 #[derive(Drop)]
-pub struct StatePlayer<'a> {
+struct StatePlayer<'a> {
     flow: &'a StateFlow<i64>,
     seat: StateSeat<i64>,
     reader: StateSubscription<i64>,
@@ -60,7 +33,7 @@ pub struct StatePlayer<'a> {
 
 impl<'a> StatePlayer<'a> {
     /// The caller who has this seat of the flow subscribes.
-    pub fn new<R: Wait>(
+    fn new<R: Wait>(
         rt: &R,
         flow: &'a StateFlow<i64>,
         seat: StateSeat<i64>,
@@ -74,73 +47,78 @@ impl<'a> StatePlayer<'a> {
         }
     }
 
-    fn next<R: Wait>(&mut self, rt: &R) -> StateAnswer {
-        match self.flow.next(rt, &mut self.reader) {
-            Ok(Next::Value(value)) => StateAnswer::Value(value),
-            Ok(Next::Empty) => StateAnswer::Empty,
-            Ok(Next::Gone) => StateAnswer::Gone,
-            Err(fault) => StateAnswer::Refused(fault),
-        }
+    fn next<R: Wait>(&mut self, rt: &R) -> Result<Next<i64>, FlowFault> {
+        self.flow.next(rt, &mut self.reader)
     }
 
-    fn value<R: Wait>(&mut self, rt: &R) -> StateAnswer {
-        match self.flow.value(rt, &mut self.seat) {
-            Ok(value) => StateAnswer::Value(value),
-            Err(fault) => StateAnswer::Refused(fault),
-        }
+    fn value<R: Wait>(&mut self, rt: &R) -> Result<i64, FlowFault> {
+        self.flow.value(rt, &mut self.seat)
     }
 
-    fn cache<R: Wait>(&mut self, rt: &R) -> StateAnswer {
-        match self.flow.replay_cache(rt, &mut self.seat) {
-            Ok(values) => StateAnswer::Cached(values),
-            Err(fault) => StateAnswer::Refused(fault),
-        }
+    fn set<R: Wait>(&mut self, rt: &R, value: i64) {
+        self.flow.set(rt, &mut self.seat, value);
     }
 
-    fn reset<R: Wait>(&mut self, rt: &R) -> StateAnswer {
-        match self.flow.reset_replay_cache(rt, &mut self.seat) {
-            Ok(()) => StateAnswer::Done,
-            Err(fault) => StateAnswer::Refused(fault),
-        }
+    fn try_emit<R: Wait>(&mut self, rt: &R, value: i64) -> bool {
+        self.flow.try_emit(rt, &mut self.seat, value)
     }
 
-    fn step<R: Wait>(&mut self, rt: &R, step: StateStep) -> StateAnswer {
-        match step {
-            StateStep::Value => self.value(rt),
-            StateStep::Set(value) => {
-                self.flow.set(rt, &mut self.seat, value);
-                StateAnswer::Done
-            }
-            StateStep::TryEmit(value) => {
-                StateAnswer::Tested(self.flow.try_emit(rt, &mut self.seat, value))
-            }
-            StateStep::CompareAndSet(expect, update) => StateAnswer::Tested(
-                self.flow
-                    .compare_and_set(rt, &mut self.seat, &expect, update),
-            ),
-            StateStep::Next => self.next(rt),
-            StateStep::Cache => self.cache(rt),
-            StateStep::Reset => self.reset(rt),
-            StateStep::Count => {
-                StateAnswer::Counted(self.flow.subscription_count(rt, &mut self.seat))
-            }
-        }
+    fn compare_and_set<R: Wait>(&mut self, rt: &R, expect: i64, update: i64) -> bool {
+        self.flow
+            .compare_and_set(rt, &mut self.seat, &expect, update)
     }
 
-    /// Plays the steps, and answers what they answered, with commas between.
-    pub fn play<R: Wait>(
+    fn cache<R: Wait>(&mut self, rt: &R) -> Result<Vec<i64>, FlowFault> {
+        self.flow.replay_cache(rt, &mut self.seat)
+    }
+
+    fn reset<R: Wait>(&mut self, rt: &R) -> Result<(), FlowFault> {
+        self.flow.reset_replay_cache(rt, &mut self.seat)
+    }
+
+    fn count<R: Wait>(&mut self, rt: &R) -> u64 {
+        self.flow.subscription_count(rt, &mut self.seat)
+    }
+
+    /// Takes a step, and compares what it answers.
+    fn take<R: Wait + Abort>(
         &mut self,
         rt: &R,
-        alloc: Global,
-        steps: &[StateStep],
-    ) -> Result<String, FlowFault> {
-        let mut told = String::new(alloc);
-        for step in steps {
-            let answer = self.step(rt, *step);
-            if write!(told, "{answer}, ").is_err() {
-                return Err(FlowFault::OutOfMemory);
+        place: usize,
+        step: &StateStep,
+    ) -> Result<(), Fail> {
+        match step {
+            StateStep::Value(value) => compare(rt, place, self.value(rt)?, *value),
+            StateStep::Set(value) => self.set(rt, *value),
+            StateStep::TryEmit(value, taken) => {
+                compare(rt, place, self.try_emit(rt, *value), *taken);
             }
+            StateStep::CompareAndSet(expect, update, is_set) => {
+                let answer = self.compare_and_set(rt, *expect, *update);
+                compare(rt, place, answer, *is_set);
+            }
+            StateStep::Next(next) => compare(rt, place, &self.next(rt)?, next),
+            StateStep::Cache(values) => compare(rt, place, self.cache(rt)?.as_slice(), *values),
+            StateStep::ResetRefused(fault) => compare(rt, place, self.reset(rt), Err(*fault)),
+            StateStep::Count(count) => compare(rt, place, self.count(rt), *count),
         }
-        Ok(told)
+        Ok(())
     }
+}
+
+/// Takes the steps on a new flow with this value, which issues at most `limit` numbers, and compares what they answer. A
+/// wrong answer is told by the place of its step, from 0. That nobody can subscribe is an error.
+pub fn state_answers<R: Wait + Abort>(
+    rt: &R,
+    alloc: Global,
+    initial: i64,
+    limit: u64,
+    steps: &[StateStep],
+) -> Result<(), Fail> {
+    let (flow, seat) = StateFlow::new(alloc, initial, limit)?;
+    let mut player = StatePlayer::new(rt, &flow, seat)?;
+    for place in 0..steps.len() {
+        player.take(rt, place, &steps[place])?;
+    }
+    Ok(())
 }

@@ -42,8 +42,3 @@ pub use policy::{Backwards, Policy};
 pub use share::{share_in, state_in};
 pub use sharing::Sharing;
 pub use state_hub::StateHub;
-
-#[cfg(test)]
-mod refusals;
-#[cfg(test)]
-mod tests;

@@ -6,73 +6,66 @@ use std::test::Fail;
 
 #[test]
 fn try_emit_does_not_wait(rt: HostRuntime) -> Result<(), Fail> {
-    let told = play(
-        &rt,
-        rt.alloc(),
-        Config::new().replay(1).extra(1),
-        &[Subscribe, TryEmit(1), TryEmit(2), TryEmit(3)],
-    )?;
-    assert_eq!(rt; told.as_str(), "subscribed, true, true, false, ");
-    Ok(())
-}
-
-#[test]
-fn an_emitter_waits_for_room(rt: HostRuntime) -> Result<(), Fail> {
-    let told = play(
+    answers(
         &rt,
         rt.alloc(),
         Config::new().replay(1).extra(1),
         &[
             Subscribe,
-            TryEmit(1),
-            TryEmit(2),
-            TryEmit(3),
-            Emit(3),
-            Poll(0),
-            Next(0),
-            Poll(0),
-            Cache,
-            Next(0),
-            Next(0),
-            Next(0),
+            TryEmit(1, true),
+            TryEmit(2, true),
+            TryEmit(3, false),
         ],
-    )?;
-    assert_eq!(rt;
-        told.as_str(),
-        "subscribed, true, true, false, queued, waiting, value 1, done, [3], value 2, value 3, empty, "
-    );
-    Ok(())
+    )
+}
+
+#[test]
+fn an_emitter_waits_for_room(rt: HostRuntime) -> Result<(), Fail> {
+    answers(
+        &rt,
+        rt.alloc(),
+        Config::new().replay(1).extra(1),
+        &[
+            Subscribe,
+            TryEmit(1, true),
+            TryEmit(2, true),
+            TryEmit(3, false),
+            Emit(3, Waits),
+            Poll(0, Waits),
+            Next(0, Value(1)),
+            Poll(0, Done),
+            Cache(&[3]),
+            Next(0, Value(2)),
+            Next(0, Value(3)),
+            Next(0, Empty),
+        ],
+    )
 }
 
 #[test]
 fn drop_oldest_keeps_the_newest(rt: HostRuntime) -> Result<(), Fail> {
-    let told = play(
+    answers(
         &rt,
         rt.alloc(),
         Config::new().extra(2).overflow(Overflow::DropOldest),
         &[
             Subscribe,
-            Emit(1),
-            Emit(2),
-            Emit(3),
-            Emit(4),
-            Emit(5),
-            Next(0),
-            Next(0),
-            Next(0),
-            Cache,
+            Emit(1, Done),
+            Emit(2, Done),
+            Emit(3, Done),
+            Emit(4, Done),
+            Emit(5, Done),
+            Next(0, Value(4)),
+            Next(0, Value(5)),
+            Next(0, Empty),
+            Cache(&[]),
         ],
-    )?;
-    assert_eq!(rt;
-        told.as_str(),
-        "subscribed, done, done, done, done, done, value 4, value 5, empty, [], "
-    );
-    Ok(())
+    )
 }
 
 #[test]
 fn drop_latest_keeps_the_oldest(rt: HostRuntime) -> Result<(), Fail> {
-    let told = play(
+    answers(
         &rt,
         rt.alloc(),
         Config::new()
@@ -81,142 +74,112 @@ fn drop_latest_keeps_the_oldest(rt: HostRuntime) -> Result<(), Fail> {
             .overflow(Overflow::DropLatest),
         &[
             Subscribe,
-            Emit(1),
-            Emit(2),
-            Emit(3),
-            Emit(4),
-            Emit(5),
-            Next(0),
-            Next(0),
-            Next(0),
-            Cache,
+            Emit(1, Done),
+            Emit(2, Done),
+            Emit(3, Done),
+            Emit(4, Done),
+            Emit(5, Done),
+            Next(0, Value(1)),
+            Next(0, Value(2)),
+            Next(0, Empty),
+            Cache(&[2]),
         ],
-    )?;
-    assert_eq!(rt;
-        told.as_str(),
-        "subscribed, done, done, done, done, done, value 1, value 2, empty, [2], "
-    );
-    Ok(())
+    )
 }
 
 #[test]
 fn without_a_buffer_an_emitter_waits_for_each_subscriber(rt: HostRuntime) -> Result<(), Fail> {
-    let told = play(
+    answers(
         &rt,
         rt.alloc(),
         Config::new(),
         &[
             Subscribe,
             Subscribe,
-            TryEmit(7),
-            Emit(7),
-            Next(0),
-            Poll(0),
-            Next(1),
-            Poll(0),
+            TryEmit(7, false),
+            Emit(7, Waits),
+            Next(0, Value(7)),
+            Poll(0, Waits),
+            Next(1, Value(7)),
+            Poll(0, Done),
         ],
-    )?;
-    assert_eq!(rt;
-        told.as_str(),
-        "subscribed, subscribed, false, queued, value 7, waiting, value 7, done, "
-    );
-    Ok(())
+    )
 }
 
 #[test]
 fn a_cancelled_offer_is_not_received(rt: HostRuntime) -> Result<(), Fail> {
-    let told = play(
+    answers(
         &rt,
         rt.alloc(),
         Config::new(),
         &[
             Subscribe,
             Subscribe,
-            TryEmit(7),
-            Emit(7),
-            Next(0),
-            Cancel(0),
-            Next(1),
+            TryEmit(7, false),
+            Emit(7, Waits),
+            Next(0, Value(7)),
+            Cancel(0, true),
+            Next(1, Empty),
         ],
-    )?;
-    assert_eq!(rt;
-        told.as_str(),
-        "subscribed, subscribed, false, queued, value 7, true, empty, "
-    );
-    Ok(())
+    )
 }
 
 #[test]
 fn a_late_subscriber_is_offered_the_value_too(rt: HostRuntime) -> Result<(), Fail> {
-    let told = play(
+    answers(
         &rt,
         rt.alloc(),
         Config::new(),
         &[
             Subscribe,
-            Emit(7),
+            Emit(7, Waits),
             Subscribe,
-            Next(1),
-            Poll(0),
-            Next(0),
-            Poll(0),
+            Next(1, Value(7)),
+            Poll(0, Waits),
+            Next(0, Value(7)),
+            Poll(0, Done),
             Subscribe,
-            Next(2),
+            Next(2, Empty),
         ],
-    )?;
-    assert_eq!(rt;
-        told.as_str(),
-        "subscribed, queued, subscribed, value 7, waiting, value 7, done, subscribed, empty, "
-    );
-    Ok(())
+    )
 }
 
 #[test]
 fn emitters_go_on_when_the_last_subscriber_leaves(rt: HostRuntime) -> Result<(), Fail> {
-    let told = play(
+    answers(
         &rt,
         rt.alloc(),
         Config::new().replay(1),
         &[
             Subscribe,
-            Emit(1),
-            Emit(2),
-            Emit(3),
-            Emit(4),
+            Emit(1, Done),
+            Emit(2, Waits),
+            Emit(3, Waits),
+            Emit(4, Waits),
             Unsubscribe(0),
-            Poll(1),
-            Poll(2),
-            Poll(3),
-            Cache,
+            Poll(1, Done),
+            Poll(2, Done),
+            Poll(3, Done),
+            Cache(&[4]),
         ],
-    )?;
-    assert_eq!(rt;
-        told.as_str(),
-        "subscribed, done, queued, queued, queued, unsubscribed, done, done, done, [4], "
-    );
-    Ok(())
+    )
 }
 
 #[test]
 fn a_cancelled_value_is_never_emitted(rt: HostRuntime) -> Result<(), Fail> {
-    let told = play(
+    answers(
         &rt,
         rt.alloc(),
         Config::new().replay(1),
         &[
             Subscribe,
-            Emit(1),
-            Emit(2),
-            Emit(3),
-            Emit(4),
-            Cancel(3),
+            Emit(1, Done),
+            Emit(2, Waits),
+            Emit(3, Waits),
+            Emit(4, Waits),
+            Cancel(3, true),
             Unsubscribe(0),
-            Cache,
+            Cache(&[3]),
         ],
-    )?;
-    assert_eq!(rt;
-        told.as_str(),
-        "subscribed, done, queued, queued, queued, true, unsubscribed, [3], "
-    );
-    Ok(())
+    )
 }

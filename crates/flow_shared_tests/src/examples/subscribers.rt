@@ -6,95 +6,84 @@ use std::test::Fail;
 
 #[test]
 fn nobody_receives_what_was_emitted_before(rt: HostRuntime) -> Result<(), Fail> {
-    let told = play(
+    answers(
         &rt,
         rt.alloc(),
         Config::new(),
-        &[TryEmit(5), Cache, Count, Subscribe, Next(0)],
-    )?;
-    assert_eq!(rt; told.as_str(), "true, [], 0, subscribed, empty, ");
-    Ok(())
+        &[
+            TryEmit(5, true),
+            Cache(&[]),
+            Count(0),
+            Subscribe,
+            Next(0, Empty),
+        ],
+    )
 }
 
 #[test]
 fn a_new_subscriber_gets_the_cache(rt: HostRuntime) -> Result<(), Fail> {
-    let told = play(
+    answers(
         &rt,
         rt.alloc(),
         Config::new().replay(2),
         &[
-            TryEmit(1),
-            TryEmit(2),
-            TryEmit(3),
-            Cache,
+            TryEmit(1, true),
+            TryEmit(2, true),
+            TryEmit(3, true),
+            Cache(&[2, 3]),
             Subscribe,
-            Next(0),
-            Next(0),
-            Next(0),
+            Next(0, Value(2)),
+            Next(0, Value(3)),
+            Next(0, Empty),
         ],
-    )?;
-    assert_eq!(rt;
-        told.as_str(),
-        "true, true, true, [2, 3], subscribed, value 2, value 3, empty, "
-    );
-    Ok(())
+    )
 }
 
 #[test]
 fn a_slow_subscriber_loses_the_oldest(rt: HostRuntime) -> Result<(), Fail> {
-    let told = play(
+    answers(
         &rt,
         rt.alloc(),
         Config::new().extra(1).overflow(Overflow::DropOldest),
         &[
             Subscribe,
             Subscribe,
-            Emit(1),
-            Next(0),
-            Emit(2),
-            Next(0),
-            Emit(3),
-            Next(1),
-            Next(1),
-            Next(0),
-            Next(0),
+            Emit(1, Done),
+            Next(0, Value(1)),
+            Emit(2, Done),
+            Next(0, Value(2)),
+            Emit(3, Done),
+            Next(1, Value(3)),
+            Next(1, Empty),
+            Next(0, Value(3)),
+            Next(0, Empty),
         ],
-    )?;
-    assert_eq!(rt;
-        told.as_str(),
-        "subscribed, subscribed, done, value 1, done, value 2, done, value 3, empty, value 3, empty, "
-    );
-    Ok(())
+    )
 }
 
 #[test]
 fn a_reset_leaves_old_subscribers_what_they_have(rt: HostRuntime) -> Result<(), Fail> {
-    let told = play(
+    answers(
         &rt,
         rt.alloc(),
         Config::new().replay(2).extra(1),
         &[
             Subscribe,
-            TryEmit(1),
-            TryEmit(2),
-            Cache,
+            TryEmit(1, true),
+            TryEmit(2, true),
+            Cache(&[1, 2]),
             Reset,
-            Cache,
+            Cache(&[]),
             Subscribe,
-            Next(1),
-            Next(0),
-            Next(0),
-            Next(0),
-            TryEmit(3),
-            Next(1),
-            Cache,
+            Next(1, Empty),
+            Next(0, Value(1)),
+            Next(0, Value(2)),
+            Next(0, Empty),
+            TryEmit(3, true),
+            Next(1, Value(3)),
+            Cache(&[3]),
         ],
-    )?;
-    assert_eq!(rt;
-        told.as_str(),
-        "subscribed, true, true, [1, 2], reset, [], subscribed, empty, value 1, value 2, empty, true, value 3, [3], "
-    );
-    Ok(())
+    )
 }
 
 #[test]
@@ -103,22 +92,21 @@ fn no_number_is_issued_beyond_the_limit(rt: HostRuntime) -> Result<(), Fail> {
         limit: 3,
         ..Config::new().replay(1).extra(1)
     };
-    let steps = [
-        Subscribe,
-        TryEmit(1),
-        TryEmit(2),
-        TryEmit(3),
-        Emit(3),
-        Subscribe,
-        Next(0),
-        TryEmit(3),
-    ];
-    let told = play(&rt, rt.alloc(), three, &steps)?;
-    assert_eq!(rt;
-        told.as_str(),
-        "subscribed, true, true, false, refused Exhausted, refused Exhausted, value 1, refused Exhausted, "
-    );
-    Ok(())
+    answers(
+        &rt,
+        rt.alloc(),
+        three,
+        &[
+            Subscribe,
+            TryEmit(1, true),
+            TryEmit(2, true),
+            TryEmit(3, false),
+            EmitRefused(3, Exhausted),
+            SubscribeRefused(Exhausted),
+            Next(0, Value(1)),
+            TryEmitRefused(3, Exhausted),
+        ],
+    )
 }
 
 #[test]

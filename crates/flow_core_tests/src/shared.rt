@@ -1,0 +1,84 @@
+//! Worked examples over a shared flow.
+use crate::shared_calls::Call::{
+    Cache, Cancel, Count, Emit, Next, Poll, Reset, Subscribe, TryEmit, Unsubscribe,
+};
+use crate::shared_calls::answers;
+use flow_core::SharedCore;
+use flow_law::Emit::{Done, Queued};
+use flow_law::Next::{Empty, Gone, Value};
+use flow_law::{Config, FlowFault, Overflow};
+use std::test::Fail;
+
+#[test]
+fn a_new_subscriber_gets_the_cache(rt: HostRuntime) -> Result<(), Fail> {
+    answers(
+        &rt,
+        rt.alloc(),
+        Config::new().replay(2),
+        &[
+            TryEmit(1, true),
+            TryEmit(2, true),
+            TryEmit(3, true),
+            Cache(&[2, 3]),
+            Subscribe(4),
+            Count(1),
+            Next(0, Value(2)),
+            Reset,
+            Cache(&[]),
+            Next(0, Value(3)),
+            Next(0, Empty),
+            Unsubscribe(0, true),
+            Next(0, Gone),
+        ],
+    )
+}
+
+#[test]
+fn two_emissions_without_a_buffer_wait_for_each_other(rt: HostRuntime) -> Result<(), Fail> {
+    answers(
+        &rt,
+        rt.alloc(),
+        Config::new(),
+        &[
+            Subscribe(1),
+            Emit(7, Queued(2)),
+            Emit(8, Queued(3)),
+            Poll(2, true),
+            Next(0, Value(7)),
+            Poll(2, false),
+            Poll(3, true),
+            Next(0, Value(8)),
+            Poll(3, false),
+            Next(0, Empty),
+        ],
+    )
+}
+
+#[test]
+fn a_cancelled_emission_leaves_the_middle_of_the_queue(rt: HostRuntime) -> Result<(), Fail> {
+    answers(
+        &rt,
+        rt.alloc(),
+        Config::new().replay(1),
+        &[
+            Subscribe(1),
+            Emit(1, Done),
+            Emit(2, Queued(3)),
+            Emit(3, Queued(4)),
+            Emit(4, Queued(5)),
+            Cancel(4, true),
+            Cancel(4, false),
+            Next(0, Value(1)),
+            Next(0, Value(2)),
+            Next(0, Value(4)),
+            Next(0, Empty),
+        ],
+    )
+}
+
+#[test]
+fn a_strategy_that_drops_needs_a_buffer(rt: HostRuntime) -> Result<(), Fail> {
+    let refused = SharedCore::<i64>::new(rt.alloc(), Config::new().overflow(Overflow::DropLatest));
+    assert_eq!(rt; refused.err(), Some(FlowFault::NeedsBuffer));
+    Ok(())
+}

@@ -1,0 +1,95 @@
+//! Steps of a sharing over a test flow, each with what it is to answer.
+use crate::compare::compare;
+use crate::test_hub::{Behaviour, Counted, TestHub};
+use flow_cold::OfList;
+use flow_law::report::{Event, Report, ShareFault};
+use flow_law::{Command, Started};
+use flow_sharing::Sharing;
+use std::alloc::{AllocError, Global};
+use std::cell::Cell;
+use std::process::Abort;
+
+/// A step, and what it answers.
+pub enum Step {
+    /// The moment, and what the turn reports.
+    Turn(u64, Command, Event),
+    /// The moment of a turn, and why it is refused.
+    Refused(u64, ShareFault),
+    /// From now on the flow does this with each item.
+    Behave(Behaviour),
+    /// From now on the flow has so many subscribers.
+    Subscribers(u64),
+    /// Whether an emission of the flow waits.
+    Waits(bool),
+    /// What the flow has accepted, and nobody has cancelled.
+    Accepted(&'static [i64]),
+    /// How often the chain has been asked.
+    Asked(u64),
+}
+
+/// A sharing of a list over a test flow that has one subscriber. It stops when the flow has none.
+#[derive(Drop)]
+struct Shared<'a> {
+    sharing: Sharing<Counted<'a>, TestHub>,
+    asks: &'a Cell<u64>,
+}
+
+impl<'a> Shared<'a> {
+    fn new(alloc: Global, items: &[i64], asks: &'a Cell<u64>) -> Result<Shared<'a>, AllocError> {
+        let chain = Counted {
+            list: OfList::new(items.to_vec(alloc)?),
+            asks,
+        };
+        let hub = TestHub {
+            subscribers: 1,
+            behaviour: Behaviour::Accepts,
+            waits: false,
+            accepted: Vec::new(alloc),
+        };
+        let sharing = Sharing::new(chain, Started::WhileSubscribed { stop: 0 }, hub);
+        Ok(Shared { sharing, asks })
+    }
+
+    fn turn(&mut self, now: u64) -> Result<Report, ShareFault> {
+        self.sharing.turn(now)
+    }
+
+    fn hub(&mut self) -> &mut TestHub {
+        self.sharing.hub_mut()
+    }
+
+    /// Takes a step, and compares what it answers.
+    fn take(&mut self, rt: &impl Abort, place: usize, step: &Step) {
+        match step {
+            Step::Turn(now, command, event) => {
+                let report = Report {
+                    command: *command,
+                    event: *event,
+                };
+                compare(rt, place, self.turn(*now), Ok(report));
+            }
+            Step::Refused(now, fault) => compare(rt, place, self.turn(*now), Err(*fault)),
+            Step::Behave(behaviour) => self.hub().behaviour = *behaviour,
+            Step::Subscribers(count) => self.hub().subscribers = *count,
+            Step::Waits(waits) => compare(rt, place, self.hub().waits, *waits),
+            Step::Accepted(items) => compare(rt, place, self.hub().accepted.as_slice(), *items),
+            Step::Asked(count) => compare(rt, place, self.asks.get(), *count),
+        }
+    }
+}
+
+/// Takes the steps of a new sharing of these items, and compares what they answer. A wrong answer is told by the place
+/// of its step, from 0.
+pub fn answers(
+    rt: &impl Abort,
+    alloc: Global,
+    items: &[i64],
+    steps: &[Step],
+) -> Result<(), AllocError> {
+    let asks = Cell::new(0);
+    let mut shared = Shared::new(alloc, items, &asks)?;
+    for place in 0..steps.len() {
+        shared.take(rt, place, &steps[place]);
+    }
+    Ok(())
+}

@@ -1,0 +1,79 @@
+//! What a flow that refuses, queues or is busy leaves of a turn, and how often a chain is asked. Over a flow for one
+//! thread some of it cannot come: without subscribers nothing waits there, and it is never busy.
+use crate::refusal_steps::Step::{Accepted, Asked, Behave, Refused, Subscribers, Turn, Waits};
+use crate::refusal_steps::answers;
+use crate::test_hub::Behaviour::{Accepts, Queues, Refuses};
+use flow_law::Command::{Keep, Start, Stop};
+use flow_law::FlowFault::{Busy, OutOfMemory};
+use flow_law::report::Event::{self, Completed, Idle, Put, Queued, Waiting};
+use flow_law::report::ShareFault::Flow;
+use std::alloc::AllocError;
+
+/// A kept item is put again in the next turn. At a stop it is dropped, and the chain starts from its first item.
+#[test]
+fn drops_the_kept_item_at_a_stop(rt: HostRuntime) -> Result<(), AllocError> {
+    answers(
+        &rt,
+        rt.alloc(),
+        &[1, 2, 3],
+        &[
+            Turn(0, Start, Put),
+            Behave(Refuses(OutOfMemory)),
+            Refused(1, Flow(OutOfMemory)),
+            Behave(Refuses(Busy)),
+            Turn(2, Keep, Event::Busy),
+            Behave(Accepts),
+            Turn(3, Keep, Put),
+            Behave(Refuses(OutOfMemory)),
+            Refused(4, Flow(OutOfMemory)),
+            Subscribers(0),
+            Turn(5, Stop, Idle),
+            Behave(Accepts),
+            Subscribers(1),
+            Turn(6, Start, Put),
+            Accepted(&[1, 2, 1]),
+        ],
+    )
+}
+
+/// An emission that waits is cancelled at a stop.
+#[test]
+fn cancels_the_waiting_emission_at_a_stop(rt: HostRuntime) -> Result<(), AllocError> {
+    answers(
+        &rt,
+        rt.alloc(),
+        &[1, 2],
+        &[
+            Turn(0, Start, Put),
+            Behave(Queues),
+            Turn(1, Keep, Queued),
+            Turn(2, Keep, Waiting),
+            Subscribers(0),
+            Turn(3, Stop, Idle),
+            Waits(false),
+            Accepted(&[1]),
+        ],
+    )
+}
+
+/// A chain that has ended normally is asked again only after a stop and a start.
+#[test]
+fn asks_a_completed_chain_after_a_start_alone(rt: HostRuntime) -> Result<(), AllocError> {
+    answers(
+        &rt,
+        rt.alloc(),
+        &[1],
+        &[
+            Turn(0, Start, Put),
+            Turn(1, Keep, Completed),
+            Asked(2),
+            Turn(2, Keep, Completed),
+            Asked(2),
+            Subscribers(0),
+            Turn(3, Stop, Idle),
+            Subscribers(1),
+            Turn(4, Start, Put),
+            Asked(3),
+        ],
+    )
+}

@@ -1,0 +1,134 @@
+//! Worked examples of `shareIn` and `stateIn`.
+use crate::sharing_steps::Step::{Cache, Next, Refused, Subscribe, Turn, Turns, Unsubscribe};
+use crate::sharing_steps::{answers, list, share_answers};
+use flow_cold::{Entry, OfRange, ScriptChain, Scripted, Source};
+use flow_law::Command::{Keep, Start, Stop};
+use flow_law::Next::{Empty, Value};
+use flow_law::report::Event::{Completed, Idle, Pending, Put, Queued, Waiting};
+use flow_law::report::ShareFault::{Backwards, Chain, Ended};
+use flow_law::{ChainFault, Started};
+use flow_sharing::state_in;
+use std::test::Fail;
+
+/// A subscriber at 0 goes, another comes at 149 and goes before 200, a third comes at 301.
+#[test]
+fn stops_some_time_after_the_last_subscriber(rt: HostRuntime) -> Result<(), Fail> {
+    let chain = list(rt.alloc(), &[10, 20, 30, 40])?;
+    share_answers(
+        &rt,
+        rt.alloc(),
+        chain,
+        Started::WhileSubscribed { stop: 100 },
+        0,
+        &[
+            Subscribe,
+            Turn(0, Start, Put),
+            Unsubscribe(0),
+            Turn(50, Keep, Put),
+            Turn(149, Keep, Put),
+            Subscribe,
+            Turn(149, Keep, Put),
+            Next(1, Value(40)),
+            Unsubscribe(1),
+            Turn(200, Keep, Completed),
+            Turn(300, Stop, Idle),
+            Subscribe,
+            Turn(301, Start, Put),
+            Next(2, Value(10)),
+            Refused(300, Backwards(301)),
+        ],
+    )
+}
+
+/// With a stop that never comes, the greatest moment is no stop.
+#[test]
+fn never_stops(rt: HostRuntime) -> Result<(), Fail> {
+    let chain = list(rt.alloc(), &[1, 2, 3])?;
+    share_answers(
+        &rt,
+        rt.alloc(),
+        chain,
+        Started::WhileSubscribed { stop: u64::MAX },
+        0,
+        &[
+            Subscribe,
+            Turn(0, Start, Put),
+            Unsubscribe(0),
+            Turn(0, Keep, Put),
+            Turn(u64::MAX, Keep, Put),
+        ],
+    )
+}
+
+/// A subscriber that reads nothing has 64 values buffered. The next one waits, until it has read one.
+#[test]
+fn waits_for_a_slow_subscriber(rt: HostRuntime) -> Result<(), Fail> {
+    let chain = ScriptChain::source(Source::Range(OfRange::new(1, 66)));
+    share_answers(
+        &rt,
+        rt.alloc(),
+        chain,
+        Started::Eagerly,
+        0,
+        &[
+            Subscribe,
+            Turn(0, Start, Put),
+            Turns(1, 63, Keep, Put),
+            Turn(64, Keep, Queued),
+            Turn(65, Keep, Waiting),
+            Next(0, Value(1)),
+            Turn(66, Keep, Queued),
+        ],
+    )
+}
+
+/// The fault of a chain is told once, ends the sharing, and leaves the subscribers what they have.
+#[test]
+fn ends_with_its_chain(rt: HostRuntime) -> Result<(), Fail> {
+    let mut entries = Vec::new(rt.alloc());
+    entries.push(Entry::Pending)?;
+    entries.push(Entry::Item(1i64))?;
+    entries.push(Entry::Fault(7))?;
+    let chain = ScriptChain::source(Source::Scripted(Scripted::new(entries)));
+    share_answers(
+        &rt,
+        rt.alloc(),
+        chain,
+        Started::Lazily,
+        1,
+        &[
+            Turn(5, Keep, Idle),
+            Subscribe,
+            Turn(5, Start, Pending),
+            Turn(6, Keep, Put),
+            Refused(7, Chain(ChainFault::Source(7))),
+            Refused(8, Ended),
+            Cache(&[1]),
+            Next(0, Value(1)),
+        ],
+    )
+}
+
+/// A state flow has the newest item, and a subscriber gets no item that is the same as the one before.
+#[test]
+fn sets_a_state_flow(rt: HostRuntime) -> Result<(), Fail> {
+    let chain = list(rt.alloc(), &[3, 3, 4])?;
+    let sharing = state_in(rt.alloc(), chain, Started::Eagerly, 0, u64::MAX)?;
+    answers(
+        &rt,
+        rt.alloc(),
+        sharing,
+        &[
+            Turn(0, Start, Put),
+            Cache(&[3]),
+            Subscribe,
+            Next(0, Value(3)),
+            Turn(1, Keep, Put),
+            Next(0, Empty),
+            Turn(2, Keep, Put),
+            Next(0, Value(4)),
+            Turn(3, Keep, Completed),
+            Turn(4, Keep, Completed),
+        ],
+    )
+}
