@@ -1,12 +1,13 @@
 -- What contracts see of a shared core, and the results of its calls as the replies of a history.
 -- Public clauses cite the replies (`try_emit_reply` to `cache_reply`); the rest is for private functions.
-use Rattle.std.specs.Prelude.{◌≡◌, ◌+◌, ◌<◌, ◌≤◌, Bool, List, map, length, Vec, vec_len, Result, Ok, Err}
+use Rattle.std.specs.Prelude.{◌≡◌, ℕ, ◌+◌, ◌<◌, ◌≤◌, Bool, map, length, Vec, vec_len, Result, Ok, Err}
 use Rattle.std.specs.Vec.{vec_capacity}
 use Rattle.flow_law.specs.declared.fault.FlowFault.{FlowFault}
 use Rattle.flow_law.specs.declared.fault.FlowFault.TheVariants.{OutOfMemory, Exhausted}
 use Rattle.flow_law.specs.declared.fault.Refused.{Refused}
 use Rattle.flow_law.specs.declared.outcome.Next.{Next}
 use Rattle.flow_law.specs.declared.outcome.Emit.{Emit}
+use Rattle.flow_law.specs.declared.call.SharedCall.TheVariants as call
 use Rattle.flow_law.specs.declared.call.SharedReply.{SharedReply}
 use Rattle.flow_law.specs.declared.call.SharedReply.TheVariants as reply
 use Rattle.flow_law.specs.declared.states.SharedFlowState.{SharedFlowState}
@@ -15,7 +16,7 @@ use Rattle.flow_law.specs.History.{replied}
 use Rattle.flow_law.specs.SharedHistory.{shared_flow}
 use Rattle.flow_law.specs.SharedStep.{settle}
 use Rattle.flow_law.specs.Laws.{RisesTo}
-use Rattle.flow_law.specs.Standing.{Core, StandsFor}
+use Rattle.flow_law.specs.Standing.{Core, StandsFor, Conforms}
 use Rattle.flow_core.specs.declared.shared.SharedCore.TheInside.{Inside}
 use Rattle.flow_core.specs.declared.sub_id.SubId.{SubId}
 use Rattle.flow_core.specs.SubId.{number_of}
@@ -37,6 +38,10 @@ subscribe_reply = replied shared_flow (λ id. reply.Subscribed (number_of id))
 
 abbrev pub next_reply : {T : Type 0} → Result (Next T) FlowFault → SharedReply T
 next_reply = replied shared_flow reply.Received
+
+-- what one `next` of the subscriber of this number does
+abbrev pub Nexts : {T : Type 0} → ℕ → Core T → Result (Next T) FlowFault → Core T → Type 0
+Nexts number old result new = Conforms old (call.TakeNext number) (next_reply result) new
 
 abbrev pub cache_reply : {T A : Type 0} → Result (Vec T A) FlowFault → SharedReply T
 cache_reply = replied shared_flow (λ values. reply.Cached values.items)

@@ -1,12 +1,14 @@
 -- What contracts see of a state core, and the results of its calls as the replies of a history.
-use Rattle.std.specs.Prelude.{map, Vec, Result}
+use Rattle.std.specs.Prelude.{ℕ, map, Vec, Result}
 use Rattle.flow_law.specs.declared.fault.FlowFault.{FlowFault}
 use Rattle.flow_law.specs.declared.outcome.Next.{Next}
+use Rattle.flow_law.specs.declared.call.StateCall.TheVariants as call
 use Rattle.flow_law.specs.declared.call.StateReply.{StateReply}
 use Rattle.flow_law.specs.declared.call.StateReply.TheVariants as reply
 use Rattle.flow_law.specs.History.{replied}
 use Rattle.flow_law.specs.declared.states.StateFlowState.{StateFlowState}
 use Rattle.flow_law.specs.declared.states.StateSubscriber.{StateSubscriber}
+use Rattle.flow_law.specs.Standing.{StateConforms}
 use Rattle.flow_law.specs.StateFlow.{state_flow}
 use Rattle.flow_core.specs.declared.sub_id.SubId.{SubId}
 use Rattle.flow_core.specs.declared.state.Row.{Row}
@@ -22,6 +24,10 @@ module _ {T : Type 0} where
 
   abbrev pub next_reply : Result (Next T) FlowFault → StateReply T
   next_reply = replied state_flow reply.Received
+
+  -- what one `next` of the subscriber of this number does
+  abbrev pub Nexts : ℕ → StateFlowState T → Result (Next T) FlowFault → StateFlowState T → Type 0
+  Nexts number old result new = StateConforms old (call.TakeNext number) (next_reply result) new
 
   abbrev pub cache_reply : {A : Type 0} → Result (Vec T A) FlowFault → StateReply T
   cache_reply = replied state_flow (λ values. reply.Cached values.items)

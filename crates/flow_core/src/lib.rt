@@ -20,6 +20,7 @@
 #![tactic(auto)]
 
 mod copies;
+mod drain;
 mod kind;
 mod positions;
 mod queue;

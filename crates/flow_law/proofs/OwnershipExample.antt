@@ -1,5 +1,5 @@
 -- A number belongs to a token as a subscriber or as an emission, and a call of the other kind does not own it.
-use Rattle.std.proofs.Common.{◌≡◌, ℕ, true, false, List, [], ◌∷◌, refl}
+use Rattle.std.proofs.Common.{ℕ, true, false, List, [], ◌∷◌, refl}
 use Rattle.flow_law.specs.declared.config.Config.{Config}
 use Rattle.flow_law.specs.declared.config.Overflow.TheVariants.{Suspend}
 use Rattle.flow_law.specs.declared.history.Event.{Event}

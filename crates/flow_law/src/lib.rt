@@ -25,9 +25,9 @@ pub use fault::{FlowFault, Refused};
 pub use guarded::Guarded;
 pub use history::{Event, Knowledge, Said};
 pub use laws::{law_conflated, law_delivered, law_idle_since, law_no_idle_queue, law_turn_account};
-pub use outcome::{Emit, Next};
+pub use outcome::{Drained, Emit, Next};
 pub use sharing::{Command, SharingObservation, Started};
 pub use states::{
     EmittingFlow, Numbered, SharedFlowState, StateFlowState, StateSubscriber, Subscriber,
 };
-pub use value::{FlowValue, Text};
+pub use value::{Boxed, FlowValue, Items, Text};

@@ -18,3 +18,14 @@ pub enum Emit {
     /// The emitter waits. The number is the value's: poll or cancel the emission by it.
     Queued(u64),
 }
+
+/// How a `drain` ended.
+#[derive(Clone, Copy, Debug, PartialEq, Eq)]
+pub enum Drained {
+    /// As many values were taken as were asked for. There may be more.
+    Most,
+    /// The subscriber has received all that was emitted.
+    Empty,
+    /// There is no such subscriber.
+    Gone,
+}

@@ -1,12 +1,16 @@
 //! The values of flows.
 ghost use Rattle.std.specs.Prelude.{Bool, ◌≡◌, ◌↔◌, IsTrue, IfOk, IfErr};
 
+mod boxed;
 mod compound;
+mod items;
 mod numbers;
 mod owned;
 mod truth;
 
 use crate::fault::FlowFault;
+pub use boxed::Boxed;
+pub use items::Items;
 pub use owned::Text;
 
 /// A value that a flow can keep, and give to several subscribers.

@@ -31,6 +31,10 @@ module _ {T S C R : Type 0} (kind : Kind T S C R) (flow : Origin S) where
   abbrev pub Nexts : NumberedToken (Said C R) → Result (Next T) FlowFault → NumberedToken (Said C R) → Type 0
   Nexts = NextsIn kind flow.first
 
+  -- the same, and the subscription has its number still
+  abbrev pub NextsOf : NumberedToken (Said C R) → Result (Next T) FlowFault → NumberedToken (Said C R) → Type 0
+  NextsOf old result new = Nexts old result new × (new.number ≡ old.number)
+
   abbrev pub Unsubscribes : NumberedToken (Said C R) → Token (Said C R) → Type 0
   Unsubscribes = UnsubscribesIn kind flow.first
 

@@ -25,6 +25,7 @@
 
 mod answers;
 mod core_call;
+mod drain;
 mod flow;
 mod shared;
 mod state;

@@ -1,4 +1,4 @@
-//! Texts, lists and boxed values as values of flows: each is its content, wherever it lies and however much room it has.
+//! Texts as values of flows: each is its bytes, wherever they lie and however much room there is.
 ghost use Rattle.std.specs.Prelude.{◌≡◌, string_bytes};
 
 use super::FlowValue;

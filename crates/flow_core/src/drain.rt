@@ -1,0 +1,102 @@
+//! Taking all that a subscriber can receive now.
+ghost use Rattle.std.specs.Prelude.{ℕ, Result};
+ghost use Rattle.flow_law.specs.Draining.{DrainsBy};
+ghost use Rattle.flow_law.specs.declared.fault.FlowFault.{FlowFault};
+ghost use Rattle.flow_law.specs.declared.outcome.Next.{Next};
+ghost use Rattle.flow_core.specs.SubId.{number_of};
+ghost use Rattle.flow_core.specs.SharedCore as shared;
+ghost use Rattle.flow_core.specs.StateCore as state;
+
+use crate::shared::SharedCore;
+use crate::state::StateCore;
+use crate::sub_id::SubId;
+use flow_law::{Drained, FlowFault, FlowValue, Next};
+use std::alloc::Allocator;
+
+/// A flow as far as draining needs it.
+trait TakesNext {
+    type Item;
+
+    /// What one `next` of the subscriber of this number does.
+    ghost nexts: { ℕ → Self → Result (Next Self.Item) FlowFault → Self → Type 0 };
+
+    fn take_next(&mut self, id: SubId) -> Result<Next<Self::Item>, FlowFault>
+        ensures { nexts (number_of id) self.old result self.new };
+}
+
+impl<T: FlowValue, A: Allocator + Copy> TakesNext for SharedCore<T, A> {
+    type Item = T;
+
+    ghost nexts = { shared.Nexts };
+
+    fn take_next(&mut self, id: SubId) -> Result<Next<T>, FlowFault> {
+        self.next(id)
+    }
+}
+
+impl<T: FlowValue, A: Allocator + Copy> TakesNext for StateCore<T, A> {
+    type Item = T;
+
+    ghost nexts = { state.Nexts };
+
+    fn take_next(&mut self, id: SubId) -> Result<Next<T>, FlowFault> {
+        self.next(id)
+    }
+}
+
+/// `next` again and again. Room for a value is made before it is taken.
+fn take_all<S: TakesNext, B: Allocator>(
+    core: &mut S,
+    id: SubId,
+    most: usize,
+    values: &mut Vec<S::Item, B>,
+) -> Result<Drained, FlowFault>
+    ensures { DrainsBy (S.nexts (number_of id)) most core.old values.old.items result values.new.items core.new }
+{
+    for _ in 0..most {
+        if values.reserve(1).is_err() {
+            return Err(FlowFault::OutOfMemory);
+        }
+        match core.take_next(id)? {
+            Next::Value(value) => values.push_reserved(value),
+            Next::Empty => return Ok(Drained::Empty),
+            Next::Gone => return Ok(Drained::Gone),
+        }
+    }
+    Ok(Drained::Most)
+}
+
+impl<T: FlowValue, A: Allocator + Copy> SharedCore<T, A> {
+    /// Takes what the subscriber can receive now, at most `most` values, to the end of the list: what `next`
+    /// answers, again and again, in order. `Ok` says why it stopped.
+    ///
+    /// Where memory is wanting the value is still in the flow, those before it are in the list, and the call can
+    /// be made again.
+    pub fn drain<B: Allocator>(
+        &mut self,
+        id: SubId,
+        most: usize,
+        values: &mut Vec<T, B>,
+    ) -> Result<Drained, FlowFault>
+        ensures documented { DrainsBy (shared.Nexts (number_of id)) most
+            self.old values.old.items result values.new.items self.new }
+    {
+        take_all(self, id, most, values)
+    }
+}
+
+impl<T: FlowValue, A: Allocator + Copy> StateCore<T, A> {
+    /// Takes what the subscriber can receive now, which is one value at most, to the end of the list. `Ok` says why
+    /// it stopped. It is there for callers who use a state flow as a shared flow.
+    pub fn drain<B: Allocator>(
+        &mut self,
+        id: SubId,
+        most: usize,
+        values: &mut Vec<T, B>,
+    ) -> Result<Drained, FlowFault>
+        ensures documented { DrainsBy (state.Nexts (number_of id)) most
+            self.old values.old.items result values.new.items self.new }
+    {
+        take_all(self, id, most, values)
+    }
+}

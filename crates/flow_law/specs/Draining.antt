@@ -1,0 +1,32 @@
+-- Draining: `next` again and again, each value into a list. `Nexts` is what one `next` does, as its own contract says.
+-- Begin with `DrainsBy`: the values are what so many calls in a row gave, and the state after is theirs.
+use Rattle.std.specs.Prelude.{◌≡◌, ◌↔◌, ◌⊎◌, ℕ, ◌≤◌, List, ◌++◌, length, Result, Ok, Err}
+use Rattle.std.specs.List.{FoldsTo}
+use Rattle.flow_law.specs.declared.fault.FlowFault.{FlowFault}
+use Rattle.flow_law.specs.declared.fault.FlowFault.TheVariants.{OutOfMemory}
+use Rattle.flow_law.specs.declared.outcome.Next.{Next}
+use Rattle.flow_law.specs.declared.outcome.Next.TheVariants as next
+use Rattle.flow_law.specs.declared.outcome.Drained.{Drained}
+use Rattle.flow_law.specs.declared.outcome.Drained.TheVariants as drained
+
+module _ {X T : Type 0} (Nexts : X → Result (Next T) FlowFault → X → Type 0) where
+  -- calls in a row gave these values, in order
+  abbrev pub Takes : X → List T → X → Type 0
+  Takes = FoldsTo (λ before value after. Nexts before (Ok (next.Value value)) after)
+
+  -- what ended it: there were enough values, or the next call, or the list had no room
+  abbrev pub EndsBy : X → Result Drained FlowFault → X → Type 0
+  EndsBy before (Ok drained.Most) after = before ≡ after
+  EndsBy before (Ok drained.Empty) after = Nexts before (Ok next.Empty) after
+  EndsBy before (Ok drained.Gone) after = Nexts before (Ok next.Gone) after
+  EndsBy before (Err fault) after = Nexts before (Err fault) after ⊎ ((fault ≡ OutOfMemory) × (before ≡ after))
+
+  pub record DrainsBy (most : ℕ) (old : X) (old_list : List T) (result : Result Drained FlowFault) (new_list : List T) (new : X) : Type 0 where
+    pub values : List T
+    -- after the last of them
+    pub last : X
+    pub taken : Takes old values last
+    pub ended : EndsBy last result new
+    pub appended : new_list ≡ old_list ++ values
+    pub within : length values ≤ most
+    pub enough : (result ≡ Ok drained.Most) ↔ (length values ≡ most)

@@ -1,0 +1,93 @@
+//! Lists as values of flows: each is its values in order, wherever they lie and however much room there is.
+ghost use Rattle.std.specs.Prelude.{◌≡◌, IfOk, IfErr};
+ghost use Rattle.flow_law.specs.Values.{is_same_list};
+
+use super::FlowValue;
+use crate::fault::FlowFault;
+use std::alloc::{Allocator, Global};
+use std::marker::Model;
+
+/// A list of values. Two are the same where their values are, in order.
+#[derive(Drop)]
+pub struct Items<T: FlowValue, A: Allocator + Copy = Global> {
+    values: Vec<T, A>,
+}
+
+impl<T: FlowValue, A: Allocator + Copy> Model for Items<T, A> {
+    ghost use Rattle.std.specs.Prelude.{List};
+
+    ghost Value = { List T };
+
+    ghost view = { λ list. list.values.items };
+}
+
+impl<T: FlowValue, A: Allocator + Copy> Items<T, A> {
+    pub fn new(values: Vec<T, A>) -> Self
+        ensures { result ≡ values.items }
+    {
+        Items { values }
+    }
+
+    pub fn as_slice(&self) -> &[T]
+        ensures { result.now ≡ self.now }
+    {
+        self.values.as_slice()
+    }
+
+    pub fn into_inner(self) -> Vec<T, A>
+        ensures { result.items ≡ self }
+    {
+        self.values
+    }
+}
+
+/// Copies values in order.
+fn copies<T: FlowValue, A: Allocator>(alloc: A, values: &[T]) -> Result<Vec<T, A>, FlowFault>
+    ensures copies { IfOk result (λ copies. copies.items ≡ values.now) }
+    ensures memory { IfErr result (λ fault. fault ≡ FlowFault.OutOfMemory) }
+{
+    let mut copies = Vec::new(alloc);
+    for value in values {
+        let copy = value.try_copy()?;
+        if copies.push(copy).is_err() {
+            return Err(FlowFault::OutOfMemory);
+        }
+    }
+    Ok(copies)
+}
+
+/// Whether two lists have the same values in order.
+fn is_same_slice<T: FlowValue>(values: &[T], others: &[T]) -> bool
+    ensures { result ≡ is_same_list T.is_same values.now others.now }
+{
+    let mut left = values;
+    let mut right = others;
+    while let (Some((first, rest)), Some((other, other_rest))) = (
+        left.split_first(),
+        right.split_first(),
+    ) {
+        if !first.same(other) {
+            return false;
+        }
+        left = rest;
+        right = other_rest;
+    }
+    left.is_empty() && right.is_empty()
+}
+
+impl<T: FlowValue, A: Allocator + Copy> FlowValue for Items<T, A> {
+    ghost use Rattle.flow_law.specs.Values.{list_exact};
+
+    ghost is_same = { is_same_list T.is_same };
+
+    fn try_copy(&self) -> Result<Items<T, A>, FlowFault> {
+        let values = copies(*self.values.allocator(), self.values.as_slice())?;
+        Ok(Items { values })
+    }
+
+    fn same(&self, other: &Items<T, A>) -> bool {
+        is_same_slice(self.values.as_slice(), other.values.as_slice())
+    }
+
+    ghost is_same_exact = { list_exact T.is_same T.is_same_exact };
+}

@@ -1,0 +1,9 @@
+//! Tests of what programs use beside the calls of one flow: `drain`, and values that own memory.
+#![tactic(auto)]
+
+#[cfg(test)]
+mod one_thread;
+#[cfg(test)]
+mod several_threads;
+#[cfg(test)]
+mod values;
