@@ -1,16 +1,20 @@
-//! Callers of flows for several threads: one caller who plays a list of steps, and tests of worked examples by one
-//! caller and by several threads.
+//! Callers of flows for several threads: one of which is proved what it concludes from two contracts, and tests of
+//! worked examples by one caller and by several threads.
+//!
+//! A worked example is a list of steps, each with what it is to answer. Another module takes the steps.
 #![tactic(auto)]
 
-mod one_caller;
-mod playing;
 mod reading;
-mod state_playing;
 
-pub use one_caller::{OneCaller, Reader, Waiting};
-pub use playing::{Step, play};
 pub use reading::set_and_read;
-pub use state_playing::{StatePlayer, StateStep};
 
 #[cfg(test)]
+mod compare;
+#[cfg(test)]
 mod examples;
+#[cfg(test)]
+mod one_caller;
+#[cfg(test)]
+mod playing;
+#[cfg(test)]
+mod state_playing;

@@ -89,7 +89,7 @@ impl<'a> Player<'a> {
     fn next<R: Wait>(&mut self, rt: &R, index: usize) -> Result<Next<i64>, Fail> {
         match self.readers.get_mut(index) {
             Some(Some(reader)) => Ok(reader.next(rt)?),
-            Some(None) | None => Ok(Next::Gone),
+            Some(None) | None => Err(Fail::from("a subscriber")),
         }
     }
 

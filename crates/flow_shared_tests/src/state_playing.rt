@@ -11,7 +11,8 @@ use std::test::Fail;
 
 /// A step on a state flow that has one subscriber, and what it answers.
 pub enum StateStep {
-    Value(i64),
+    /// The current value.
+    Current(i64),
     Set(i64),
     TryEmit(i64, bool),
     /// The value that is expected, the update, and whether it was set.
@@ -24,7 +25,7 @@ pub enum StateStep {
 
 /// A caller with a seat of a state flow, and a subscriber.
 #[derive(Drop)]
-struct StatePlayer<'a> {
+pub struct StatePlayer<'a> {
     flow: &'a StateFlow<i64>,
     seat: StateSeat<i64>,
     reader: StateSubscription<i64>,
@@ -33,7 +34,7 @@ struct StatePlayer<'a> {
 
 impl<'a> StatePlayer<'a> {
     /// The caller who has this seat of the flow subscribes.
-    fn new<R: Wait>(
+    pub fn new<R: Wait>(
         rt: &R,
         flow: &'a StateFlow<i64>,
         seat: StateSeat<i64>,
@@ -88,7 +89,7 @@ impl<'a> StatePlayer<'a> {
         step: &StateStep,
     ) -> Result<(), Fail> {
         match step {
-            StateStep::Value(value) => compare(rt, place, self.value(rt)?, *value),
+            StateStep::Current(value) => compare(rt, place, self.value(rt)?, *value),
             StateStep::Set(value) => self.set(rt, *value),
             StateStep::TryEmit(value, taken) => {
                 compare(rt, place, self.try_emit(rt, *value), *taken);
@@ -106,16 +107,15 @@ impl<'a> StatePlayer<'a> {
     }
 }
 
-/// Takes the steps on a new flow with this value, which issues at most `limit` numbers, and compares what they answer. A
-/// wrong answer is told by the place of its step, from 0. That nobody can subscribe is an error.
+/// Takes the steps on a new flow with this value, and compares what they answer. A wrong answer is told by the place of
+/// its step, from 0.
 pub fn state_answers<R: Wait + Abort>(
     rt: &R,
     alloc: Global,
     initial: i64,
-    limit: u64,
     steps: &[StateStep],
 ) -> Result<(), Fail> {
-    let (flow, seat) = StateFlow::new(alloc, initial, limit)?;
+    let (flow, seat) = StateFlow::new(alloc, initial, u64::MAX)?;
     let mut player = StatePlayer::new(rt, &flow, seat)?;
     for place in 0..steps.len() {
         player.take(rt, place, &steps[place])?;

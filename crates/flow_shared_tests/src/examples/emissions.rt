@@ -1,6 +1,8 @@
 //! What becomes of emissions.
-use crate::Step::{Cache, Cancel, Emit, Next, Poll, Subscribe, TryEmit, Unsubscribe};
-use crate::play;
+use crate::playing::Emission::{Done, Waits};
+use crate::playing::Step::{Cache, Cancel, Emit, Next, Poll, Subscribe, TryEmit, Unsubscribe};
+use crate::playing::answers;
+use flow_law::Next::{Empty, Value};
 use flow_law::{Config, Overflow};
 use std::test::Fail;
 

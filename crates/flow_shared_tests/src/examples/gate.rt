@@ -1,6 +1,7 @@
 //! A gate whose state counts the events of its history.
 ghost use Rattle.std.specs.Prelude.{◌≡◌, ◌%◌, ◌^◌, [], ◌∷◌, length};
 
+use crate::compare::compare;
 use flow_gate::{Adds, Gate, Held, Seat};
 use flow_law::Guarded;
 use std::marker::Brand;
@@ -74,17 +75,17 @@ fn who_is_inside_keeps_others_out(rt: HostRuntime) -> Result<(), Fail> {
         Err(back) => back,
         Ok(_) => panic!(rt; "somebody is inside"),
     };
-    assert_eq!(rt; held.state().events, 0);
+    compare(&rt, 0, held.state().events, 0);
     let _seat = add_one(held);
     let Ok(mut held) = gate.try_enter(other) else {
         panic!(rt; "nobody is inside")
     };
-    assert_eq!(rt; held.state().events, 1);
+    compare(&rt, 1, held.state().events, 1);
     let _other = add_one(held);
     let Some(count) = gate.close() else {
         panic!(rt; "nobody is inside")
     };
-    assert_eq!(rt; count.events, 2);
+    compare(&rt, 2, count.events, 2);
     Ok(())
 }
 
@@ -96,7 +97,7 @@ fn a_fresh_gate_gives_its_state(rt: HostRuntime) -> Result<(), Fail> {
     let Some(count) = gate.close() else {
         panic!(rt; "nobody is inside")
     };
-    assert_eq!(rt; count.events, 0);
+    compare(&rt, 0, count.events, 0);
     Ok(())
 }
 
@@ -114,7 +115,7 @@ fn two_seats_meet_and_go_on(rt: HostRuntime) -> Result<(), Fail> {
     let Some(count) = gate.close() else {
         panic!(rt; "nobody is inside")
     };
-    assert_eq!(rt; count.events, 3);
+    compare(&rt, 0, count.events, 3);
     Ok(())
 }
 
@@ -140,6 +141,6 @@ fn two_threads_lose_no_addition(rt: HostRuntime) -> Result<(), Fail> {
     let Some(count) = gate.close() else {
         panic!(rt; "nobody is inside")
     };
-    assert_eq!(rt; count.events, 2000);
+    compare(&rt, 0, count.events, 2000);
     Ok(())
 }

@@ -1,35 +1,35 @@
 //! A state flow, by one caller. The values come from kotlinx.coroutines' documentation of `MutableStateFlow`.
-use crate::StatePlayer;
-use crate::StateStep::{Cache, CompareAndSet, Count, Next, Reset, Set, TryEmit, Value};
+use crate::state_playing::StateStep::{
+    Cache, CompareAndSet, Count, Current, Next, ResetRefused, Set, TryEmit,
+};
+use crate::state_playing::{StatePlayer, state_answers};
 use flow_law::FlowFault;
+use flow_law::Next::{Empty, Value};
 use flow_shared::StateFlow;
 use std::test::Fail;
 
 #[test]
 fn a_subscriber_gets_no_value_twice_in_a_row(rt: HostRuntime) -> Result<(), Fail> {
-    let (flow, seat) = StateFlow::new(rt.alloc(), 0, u64::MAX)?;
-    let mut player = StatePlayer::new(&rt, &flow, seat)?;
-    let steps = [
-        Next,
-        Set(1),
-        Set(0),
-        Next,
-        CompareAndSet(0, 0),
-        CompareAndSet(1, 2),
-        Set(5),
-        Next,
-        Cache,
-        Reset,
-        TryEmit(6),
-        Value,
-        Count,
-    ];
-    let told = player.play(&rt, rt.alloc(), &steps)?;
-    assert_eq!(rt;
-        told.as_str(),
-        "value 0, done, done, empty, true, false, done, value 5, [5], refused Unsupported, true, value 6, 1, "
-    );
-    Ok(())
+    state_answers(
+        &rt,
+        rt.alloc(),
+        0,
+        &[
+            Next(Value(0)),
+            Set(1),
+            Set(0),
+            Next(Empty),
+            CompareAndSet(0, 0, true),
+            CompareAndSet(1, 2, false),
+            Set(5),
+            Next(Value(5)),
+            Cache(&[5]),
+            ResetRefused(FlowFault::Unsupported),
+            TryEmit(6, true),
+            Current(6),
+            Count(1),
+        ],
+    )
 }
 
 #[test]

@@ -1,7 +1,15 @@
 //! What subscribers receive, and what is refused.
-use crate::Step::{Cache, Count, Emit, Next, Reset, Subscribe, TryEmit};
-use crate::play;
+use crate::playing::Emission::Done;
+use crate::playing::Step::{
+    Cache, Count, Emit, EmitRefused, Next, Reset, Subscribe, SubscribeRefused, TryEmit,
+    TryEmitRefused,
+};
+use crate::playing::answers;
+use flow_law::FlowFault::{Exhausted, NeedsBuffer, TooLarge};
+use flow_law::Next::{Empty, Value};
 use flow_law::{Config, FlowFault, Overflow};
+use flow_shared::SharedFlow;
+use std::alloc::Global;
 use std::test::Fail;
 
 #[test]
@@ -109,16 +117,14 @@ fn no_number_is_issued_beyond_the_limit(rt: HostRuntime) -> Result<(), Fail> {
     )
 }
 
+fn refusal_of(alloc: Global, config: Config) -> Option<FlowFault> {
+    SharedFlow::<i64>::new(alloc, config).err()
+}
+
 #[test]
-fn a_flow_is_refused_by_name(rt: HostRuntime) -> Result<(), Fail> {
-    let no_buffer = play(
-        &rt,
-        rt.alloc(),
-        Config::new().overflow(Overflow::DropOldest),
-        &[],
-    );
-    assert_eq!(rt; no_buffer.err(), Some(FlowFault::NeedsBuffer));
-    let too_large = play(&rt, rt.alloc(), Config::new().replay(65_536).extra(1), &[]);
-    assert_eq!(rt; too_large.err(), Some(FlowFault::TooLarge));
-    Ok(())
+fn a_flow_is_refused_by_name(rt: HostRuntime) {
+    let no_buffer = Config::new().overflow(Overflow::DropOldest);
+    assert_eq!(rt; refusal_of(rt.alloc(), no_buffer), Some(NeedsBuffer));
+    let too_large = Config::new().replay(65_536).extra(1);
+    assert_eq!(rt; refusal_of(rt.alloc(), too_large), Some(TooLarge));
 }

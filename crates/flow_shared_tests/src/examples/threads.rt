@@ -1,9 +1,11 @@
 //! Several threads, and calls that do not wait.
 ghost use Rattle.std.specs.Prelude.{◌≡◌, IfSome};
 
+use crate::compare::compare;
 use crate::set_and_read;
 use flow_law::{Config, FlowFault, Next, Refused};
-use flow_shared::{Emitted, PolledNow, Seat, SharedFlow, StateFlow, Subscription};
+use flow_shared::{Emitted, PolledNow, Seat, SharedFlow, StateFlow, StateSeat, Subscription};
+use std::process::Abort;
 use std::sync::Wait;
 use std::test::Fail;
 use std::thread::join;
@@ -29,9 +31,7 @@ fn emit_once<R: Wait>(
 fn what_a_thread_emitted_is_received(rt: HostRuntime) -> Result<(), Fail> {
     let (flow, mut seat) = SharedFlow::new(rt.alloc(), Config::new().extra(4))?;
     let other = flow.seat(&mut seat);
-    let Ok(mut subscription) = flow.subscribe(&rt, &mut seat) else {
-        panic!(rt; "there is memory")
-    };
+    let mut subscription = flow.subscribe(&rt, &mut seat)?;
     let shared = &flow;
     let (ended, count) = join(
         &rt,
@@ -46,12 +46,17 @@ fn what_a_thread_emitted_is_received(rt: HostRuntime) -> Result<(), Fail> {
             shared.subscription_count(&rt, &mut seat)
         },
     );
-    assert_eq!(rt; count, 1);
+    compare(&rt, 0, count, 1);
     let Some(mut ended) = ended else {
         panic!(rt; "there is room")
     };
     flow.meet_subscription(&mut subscription, &mut ended);
-    assert_eq!(rt; flow.next(&rt, &mut subscription), Ok(Next::Value(8)));
+    compare(
+        &rt,
+        1,
+        flow.next(&rt, &mut subscription),
+        Ok(Next::Value(8)),
+    );
     Ok(())
 }
 
@@ -102,21 +107,15 @@ fn rounds<R: Wait>(
 #[test]
 fn alone_no_call_is_busy(rt: HostRuntime) -> Result<(), Fail> {
     let (flow, mut seat) = SharedFlow::new(rt.alloc(), Config::new().extra(4))?;
-    let Ok(mut subscription) = flow.subscribe(&rt, &mut seat) else {
-        panic!(rt; "there is memory")
-    };
-    assert_eq!(rt; rounds(&rt, &flow, seat, &mut subscription), 10_000);
+    let mut subscription = flow.subscribe(&rt, &mut seat)?;
+    compare(&rt, 0, rounds(&rt, &flow, seat, &mut subscription), 10_000);
     Ok(())
 }
 
-#[test]
-fn an_emission_is_polled_and_cancelled_at_once(rt: HostRuntime) -> Result<(), Fail> {
-    let (flow, mut seat) = SharedFlow::new(rt.alloc(), Config::new())?;
-    let Ok(_subscription) = flow.subscribe(&rt, &mut seat) else {
-        panic!(rt; "there is memory")
-    };
-    assert_eq!(rt; flow.count_now(&mut seat), Ok(1));
-    assert_eq!(rt; flow.reset_now(&mut seat), Ok(()));
+/// An emission waits, and is cancelled.
+fn poll_and_cancel<R: Abort>(rt: &R, flow: &SharedFlow<i64>, seat: Seat<i64>)
+    requires { seat.table_id ≡ flow.now.table_id }
+{
     let Emitted::Queued(emission) = flow.emit_now(seat, 7) else {
         panic!(rt; "it waits")
     };
@@ -127,6 +126,15 @@ fn an_emission_is_polled_and_cancelled_at_once(rt: HostRuntime) -> Result<(), Fa
         panic!(rt; "nobody is inside")
     };
     assert!(rt; was_waiting);
+}
+
+#[test]
+fn an_emission_is_polled_and_cancelled_at_once(rt: HostRuntime) -> Result<(), Fail> {
+    let (flow, mut seat) = SharedFlow::new(rt.alloc(), Config::new())?;
+    let _subscription = flow.subscribe(&rt, &mut seat)?;
+    compare(&rt, 0, flow.count_now(&mut seat), Ok(1));
+    compare(&rt, 1, flow.reset_now(&mut seat), Ok(()));
+    poll_and_cancel(&rt, &flow, seat);
     Ok(())
 }
 
@@ -155,20 +163,37 @@ fn a_thread_reads_what_it_set_or_what_another_set(rt: HostRuntime) -> Result<(),
     Ok(())
 }
 
+/// What one seat sets at once, another reads that has met it.
+fn set_and_meet<R: Wait + Abort>(
+    rt: &R,
+    flow: &StateFlow<i64>,
+    seat: &mut StateSeat<i64>,
+    other: &mut StateSeat<i64>,
+)
+    requires { (seat.old.table_id ≡ flow.now.table_id) × (other.old.table_id ≡ flow.now.table_id) }
+    ensures seat { seat.new.table_id ≡ flow.entry.now.table_id }
+    ensures other { other.new.table_id ≡ flow.entry.now.table_id }
+{
+    compare(rt, 0, flow.set_now(other, 5), Ok(()));
+    compare(rt, 1, flow.count_now(other), Ok(0));
+    flow.meet(seat, other);
+    compare(rt, 2, flow.value(rt, seat), Ok(5));
+}
+
 #[test]
 fn a_state_flow_is_set_at_once(rt: HostRuntime) -> Result<(), Fail> {
     let (flow, mut seat) = StateFlow::new(rt.alloc(), 0, u64::MAX)?;
     let mut other = flow.seat(&mut seat);
-    assert_eq!(rt; flow.set_now(&mut other, 5), Ok(()));
-    assert_eq!(rt; flow.count_now(&mut other), Ok(0));
-    flow.meet(&mut seat, &mut other);
-    assert_eq!(rt; flow.value(&rt, &mut seat), Ok(5));
-    let Ok(mut subscription) = flow.subscribe(&rt, &mut seat) else {
-        panic!(rt; "there is memory")
-    };
+    set_and_meet(&rt, &flow, &mut seat, &mut other);
+    let mut subscription = flow.subscribe(&rt, &mut seat)?;
     flow.meet_subscription(&mut subscription, &mut other);
-    assert_eq!(rt; flow.next(&rt, &mut subscription), Ok(Next::Value(5)));
+    compare(
+        &rt,
+        3,
+        flow.next(&rt, &mut subscription),
+        Ok(Next::Value(5)),
+    );
     let mut seat = flow.unsubscribe(&rt, subscription);
-    assert_eq!(rt; flow.subscription_count(&rt, &mut seat), 0);
+    compare(&rt, 4, flow.subscription_count(&rt, &mut seat), 0);
     Ok(())
 }
