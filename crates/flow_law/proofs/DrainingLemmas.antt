@@ -8,7 +8,7 @@ use Rattle.flow_law.specs.declared.outcome.Next.{Next}
 use Rattle.flow_law.specs.declared.outcome.Next.TheVariants as next
 use Rattle.flow_law.specs.declared.outcome.Drained.{Drained}
 use Rattle.flow_law.specs.declared.outcome.Drained.TheVariants as drained
-use Rattle.flow_law.specs.Draining.{Takes, EndsBy, DrainsBy}
+use Rattle.flow_law.specs.Draining.{NextsGive, EndsBy, DrainsBy}
 
 takes_more : {P A : Type 0} (R : P → A → P → Type 0) (p q r : P) (xs : List A) (x : A) → FoldsTo R p xs q → R q x r → FoldsTo R p (xs ++ x ∷ []) r
 takes_more R p q r [] x folds more = (r, subst (λ t. R t x r) (sym folds) more, refl)
@@ -18,7 +18,7 @@ module _ {X T : Type 0} (Nexts : X → Result (Next T) FlowFault → X → Type 
   -- so many values were taken, and are in the list
   pub record HasTaken (count : ℕ) (old : X) (old_list new_list : List T) (now : X) : Type 0 where
     pub values : List T
-    pub taken : Takes Nexts old values now
+    pub taken : NextsGive Nexts old values now
     pub appended : new_list ≡ old_list ++ values
     pub counted : length values ≡ count
 

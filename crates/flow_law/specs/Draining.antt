@@ -11,8 +11,8 @@ use Rattle.flow_law.specs.declared.outcome.Drained.TheVariants as drained
 
 module _ {X T : Type 0} (Nexts : X → Result (Next T) FlowFault → X → Type 0) where
   -- calls in a row gave these values, in order
-  abbrev pub Takes : X → List T → X → Type 0
-  Takes = FoldsTo (λ before value after. Nexts before (Ok (next.Value value)) after)
+  abbrev pub NextsGive : X → List T → X → Type 0
+  NextsGive = FoldsTo (λ before value after. Nexts before (Ok (next.Value value)) after)
 
   -- what ended it: there were enough values, or the next call, or the list had no room
   abbrev pub EndsBy : X → Result Drained FlowFault → X → Type 0
@@ -25,7 +25,7 @@ module _ {X T : Type 0} (Nexts : X → Result (Next T) FlowFault → X → Type 
     pub values : List T
     -- after the last of them
     pub last : X
-    pub taken : Takes old values last
+    pub taken : NextsGive old values last
     pub ended : EndsBy last result new
     pub appended : new_list ≡ old_list ++ values
     pub within : length values ≤ most
