@@ -1,7 +1,8 @@
 //! How often a chain is asked.
 
+use crate::gives::gives;
 use crate::operators::{Add, sum};
-use flow_cold::{Asked, Cold, End, OfRange, Scan, Take, collect_all};
+use flow_cold::{Asked, Cold, End, OfRange, Scan, Take};
 use std::cell::Cell;
 use std::test::Fail;
 
@@ -42,9 +43,7 @@ fn a_scan_and_a_take_ask_twice(rt: HostRuntime) -> Result<(), Fail> {
         asks: &asks,
     };
     let mut chain = Take::new(Scan::new(source, 0, Add, sum), 3)?;
-    let got = collect_all(rt.alloc(), &mut chain)?;
-    assert_eq!(rt; got.items.as_slice(), [0, 1, 3].as_slice());
-    assert_eq!(rt; got.end, End::Completed);
+    gives(&rt, rt.alloc(), &mut chain, &[0, 1, 3], End::Completed)?;
     assert_eq!(rt; asks.get(), 2);
     Ok(())
 }
@@ -57,8 +56,7 @@ fn a_take_asks_no_more_than_it_gives(rt: HostRuntime) -> Result<(), Fail> {
         asks: &asks,
     };
     let mut chain = Take::new(source, 2)?;
-    let got = collect_all(rt.alloc(), &mut chain)?;
-    assert_eq!(rt; got.items.as_slice(), [1, 2].as_slice());
+    gives(&rt, rt.alloc(), &mut chain, &[1, 2], End::Completed)?;
     assert!(rt; matches!(chain.ask(), Asked::End));
     assert_eq!(rt; asks.get(), 2);
     Ok(())

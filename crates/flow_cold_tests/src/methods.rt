@@ -1,9 +1,9 @@
 //! Chains as one writes them: operators as methods, ready computations and tests, and terminal operators.
 
+use crate::gives::{fails_after_two, gives};
 use crate::operators::{Add, AddOne, IsAboveOne, Twice, TwiceRun, increased, listed, opened, sum};
 use flow_cold::{
-    Chain, ChainFault, End, Entry, Even, Greater, Less, Not, Odd, OfList, OfRange, Plus, Scripted,
-    Terminal, Times, collect_all,
+    Chain, ChainFault, End, Even, Greater, Less, Not, Odd, OfList, OfRange, Plus, Terminal, Times,
 };
 use std::test::Fail;
 
@@ -15,10 +15,7 @@ fn operators_are_methods(rt: HostRuntime) -> Result<(), Fail> {
         .drop_first(1)
         .map(AddOne, increased)
         .filter(IsAboveOne, |x| *x > 1);
-    let got = collect_all(alloc, &mut chain)?;
-    assert_eq!(rt; got.items.as_slice(), [3, 4, 10].as_slice());
-    assert_eq!(rt; got.end, End::Completed);
-    Ok(())
+    gives(&rt, alloc, &mut chain, &[3, 4, 10], End::Completed)
 }
 
 #[test]
@@ -28,10 +25,7 @@ fn operators_on_pairs_are_methods(rt: HostRuntime) -> Result<(), Fail> {
         .zip(OfRange::new(10, 12), Add, sum)
         .scan(0, Add, sum)
         .take(3)?;
-    let got = collect_all(rt.alloc(), &mut chain)?;
-    assert_eq!(rt; got.items.as_slice(), [0, 12, 26].as_slice());
-    assert_eq!(rt; got.end, End::Completed);
-    Ok(())
+    gives(&rt, rt.alloc(), &mut chain, &[0, 12, 26], End::Completed)
 }
 
 #[test]
@@ -40,9 +34,13 @@ fn operators_that_give_several_items_are_methods(rt: HostRuntime) -> Result<(), 
     let mut chain = OfRange::new(1, 2)
         .transform(Twice, |x: i64| listed(alloc, x))
         .flat_map_concat(TwiceRun, |x: i64| opened(alloc, x));
-    let got = collect_all(alloc, &mut chain)?;
-    assert_eq!(rt; got.items.as_slice(), [1, 1, 1, 1, 2, 2, 2, 2].as_slice());
-    Ok(())
+    gives(
+        &rt,
+        alloc,
+        &mut chain,
+        &[1, 1, 1, 1, 2, 2, 2, 2],
+        End::Completed,
+    )
 }
 
 #[test]
@@ -55,29 +53,39 @@ fn ready_computations_need_no_closure(rt: HostRuntime) -> Result<(), Fail> {
         .take_while_by(Less { k: 8 })
         .map_by(Times { k: 2 })
         .map_by(Plus { k: -1 });
-    let got = collect_all(alloc, &mut chain)?;
-    assert_eq!(rt; got.items.as_slice(), [3, 7, 11].as_slice());
-    assert_eq!(rt; got.end, End::Completed);
+    gives(&rt, alloc, &mut chain, &[3, 7, 11], End::Completed)
+}
+
+#[test]
+fn a_ready_computation_overflows(rt: HostRuntime) -> Result<(), Fail> {
     let mut chain = OfRange::new(i64::MAX - 1, i64::MAX).map_by(Plus { k: 1 });
-    let got = collect_all(alloc, &mut chain)?;
-    assert_eq!(rt; got.items.as_slice(), [i64::MAX].as_slice());
-    assert_eq!(rt; got.end, End::Failed(ChainFault::Overflow));
-    Ok(())
+    gives(
+        &rt,
+        rt.alloc(),
+        &mut chain,
+        &[i64::MAX],
+        End::Failed(ChainFault::Overflow),
+    )
 }
 
 /// `runningFold` gives the initial value, and then the sums of the first items.
 #[test]
 fn a_scan_needs_no_closure(rt: HostRuntime) -> Result<(), Fail> {
-    let alloc = rt.alloc();
     let mut chain = OfRange::new(1, 3).scan_by(0, Add);
-    let got = collect_all(alloc, &mut chain)?;
-    assert_eq!(rt; got.items.as_slice(), [0, 1, 3, 6].as_slice());
-    assert_eq!(rt; got.end, End::Completed);
+    gives(&rt, rt.alloc(), &mut chain, &[0, 1, 3, 6], End::Completed)
+}
+
+#[test]
+fn a_scan_without_a_closure_overflows(rt: HostRuntime) -> Result<(), Fail> {
     let mut chain = OfRange::new(1, 3).scan_by(i64::MAX - 1, Add);
-    let got = collect_all(alloc, &mut chain)?;
-    assert_eq!(rt; got.items.as_slice(), [i64::MAX - 1, i64::MAX].as_slice());
-    assert_eq!(rt; got.end, End::Failed(ChainFault::Overflow));
-    Ok(())
+    let overflow = End::Failed(ChainFault::Overflow);
+    gives(
+        &rt,
+        rt.alloc(),
+        &mut chain,
+        &[i64::MAX - 1, i64::MAX],
+        overflow,
+    )
 }
 
 /// `zip` completes as soon as one of its sides does: the item 40 has no partner.
@@ -86,10 +94,7 @@ fn a_zip_needs_no_closure(rt: HostRuntime) -> Result<(), Fail> {
     let alloc = rt.alloc();
     let tens = OfList::new([10i64, 20, 30, 40].to_vec(alloc)?);
     let mut chain = OfRange::new(1, 3).zip_by(tens, Add);
-    let got = collect_all(alloc, &mut chain)?;
-    assert_eq!(rt; got.items.as_slice(), [11, 22, 33].as_slice());
-    assert_eq!(rt; got.end, End::Completed);
-    Ok(())
+    gives(&rt, alloc, &mut chain, &[11, 22, 33], End::Completed)
 }
 
 #[test]
@@ -99,14 +104,14 @@ fn a_chain_comes_to_one_answer(rt: HostRuntime) -> Result<(), Fail> {
     assert_eq!(rt; chain.first()?, Some(1));
     assert_eq!(rt; chain.count()?, 4);
     assert_eq!(rt; OfRange::new(2, 1).first()?, None);
-    let mut entries = Vec::new(rt.alloc());
-    entries.push(Entry::Item(5i64))?;
-    entries.push(Entry::Pending)?;
-    entries.push(Entry::Item(6))?;
-    entries.push(Entry::Fault(7))?;
-    let mut failing = Scripted::new(entries);
-    assert_eq!(rt; failing.first()?, Some(5));
-    assert_eq!(rt; failing.count(), Err(ChainFault::Source(7)));
+    Ok(())
+}
+
+#[test]
+fn a_chain_that_fails_has_a_first_item_and_no_count(rt: HostRuntime) -> Result<(), Fail> {
+    let mut failing = fails_after_two(rt.alloc())?;
+    assert!(rt; failing.first() == Ok(Some(5)));
+    assert!(rt; failing.count() == Err(ChainFault::Source(7)));
     Ok(())
 }
 

@@ -3,10 +3,11 @@ ghost use Rattle.std.specs.Prelude.{◌≡◌};
 ghost use Rattle.std.proofs.Common.{rules};
 ghost use Rattle.flow_cold_tests.specs.Meanings.{GivesTwice, OpensTwice, add, add_one, is_above_one, twice, twice_run};
 
+use crate::gives::gives;
 use flow_cold::{
     ChainFault, Distinct, DropFirst, End, Entry, Filter, FlatMapConcat, InnerMeaning, ItemMeaning,
     ListMeaning, Map, OfList, OfRange, PairComputation, PairMeaning, Scripted, Take, TakeWhile,
-    TestMeaning, Transform, Zip, collect_all,
+    TestMeaning, Transform, Zip,
 };
 use std::alloc::Global;
 use std::test::Fail;
@@ -74,10 +75,13 @@ fn items_are_mapped_and_tested(rt: HostRuntime) -> Result<(), Fail> {
     let alloc = rt.alloc();
     let source = OfList::new([0i64, 1, i64::MAX, 2].to_vec(alloc)?);
     let mut chain = Filter::new(Map::new(source, AddOne, increased), IsAboveOne, |x| *x > 1);
-    let got = collect_all(alloc, &mut chain)?;
-    assert_eq!(rt; got.items.as_slice(), [2].as_slice());
-    assert_eq!(rt; got.end, End::Failed(ChainFault::Overflow));
-    Ok(())
+    gives(
+        &rt,
+        alloc,
+        &mut chain,
+        &[2],
+        End::Failed(ChainFault::Overflow),
+    )
 }
 
 #[test]
@@ -86,16 +90,17 @@ fn items_are_taken_and_dropped(rt: HostRuntime) -> Result<(), Fail> {
     let source = OfList::new([7i64, 3, 3, 2, 1, 5].to_vec(alloc)?);
     let dropped = DropFirst::new(Distinct::new(source), 1);
     let mut chain = Take::new(TakeWhile::new(dropped, IsAboveOne, |x| *x > 1), 5)?;
-    let got = collect_all(alloc, &mut chain)?;
-    assert_eq!(rt; got.items.as_slice(), [3, 2].as_slice());
-    assert_eq!(rt; got.end, End::Completed);
+    gives(&rt, alloc, &mut chain, &[3, 2], End::Completed)
+}
+
+#[test]
+fn a_take_of_nothing_is_refused(rt: HostRuntime) {
     assert!(rt;
         matches!(
             Take::new(OfRange::new(1, 5), 0),
             Err(ChainFault::NotPositive)
         )
     );
-    Ok(())
 }
 
 #[test]
@@ -104,10 +109,7 @@ fn pairs_are_made(rt: HostRuntime) -> Result<(), Fail> {
     let left = OfList::new([1i64, 2].to_vec(alloc)?);
     let right = OfList::new([10i64, 20, 30].to_vec(alloc)?);
     let mut chain = Zip::new(left, right, Add, sum);
-    let got = collect_all(alloc, &mut chain)?;
-    assert_eq!(rt; got.items.as_slice(), [11, 22].as_slice());
-    assert_eq!(rt; got.end, End::Completed);
-    Ok(())
+    gives(&rt, alloc, &mut chain, &[11, 22], End::Completed)
 }
 
 pub fn listed(alloc: Global, x: i64) -> Result<Vec<i64>, ChainFault>
@@ -141,11 +143,13 @@ fn items_become_several(rt: HostRuntime) -> Result<(), Fail> {
     let alloc = rt.alloc();
     let source = OfList::new([1i64, 2].to_vec(alloc)?);
     let mut chain = Transform::new(source, Twice, |x: i64| listed(alloc, x));
-    let got = collect_all(alloc, &mut chain)?;
-    assert_eq!(rt; got.items.as_slice(), [1, 1, 2, 2].as_slice());
+    gives(&rt, alloc, &mut chain, &[1, 1, 2, 2], End::Completed)
+}
+
+#[test]
+fn items_become_chains(rt: HostRuntime) -> Result<(), Fail> {
+    let alloc = rt.alloc();
     let source = OfList::new([1i64, 2].to_vec(alloc)?);
     let mut chain = FlatMapConcat::new(source, TwiceRun, |x: i64| opened(alloc, x));
-    let got = collect_all(alloc, &mut chain)?;
-    assert_eq!(rt; got.items.as_slice(), [1, 1, 2, 2].as_slice());
-    Ok(())
+    gives(&rt, alloc, &mut chain, &[1, 1, 2, 2], End::Completed)
 }

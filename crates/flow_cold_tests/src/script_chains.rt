@@ -1,8 +1,9 @@
 //! Worked examples of chains that are built at run time.
 
+use crate::gives::gives;
 use flow_cold::{
     Arithmetic, ChainFault, End, Entry, Joining, OfList, OfRange, Op, ScriptChain, Scripted,
-    Source, Spread, Test, collect_all,
+    Source, Spread, Test,
 };
 use std::alloc::Global;
 use std::process::Abort;
@@ -25,20 +26,15 @@ fn add_one() -> Op {
 }
 
 /// Collects the chain twice: both times it gives the items and the end.
-fn gives<R: Abort>(
+fn gives_twice<R: Abort>(
     rt: &R,
     alloc: Global,
     chain: &mut ScriptChain,
     items: &[i64],
     end: End,
 ) -> Result<(), Fail> {
-    let first = collect_all(alloc, chain)?;
-    assert_eq!(rt; first.items.as_slice(), items);
-    assert_eq!(rt; first.end, end);
-    let second = collect_all(alloc, chain)?;
-    assert_eq!(rt; second.items.as_slice(), items);
-    assert_eq!(rt; second.end, end);
-    Ok(())
+    gives(rt, alloc, chain, items, end)?;
+    gives(rt, alloc, chain, items, end)
 }
 
 #[test]
@@ -49,7 +45,7 @@ fn a_range_is_scanned(rt: HostRuntime) -> Result<(), Fail> {
         by: Arithmetic::Add,
     };
     let mut chain = range(1, 5).then(alloc, scan)?.then(alloc, Op::Take(3))?;
-    gives(&rt, alloc, &mut chain, &[0, 1, 3], End::Completed)
+    gives_twice(&rt, alloc, &mut chain, &[0, 1, 3], End::Completed)
 }
 
 #[test]
@@ -60,7 +56,7 @@ fn lists_are_zipped(rt: HostRuntime) -> Result<(), Fail> {
         by: Joining::Add,
     };
     let mut chain = list(alloc, &[1, 2])?.then(alloc, zip)?;
-    gives(&rt, alloc, &mut chain, &[11, 22], End::Completed)
+    gives_twice(&rt, alloc, &mut chain, &[11, 22], End::Completed)
 }
 
 #[test]
@@ -75,7 +71,7 @@ fn a_take_of_nothing_is_refused(rt: HostRuntime) -> Result<(), Fail> {
 fn an_empty_list_completes(rt: HostRuntime) -> Result<(), Fail> {
     let alloc = rt.alloc();
     let mut chain = list(alloc, &[])?;
-    gives(&rt, alloc, &mut chain, &[], End::Completed)
+    gives_twice(&rt, alloc, &mut chain, &[], End::Completed)
 }
 
 fn fails_after_five(alloc: Global) -> Result<ScriptChain, Fail> {
@@ -94,7 +90,7 @@ fn a_script_pends_and_fails(rt: HostRuntime) -> Result<(), Fail> {
     entries.push(Entry::Pending)?;
     entries.push(Entry::Fault(7))?;
     let mut chain = ScriptChain::source(Source::Scripted(Scripted::new(entries)));
-    gives(
+    gives_twice(
         &rt,
         alloc,
         &mut chain,
@@ -111,13 +107,13 @@ fn the_left_side_is_asked_first(rt: HostRuntime) -> Result<(), Fail> {
         by: Joining::Add,
     };
     let mut chain = list(alloc, &[1])?.then(alloc, one)?;
-    gives(&rt, alloc, &mut chain, &[6], End::Completed)?;
+    gives_twice(&rt, alloc, &mut chain, &[6], End::Completed)?;
     let two = Op::Zip {
         with: fails_after_five(alloc)?,
         by: Joining::Add,
     };
     let mut chain = list(alloc, &[1, 2])?.then(alloc, two)?;
-    gives(
+    gives_twice(
         &rt,
         alloc,
         &mut chain,
@@ -133,7 +129,7 @@ fn a_chain_may_be_64_deep(rt: HostRuntime) -> Result<(), Fail> {
     for _ in 0..63 {
         chain = chain.then(alloc, add_one())?;
     }
-    gives(&rt, alloc, &mut chain, &[63], End::Completed)?;
+    gives_twice(&rt, alloc, &mut chain, &[63], End::Completed)?;
     let refused = chain.then(alloc, add_one());
     assert!(rt; matches!(refused, Err(ChainFault::TooDeep)));
     Ok(())
@@ -150,7 +146,7 @@ fn repeated_items_are_dropped_and_spread(rt: HostRuntime) -> Result<(), Fail> {
         .then(alloc, Op::Distinct)?
         .then(alloc, spread)?
         .then(alloc, Op::Filter(Test::Greater(1)))?;
-    gives(&rt, alloc, &mut chain, &[2, 2, 3], End::Completed)
+    gives_twice(&rt, alloc, &mut chain, &[2, 2, 3], End::Completed)
 }
 
 #[test]
@@ -161,7 +157,7 @@ fn sums_are_dropped_and_taken(rt: HostRuntime) -> Result<(), Fail> {
         .then(alloc, Op::Transform(entries))?
         .then(alloc, Op::DropFirst(1))?
         .then(alloc, Op::TakeWhile(Test::NotEqual(12)))?;
-    gives(&rt, alloc, &mut chain, &[11, 2], End::Completed)
+    gives_twice(&rt, alloc, &mut chain, &[11, 2], End::Completed)
 }
 
 const OVERFLOW: End = End::Failed(ChainFault::Overflow);
@@ -169,7 +165,7 @@ const OVERFLOW: End = End::Failed(ChainFault::Overflow);
 /// The greatest number comes second, and the operator fails there.
 fn overflows<R: Abort>(rt: &R, alloc: Global, op: Op, items: &[i64]) -> Result<(), Fail> {
     let mut chain = list(alloc, &[1, i64::MAX, 2])?.then(alloc, op)?;
-    gives(rt, alloc, &mut chain, items, OVERFLOW)
+    gives_twice(rt, alloc, &mut chain, items, OVERFLOW)
 }
 
 #[test]

@@ -1,30 +1,24 @@
 //! A chain as a stream gives what a collection gives.
 
-use flow_cold::{ChainFault, End, Entry, Scripted, Streamed, collect_all};
+use crate::gives::{fails_after_two, gives};
+use flow_cold::{ChainFault, End, Streamed};
 use futures::StreamExt;
 use futures::executor::block_on;
-use std::alloc::Global;
 use std::test::Fail;
-
-fn script(alloc: Global) -> Result<Scripted<i64>, Fail> {
-    let mut entries = Vec::new(alloc);
-    entries.push(Entry::Item(5))?;
-    entries.push(Entry::Pending)?;
-    entries.push(Entry::Item(6))?;
-    entries.push(Entry::Fault(7))?;
-    Ok(Scripted::new(entries))
-}
 
 #[test]
 fn a_stream_gives_the_items_and_the_fault(rt: HostRuntime) -> Result<(), Fail> {
     let alloc = rt.alloc();
-    let got = block_on(&rt, Streamed::new(script(alloc)?).collect(alloc))??;
+    let got = block_on(&rt, Streamed::new(fails_after_two(alloc)?).collect(alloc))??;
     assert_eq!(rt;
         got.as_slice(),
         [Ok(5), Ok(6), Err(ChainFault::Source(7))].as_slice()
     );
-    let collected = collect_all(alloc, &mut script(alloc)?)?;
-    assert_eq!(rt; collected.items.as_slice(), [5, 6].as_slice());
-    assert_eq!(rt; collected.end, End::Failed(ChainFault::Source(7)));
-    Ok(())
+    gives(
+        &rt,
+        alloc,
+        &mut fails_after_two(alloc)?,
+        &[5, 6],
+        End::Failed(ChainFault::Source(7)),
+    )
 }
