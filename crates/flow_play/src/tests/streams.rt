@@ -4,6 +4,7 @@ use flow_script::{ScriptLines, Watched, read_script};
 use std::alloc::Global;
 use std::io;
 use std::io::{Read, Write};
+use std::process::Abort;
 use std::test::Fail;
 
 const SCRIPT: &str =
@@ -101,15 +102,38 @@ fn play_to(alloc: Global, left: usize, fails: bool, taken: &mut Vec<u8>) -> u8 {
     run(alloc, &[], &mut input, &mut output)
 }
 
+/// The status and what was printed are those that are wanted, where a stream stopped after so many bytes.
+fn compare(rt: &impl Abort, after: usize, status: u8, printed: &[u8], wanted: u8, lines: &[u8]) {
+    assert_eq!(rt; status, wanted, "after {after} bytes");
+    assert_eq!(rt; printed, lines, "after {after} bytes");
+}
+
 #[test]
-fn a_slow_reader_and_a_slow_writer_change_nothing(rt: HostRuntime) -> Result<(), Fail> {
+fn a_slow_reader_changes_nothing(rt: HostRuntime) {
     let mut printed = Vec::new(rt.alloc());
-    assert_eq!(rt; play_from(rt.alloc(), usize::MAX, &mut printed), 0);
-    assert_eq!(rt; printed.as_slice(), LINES.as_bytes());
+    let status = play_from(rt.alloc(), usize::MAX, &mut printed);
+    compare(
+        &rt,
+        usize::MAX,
+        status,
+        printed.as_slice(),
+        0,
+        LINES.as_bytes(),
+    );
+}
+
+#[test]
+fn a_slow_writer_changes_nothing(rt: HostRuntime) {
     let mut taken = Vec::new(rt.alloc());
-    assert_eq!(rt; play_to(rt.alloc(), usize::MAX, true, &mut taken), 0);
-    assert_eq!(rt; taken.as_slice(), LINES.as_bytes());
-    Ok(())
+    let status = play_to(rt.alloc(), usize::MAX, true, &mut taken);
+    compare(
+        &rt,
+        usize::MAX,
+        status,
+        taken.as_slice(),
+        0,
+        LINES.as_bytes(),
+    );
 }
 
 #[test]
@@ -120,55 +144,44 @@ fn a_script_that_was_read_has_the_same_lines(rt: HostRuntime) -> Result<(), Fail
     Ok(())
 }
 
+/// The reader fails after so many bytes.
+fn fail_after(rt: &impl Abort, alloc: Global, left: usize) {
+    let mut printed = Vec::new(alloc);
+    let status = play_from(alloc, left, &mut printed);
+    compare(rt, left, status, printed.as_slice(), 3, b"read failed\n");
+}
+
 #[test]
-fn a_reader_that_fails_prints_its_line_alone(rt: HostRuntime) -> Result<(), Fail> {
+fn a_reader_that_fails_prints_its_line_alone(rt: HostRuntime) {
     for left in 0..=SCRIPT.len() {
-        let mut printed = Vec::new(rt.alloc());
-        assert_eq!(rt;
-            play_from(rt.alloc(), left, &mut printed),
-            3,
-            "after {left} bytes"
-        );
-        assert_eq!(rt;
-            printed.as_slice(),
-            b"read failed\n".as_slice(),
-            "after {left} bytes"
-        );
+        fail_after(&rt, rt.alloc(), left);
     }
-    Ok(())
+}
+
+/// The writer takes these lines, and then fails, or takes no more.
+fn stop_after(rt: &impl Abort, alloc: Global, lines: &[u8], fails: bool) {
+    let mut taken = Vec::new(alloc);
+    let status = play_to(alloc, lines.len(), fails, &mut taken);
+    compare(rt, lines.len(), status, taken.as_slice(), 3, lines);
 }
 
 #[test]
-fn a_writer_that_stops_has_the_first_bytes(rt: HostRuntime) -> Result<(), Fail> {
+fn a_writer_that_stops_has_the_first_bytes(rt: HostRuntime) {
     for left in 0..LINES.len() {
-        for fails in [true, false] {
-            let mut taken = Vec::new(rt.alloc());
-            assert_eq!(rt;
-                play_to(rt.alloc(), left, fails, &mut taken),
-                3,
-                "after {left} bytes"
-            );
-            assert_eq!(rt;
-                taken.as_slice(),
-                &LINES.as_bytes()[..left],
-                "after {left} bytes"
-            );
-        }
+        let lines = &LINES.as_bytes()[..left];
+        stop_after(&rt, rt.alloc(), lines, true);
+        stop_after(&rt, rt.alloc(), lines, false);
     }
-    Ok(())
 }
 
 #[test]
-fn a_reader_without_end_is_left(rt: HostRuntime) -> Result<(), Fail> {
+fn a_reader_without_end_is_left(rt: HostRuntime) {
     let mut given = 0;
     let mut printed = Vec::new(rt.alloc());
     let mut input = Watched::new(Endless { given: &mut given });
     let mut output = Watched::new(&mut printed);
-    assert_eq!(rt; run(rt.alloc(), &[], &mut input, &mut output), 2);
-    assert_eq!(rt;
-        printed.as_slice(),
-        b"script refused 8 TooLarge at step 0\n".as_slice()
-    );
+    let status = run(rt.alloc(), &[], &mut input, &mut output);
+    let line = b"script refused 8 TooLarge at step 0\n";
+    compare(&rt, given, status, printed.as_slice(), 2, line);
     assert_eq!(rt; given, 1_048_577);
-    Ok(())
 }
