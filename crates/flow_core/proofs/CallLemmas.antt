@@ -7,9 +7,9 @@ use Rattle.std.proofs.lemmas.Grind.{common_steps}
 use Rattle.flow_law.specs.declared.fault.FlowFault.TheVariants.{Exhausted}
 use Rattle.flow_law.specs.declared.outcome.Next.TheVariants.{Value, Empty, Gone}
 use Rattle.flow_law.specs.declared.states.SharedFlowState.{SharedFlowState}
-use Rattle.flow_law.specs.SharedFlow.{Answer, answer, issuing, is_exhausted, values, position_of}
+use Rattle.flow_law.specs.SharedFlow.{Answer, answer, issuing, is_exhausted, values, position_of, own_of}
 use Rattle.flow_law.specs.EmitRule.{EmitCase, emit_case, emit, emit_in, try_emit, try_emit_in}
-use Rattle.flow_law.specs.SharedStep.{settle, advance, read, next}
+use Rattle.flow_law.specs.SharedStep.{settle, advance, keep_own, read, next_from, next}
 use Rattle.flow_law.specs.Standing.{Core, StandsFor}
 use Rattle.flow_core.proofs.QueueLemmas.{unequal}
 
@@ -26,10 +26,13 @@ module _ {T : Type 0} where
   pub tries_in : (v : T) (s : SharedFlowState T) (k : EmitCase) → emit_case s ≡ k → try_emit v s ≡ try_emit_in k v s
   tries_in v s k e = ap (λ c. try_emit_in c v s) e
 
-  pub next_value : (number p : ℕ) (v : T) (s : SharedFlowState T) → position_of number s.subscribers ≡ Some p → slice_get (values s) p ≡ Some v
+  pub next_own : (number : ℕ) (v : T) (own : List T) (s : SharedFlowState T) → own_of number s.subscribers ≡ v ∷ own → next number s ≡ answer (Value v) (keep_own number own s)
+  next_own number v own s mine = ap (λ o. next_from number o s) mine
+
+  pub next_value : (number p : ℕ) (v : T) (s : SharedFlowState T) → own_of number s.subscribers ≡ [] → position_of number s.subscribers ≡ Some p → slice_get (values s) p ≡ Some v
       → next number s ≡ answer (Value v) (settle (advance number (p + 1) s))
-  next_value number p v s at here =
-      ap (λ o. option_map_or (λ position. read number position s) o (answer Gone s)) at
+  next_value number p v s none at here =
+      ap (λ o. next_from number o s) none ∙ ap (λ o. option_map_or (λ position. read number position s) o (answer Gone s)) at
       ∙ ap (λ o. option_map_or (λ value. answer (Value value) (settle (advance number (p + 1) s))) o (answer Empty s)) here
 
 pub length-filter : {X : Type 0} (p : X → Bool) (xs : List X) → length (filter p xs) ≤ length xs

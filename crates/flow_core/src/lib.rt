@@ -22,6 +22,7 @@
 mod copies;
 mod drain;
 mod kind;
+mod own_values;
 mod positions;
 mod queue;
 mod shared;

@@ -1,29 +1,32 @@
 //! Who has subscribed, and how many emitted values each one has received.
-ghost use Rattle.std.specs.Prelude.{◌≡◌, ◌-◌, ◌==◌, ◌∷◌, ◌++◌, [], nat_le, length, map, OnOk, OnErr};
+ghost use Rattle.std.specs.Prelude.{◌≡◌, ◌-◌, ◌==◌, ◌∷◌, ◌++◌, [], nat_le, length, map, MatchResult};
 ghost use Rattle.std.specs.List.{list_any, position};
 ghost use Rattle.flow_law.specs.SharedFlow as flow;
+ghost use Rattle.flow_core.specs.Positions.{TakesOwn};
 
-use std::alloc::{AllocError, Allocator};
+use crate::own_values::OwnValues;
+use std::alloc::Allocator;
 use std::marker::Model;
 
-/// A subscriber's number, and how many emitted values lie behind it.
+/// A subscriber's number, what is left of its own first values, and how many emitted values lie behind it.
 #[derive(Drop)]
-struct Row {
+struct Row<T: Drop, A: Allocator> {
     number: u64,
+    own: OwnValues<T, A>,
     position: usize,
 }
 
 /// The subscribers in the order of their numbers.
 #[derive(Drop)]
-pub(crate) struct Subscribers<A: Allocator> {
-    rows: Vec<Row, A>,
+pub(crate) struct Subscribers<T: Drop, A: Allocator> {
+    rows: Vec<Row<T, A>, A>,
 }
 
-impl<A: Allocator> Model for Subscribers<A> {
+impl<T: Drop, A: Allocator> Model for Subscribers<T, A> {
     ghost use Rattle.std.specs.Prelude.{List};
     ghost use Rattle.flow_law.specs.declared.states.Subscriber.{Subscriber};
 
-    ghost Value = { List Subscriber };
+    ghost Value = { List (Subscriber T) };
 
     ghost use Rattle.flow_core.specs.Positions.{subscribers_of};
 
@@ -31,27 +34,27 @@ impl<A: Allocator> Model for Subscribers<A> {
 }
 
 /// The place of a subscriber's row.
-fn place_of(rows: &[Row], number: u64) -> Option<usize>
+fn place_of<T: Drop, A: Allocator>(rows: &[Row<T, A>], number: u64) -> Option<usize>
     ensures { result ≡ position (λ u. u.number == number) rows.now }
 {
     rows.iter().position(|row| row.number == number)
 }
 
-fn has_lag(rows: &[Row], emitted: usize, lag: usize) -> bool
+fn has_lag<T: Drop, A: Allocator>(rows: &[Row<T, A>], emitted: usize, lag: usize) -> bool
     ensures { result ≡ list_any (λ u. nat_le lag (emitted - u.position)) rows.now }
 {
     rows.iter()
         .any(|row| emitted.saturating_sub(row.position) >= lag)
 }
 
-fn has_last(rows: &[Row], emitted: usize) -> bool
+fn has_last<T: Drop, A: Allocator>(rows: &[Row<T, A>], emitted: usize) -> bool
     ensures { result ≡ list_any (λ u. (emitted - u.position) == 1) rows.now }
 {
     rows.iter()
         .any(|row| emitted.saturating_sub(row.position) == 1)
 }
 
-impl<A: Allocator> Subscribers<A> {
+impl<T: Drop, A: Allocator> Subscribers<T, A> {
     pub(crate) fn new(alloc: A) -> Self
         ensures { result ≡ [] }
     {
@@ -89,12 +92,35 @@ impl<A: Allocator> Subscribers<A> {
         }
     }
 
-    pub(crate) fn push(&mut self, number: u64, position: usize) -> Result<(), AllocError>
-        ensures pushed { OnOk result (self.new ≡ self.old
-            ++ record { number = number; position = position } ∷ []) }
-        ensures unchanged { OnErr result (self.new ≡ self.old) }
+    /// Takes the first of what is left of a subscriber's own values.
+    pub(crate) fn take_own(&mut self, number: u64) -> Option<T>
+        ensures { TakesOwn number result self.old self.new }
     {
-        self.rows.push(Row { number, position })?;
+        match place_of(self.rows.as_slice(), number) {
+            None => None,
+            Some(place) => self.rows[place].own.pop_front(),
+        }
+    }
+
+    /// Adds a subscriber with its own first values. A refusal hands them back.
+    pub(crate) fn push(
+        &mut self,
+        number: u64,
+        first: Vec<T, A>,
+        position: usize,
+    ) -> Result<(), Vec<T, A>>
+        ensures { MatchResult result
+            (λ _. self.new ≡ self.old ++ record { number = number; own = first.items; position = position } ∷ [])
+            (λ refused. (refused ≡ first) × self.new ≡ self.old) }
+    {
+        if self.rows.reserve(1).is_err() {
+            return Err(first);
+        }
+        self.rows.push_reserved(Row {
+            number,
+            own: OwnValues::new(first),
+            position,
+        });
         Ok(())
     }
 

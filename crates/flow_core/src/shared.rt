@@ -1,5 +1,5 @@
 //! A shared flow for one thread.
-ghost use Rattle.std.specs.Prelude.{◌≡◌, ℕ, ◌+◌, ◌-◌, ◌<◌, ◌≤◌, List, Some, None, MatchResult, length};
+ghost use Rattle.std.specs.Prelude.{◌≡◌, ℕ, ◌+◌, ◌-◌, ◌<◌, ◌≤◌, List, [], Some, None, MatchResult, length};
 ghost use Rattle.std.specs.Bool.{OnTrue, OnFalse};
 ghost use Rattle.flow_law.specs.SharedFlow as flow;
 ghost use Rattle.flow_law.specs.SharedStep as step;
@@ -7,10 +7,11 @@ ghost use Rattle.flow_law.specs.Standing.{StandsFor, Conforms};
 ghost use Rattle.flow_law.specs.declared.call.SharedCall.TheVariants as call;
 ghost use Rattle.flow_law.specs.declared.call.SharedReply.TheVariants as reply;
 ghost use Rattle.flow_core.specs.SubId.{number_of};
-ghost use Rattle.flow_core.specs.SharedCore.{subscribe_reply, next_reply, cache_reply, Shows, Leads, Admits};
+ghost use Rattle.flow_core.specs.SharedCore.{next_reply, cache_reply, Shows, Leads, Admits};
 
 mod emission;
 mod kind;
+mod subscribe;
 
 use crate::copies::copies;
 use crate::positions::Subscribers;
@@ -33,7 +34,7 @@ pub struct SharedCore<T: FlowValue, A: Allocator + Copy = Global> {
     newest: u64,
     reset_mark: usize,
     queue: Queue<T, A>,
-    subscribers: Subscribers<A>,
+    subscribers: Subscribers<T, A>,
     issued: u64,
 }
 
@@ -161,29 +162,21 @@ impl<T: FlowValue, A: Allocator + Copy> SharedCore<T, A> {
         }
     }
 
-    /// A new subscriber, who gets the replay cache first, or the value that is offered, and then what is emitted.
+    /// What a subscriber receives next: its own first values, and then what was emitted.
     ///
-    /// A subscriber who does not read blocks emitters or loses values, as the strategy says, until `unsubscribe`.
-    pub fn subscribe(&mut self) -> Result<SubId, FlowFault>
-        ensures documented { (name : List ℕ)
-            → Conforms self.old (call.Subscribe name) (subscribe_reply result) self.new }
+    /// An emitted value that is received makes room, so queued values may be emitted by it.
+    pub fn next(&mut self, id: SubId) -> Result<Next<T>, FlowFault>
+        ensures documented { Conforms self.old (call.TakeNext (number_of id)) (next_reply result) self.new }
     {
-        if self.issued == self.config.limit {
-            return Err(FlowFault::Exhausted);
-        }
-        let number = self.issued + 1;
-        let position = self.entry();
-        match self.subscribers.push(number, position) {
-            Ok(()) => {
-                self.issued = number;
-                Ok(SubId { number })
-            }
-            Err(_refused) => Err(FlowFault::OutOfMemory),
+        match self.subscribers.take_own(id.number) {
+            Some(value) => Ok(Next::Value(value)),
+            None => self.next_emitted(id),
         }
     }
 
-    /// What a subscriber receives next. It makes room, so queued values may be emitted by it.
-    pub fn next(&mut self, id: SubId) -> Result<Next<T>, FlowFault>
+    /// The emitted value that a subscriber without own values receives next.
+    fn next_emitted(&mut self, id: SubId) -> Result<Next<T>, FlowFault>
+        requires { flow.own_of (number_of id) self.old.subscribers ≡ [] }
         ensures documented { Conforms self.old (call.TakeNext (number_of id)) (next_reply result) self.new }
     {
         let Some(position) = self.subscribers.position_of(id.number) else {

@@ -5,22 +5,26 @@ use Rattle.std.proofs.lemmas.List.{map-append, length-map, length_push, drop-app
 use Rattle.flow_law.specs.declared.config.Config.{Config}
 use Rattle.flow_law.specs.declared.config.Overflow.{Overflow}
 use Rattle.flow_law.specs.declared.config.Overflow.TheVariants.{Suspend, DropOldest}
-use Rattle.flow_law.specs.SharedFlow.{Numbered, SharedFlowState, capacity, values, is_blocked, window, position_of}
+use Rattle.flow_law.specs.SharedFlow.{Numbered, SharedFlowState, capacity, values, is_blocked, window, position_of, own_of}
 use Rattle.flow_law.specs.EmitRule.{append, drop_oldest, numbered}
 use Rattle.flow_law.specs.SharedStep.{admit, settle}
-use Rattle.flow_law.specs.Mailbox.{Mailbox, keep_last, arrive, arrivals, with_arrivals}
-use Rattle.flow_law.proofs.Rows.{split, position_holds, position-map, lag_below}
+use Rattle.flow_law.specs.Mailbox.{Mailbox, Beginning, keep_last, arrive, arrivals, with_arrivals}
+use Rattle.flow_law.proofs.Rows.{split, position_holds, position-map, own-map, lag_below}
 use Rattle.flow_law.proofs.Sound.{Placed}
 
 some_same : {A : Type 0} (a b : A) → Some a ≡ Some b → a ≡ b
 some_same a b e = cc
 
+append_third : {A : Type 0} (a b c d : List A) → (a ++ (b ++ c)) ++ d ≡ a ++ (b ++ (c ++ d))
+append_third a b c d = append_assoc a (b ++ c) d ∙ ap (λ l. a ++ l) (append_assoc b c d)
+
 module _ {T : Type 0} where
-  -- the mailbox m is that of u in the state s, and b is where u entered the log
-  pub record Boxed (u : ℕ) (s : SharedFlowState T) (m : Mailbox T) (b : ℕ) : Type 0 where
+  -- the mailbox m is that of u in the state s, and b is what u began with
+  pub record Boxed (u : ℕ) (s : SharedFlowState T) (m : Mailbox T) (b : Beginning T) : Type 0 where
+    pub own : (p : ℕ) → position_of u s.subscribers ≡ Some p → own_of u s.subscribers ≡ m.own
     pub rest : (p : ℕ) → position_of u s.subscribers ≡ Some p → drop p (values s) ≡ m.box
     pub whole : s.config.overflow ≡ Suspend → 0 < capacity s → (p : ℕ) → position_of u s.subscribers ≡ Some p
-        → (m.taken ++ m.box ≡ drop b (values s)) × (b ≤ length s.emitted)
+        → (m.taken ++ (m.own ++ m.box) ≡ b.first ++ drop b.entry (values s)) × (b.entry ≤ length s.emitted)
     pub fresh : s.issued < u → m.taken ≡ []
 
   pub stands_within : (u p : ℕ) (s : SharedFlowState T) → Placed s → position_of u s.subscribers ≡ Some p → p ≤ length s.emitted
@@ -76,21 +80,23 @@ module _ {T : Type 0} where
       ∙ arrive_admitted u p (record s { emitted = s.emitted ++ e ∷ [] }) q (box ++ e.value ∷ []) at (omega (arith, log_longer, l)) (omega (arith, log_longer, longer, count, l))
       ∙ append_assoc box (e.value ∷ []) _) refl
 
-  pub box_length : (u p b : ℕ) (s : SharedFlowState T) (m : Mailbox T) → Boxed u s m b → position_of u s.subscribers ≡ Some p → length m.box ≡ length s.emitted - p
+  pub box_length : (u p : ℕ) (b : Beginning T) (s : SharedFlowState T) (m : Mailbox T) → Boxed u s m b → position_of u s.subscribers ≡ Some p → length m.box ≡ length s.emitted - p
   box_length u p b s m h at = ap length (sym (h.rest p at)) ∙ length-drop p (values s) ∙ ap (λ n. n - p) (length_values s)
 
   -- the state s2 has the values xs more than s, and everybody has them all in the box
-  pub boxed_more : (u b : ℕ) (s s2 : SharedFlowState T) (m : Mailbox T) (xs box : List T) → Placed s → Boxed u s m b
+  pub boxed_more : (u : ℕ) (b : Beginning T) (s s2 : SharedFlowState T) (m : Mailbox T) (xs box : List T) → Placed s → Boxed u s m b
       → s2.config ≡ s.config → s2.subscribers ≡ s.subscribers → s.issued ≤ s2.issued → values s2 ≡ values s ++ xs → length s.emitted ≤ length s2.emitted
       → ((p : ℕ) → position_of u s.subscribers ≡ Some p → box ≡ m.box ++ xs)
       → Boxed u s2 (record m { box = box }) b
   boxed_more u b s s2 m xs box placed h conf subs iss vals longer all = record {
+    own = λ p at2. ap (own_of u) subs ∙ h.own p (ap (position_of u) (sym subs) ∙ at2);
     rest = λ p at2. let at : position_of u s.subscribers ≡ Some p = ap (position_of u) (sym subs) ∙ at2 in
         ap (drop p) vals ∙ drop-append-le p (values s) xs (omega (arith, length_values s, stands_within u p s placed at)) ∙ ap (λ l. l ++ xs) (h.rest p at) ∙ sym (all p at);
     whole = λ o c p at2. let at : position_of u s.subscribers ≡ Some p = ap (position_of u) (sym subs) ∙ at2 in
         let w = h.whole (ap (λ (g : Config). g.overflow) (sym conf) ∙ o) (subst (λ (g : Config). 0 < g.replay + g.extra) conf c) p at in (
-          ap (λ l. m.taken ++ l) (all p at) ∙ sym (append_assoc m.taken m.box xs) ∙ ap (λ l. l ++ xs) w.0
-              ∙ sym (drop-append-le b (values s) xs (omega (arith, length_values s, w.1))) ∙ ap (drop b) (sym vals),
+          ap (λ l. m.taken ++ (m.own ++ l)) (all p at) ∙ sym (append_third m.taken m.own m.box xs) ∙ ap (λ l. l ++ xs) w.0
+              ∙ append_assoc b.first (drop b.entry (values s)) xs
+              ∙ ap (λ l. b.first ++ l) (sym (drop-append-le b.entry (values s) xs (omega (arith, length_values s, w.1))) ∙ ap (drop b.entry) (sym vals)),
           omega (arith, w.1, longer),
         );
     fresh = λ l. h.fresh (omega (arith, l, iss));
@@ -99,7 +105,7 @@ module _ {T : Type 0} where
   pub log_from_values : (s s2 : SharedFlowState T) (xs : List T) → values s2 ≡ values s ++ xs → length s.emitted ≤ length s2.emitted
   log_from_values s s2 xs e = let count : length (values s2) ≡ length (values s) + length xs = ap length e ∙ length-append (values s) xs in omega (arith, count, length_values s, length_values s2)
 
-  pub settle_boxed : (u b : ℕ) (s : SharedFlowState T) (m : Mailbox T) → Placed s → Boxed u s m b → Boxed u (settle s) (with_arrivals (window s) (arrivals s (settle s)) m) b
+  pub settle_boxed : (u : ℕ) (b : Beginning T) (s : SharedFlowState T) (m : Mailbox T) → Placed s → Boxed u s m b → Boxed u (settle s) (with_arrivals (window s) (arrivals s (settle s)) m) b
   settle_boxed u b s m placed h =
       let kept = admit_subscribers s s.queue in
       boxed_more u b s (settle s) m (admitted s s.queue) (arrive (window s) m.box (arrivals s (settle s))) placed h kept.1 kept.0 (omega (arith, kept.2)) (admit_values s s.queue)
@@ -110,7 +116,7 @@ module _ {T : Type 0} where
   pub append_arrivals : (s : SharedFlowState T) (v : T) → arrivals s (append v s) ≡ v ∷ []
   append_arrivals s v = ap (drop (length s.emitted)) (values_more s (numbered v s)) ∙ drop_at (values s) (v ∷ []) (length s.emitted) (length_values s)
 
-  pub append_boxed : (u b : ℕ) (s : SharedFlowState T) (v : T) (m : Mailbox T) → Placed s → is_blocked s ≡ false → Boxed u s m b → Boxed u (append v s) (with_arrivals (window s) (arrivals s (append v s)) m) b
+  pub append_boxed : (u : ℕ) (b : Beginning T) (s : SharedFlowState T) (v : T) (m : Mailbox T) → Placed s → is_blocked s ≡ false → Boxed u s m b → Boxed u (append v s) (with_arrivals (window s) (arrivals s (append v s)) m) b
   append_boxed u b s v m placed free h =
       boxed_more u b s (append v s) m (v ∷ []) (arrive (window s) m.box (arrivals s (append v s))) placed h refl refl (omega arith) (values_more s (numbered v s))
       (log_from_values s (append v s) (v ∷ []) (values_more s (numbered v s)))
@@ -126,9 +132,11 @@ module _ {T : Type 0} where
   unfilled w s m = ap (λ l. with_arrivals w l m) (no_arrivals s)
 
   -- the oldest go
-  pub drop_boxed : (u b : ℕ) (s : SharedFlowState T) (v : T) (m : Mailbox T) → Placed s → s.config.overflow ≡ DropOldest → 0 < capacity s → Boxed u s m b
+  pub drop_boxed : (u : ℕ) (b : Beginning T) (s : SharedFlowState T) (v : T) (m : Mailbox T) → Placed s → s.config.overflow ≡ DropOldest → 0 < capacity s → Boxed u s m b
       → Boxed u (drop_oldest (append v s)) (with_arrivals (window s) (arrivals s (drop_oldest (append v s))) m) b
   drop_boxed u b s v m placed o c h = record {
+    own = λ q at2. own-map (λ p. max p (length (append v s).emitted - capacity s)) u s.subscribers
+        ∙ h.own (position-map (λ p. max p (length (append v s).emitted - capacity s)) u q s.subscribers at2).0 (position-map (λ p. max p (length (append v s).emitted - capacity s)) u q s.subscribers at2).1;
     rest = λ q at2. let found = position-map (λ p. max p (length (append v s).emitted - capacity s)) u q s.subscribers at2 in
         let at : position_of u s.subscribers ≡ Some found.0 = found.1 in
         let p : ℕ = found.0 in
@@ -154,11 +162,12 @@ module _ {T : Type 0} where
       sum_is p n k k2 n2 c q a b d e f g = omega arith
 
   -- the position and the log stay, so does the box
-  pub boxed_same : (u b : ℕ) (s s2 : SharedFlowState T) (m : Mailbox T) → Boxed u s m b → s2.config ≡ s.config → s2.emitted ≡ s.emitted → s.issued ≤ s2.issued
-      → ((p : ℕ) → position_of u s2.subscribers ≡ Some p → position_of u s.subscribers ≡ Some p) → Boxed u s2 m b
-  boxed_same u b s s2 m h conf emitted iss back = record {
+  pub boxed_same : (u : ℕ) (b : Beginning T) (s s2 : SharedFlowState T) (m : Mailbox T) → Boxed u s m b → s2.config ≡ s.config → s2.emitted ≡ s.emitted → s.issued ≤ s2.issued
+      → ((p : ℕ) → position_of u s2.subscribers ≡ Some p → position_of u s.subscribers ≡ Some p) → own_of u s2.subscribers ≡ own_of u s.subscribers → Boxed u s2 m b
+  boxed_same u b s s2 m h conf emitted iss back same_own = record {
+    own = λ p at. same_own ∙ h.own p (back p at);
     rest = λ p at. ap (λ l. drop p (map (λ (e : Numbered T). e.value) l)) emitted ∙ h.rest p (back p at);
     whole = λ o c p at. let w = h.whole (ap (λ (g : Config). g.overflow) (sym conf) ∙ o) (subst (λ (g : Config). 0 < g.replay + g.extra) conf c) p (back p at) in
-        (w.0 ∙ ap (λ l. drop b (map (λ (e : Numbered T). e.value) l)) (sym emitted), subst (λ l. b ≤ length l) (sym emitted) w.1);
+        (w.0 ∙ ap (λ l. b.first ++ drop b.entry (map (λ (e : Numbered T). e.value) l)) (sym emitted), subst (λ l. b.entry ≤ length l) (sym emitted) w.1);
     fresh = λ l. h.fresh (omega (arith, l, iss));
   }

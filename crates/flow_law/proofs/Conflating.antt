@@ -33,11 +33,11 @@ untrue h = let both : false ≡ true = subst (λ b. IsTrue b) refl h in cc
 
 module _ {T : Type 0} where
   -- u is in neither flow
-  abbrev Away : ℕ → StateFlowState T → List Subscriber → Type 0
+  abbrev Away : ℕ → StateFlowState T → List (Subscriber T) → Type 0
   Away u s us = (us ≡ []) × (last_of u s.subscribers ≡ None)
 
   -- u is in both. It has the newest value still to receive, or that is what it got last
-  pub record Here (u : ℕ) (s : StateFlowState T) (m : Beside T) (n : ℕ) (us : List Subscriber) : Type 0 where
+  pub record Here (u : ℕ) (s : StateFlowState T) (m : Beside T) (n : ℕ) (us : List (Subscriber T)) : Type 0 where
     pub k : ℕ
     pub p : ℕ
     pub number : m.number ≡ Some k
@@ -48,7 +48,7 @@ module _ {T : Type 0} where
 
   pub record Along (u limit room : ℕ) (s : StateFlowState T) (m : Beside T) : Type 0 where
     pub emitted : List (Numbered T)
-    pub us : List Subscriber
+    pub us : List (Subscriber T)
     pub issued : ℕ
     pub front : List T
     pub is : m.shared ≡ built limit emitted us issued
@@ -129,7 +129,7 @@ module _ {T : Type 0} where
         (λ e. let is : s.issued + 1 ≡ u = (Decides-eqb (s.issued + 1) u).0 e in
         elim a.seat as (λ _. Along u limit room (record s { subscribers = s.subscribers ++ record { number = s.issued + 1; last = None } ∷ []; issued = s.issued + 1 }) (subscribing m)) [
           | inl away ↦
-              let done = ap flow.subscribe (a.is ∙ ap (λ r. built limit a.emitted r a.issued) away.0) ∙ subscribe_alone limit a.emitted a.issued (omega (arith, a.room_left)) in
+              let done = ap (flow.subscribe []) (a.is ∙ ap (λ r. built limit a.emitted r a.issued) away.0) ∙ subscribe_alone limit a.emitted a.issued (omega (arith, a.room_left)) in
               record {
                 emitted = a.emitted;
                 us = sole (a.issued + 1) (max 0 (length a.emitted - 1));

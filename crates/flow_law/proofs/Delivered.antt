@@ -10,7 +10,7 @@ use Rattle.flow_law.specs.declared.fault.FlowFault.TheVariants.{NeedsBuffer, Too
 use Rattle.flow_law.specs.SharedFlow.{SharedFlowState, first_state, capacity, config_fault, largest_capacity, needs_no_buffer, is_offered_as, stand_at}
 use Rattle.flow_law.specs.SharedStep.{withdraw, advance, leave}
 use Rattle.flow_law.specs.SharedHistory.{History, after, after_all, state_after, IsLegalFrom, IsLegal}
-use Rattle.flow_law.specs.Mailbox.{Mailbox, mailbox_by, mailbox_from, received_by, received, entered_by, entered_from}
+use Rattle.flow_law.specs.Mailbox.{Mailbox, Beginning, mailbox_by, mailbox_from, received_by, received, began_by, began_from}
 use Rattle.flow_law.specs.Laws.{Delivers}
 use Rattle.flow_law.proofs.Moves.{Keeps, event_keeps, history_keeps}
 use Rattle.flow_law.proofs.Sound.{Sound, sound_keeps, opened_sound, always_sound}
@@ -40,30 +40,33 @@ module _ {T : Type 0} where
     withdraws = λ e. (admit_subscribers (withdraw e s) (withdraw e s).queue).1 ∙ cond_both (is_offered_as e s) (record s { subscribers = map (stand_at (length s.emitted)) s.subscribers }) (record s { queue = filter (λ q. not (q.number == e)) s.queue }) (λ t. t.config ≡ config) (λ _. h) (λ _. h);
     advances = λ u p v _ _. (admit_subscribers (advance u (p + 1) s) s.queue).1 ∙ h;
     leaves = λ u. (admit_subscribers (leave u s) s.queue).1 ∙ h;
-    enrolls = h;
+    enrolls = λ _. h;
+    takes_own = λ _ _ _ _. h;
     forgets = h;
   }
 
-  follow : (u b : ℕ) (config : Config) (s : SharedFlowState T) (m : Mailbox T) (h : History T) → config_fault config ≡ None → s.config ≡ config → Sound s → Boxed u s m b → IsLegalFrom s h
-      → Boxed u (after_all s h) (mailbox_from u s h m) (entered_from u s h b) × ((mailbox_from u s h m).taken ≡ m.taken ++ received u h)
+  follow : (u : ℕ) (b : Beginning T) (config : Config) (s : SharedFlowState T) (m : Mailbox T) (h : History T) → config_fault config ≡ None → s.config ≡ config → Sound s → Boxed u s m b → IsLegalFrom s h
+      → Boxed u (after_all s h) (mailbox_from u s h m) (began_from u s h b) × ((mailbox_from u s h m).taken ≡ m.taken ++ received u h)
   follow u b config s m [] ok is sound boxed legal = (boxed, sym (Rattle.std.proofs.Common.append-nil m.taken))
   follow u b config s m (e ∷ es) ok is sound boxed legal =
       let fits : s.config.overflow ≡ DropOldest → 0 < capacity s = λ o. subst (λ (g : Config). 0 < g.replay + g.extra) (sym is) (usable config ok (ap (λ (g : Config). g.overflow) (sym is) ∙ o)) in
       let step = event_good u b s m sound fits boxed e.what.call e.what.reply legal.0 in
-      let rest = follow u (entered_by u s e.what.call e.what.reply b) config (after s e.what.call e.what.reply) (mailbox_by u s e.what.call e.what.reply m) es ok
+      let rest = follow u (began_by u s e.what.call e.what.reply b) config (after s e.what.call e.what.reply) (mailbox_by u s e.what.call e.what.reply m) es ok
       (event_keeps (λ t. t.config ≡ config) s is (config_keeps config s is) e.what.call e.what.reply)
       (event_keeps Sound s sound (sound_keeps s sound) e.what.call e.what.reply) step.0 legal.1 in
       (rest.0, rest.1 ∙ ap (λ l. l ++ received u es) step.1 ∙ append_assoc m.taken (received_by u e.what.call e.what.reply) (received u es))
 
   pub delivers : (config : Config) (h : History T) → IsLegal config h → (u : ℕ) → Delivers u config h
   delivers config h legal u =
-      let empty : Mailbox T = record { taken = []; box = [] } in
-      let start : Boxed u (first_state config) empty 0 = record { rest = λ p e. absurd (cc); whole = λ _ _ p e. absurd (cc); fresh = λ _. refl } in
+      let empty : Mailbox T = record { taken = []; own = []; box = [] } in
+      let nothing : Beginning T = record { first = []; entry = 0 } in
+      let start : Boxed u (first_state config) empty nothing = record { own = λ p e. absurd (cc); rest = λ p e. absurd (cc); whole = λ _ _ p e. absurd (cc); fresh = λ _. refl } in
       let sound = always_sound config h in
-      let all = follow u 0 config (first_state config) empty h legal.0 refl (opened_sound config) start legal.1 in
+      let all = follow u nothing config (first_state config) empty h legal.0 refl (opened_sound config) start legal.1 in
       let same : (state_after config h).config ≡ config = history_keeps (λ t. t.config ≡ config) (λ s k. config_keeps config s k) (first_state config) h refl in
       record {
         replies = all.1;
+        own_left = all.0.own;
         rest = all.0.rest;
         whole = λ o c p at. (all.0.whole (ap (λ (g : Config). g.overflow) same ∙ o) c p at).0;
         in_order = sound.rises;

@@ -11,12 +11,12 @@ use Rattle.flow_law.specs.declared.fault.FlowFault.TheVariants.{Exhausted}
 use Rattle.flow_law.specs.declared.call.SharedCall.{SharedCall}
 use Rattle.flow_law.specs.declared.call.SharedCall.TheVariants as call
 use Rattle.flow_law.specs.declared.call.SharedReply.TheVariants as reply
-use Rattle.flow_law.specs.SharedFlow.{Numbered, SharedFlowState, first_state, capacity, window, lag, cache_start, entry, values, is_blocked, is_offering, is_offered_as, is_exhausted, answer, stand_at, position_of}
+use Rattle.flow_law.specs.SharedFlow.{Numbered, SharedFlowState, first_state, capacity, window, lag, cache_start, entry, values, is_blocked, is_offering, is_offered_as, is_exhausted, answer, stand_at, position_of, own_of}
 use Rattle.flow_law.specs.EmitRule.{append, numbered}
-use Rattle.flow_law.specs.SharedStep.{settle, withdraw, enroll, advance, leave, read, next}
+use Rattle.flow_law.specs.SharedStep.{settle, withdraw, enroll, advance, leave, read, next_from, next}
 use Rattle.flow_law.specs.SharedHistory.{SharedOutcome, outcome_of, answer_to, is_refused, after, History, state_after}
 use Rattle.flow_law.proofs.Moves.{Keeps, history_keeps, admit_keeps}
-use Rattle.flow_law.proofs.Rows.{every_weaker, every_snoc, every_filter, every_map, every_move, position_holds}
+use Rattle.flow_law.proofs.Rows.{every_weaker, every_snoc, every_filter, every_map, every_move, every_with_own, position_holds}
 use Rattle.flow_law.proofs.Steps.{emit_split, try_emit_split}
 
 -- where a test holds of none, it fails at each
@@ -51,8 +51,9 @@ module _ {T : Type 0} where
         let at_p : length s.emitted - p ≤ window s = subst (λ q. length s.emitted - q ≤ window s) found.2 found.3 in
         every_move (λ w. length s.emitted - w.position ≤ window s) u (p + 1) (λ _ _. omega (arith, at_p)) s.subscribers h);
     leaves = λ u. settle_keeping (leave u s) (every_filter (λ w. length s.emitted - w.position ≤ window s) _ s.subscribers h);
-    enrolls = every_snoc (λ w. length s.emitted - w.position ≤ window s) s.subscribers (record { number = s.issued + 1; position = entry s }) h
+    enrolls = λ first. every_snoc (λ w. length s.emitted - w.position ≤ window s) s.subscribers (record { number = s.issued + 1; own = first; position = entry s }) h
         (cond_both (is_offering s) (length s.emitted - 1) (cache_start s) (λ p. length s.emitted - p ≤ window s) (λ _. omega arith) (λ _. omega arith));
+    takes_own = λ u v own _. every_with_own (λ w. length s.emitted - w.position ≤ window s) u own (λ _ k. k) s.subscribers h;
     forgets = h;
   }
 
@@ -64,8 +65,8 @@ module _ {T : Type 0} where
   abbrev StateAfterReply : SharedFlowState T → SharedOutcome T → Type 0
   StateAfterReply s t = cond (is_refused t.reply) s t.after ≡ t.after
 
-  next_after : (u : ℕ) (s : SharedFlowState T) → StateAfterReply s (outcome_of reply.Received (next u s))
-  next_after u s = at (position_of u s.subscribers)
+  after_next : (u : ℕ) (s : SharedFlowState T) → StateAfterReply s (outcome_of reply.Received (next u s))
+  after_next u s = from (own_of u s.subscribers)
     where
       here : (p : ℕ) (o : Option T) → StateAfterReply s (outcome_of reply.Received (option_map_or (λ value. answer (Value value) (settle (advance u (p + 1) s))) o (answer Empty s)))
       here p None = refl
@@ -75,14 +76,18 @@ module _ {T : Type 0} where
       at None = refl
       at (Some p) = here p (slice_get (values s) p)
 
+      from : (own : List T) → StateAfterReply s (outcome_of reply.Received (next_from u own s))
+      from [] = at (position_of u s.subscribers)
+      from (v ∷ own) = refl
+
   -- the state after an event with the documented reply is the documented state after the call
   pub after_is : (c : SharedCall T) (s : SharedFlowState T) → after s c (answer_to c s).reply ≡ (answer_to c s).after
   after_is (call.TryEmit v) s = try_emit_split (λ a. StateAfterReply s (outcome_of reply.Tested a)) s v refl (λ _. refl) (λ _. refl) (λ _. refl)
   after_is (call.Emit v) s = emit_split (λ a. StateAfterReply s (outcome_of reply.Emitted a)) s v refl (λ _ _. refl) refl (λ _. refl) refl
   after_is (call.Poll e) s = refl
   after_is (call.Cancel e) s = refl
-  after_is (call.Subscribe name) s = cond_both (is_exhausted s) (record { reply = Err Exhausted; after = s }) (answer (s.issued + 1) (enroll s)) (λ a. StateAfterReply s (outcome_of reply.Subscribed a)) (λ _. refl) (λ _. refl)
-  after_is (call.TakeNext u) s = next_after u s
+  after_is (call.Subscribe name first) s = cond_both (is_exhausted s) (record { reply = Err Exhausted; after = s }) (answer (s.issued + 1) (enroll first s)) (λ a. StateAfterReply s (outcome_of reply.Subscribed a)) (λ _. refl) (λ _. refl)
+  after_is (call.TakeNext u) s = after_next u s
   after_is (call.Unsubscribe u) s = refl
   after_is call.ReplayCache s = refl
   after_is call.ResetReplayCache s = refl

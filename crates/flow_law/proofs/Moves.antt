@@ -10,9 +10,9 @@ use Rattle.flow_law.specs.declared.fault.FlowFault.TheVariants.{Exhausted}
 use Rattle.flow_law.specs.declared.call.SharedCall.{SharedCall}
 use Rattle.flow_law.specs.declared.call.SharedCall.TheVariants as call
 use Rattle.flow_law.specs.declared.call.SharedReply.{SharedReply}
-use Rattle.flow_law.specs.SharedFlow.{Numbered, Subscriber, SharedFlowState, Answer, capacity, window, lag, is_blocked, is_exhausted, issuing, answer, values, position_of}
+use Rattle.flow_law.specs.SharedFlow.{Numbered, Subscriber, SharedFlowState, Answer, capacity, window, lag, is_blocked, is_exhausted, issuing, answer, values, position_of, own_of}
 use Rattle.flow_law.specs.EmitRule.{appends, offers, when_blocked, is_open, emit_case, append, suspend, drop_oldest, emit_in, try_emit_in}
-use Rattle.flow_law.specs.SharedStep.{admit, settle, withdraw, advance, leave, enroll, forget, read, next}
+use Rattle.flow_law.specs.SharedStep.{admit, settle, withdraw, advance, leave, enroll, forget, keep_own, next_from, read, next}
 use Rattle.flow_law.specs.SharedHistory.{answer_to, is_refused, after, History, after_all}
 
 module _ {T : Type 0} where
@@ -24,13 +24,14 @@ module _ {T : Type 0} where
     pub withdraws : (e : ℕ) → P (settle (withdraw e s))
     pub advances : (u p : ℕ) (v : T) → position_of u s.subscribers ≡ Some p → slice_get (values s) p ≡ Some v → P (settle (advance u (p + 1) s))
     pub leaves : (u : ℕ) → P (settle (leave u s))
-    pub enrolls : P (enroll s)
+    pub enrolls : (first : List T) → P (enroll first s)
+    pub takes_own : (u : ℕ) (v : T) (own : List T) → own_of u s.subscribers ≡ v ∷ own → P (keep_own u own s)
     pub forgets : P (forget s)
 
   pub no_subscriber : (s : SharedFlowState T) → (length s.subscribers == 0) ≡ true → is_blocked s ≡ false
   no_subscriber s none = empty s.subscribers none
     where
-      empty : (us : List Subscriber) → (length us == 0) ≡ true → list_any (λ u. nat_le (window s) (lag s u)) us ≡ false
+      empty : (us : List (Subscriber T)) → (length us == 0) ≡ true → list_any (λ u. nat_le (window s) (lag s u)) us ≡ false
       empty [] e = refl
       empty (u ∷ us) e = absurd (grind (arith, e))
 
@@ -68,7 +69,7 @@ module _ {T : Type 0} where
       full DropLatest b = h
 
   pub next_keeps : (P : SharedFlowState T → Type 0) (s : SharedFlowState T) (u : ℕ) → P s → Keeps P s → P (next u s).after
-  next_keeps P s u h k = at (position_of u s.subscribers) refl
+  next_keeps P s u h k = from (own_of u s.subscribers) refl
     where
       here : (p : ℕ) → position_of u s.subscribers ≡ Some p → (o : Option T) → slice_get (values s) p ≡ o
           → P (option_map_or (λ value. answer (Rattle.flow_law.specs.declared.outcome.Next.TheVariants.Value value) (settle (advance u (p + 1) s))) o (answer Rattle.flow_law.specs.declared.outcome.Next.TheVariants.Empty s)).after
@@ -79,13 +80,17 @@ module _ {T : Type 0} where
       at None e = h
       at (Some p) e = here p e (slice_get (values s) p) refl
 
+      from : (own : List T) → own_of u s.subscribers ≡ own → P (next_from u own s).after
+      from [] e = at (position_of u s.subscribers) refl
+      from (v ∷ own) e = k.takes_own u v own e
+
   -- a call keeps what each move keeps
   pub call_keeps : (P : SharedFlowState T → Type 0) (s : SharedFlowState T) → P s → Keeps P s → (c : SharedCall T) → P (answer_to c s).after
   call_keeps P s h k (call.TryEmit v) = try_emit_keeps P s v h k
   call_keeps P s h k (call.Emit v) = emit_keeps P s v h k
   call_keeps P s h k (call.Poll e) = h
   call_keeps P s h k (call.Cancel e) = k.withdraws e
-  call_keeps P s h k (call.Subscribe name) = issued_or_kept P s _ h k.enrolls
+  call_keeps P s h k (call.Subscribe name first) = issued_or_kept P s _ h (k.enrolls first)
   call_keeps P s h k (call.TakeNext u) = next_keeps P s u h k
   call_keeps P s h k (call.Unsubscribe u) = k.leaves u
   call_keeps P s h k call.ReplayCache = h

@@ -1,5 +1,5 @@
 -- A flow of one thread never answers Busy.
-use Rattle.std.proofs.Common.{◌≢◌, ℕ, ◌+◌, Option, Some, None}
+use Rattle.std.proofs.Common.{◌≢◌, ℕ, ◌+◌, List, [], ◌∷◌, Option, Some, None}
 use Rattle.std.specs.Prelude.{Err}
 use Rattle.std.specs.List.{slice_get}
 use Rattle.std.specs.Option.{option_map_or}
@@ -10,9 +10,9 @@ use Rattle.flow_law.specs.declared.call.SharedCall.TheVariants as call
 use Rattle.flow_law.specs.declared.call.SharedReply.{SharedReply}
 use Rattle.flow_law.specs.declared.call.SharedReply.TheVariants as reply
 use Rattle.flow_law.specs.declared.outcome.Next.TheVariants.{Value, Empty, Gone}
-use Rattle.flow_law.specs.SharedFlow.{SharedFlowState, Answer, answer, issuing, is_exhausted, values, position_of}
+use Rattle.flow_law.specs.SharedFlow.{SharedFlowState, Answer, answer, issuing, is_exhausted, values, position_of, own_of}
 use Rattle.flow_law.specs.EmitRule.{EmitCase, appends, offers, queues, drops_latest, drops_oldest, emit_case, emit_in, try_emit_in}
-use Rattle.flow_law.specs.SharedStep.{settle, advance, enroll, read, next}
+use Rattle.flow_law.specs.SharedStep.{settle, advance, enroll, read, next_from, next}
 use Rattle.flow_law.specs.SharedHistory.{Replies, reply_by}
 
 module _ {T : Type 0} (s : SharedFlowState T) where
@@ -38,7 +38,7 @@ module _ {T : Type 0} (s : SharedFlowState T) where
   try_emit_not_busy drops_oldest v = issuing_not_busy reply.Tested _ (λ e. absurd (cc))
 
   next_not_busy : (u : ℕ) → Busied ≢ reply_by reply.Received (next u s).reply
-  next_not_busy u = at (position_of u s.subscribers)
+  next_not_busy u = from (own_of u s.subscribers)
     where
       here : (p : ℕ) (o : Option T) → Busied ≢ reply_by reply.Received (option_map_or (λ value. answer (Value value) (settle (advance u (p + 1) s))) o (answer Empty s)).reply
       here p None = λ e. absurd (cc)
@@ -48,12 +48,16 @@ module _ {T : Type 0} (s : SharedFlowState T) where
       at None = λ e. absurd (cc)
       at (Some p) = here p (slice_get (values s) p)
 
+      from : (own : List T) → Busied ≢ reply_by reply.Received (next_from u own s).reply
+      from [] = at (position_of u s.subscribers)
+      from (v ∷ own) = λ e. absurd (cc)
+
   pub never_busy : (c : SharedCall T) → Replies s c (reply.Refused Busy) → ⊥
   never_busy (call.TryEmit v) = try_emit_not_busy (emit_case s) v
   never_busy (call.Emit v) = emit_not_busy (emit_case s) v
   never_busy (call.Poll e) = λ e. absurd (cc)
   never_busy (call.Cancel e) = λ e. absurd (cc)
-  never_busy (call.Subscribe name) = issuing_not_busy reply.Subscribed (answer (s.issued + 1) (enroll s)) (λ e. absurd (cc))
+  never_busy (call.Subscribe name first) = issuing_not_busy reply.Subscribed (answer (s.issued + 1) (enroll first s)) (λ e. absurd (cc))
   never_busy (call.TakeNext u) = next_not_busy u
   never_busy (call.Unsubscribe u) = λ e. absurd (cc)
   never_busy call.ReplayCache = λ e. absurd (cc)

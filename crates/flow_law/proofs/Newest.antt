@@ -13,11 +13,11 @@ use Rattle.flow_law.specs.declared.outcome.Emit.TheVariants.{Done}
 use Rattle.flow_law.specs.declared.outcome.Next.TheVariants.{Value, Empty, Gone}
 use Rattle.flow_law.specs.SharedFlow.{Numbered, Subscriber, SharedFlowState, Answer, is_blocked, answer, values, cache}
 use Rattle.flow_law.specs.EmitRule.{appends, offers, drops_oldest, emit_case, emit, emit_in, append, drop_oldest}
-use Rattle.flow_law.specs.SharedStep.{subscribe, enroll, next, read, unsubscribe, settle, advance}
+use Rattle.flow_law.specs.SharedStep.{subscribe, enroll, next, next_from, read, unsubscribe, settle, advance}
 use Rattle.flow_law.specs.Conflation.{newest_only}
 
-abbrev pub sole : ℕ → ℕ → List Subscriber
-sole k p = record { number = k; position = p } ∷ []
+abbrev pub sole : {T : Type 0} → ℕ → ℕ → List (Subscriber T)
+sole k p = record { number = k; own = []; position = p } ∷ []
 
 not_spent : (a b : ℕ) → a < b → (a == b) ≡ false
 not_spent a b l = grind (arith, nat_tests, l)
@@ -32,7 +32,7 @@ newest_at (x ∷ xs) v zero e = absurd (omega (arith, e))
 newest_at (x ∷ xs) v (suc p) e = newest_at xs v p (omega (arith, e))
 
 module _ {T : Type 0} where
-  abbrev pub built : ℕ → List (Numbered T) → List Subscriber → ℕ → SharedFlowState T
+  abbrev pub built : ℕ → List (Numbered T) → List (Subscriber T) → ℕ → SharedFlowState T
   built limit emitted us issued = record { config = newest_only limit; emitted = emitted; reset_mark = 0; queue = []; subscribers = us; issued = issued }
 
   abbrev pub entry_of : T → ℕ → Numbered T
@@ -63,12 +63,13 @@ module _ {T : Type 0} where
       ]
 
   pub subscribe_alone : (limit : ℕ) (emitted : List (Numbered T)) (issued : ℕ) → issued < limit
-      → subscribe (built limit emitted [] issued) ≡ answer (issued + 1) (built limit emitted (sole (issued + 1) (max 0 (length emitted - 1))) (issued + 1))
+      → subscribe [] (built limit emitted [] issued) ≡ answer (issued + 1) (built limit emitted (sole (issued + 1) (max 0 (length emitted - 1))) (issued + 1))
   subscribe_alone limit emitted issued l =
-      ap (λ t. cond t (record { reply = Err Exhausted; after = built limit emitted [] issued }) (answer (issued + 1) (enroll (built limit emitted [] issued)))) (not_spent issued limit l)
+      ap (λ t. cond t (record { reply = Err Exhausted; after = built limit emitted [] issued }) (answer (issued + 1) (enroll [] (built limit emitted [] issued)))) (not_spent issued limit l)
 
   at_sole : (k p limit issued : ℕ) (emitted : List (Numbered T)) → next k (built limit emitted (sole k p) issued) ≡ read k p (built limit emitted (sole k p) issued)
-  at_sole k p limit issued emitted = ap (λ t. option_map_or (λ position. read k position (built limit emitted (sole k p) issued)) (cond t (Some p) None) (answer Gone (built limit emitted (sole k p) issued))) (same_number k)
+  at_sole k p limit issued emitted = ap (λ t. next_from k (cond t [] []) (built limit emitted (sole k p) issued)) (same_number k)
+      ∙ ap (λ t. option_map_or (λ position. read k position (built limit emitted (sole k p) issued)) (cond t (Some p) None) (answer Gone (built limit emitted (sole k p) issued))) (same_number k)
 
   pub next_behind : (k p limit issued : ℕ) (emitted : List (Numbered T)) → p ≡ length emitted → next k (built limit emitted (sole k p) issued) ≡ answer Empty (built limit emitted (sole k p) issued)
   next_behind k p limit issued emitted e =
@@ -81,12 +82,12 @@ module _ {T : Type 0} where
   next_newest k p limit issued emitted v e =
       let s : SharedFlowState T = built limit emitted (sole k p) issued in
       at_sole k p limit issued emitted ∙ ap (λ o. option_map_or (λ value. answer (Value value) (settle (advance k (p + 1) s))) o (answer Empty s)) e
-      ∙ ap (λ t. answer (Value v) (built limit emitted (cond t (sole k (p + 1)) (record { number = k; position = p } ∷ [])) issued)) (same_number k)
+      ∙ ap (λ t. answer (Value v) (built limit emitted (cond t (sole k (p + 1)) (record { number = k; own = []; position = p } ∷ [])) issued)) (same_number k)
 
   pub leave_sole : (k p limit issued : ℕ) (emitted : List (Numbered T)) → (unsubscribe k (built limit emitted (sole k p) issued)).after ≡ built limit emitted [] issued
   leave_sole k p limit issued emitted = ap (λ t. built limit emitted (cond (not t) (sole k p) []) issued) (same_number k)
 
-  pub cache_newest : (limit issued : ℕ) (emitted : List (Numbered T)) (us : List Subscriber) (front : List T) (v : T) → map (λ e. e.value) emitted ≡ front ++ v ∷ []
+  pub cache_newest : (limit issued : ℕ) (emitted : List (Numbered T)) (us : List (Subscriber T)) (front : List T) (v : T) → map (λ e. e.value) emitted ≡ front ++ v ∷ []
       → cache (built limit emitted us issued) ≡ v ∷ []
   cache_newest limit issued emitted us front v e =
       let count : length (map (λ (e : Numbered T). e.value) emitted) ≡ length front + 1 = ap length e ∙ length_push front v in

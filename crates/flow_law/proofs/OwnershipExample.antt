@@ -21,7 +21,7 @@ by name c r = record { name = name; what = record { call = c; reply = r } }
 
 -- the first seat subscribes, which gives 1 to the subscription's seat, and emits, which gives 2 to itself
 abbrev before : History ℕ → History ℕ
-before more = by [] (Subscribe (1 ∷ [])) (Subscribed 1) ∷ by [] (Emit 7) (Emitted (Queued 2)) ∷ more
+before more = by [] (Subscribe (1 ∷ []) []) (Subscribed 1) ∷ by [] (Emit 7) (Emitted (Queued 2)) ∷ more
 
 abbrev each_its_own : History ℕ
 each_its_own = before (by (1 ∷ []) (TakeNext 1) (Received (Value 7)) ∷ by [] (Poll 2) (Tested false) ∷ by (1 ∷ []) (Unsubscribe 1) (Tested true) ∷ [])

@@ -11,6 +11,7 @@ use Rattle.flow_law.specs.SharedStep.{admit, settle, withdraw, advance, leave}
 use Rattle.flow_law.specs.SharedHistory.{History, state_after}
 use Rattle.flow_law.specs.Laws.{NoIdleQueue}
 use Rattle.flow_law.proofs.Moves.{Keeps, history_keeps, admit_keeps}
+use Rattle.flow_law.proofs.Rows.{any-with_own}
 
 -- only a flow that suspends has a queue
 abbrev pub Fits : {X : Type 0} → Overflow → List X → Type 0
@@ -69,9 +70,13 @@ module _ {T : Type 0} where
     withdraws = λ e. settle_calm (withdraw e s) (withdraw_fits e s h.fits);
     advances = λ u p v at here. settle_calm (advance u (p + 1) s) h.fits;
     leaves = λ u. settle_calm (leave u s) h.fits;
-    enrolls = record {
+    enrolls = λ first. record {
       fits = h.fits;
-      idle = λ free. h.idle (or_parts _ _ (sym (list_any-append (λ u. nat_le (window s) (lag s u)) s.subscribers (record { number = s.issued + 1; position = entry s } ∷ [])) ∙ free)).0;
+      idle = λ free. h.idle (or_parts _ _ (sym (list_any-append (λ u. nat_le (window s) (lag s u)) s.subscribers (record { number = s.issued + 1; own = first; position = entry s } ∷ [])) ∙ free)).0;
+    };
+    takes_own = λ u v own _. record {
+      fits = h.fits;
+      idle = λ free. h.idle (sym (any-with_own (λ w. nat_le (window s) (lag s w)) u own (λ _. refl) s.subscribers) ∙ free);
     };
     forgets = record { fits = h.fits; idle = h.idle };
   }

@@ -13,39 +13,39 @@ use Rattle.flow_law.specs.declared.call.SharedCall.{SharedCall}
 use Rattle.flow_law.specs.declared.call.SharedCall.TheVariants as call
 use Rattle.flow_law.specs.declared.call.SharedReply.{SharedReply}
 use Rattle.flow_law.specs.declared.call.SharedReply.TheVariants as reply
-use Rattle.flow_law.specs.Lawful.{Lawful, IsNew}
-use Rattle.flow_law.specs.SharedFlow.{Subscriber, SharedFlowState, Answer, capacity, values, is_exhausted, is_offered_as, answer, issuing, position_of, stand_at, move_to}
+use Rattle.flow_law.specs.Lawful.{Lawful, Subscribing, IsNew}
+use Rattle.flow_law.specs.SharedFlow.{Subscriber, SharedFlowState, Answer, capacity, values, is_exhausted, is_offered_as, answer, issuing, position_of, own_of, stand_at, move_to}
 use Rattle.flow_law.specs.EmitRule.{EmitCase, appends, offers, queues, drops_latest, drops_oldest, emit_case, emit_in, append, suspend, drop_oldest}
-use Rattle.flow_law.specs.SharedStep.{settle, withdraw, advance, leave, enroll, subscribe, read, next}
+use Rattle.flow_law.specs.SharedStep.{settle, withdraw, advance, leave, enroll, subscribe, read, next_from, next}
 use Rattle.flow_law.specs.SharedHistory.{reply_by, answer_to, is_refused, Replies, after, gives, speaks_of, shared_flow}
 use Rattle.flow_law.proofs.Moves.{event_keeps}
 use Rattle.flow_law.proofs.NeverBusy.{never_busy}
 use Rattle.flow_law.proofs.Boxes.{admit_subscribers}
-use Rattle.flow_law.proofs.Rows.{split, position-without_other}
+use Rattle.flow_law.proofs.Rows.{split, position-without_other, position-with_own}
 use Rattle.flow_law.proofs.Steps.{emit_split, try_emit_split}
 
 -- ---- whether there is a subscriber of this number
 
-some-raised : (f : Subscriber → ℕ) (number : ℕ) (us : List Subscriber) → is_some (position_of number (map (λ u. stand_at (f u) u) us)) ≡ is_some (position_of number us)
+some-raised : {T : Type 0} (f : Subscriber T → ℕ) (number : ℕ) (us : List (Subscriber T)) → is_some (position_of number (map (λ u. stand_at (f u) u) us)) ≡ is_some (position_of number us)
 some-raised f number [] = refl
 some-raised f number (u ∷ us) = split (u.number == number)
     (λ t. is_some (cond t (Some (f u)) (position_of number (map (λ u. stand_at (f u) u) us))) ≡ is_some (cond t (Some u.position) (position_of number us)))
     (λ _. refl) (λ _. some-raised f number us)
 
-some-move_to : (number other q : ℕ) (us : List Subscriber) → is_some (position_of number (move_to other q us)) ≡ is_some (position_of number us)
+some-move_to : {T : Type 0} (number other q : ℕ) (us : List (Subscriber T)) → is_some (position_of number (move_to other q us)) ≡ is_some (position_of number us)
 some-move_to number other q [] = refl
 some-move_to number other q (u ∷ us) = cond_both (u.number == other) (stand_at q u ∷ us) (u ∷ move_to other q us) (λ vs. is_some (position_of number vs) ≡ is_some (position_of number (u ∷ us)))
     (λ _. split (u.number == number) (λ t. is_some (cond t (Some q) (position_of number us)) ≡ is_some (cond t (Some u.position) (position_of number us))) (λ _. refl) (λ _. refl))
     (λ _. split (u.number == number) (λ t. is_some (cond t (Some u.position) (position_of number (move_to other q us))) ≡ is_some (cond t (Some u.position) (position_of number us)))
     (λ _. refl) (λ _. some-move_to number other q us))
 
-some-snoc : (number : ℕ) (us : List Subscriber) (v : Subscriber) → IsSome (position_of number us) → IsSome (position_of number (us ++ v ∷ []))
+some-snoc : {T : Type 0} (number : ℕ) (us : List (Subscriber T)) (v : Subscriber T) → IsSome (position_of number us) → IsSome (position_of number (us ++ v ∷ []))
 some-snoc number [] v h = absurd (cc)
 some-snoc number (u ∷ us) v h = split (u.number == number)
     (λ t. IsSome (cond t (Some u.position) (position_of number us)) → IsSome (cond t (Some u.position) (position_of number (us ++ v ∷ []))))
     (λ _ _. refl) (λ _ k. some-snoc number us v k) h
 
-some-last : (number : ℕ) (us : List Subscriber) (v : Subscriber) → v.number ≡ number → IsSome (position_of number (us ++ v ∷ []))
+some-last : {T : Type 0} (number : ℕ) (us : List (Subscriber T)) (v : Subscriber T) → v.number ≡ number → IsSome (position_of number (us ++ v ∷ []))
 some-last number [] v e = ap is_some (cond-true (v.number == number) (Some v.position) None (eq-eqb v.number number e))
 some-last number (u ∷ us) v e = split (u.number == number) (λ t. IsSome (cond t (Some u.position) (position_of number (us ++ v ∷ [])))) (λ _. refl) (λ _. some-last number us v e)
 
@@ -67,7 +67,8 @@ module _ {T : Type 0} where
     withdraws = λ e. omega (arith, settle_issued (withdraw e s), withdraw_issued e s);
     advances = λ u p v _ _. omega (arith, settle_issued (advance u (p + 1) s));
     leaves = λ u. omega (arith, settle_issued (leave u s));
-    enrolls = omega arith;
+    enrolls = λ _. omega arith;
+    takes_own = λ _ _ _ _. omega arith;
     forgets = omega arith;
   }) c r
 
@@ -85,17 +86,17 @@ module _ {T : Type 0} where
   waits s v e drops_latest f = absurd (cc)
   waits s v e drops_oldest f = issuing_waits e s (answer Done (drop_oldest (append v s))) (λ f. absurd (cc)) f
 
-  abbrev Enrolls : ℕ → SharedFlowState T → Answer ℕ T → Type 0
-  Enrolls u s a = ◌≡◌ {A = SharedReply T} (reply.Subscribed u) (reply_by reply.Subscribed a.reply) → (u ≡ s.issued + 1) × (a.after ≡ enroll s)
+  abbrev Enrolls : ℕ → List T → SharedFlowState T → Answer ℕ T → Type 0
+  Enrolls u first s a = ◌≡◌ {A = SharedReply T} (reply.Subscribed u) (reply_by reply.Subscribed a.reply) → (u ≡ s.issued + 1) × (a.after ≡ enroll first s)
 
   -- who subscribes has the next number
-  enrolls : (s : SharedFlowState T) (u : ℕ) → Enrolls u s (subscribe s)
-  enrolls s u f = cond_both (is_exhausted s) (record { reply = Err Exhausted; after = s }) (answer (s.issued + 1) (enroll s)) (Enrolls u s) (λ _ f. absurd (cc)) (λ _ f. (cc, refl)) f
+  enrolls : (s : SharedFlowState T) (first : List T) (u : ℕ) → Enrolls u first s (subscribe first s)
+  enrolls s first u f = cond_both (is_exhausted s) (record { reply = Err Exhausted; after = s }) (answer (s.issued + 1) (enroll first s)) (Enrolls u first s) (λ _ f. absurd (cc)) (λ _ f. (cc, refl)) f
 
   gives_new : (s : SharedFlowState T) (name : List ℕ) (c : SharedCall T) (r : SharedReply T) → Replies s c r → IsNew s.issued (gives name c r) (after s c r).issued
-  gives_new s name (call.Subscribe given) (reply.Subscribed u) l =
-      let found = enrolls s u l in
-      let now : (subscribe s).after.issued ≡ s.issued + 1 = ap (λ (t : SharedFlowState T). t.issued) found.1 in
+  gives_new s name (call.Subscribe given first) (reply.Subscribed u) l =
+      let found = enrolls s first u l in
+      let now : (subscribe first s).after.issued ≡ s.issued + 1 = ap (λ (t : SharedFlowState T). t.issued) found.1 in
       (omega (arith, found.0), omega (arith, found.0, now))
   gives_new s name (call.Emit v) (reply.Emitted (Queued e)) l =
       let found = waits s v e (emit_case s) l in
@@ -110,7 +111,7 @@ module _ {T : Type 0} where
   settle_has : (u : ℕ) (s : SharedFlowState T) → Has u s → Has u (settle s)
   settle_has u s h = ap (λ us. is_some (position_of u us)) (admit_subscribers s s.queue).0 ∙ h
 
-  raised_has : (u : ℕ) (f : Subscriber → ℕ) (s : SharedFlowState T) → Has u s → IsSome (position_of u (map (λ v. stand_at (f v) v) s.subscribers))
+  raised_has : (u : ℕ) (f : Subscriber T → ℕ) (s : SharedFlowState T) → Has u s → IsSome (position_of u (map (λ v. stand_at (f v) v) s.subscribers))
   raised_has u f s h = some-raised f u s.subscribers ∙ h
 
   withdraw_has : (u e : ℕ) (s : SharedFlowState T) → Has u s → Has u (withdraw e s)
@@ -131,7 +132,7 @@ module _ {T : Type 0} where
       apart = split (n == u) (λ t. (n == u) ≡ t → (n == u) ≡ false) (λ _ e. absurd (other (ap call.Unsubscribe ((Decides-eqb n u).0 e)))) (λ _ e. e) refl
 
   next_has : (u n : ℕ) (s : SharedFlowState T) → Has u s → Has u (next n s).after
-  next_has u n s h = at (position_of n s.subscribers)
+  next_has u n s h = from (own_of n s.subscribers)
     where
       here : (p : ℕ) (o : Option T) → Has u (option_map_or (λ value. answer (Value value) (settle (advance n (p + 1) s))) o (answer Empty s)).after
       here p None = h
@@ -141,13 +142,17 @@ module _ {T : Type 0} where
       at None = h
       at (Some p) = here p (slice_get (values s) p)
 
+      from : (own : List T) → Has u (next_from n own s).after
+      from [] = at (position_of n s.subscribers)
+      from (v ∷ own) = subst IsSome (sym (position-with_own u n own s.subscribers)) h
+
   -- whoever calls what, a subscriber stays unless it is unsubscribed
   answer_has : (u : ℕ) (s : SharedFlowState T) (c : SharedCall T) → c ≢ call.Unsubscribe u → Has u s → Has u (answer_to c s).after
   answer_has u s (call.TryEmit v) other h = try_emit_split (λ a. Has u a.after) s v h (λ _. h) (λ _. dropped_has u v s h) (λ _. h)
   answer_has u s (call.Emit v) other h = emit_split (λ a. Has u a.after) s v h (λ _ _. h) h (λ _. dropped_has u v s h) h
   answer_has u s (call.Poll e) other h = h
   answer_has u s (call.Cancel e) other h = settle_has u (withdraw e s) (withdraw_has u e s h)
-  answer_has u s (call.Subscribe name) other h = cond_both (is_exhausted s) (record { reply = Err Exhausted; after = s }) (answer (s.issued + 1) (enroll s)) (λ a. Has u a.after)
+  answer_has u s (call.Subscribe name first) other h = cond_both (is_exhausted s) (record { reply = Err Exhausted; after = s }) (answer (s.issued + 1) (enroll first s)) (λ a. Has u a.after)
       (λ _. h) (λ _. some-snoc u s.subscribers _ h)
   answer_has u s (call.TakeNext n) other h = next_has u n s h
   answer_has u s (call.Unsubscribe n) other h = leave_has u n s other h
@@ -171,11 +176,23 @@ module _ {T : Type 0} where
       at None some f = cc
       at (Some p) some f = here p (slice_get (values s) p) f
 
+      from : (own : List T) → ◌≢◌ {A = SharedReply T} (reply.Received Gone) (reply_by reply.Received (next_from u own s).reply)
+      from [] f = at (position_of u s.subscribers) h f
+      from (v ∷ own) f = cc
+
       not_gone : ◌≢◌ {A = SharedReply T} (reply.Received Gone) (answer_to (call.TakeNext u) s).reply
-      not_gone = at (position_of u s.subscribers) h
+      not_gone = from (own_of u s.subscribers)
 
   was_there : (s : SharedFlowState T) (u : ℕ) (answer : Bool) → Has u s → Replies s (call.Unsubscribe u) (reply.Tested answer) → answer ≡ true
   was_there s u answer h told = let same : answer ≡ is_some (position_of u s.subscribers) = cc in same ∙ h
+
+  -- with own first values, or none
+  pub shared_subscribing : (first : List T) → Subscribing shared_flow (λ name. call.Subscribe name first)
+  shared_subscribing first = record {
+    speaks = λ name. refl;
+    gives = λ by name u. refl;
+    has = λ s name u l. let found = enrolls s first u l in subst (Has u) (sym found.1) (some-last u s.subscribers _ (sym found.0));
+  }
 
   pub shared_lawful : Lawful (shared_flow {T = T})
   shared_lawful = record {
@@ -184,10 +201,8 @@ module _ {T : Type 0} where
     gives_new = gives_new;
     next_speaks = λ u. refl;
     unsubscribe_speaks = λ u. refl;
-    subscribe_speaks = λ name. refl;
     count_speaks = refl;
-    subscribe_gives = λ by name u. refl;
-    subscribe_has = λ s name u l. let found = enrolls s u l in subst (Has u) (sym found.1) (some-last u s.subscribers _ (sym found.0));
+    subscribing = shared_subscribing [];
     others_keep = λ u s c r other. event_has u s c r (λ e. other (ap speaks_of e));
     next_keeps = λ u s r. event_has u s (call.TakeNext u) r (λ e. absurd (cc));
     never_gone = never_gone;

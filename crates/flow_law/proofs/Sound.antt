@@ -8,17 +8,17 @@ use Rattle.std.proofs.lemmas.Option.{slice_get_past}
 use Rattle.flow_law.specs.declared.config.Config.{Config}
 use Rattle.flow_law.specs.SharedFlow.{Numbered, Subscriber, SharedFlowState, first_state, capacity, cache_start, entry, values, is_offering, is_offered_as, stand_at}
 use Rattle.flow_law.specs.EmitRule.{append, suspend, drop_oldest, numbered}
-use Rattle.flow_law.specs.SharedStep.{admit, settle, withdraw, advance, leave}
+use Rattle.flow_law.specs.SharedStep.{admit, settle, withdraw, advance, leave, keep_own}
 use Rattle.flow_law.specs.SharedHistory.{History, state_after}
 use Rattle.flow_law.specs.Laws.{RisesTo, numbers}
 use Rattle.flow_law.proofs.Moves.{Keeps, history_keeps, admit_keeps}
 use Rattle.flow_law.proofs.Queue.{Calm, fits_drops, calm_keeps, opened_fits}
-use Rattle.flow_law.proofs.Rows.{every_weaker, every_snoc, every_filter, every_map, every_move, rises_more, rises_filter}
+use Rattle.flow_law.proofs.Rows.{every_weaker, every_snoc, every_filter, every_map, every_move, every_with_own, rises_more, rises_filter}
 
-within_longer : (us : List Subscriber) (a b : ℕ) → a ≤ b → AllByRecursion (λ u. u.position ≤ a) us → AllByRecursion (λ u. u.position ≤ b) us
+within_longer : {T : Type 0} (us : List (Subscriber T)) (a b : ℕ) → a ≤ b → AllByRecursion (λ u. u.position ≤ a) us → AllByRecursion (λ u. u.position ≤ b) us
 within_longer us a b l h = every_weaker (λ u. u.position ≤ a) (λ u. u.position ≤ b) (λ u k. omega (arith, l, k)) us h
 
-issued_more : (us : List Subscriber) (n : ℕ) → AllByRecursion (λ u. u.number ≤ n) us → AllByRecursion (λ u. u.number ≤ n + 1) us
+issued_more : {T : Type 0} (us : List (Subscriber T)) (n : ℕ) → AllByRecursion (λ u. u.number ≤ n) us → AllByRecursion (λ u. u.number ≤ n + 1) us
 issued_more us n h = every_weaker (λ u. u.number ≤ n) (λ u. u.number ≤ n + 1) (λ u k. omega (arith, k)) us h
 
 module _ {T : Type 0} where
@@ -69,6 +69,13 @@ module _ {T : Type 0} where
     reset_mark = h.reset_mark;
     within = every_move (λ u. u.position ≤ length s.emitted) u p (λ u k. l) s.subscribers h.within;
     issued = every_move (λ u. u.number ≤ s.issued) u p (λ u k. k) s.subscribers h.issued;
+  }
+
+  pub own_placed : (u : ℕ) (own : List T) (s : SharedFlowState T) → Placed s → Placed (keep_own u own s)
+  own_placed u own s h = record {
+    reset_mark = h.reset_mark;
+    within = every_with_own (λ u. u.position ≤ length s.emitted) u own (λ _ k. k) s.subscribers h.within;
+    issued = every_with_own (λ u. u.number ≤ s.issued) u own (λ _ k. k) s.subscribers h.issued;
   }
 
   pub leave_placed : (u : ℕ) (s : SharedFlowState T) → Placed s → Placed (leave u s)
@@ -142,15 +149,16 @@ module _ {T : Type 0} where
       rises = settle_rises (advance u (p + 1) s) h.rises;
     };
     leaves = λ u. record { calm = calm.leaves u; placed = admit_placed (leave u s) _ (leave_placed u s h.placed); rises = settle_rises (leave u s) h.rises };
-    enrolls = record {
-      calm = calm.enrolls;
+    enrolls = λ first. record {
+      calm = calm.enrolls first;
       placed = record {
         reset_mark = h.placed.reset_mark;
-        within = every_snoc (λ u. u.position ≤ length s.emitted) s.subscribers (record { number = s.issued + 1; position = entry s }) h.placed.within (entry_within s h.placed.reset_mark);
-        issued = every_snoc (λ u. u.number ≤ s.issued + 1) s.subscribers (record { number = s.issued + 1; position = entry s }) (issued_more s.subscribers s.issued h.placed.issued) (omega arith);
+        within = every_snoc (λ u. u.position ≤ length s.emitted) s.subscribers (record { number = s.issued + 1; own = first; position = entry s }) h.placed.within (entry_within s h.placed.reset_mark);
+        issued = every_snoc (λ u. u.number ≤ s.issued + 1) s.subscribers (record { number = s.issued + 1; own = first; position = entry s }) (issued_more s.subscribers s.issued h.placed.issued) (omega arith);
       };
       rises = enroll_rises s h.rises;
     };
+    takes_own = λ u v own e. record { calm = calm.takes_own u v own e; placed = own_placed u own s h.placed; rises = h.rises };
     forgets = record { calm = calm.forgets; placed = record { reset_mark = omega arith; within = h.placed.within; issued = h.placed.issued }; rises = h.rises };
   }
 

@@ -7,26 +7,26 @@ use Rattle.std.proofs.lemmas.Bool.Decides.{Decides-eqb}
 use Rattle.std.proofs.Math.Seq.{drop-append-add}
 use Rattle.std.proofs.lemmas.List.{take-append-drop, drop-drop, drop-append-le, map-append, length-map}
 use Rattle.std.proofs.lemmas.Grind.{common_steps}
-use Rattle.flow_law.specs.SharedFlow.{Numbered, Subscriber, SharedFlowState, cache_start, values, cache, entry, is_offering, newest, position_of, move_to, stand_at, raise_to, without}
+use Rattle.flow_law.specs.SharedFlow.{Numbered, Subscriber, SharedFlowState, cache_start, values, cache, entry, is_offering, newest, position_of, move_to, stand_at, raise_to, without, leave_own, with_own}
 use Rattle.flow_law.specs.EmitRule.{append, suspend}
-use Rattle.flow_law.specs.SharedStep.{admit, settle, enroll, forget}
+use Rattle.flow_law.specs.SharedStep.{admit, settle, enroll, forget, keep_own}
 use Rattle.flow_law.specs.Standing.{Core, StandsFor, EndsWith, least_position, first_needed, needed}
 
 -- ---- the least position
 
-pub least_position_bound : (b : ℕ) (us : List Subscriber) → least_position b us ≤ b
+pub least_position_bound : {T : Type 0} (b : ℕ) (us : List (Subscriber T)) → least_position b us ≤ b
 least_position_bound b [] = omega arith
 least_position_bound b (u ∷ us) = omega (arith, least_position_bound b us)
 
-pub least_position_rises : (a b : ℕ) (us : List Subscriber) → a ≤ b → least_position a us ≤ least_position b us
+pub least_position_rises : {T : Type 0} (a b : ℕ) (us : List (Subscriber T)) → a ≤ b → least_position a us ≤ least_position b us
 least_position_rises a b [] h = h
 least_position_rises a b (u ∷ us) h = omega (arith, least_position_rises a b us h)
 
-pub least_position-append : (b : ℕ) (us : List Subscriber) (v : Subscriber) → least_position b (us ++ v ∷ []) ≡ min v.position (least_position b us)
+pub least_position-append : {T : Type 0} (b : ℕ) (us : List (Subscriber T)) (v : Subscriber T) → least_position b (us ++ v ∷ []) ≡ min v.position (least_position b us)
 least_position-append b [] v = refl
 least_position-append b (u ∷ us) v = omega (arith, least_position-append b us v)
 
-pub least_position-move_to : (b number p : ℕ) (us : List Subscriber) → IfSome (position_of number us) (λ q. q ≤ p) → least_position b us ≤ least_position b (move_to number p us)
+pub least_position-move_to : {T : Type 0} (b number p : ℕ) (us : List (Subscriber T)) → IfSome (position_of number us) (λ q. q ≤ p) → least_position b us ≤ least_position b (move_to number p us)
 least_position-move_to b number p [] h = omega arith
 least_position-move_to b number p (u ∷ us) h =
     elim (u.number == number) as (λ t. IfSome (if t then Some u.position else position_of number us) (λ q. q ≤ p)
@@ -35,18 +35,26 @@ least_position-move_to b number p (u ∷ us) h =
       | false ↦ λ le. omega (arith, least_position-move_to b number p us le)
     ] h
 
-pub least_position-raise_to : (b floor : ℕ) (us : List Subscriber) → least_position b us ≤ least_position b (raise_to floor us)
+pub least_position-raise_to : {T : Type 0} (b floor : ℕ) (us : List (Subscriber T)) → least_position b us ≤ least_position b (raise_to floor us)
 least_position-raise_to b floor [] = omega arith
 least_position-raise_to b floor (u ∷ us) = omega (arith, least_position-raise_to b floor us)
 
-pub least_position-gathered : (b n : ℕ) (us : List Subscriber) → b ≤ n → least_position b us ≤ least_position b (map (stand_at n) us)
+pub least_position-gathered : {T : Type 0} (b n : ℕ) (us : List (Subscriber T)) → b ≤ n → least_position b us ≤ least_position b (map (stand_at n) us)
 least_position-gathered b n us h = omega (arith, least_position_bound b us, no_lower b n us h)
   where
-    no_lower : (b n : ℕ) (us : List Subscriber) → b ≤ n → b ≤ least_position b (map (stand_at n) us)
+    no_lower : {T : Type 0} (b n : ℕ) (us : List (Subscriber T)) → b ≤ n → b ≤ least_position b (map (stand_at n) us)
     no_lower b n [] h = omega arith
     no_lower b n (u ∷ us) h = omega (arith, no_lower b n us h)
 
-pub least_position-without : (b number : ℕ) (us : List Subscriber) → least_position b us ≤ least_position b (without number us)
+pub least_position-with_own : {T : Type 0} (b number : ℕ) (own : List T) (us : List (Subscriber T)) → least_position b (with_own number own us) ≡ least_position b us
+least_position-with_own b number own [] = refl
+least_position-with_own b number own (u ∷ us) =
+    elim (u.number == number) as (λ t. least_position b (if t then leave_own own u ∷ us else u ∷ with_own number own us) ≡ min u.position (least_position b us)) [
+      | true ↦ refl
+      | false ↦ ap (λ n. min u.position n) (least_position-with_own b number own us)
+    ]
+
+pub least_position-without : {T : Type 0} (b number : ℕ) (us : List (Subscriber T)) → least_position b us ≤ least_position b (without number us)
 least_position-without b number [] = omega arith
 least_position-without b number (u ∷ us) =
     elim (u.number == number) as (λ t. min u.position (least_position b us) ≤ least_position b (cond (not t) (u ∷ without number us) (without number us))) [
@@ -54,7 +62,7 @@ least_position-without b number (u ∷ us) =
       | false ↦ omega (arith, least_position-without b number us)
     ]
 
-pub least_position-position_of : (b number : ℕ) (us : List Subscriber) → IfSome (position_of number us) (λ p. least_position b us ≤ p)
+pub least_position-position_of : {T : Type 0} (b number : ℕ) (us : List (Subscriber T)) → IfSome (position_of number us) (λ p. least_position b us ≤ p)
 least_position-position_of b number [] = tt
 least_position-position_of b number (u ∷ us) =
     elim (u.number == number) as (λ t. IfSome (if t then Some u.position else position_of number us) (λ p. min u.position (least_position b us) ≤ p)) [
@@ -67,7 +75,7 @@ least_position-position_of b number (u ∷ us) =
     above (Some p) h = omega (arith, h)
 
 -- where a value is offered, somebody has still to receive it
-pub least_position_offered : (b n : ℕ) (us : List Subscriber) → list_any (λ u. (n - u.position) == 1) us ≡ true → (least_position b us ≤ n - 1) × (1 ≤ n)
+pub least_position_offered : {T : Type 0} (b n : ℕ) (us : List (Subscriber T)) → list_any (λ u. (n - u.position) == 1) us ≡ true → (least_position b us ≤ n - 1) × (1 ≤ n)
 least_position_offered b n [] h = absurd (cc)
 least_position_offered b n (u ∷ us) h =
     elim (n - u.position == 1) as (λ t. (n - u.position == 1) ≡ t → (t || list_any (λ v. (n - v.position) == 1) us) ≡ true
@@ -187,7 +195,7 @@ module _ {T : Type 0} where
       (ap (λ n. n + 1) stands.issued)
 
   -- other positions, none of which asks for an earlier value
-  pub stands-subscribers : (core : Core T) (s : SharedFlowState T) (old new : List Subscriber) (m n : ℕ) → StandsFor core s → old ≡ new → m ≡ n
+  pub stands-subscribers : (core : Core T) (s : SharedFlowState T) (old new : List (Subscriber T)) (m n : ℕ) → StandsFor core s → old ≡ new → m ≡ n
       → least_position (cache_start s) s.subscribers ≤ least_position (cache_start s) new
       → StandsFor (record core { subscribers = old; issued = m }) (record s { subscribers = new; issued = n })
   stands-subscribers core s old new m n stands same count later = record {
@@ -214,11 +222,18 @@ module _ {T : Type 0} where
       and_right false b h = absurd (cc)
 
   -- a subscriber more
-  pub stands-enroll : (core : Core T) (s : SharedFlowState T) (p : ℕ) → StandsFor core s → p ≡ entry s
-      → StandsFor (record core { subscribers = core.subscribers ++ record { number = core.issued + 1; position = p } ∷ []; issued = core.issued + 1 }) (enroll s)
-  stands-enroll core s p stands at =
-      let joined = least_position-append (cache_start s) s.subscribers (record { number = s.issued + 1; position = entry s }) in
+  pub stands-enroll : (core : Core T) (s : SharedFlowState T) (first : List T) (p : ℕ) → StandsFor core s → p ≡ entry s
+      → StandsFor (record core { subscribers = core.subscribers ++ record { number = core.issued + 1; own = first; position = p } ∷ []; issued = core.issued + 1 }) (enroll first s)
+  stands-enroll core s first p stands at =
+      let joined = least_position-append (cache_start s) s.subscribers (record { number = s.issued + 1; own = first; position = entry s }) in
       stands-subscribers core s _ _ _ _ stands (cc (stands.subscribers, stands.issued, at)) (ap (λ n. n + 1) stands.issued) (omega (arith, needed_entry s, joined))
+
+  -- a subscriber has an own value less
+  pub stands-own : (core : Core T) (s : SharedFlowState T) (number : ℕ) (own : List T) → StandsFor core s
+      → StandsFor (record core { subscribers = with_own number own core.subscribers }) (keep_own number own s)
+  stands-own core s number own stands =
+      let same = least_position-with_own (cache_start s) number own s.subscribers in
+      stands-subscribers core s _ _ _ _ stands (ap (with_own number own) stands.subscribers) stands.issued (omega (arith, same))
 
   -- the cache of a new subscriber is empty from now on
   pub stands-forget : (core : Core T) (s : SharedFlowState T) → core.reset_mark ≤ core.appended → StandsFor core s

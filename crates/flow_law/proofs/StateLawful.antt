@@ -117,10 +117,12 @@ module _ {T : Type 0} where
     gives_new = gives_new;
     next_speaks = λ u. refl;
     unsubscribe_speaks = λ u. refl;
-    subscribe_speaks = λ name. refl;
     count_speaks = refl;
-    subscribe_gives = λ by name u. refl;
-    subscribe_has = λ s name u l. some-last u s.subscribers (record { number = u; last = None }) refl;
+    subscribing = record {
+      speaks = λ name. refl;
+      gives = λ by name u. refl;
+      has = λ s name u l. some-last u s.subscribers (record { number = u; last = None }) refl;
+    };
     others_keep = λ u s c r other. event_has u s c r (λ e. other (ap speaks_of e));
     next_keeps = λ u s r. event_has u s (call.TakeNext u) r (λ e. absurd (cc));
     never_gone = never_gone;

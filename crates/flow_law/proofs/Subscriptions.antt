@@ -5,7 +5,7 @@ use Rattle.flow_law.specs.declared.history.Said.{Said}
 use Rattle.flow_law.specs.Growth.{event, GrowsByOthers}
 use Rattle.flow_law.specs.OneHistory.{said}
 use Rattle.flow_law.specs.History.{Kind, Number, subscriber, after_all, IsLegal, IsHistory, IsGiven, IsSubscribed}
-use Rattle.flow_law.specs.Lawful.{Lawful}
+use Rattle.flow_law.specs.Lawful.{Lawful, Subscribing}
 use Rattle.flow_law.proofs.HistoryLemmas.{after_all-snoc}
 use Rattle.flow_law.proofs.Owners.{legal_left, legal_right, last_given, given_stays, kept_in_silence}
 
@@ -40,12 +40,12 @@ module _ {T S C R : Type 0} (kind : Kind T S C R) (law : Lawful kind) where
       )
 
   -- of a subscription, the name has the number, and the number is a subscriber's
-  pub subscription_given : (h : Log) (by name : List ℕ) (u : ℕ)
-      → IsGiven kind name (subscriber u) (h ++ event by (said (kind.subscribe name) (kind.subscribed u)) ∷ []) × IsSubscribed kind u (h ++ event by (said (kind.subscribe name) (kind.subscribed u)) ∷ [])
-  subscription_given h by name u =
-      let last : Event (Said C R) = event by (said (kind.subscribe name) (kind.subscribed u)) in (
-        last_given kind h last (record { number = subscriber u; name = name }) (law.subscribe_gives by name u),
+  pub subscription_given : (subscribe : List ℕ → C) → Subscribing kind subscribe → (h : Log) (by name : List ℕ) (u : ℕ)
+      → IsGiven kind name (subscriber u) (h ++ event by (said (subscribe name) (kind.subscribed u)) ∷ []) × IsSubscribed kind u (h ++ event by (said (subscribe name) (kind.subscribed u)) ∷ [])
+  subscription_given subscribe subscribing h by name u =
+      let last : Event (Said C R) = event by (said (subscribe name) (kind.subscribed u)) in (
+        last_given kind h last (record { number = subscriber u; name = name }) (subscribing.gives by name u),
         λ other l.
             subst (kind.HasSubscriber u) (sym (after_all-snoc kind other h last))
-            (law.subscribe_has (after_all kind other h) name u (legal_right kind other h (last ∷ []) l).0),
+            (subscribing.has (after_all kind other h) name u (legal_right kind other h (last ∷ []) l).0),
       )

@@ -10,7 +10,7 @@ use Rattle.flow_law.specs.declared.outcome.Next.TheVariants.{Gone}
 use Rattle.flow_law.specs.Growth.{event, sees, child, child_name, Fits, GrowsByOthers}
 use Rattle.flow_law.specs.OneHistory.{AddsOne, said}
 use Rattle.flow_law.specs.History.{Kind, Number, Owner, subscriber, after_all, owners_all, IsHistory, replied, MaySpeak, MayCall, IsGiven, IsSubscribed, IsSubscription}
-use Rattle.flow_law.specs.Lawful.{Lawful}
+use Rattle.flow_law.specs.Lawful.{Lawful, Subscribing}
 use Rattle.flow_law.specs.Standing.{Documents, StandsForHistory}
 use Rattle.flow_law.specs.Tokens.{NumberedToken, CallsAtOnceIn, NextsNowIn}
 use Rattle.flow_law.proofs.HistoryLemmas.{after_all-snoc, IsHistory-snoc}
@@ -99,11 +99,11 @@ module _ {T S C R : Type 0} (kind : Kind T S C R) (law : Lawful kind) where
   busy_is_no_event first before after c a = law.never_busy (after_all kind first (earlier first before after _ _ a)) c (replies first before after c (kind.refused Busy) a)
 
   -- the token that is made through the caller's, after the event, is the subscription's
-  pub subscription_made : (first : S) (before between : Knowledge (Said C R)) (u : ℕ) → AddsOne (IsHistory kind first) before (kind.subscribe (child_name before.name (before.made + 1))) (kind.subscribed u) between
+  pub subscription_made : (subscribe : List ℕ → C) → Subscribing kind subscribe → (first : S) (before between : Knowledge (Said C R)) (u : ℕ) → AddsOne (IsHistory kind first) before (subscribe (child_name before.name (before.made + 1))) (kind.subscribed u) between
       → IsSubscription kind (child between) u
-  subscription_made first before between u a =
+  subscription_made subscribe subscribing first before between u a =
       let name = child_name before.name (before.made + 1) in
-      let given = subscription_given kind law (before.seen ++ a.grows.0) before.name name u in
+      let given = subscription_given kind law subscribe subscribing (before.seen ++ a.grows.0) before.name name u in
       subst (λ (z : List ℕ × List (Event (Said C R))). IsGiven kind z.0 (subscriber u) z.1 × IsSubscribed kind u z.1) (λ i. (child_name (sym a.name i) (sym a.made i + 1), sym a.grows.1 i)) given
 
 module _ {Id T S C R : Type 0} (kind : Kind T S C R) (law : Lawful kind) (first : S) (old new : NumberedToken Id (Said C R)) (subscribed : IsSubscription kind old.token.knows old.number) (number : new.number ≡ old.number) where

@@ -23,7 +23,7 @@ two = list_run (1 ∷ 2 ∷ [])
 -- the first turn, over a flow with one subscriber and no buffer
 abbrev first : Shared
 first =
-    let f = (subscribe (first_state (record { replay = 0; extra = 0; overflow = Suspend; limit = 100 }))).after in
+    let f = (subscribe [] (first_state (record { replay = 0; extra = 0; overflow = Suspend; limit = 100 }))).after in
     flow_turn shared_reply Eagerly 0 [] at_rest (record { whole = two; rest = two; hub = record { flow = f; waiting = None } })
 
 abbrev later : ℕ → Shared → Shared

@@ -39,7 +39,7 @@ module _ {T : Type 0} where
   emitting x m = record m { shared = (flow.emit x m.shared).after }
 
   abbrev pub subscribing : Beside T → Beside T
-  subscribing m = record { shared = (flow.subscribe m.shared).after; number = given (flow.subscribe m.shared).reply; last = None }
+  subscribing m = record { shared = (flow.subscribe [] m.shared).after; number = given (flow.subscribe [] m.shared).reply; last = None }
 
   abbrev pub passed_on : Result (Next T) FlowFault → Option T → Option T
   passed_on (Ok (Value v)) last = Some v

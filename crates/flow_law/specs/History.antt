@@ -2,6 +2,7 @@
 -- and all that is said of tokens, is said once and holds of every kind.
 use Rattle.std.specs.Prelude.{◌≡◌, ℕ, Bool, false, List, [], ◌∷◌, if◌then◌else◌, Option, Some, None, Result, Ok, Err, ◌==◌}
 use Rattle.flow_law.specs.declared.fault.FlowFault.{FlowFault}
+use Rattle.flow_law.specs.declared.fault.Refused.{Refused}
 use Rattle.flow_law.specs.declared.history.Event.{Event}
 use Rattle.flow_law.specs.declared.history.Knowledge.{Knowledge}
 use Rattle.flow_law.specs.declared.history.Said.{Said}
@@ -57,6 +58,11 @@ pub record Kind (T S C R : Type 0) : Type 1 where
   pub counted : ℕ → R
   pub cached : List T → R
   pub refused : FlowFault → R
+
+-- a result without what a refusal hands back
+abbrev pub fault_alone : {X Y : Type 0} → Result X (Refused Y) → Result X FlowFault
+fault_alone (Ok x) = Ok x
+fault_alone (Err refused) = Err refused.fault
 
 module _ {T S C R : Type 0} (kind : Kind T S C R) where
   -- a result as a reply, where `wrap` says what is replied where nothing is refused

@@ -14,19 +14,23 @@ abbrev pub IsNew : ℕ → Option Owner → ℕ → Type 0
 IsNew issued None later = Unit {0}
 IsNew issued (Some o) later = (issued < number_in o.number) × (number_in o.number ≤ later)
 
+-- a call that makes a subscription, by the subscription's name: what the subscription is given, and that it then is a subscriber
+pub record Subscribing {T S C R : Type 0} (kind : Kind T S C R) (subscribe : List ℕ → C) : Type 0 where
+  pub speaks : (name : List ℕ) → kind.speaks_of (subscribe name) ≡ None
+  pub gives : (by name : List ℕ) (u : ℕ) → kind.gives by (subscribe name) (kind.subscribed u) ≡ Some (record { number = subscriber u; name = name })
+  pub has : (s : S) (name : List ℕ) (u : ℕ) → kind.Replies s (subscribe name) (kind.subscribed u) → kind.HasSubscriber u (kind.after s (subscribe name) (kind.subscribed u))
+
 pub record Lawful {T S C R : Type 0} (kind : Kind T S C R) : Type 0 where
   -- how many numbers were issued
   pub issued : S → ℕ
   pub rises : (s : S) (c : C) (r : R) → kind.Replies s c r → issued s ≤ issued (kind.after s c r)
   pub gives_new : (s : S) (name : List ℕ) (c : C) (r : R) → kind.Replies s c r → IsNew (issued s) (kind.gives name c r) (issued (kind.after s c r))
-  -- what a subscriber's calls speak of, and what a subscription is given
+  -- what a subscriber's calls speak of
   pub next_speaks : (u : ℕ) → kind.speaks_of (kind.take_next u) ≡ Some (subscriber u)
   pub unsubscribe_speaks : (u : ℕ) → kind.speaks_of (kind.unsubscribe u) ≡ Some (subscriber u)
-  pub subscribe_speaks : (name : List ℕ) → kind.speaks_of (kind.subscribe name) ≡ None
   pub count_speaks : kind.speaks_of kind.count ≡ None
-  pub subscribe_gives : (by name : List ℕ) (u : ℕ) → kind.gives by (kind.subscribe name) (kind.subscribed u) ≡ Some (record { number = subscriber u; name = name })
   -- who subscribes is a subscriber, and stays one while no call speaks of the number but `next`
-  pub subscribe_has : (s : S) (name : List ℕ) (u : ℕ) → kind.Replies s (kind.subscribe name) (kind.subscribed u) → kind.HasSubscriber u (kind.after s (kind.subscribe name) (kind.subscribed u))
+  pub subscribing : Subscribing kind kind.subscribe
   pub others_keep : (u : ℕ) (s : S) (c : C) (r : R) → kind.speaks_of c ≢ Some (subscriber u) → kind.HasSubscriber u s → kind.HasSubscriber u (kind.after s c r)
   pub next_keeps : (u : ℕ) (s : S) (r : R) → kind.HasSubscriber u s → kind.HasSubscriber u (kind.after s (kind.take_next u) r)
   -- what a subscriber is told

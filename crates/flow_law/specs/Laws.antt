@@ -2,9 +2,9 @@
 use Rattle.std.specs.Prelude.{◌≡◌, ℕ, ◌<◌, ◌≤◌, false, List, [], ◌∷◌, ◌++◌, map, drop, Some}
 use Rattle.flow_law.specs.declared.config.Config.{Config}
 use Rattle.flow_law.specs.declared.config.Overflow.TheVariants.{Suspend}
-use Rattle.flow_law.specs.SharedFlow.{SharedFlowState, is_blocked, capacity, values, position_of}
+use Rattle.flow_law.specs.SharedFlow.{SharedFlowState, is_blocked, capacity, values, position_of, own_of}
 use Rattle.flow_law.specs.SharedHistory.{History, IsLegal, state_after}
-use Rattle.flow_law.specs.Mailbox.{taken, box, delivered, received, entered}
+use Rattle.flow_law.specs.Mailbox.{taken, own, box, delivered, received, began}
 
 -- the numbers rise, the first one above the floor, and none is above the top
 abbrev pub RisesTo : ℕ → List ℕ → ℕ → Type 0
@@ -20,13 +20,15 @@ module _ {T : Type 0} where
   abbrev pub numbers : SharedFlowState T → List ℕ
   numbers s = map (λ e. e.number) (s.emitted ++ s.queue)
 
-  -- what u took is what `next` gave it, and what it has still to take stands in the log from its position
+  -- what u took is what `next` gave it; what is left of its own values is what the flow keeps for it; and what it has still to
+  -- take of the flow's values stands in the log from its position
   pub record Delivers (u : ℕ) (config : Config) (h : History T) : Type 0 where
     pub replies : taken u config h ≡ received u h
+    pub own_left : (p : ℕ) → position_of u (state_after config h).subscribers ≡ Some p → own_of u (state_after config h).subscribers ≡ own u config h
     pub rest : (p : ℕ) → position_of u (state_after config h).subscribers ≡ Some p → drop p (values (state_after config h)) ≡ box u config h
-    -- nothing is skipped
+    -- its own values come first, and then nothing is skipped
     pub whole : config.overflow ≡ Suspend → 0 < capacity (state_after config h) → (p : ℕ) → position_of u (state_after config h).subscribers ≡ Some p
-        → delivered u config h ≡ drop (entered u config h) (values (state_after config h))
+        → delivered u config h ≡ (began u config h).first ++ drop (began u config h).entry (values (state_after config h))
     -- so each emitter's values stand in its order
     pub in_order : RisesTo 0 (numbers (state_after config h)) (state_after config h).issued
 

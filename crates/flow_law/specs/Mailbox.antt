@@ -12,8 +12,15 @@ use Rattle.flow_law.specs.SharedHistory.{History, after}
 pub record Mailbox (T : Type 0) : Type 0 where
   -- what the subscriber took, the first value in front
   pub taken : List T
-  -- what it has still to take
+  -- what is left of its own first values, which it takes before those in the box
+  pub own : List T
+  -- what it has still to take of the flow's values
   pub box : List T
+
+-- what a subscriber began with: its own first values, and where it entered the log
+pub record Beginning (T : Type 0) : Type 0 where
+  pub first : List T
+  pub entry : ℕ
 
 module _ {T : Type 0} where
   abbrev pub keep_last : ℕ → List T → List T
@@ -24,19 +31,21 @@ module _ {T : Type 0} where
   arrive room box [] = box
   arrive room box (v ∷ vs) = arrive room (keep_last room (box ++ v ∷ [])) vs
 
-  abbrev pub take_first : List T → List T → Mailbox T
-  take_first taken [] = record { taken = taken; box = [] }
-  take_first taken (v ∷ vs) = record { taken = taken ++ v ∷ []; box = vs }
+  -- the arguments are what was taken, what is left of the own values, and the box
+  abbrev pub take_first : List T → List T → List T → Mailbox T
+  take_first taken (v ∷ own) box = record { taken = taken ++ v ∷ []; own = own; box = box }
+  take_first taken [] [] = record { taken = taken; own = []; box = [] }
+  take_first taken [] (v ∷ vs) = record { taken = taken ++ v ∷ []; own = []; box = vs }
 
-  -- what a new subscriber finds: the cache, or the offered value alone
+  -- what a new subscriber finds besides: the cache, or the offered value alone
   abbrev pub found_at_entry : SharedFlowState T → List T
   found_at_entry s = if is_offering s then drop (length s.emitted - 1) (values s) else cache s
 
   -- before any value arrives
   abbrev pub before_arrivals : ℕ → SharedFlowState T → SharedCall T → SharedReply T → Mailbox T → Mailbox T
-  before_arrivals u s (call.Subscribe name) (reply.Subscribed n) m = if n == u then record m { box = found_at_entry s } else m
+  before_arrivals u s (call.Subscribe name first) (reply.Subscribed n) m = if n == u then record m { own = first; box = found_at_entry s } else m
   before_arrivals u s (call.TakeNext n) (reply.Received Gone) m = m
-  before_arrivals u s (call.TakeNext n) (reply.Received _) m = if n == u then take_first m.taken m.box else m
+  before_arrivals u s (call.TakeNext n) (reply.Received _) m = if n == u then take_first m.taken m.own m.box else m
   before_arrivals u s (call.Cancel e) (reply.Tested _) m = if is_offered_as e s then record m { box = [] } else m
   before_arrivals u s _ _ m = m
 
@@ -56,16 +65,19 @@ module _ {T : Type 0} where
 
   -- the mailbox of the subscriber u after a history of a flow of this configuration
   abbrev pub mailbox : ℕ → Config → History T → Mailbox T
-  mailbox u config h = mailbox_from u (first_state config) h (record { taken = []; box = [] })
+  mailbox u config h = mailbox_from u (first_state config) h (record { taken = []; own = []; box = [] })
 
   abbrev pub taken : ℕ → Config → History T → List T
   taken u config h = (mailbox u config h).taken
+
+  abbrev pub own : ℕ → Config → History T → List T
+  own u config h = (mailbox u config h).own
 
   abbrev pub box : ℕ → Config → History T → List T
   box u config h = (mailbox u config h).box
 
   abbrev pub delivered : ℕ → Config → History T → List T
-  delivered u config h = taken u config h ++ box u config h
+  delivered u config h = taken u config h ++ (own u config h ++ box u config h)
 
   -- the values that `next` gave to u
   abbrev pub received_by : ℕ → SharedCall T → SharedReply T → List T
@@ -76,14 +88,14 @@ module _ {T : Type 0} where
   received u [] = []
   received u (e ∷ es) = received_by u e.what.call e.what.reply ++ received u es
 
-  -- where u entered the log
-  abbrev pub entered_by : ℕ → SharedFlowState T → SharedCall T → SharedReply T → ℕ → ℕ
-  entered_by u s (call.Subscribe name) (reply.Subscribed n) p = if n == u then entry s else p
-  entered_by u s _ _ p = p
+  -- what u began with
+  abbrev pub began_by : ℕ → SharedFlowState T → SharedCall T → SharedReply T → Beginning T → Beginning T
+  began_by u s (call.Subscribe name first) (reply.Subscribed n) b = if n == u then record { first = first; entry = entry s } else b
+  began_by u s _ _ b = b
 
-  abbrev pub entered_from : ℕ → SharedFlowState T → History T → ℕ → ℕ
-  entered_from u s [] p = p
-  entered_from u s (e ∷ es) p = entered_from u (after s e.what.call e.what.reply) es (entered_by u s e.what.call e.what.reply p)
+  abbrev pub began_from : ℕ → SharedFlowState T → History T → Beginning T → Beginning T
+  began_from u s [] b = b
+  began_from u s (e ∷ es) b = began_from u (after s e.what.call e.what.reply) es (began_by u s e.what.call e.what.reply b)
 
-  abbrev pub entered : ℕ → Config → History T → ℕ
-  entered u config h = entered_from u (first_state config) h 0
+  abbrev pub began : ℕ → Config → History T → Beginning T
+  began u config h = began_from u (first_state config) h (record { first = []; entry = 0 })

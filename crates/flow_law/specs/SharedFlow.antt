@@ -6,6 +6,7 @@
 --                  |       where the cache begins, with replay 2
 --                  a slow subscriber (lag 4): at lag `window` the flow is blocked
 --   queue      v6  v7                  values whose emitters wait, not emitted yet
+--   own        o1  o2                  a subscriber's own first values, which it receives before any emitted one
 -- Begin with `is_blocked`, `cache_start` and `entry`. What a call does is in EmitRule and SharedStep.
 use Rattle.std.specs.Prelude.{ℕ, ◌+◌, ◌-◌, max, Bool, true, false, not, ◌&&◌, ◌==◌, nat_lt, nat_le, if◌then◌else◌, List, [], ◌∷◌, length, drop, map, filter, slice_get, Option, Some, None, Result, Ok, Err}
 use Rattle.std.specs.List.{list_any}
@@ -45,26 +46,41 @@ config_fault config =
 
 -- ---- subscribers
 
--- where a subscriber stands
-abbrev pub position_of : ℕ → List Subscriber → Option ℕ
-position_of number [] = None
-position_of number (u ∷ us) = if u.number == number then Some u.position else position_of number us
-
-abbrev pub stand_at : ℕ → Subscriber → Subscriber
-stand_at position u = record u { position = position }
-
-abbrev pub move_to : ℕ → ℕ → List Subscriber → List Subscriber
-move_to number position [] = []
-move_to number position (u ∷ us) = if u.number == number then stand_at position u ∷ us else u ∷ move_to number position us
-
--- everybody stands at least there
-abbrev pub raise_to : ℕ → List Subscriber → List Subscriber
-raise_to floor = map (λ u. stand_at (max u.position floor) u)
-
-abbrev pub without : ℕ → List Subscriber → List Subscriber
-without number = filter (λ u. not (u.number == number))
-
 module _ {T : Type 0} where
+  -- where a subscriber stands
+  abbrev pub position_of : ℕ → List (Subscriber T) → Option ℕ
+  position_of number [] = None
+  position_of number (u ∷ us) = if u.number == number then Some u.position else position_of number us
+
+  abbrev pub stand_at : ℕ → Subscriber T → Subscriber T
+  stand_at position u = record u { position = position }
+
+  abbrev pub move_to : ℕ → ℕ → List (Subscriber T) → List (Subscriber T)
+  move_to number position [] = []
+  move_to number position (u ∷ us) = if u.number == number then stand_at position u ∷ us else u ∷ move_to number position us
+
+  -- everybody stands at least there
+  abbrev pub raise_to : ℕ → List (Subscriber T) → List (Subscriber T)
+  raise_to floor = map (λ u. stand_at (max u.position floor) u)
+
+  abbrev pub without : ℕ → List (Subscriber T) → List (Subscriber T)
+  without number = filter (λ u. not (u.number == number))
+
+  -- what is left of a subscriber's own first values
+  abbrev pub own_of : ℕ → List (Subscriber T) → List T
+  own_of number [] = []
+  own_of number (u ∷ us) = if u.number == number then u.own else own_of number us
+
+  abbrev pub leave_own : List T → Subscriber T → Subscriber T
+  leave_own own u = record u { own = own }
+
+  -- so much is left of a subscriber's own first values, and it stands where it stood
+  abbrev pub with_own : ℕ → List T → List (Subscriber T) → List (Subscriber T)
+  with_own number own [] = []
+  with_own number own (u ∷ us) = if u.number == number then leave_own own u ∷ us else u ∷ with_own number own us
+
+  -- ---- lag
+
   -- how many values the flow keeps for a subscriber before it is blocked
   abbrev pub capacity : SharedFlowState T → ℕ
   capacity s = s.config.replay + s.config.extra
@@ -73,10 +89,8 @@ module _ {T : Type 0} where
   abbrev pub window : SharedFlowState T → ℕ
   window s = max (capacity s) 1
 
-  -- ---- lag
-
-  -- how many values a subscriber has still to receive
-  abbrev pub lag : SharedFlowState T → Subscriber → ℕ
+  -- how many emitted values a subscriber has still to receive; its own first values do not count
+  abbrev pub lag : SharedFlowState T → Subscriber T → ℕ
   lag s u = length s.emitted - u.position
 
   -- some subscriber has a whole window to receive
@@ -96,7 +110,7 @@ module _ {T : Type 0} where
   abbrev pub values : SharedFlowState T → List T
   values s = map (λ e. e.value) s.emitted
 
-  -- what a new subscriber gets first
+  -- what a new subscriber gets after its own first values
   abbrev pub cache : SharedFlowState T → List T
   cache s = drop (cache_start s) (values s)
 

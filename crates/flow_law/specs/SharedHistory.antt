@@ -1,5 +1,5 @@
 -- Histories of a shared flow.
-use Rattle.std.specs.Prelude.{◌≡◌, ℕ, IsTrue, Bool, true, false, not, ◌&&◌, if◌then◌else◌, List, ◌∷◌, Option, Some, None, IsSome, Result, Ok, Err}
+use Rattle.std.specs.Prelude.{◌≡◌, ℕ, IsTrue, Bool, true, false, not, ◌&&◌, ◌==◌, if◌then◌else◌, List, [], ◌∷◌, length, Option, Some, None, IsSome, Result, Ok, Err}
 use Rattle.flow_law.specs.declared.config.Config.{Config}
 use Rattle.flow_law.specs.declared.fault.FlowFault.{FlowFault}
 use Rattle.flow_law.specs.declared.fault.FlowFault.TheVariants.{OutOfMemory}
@@ -11,7 +11,7 @@ use Rattle.flow_law.specs.declared.call.SharedCall.{SharedCall}
 use Rattle.flow_law.specs.declared.call.SharedCall.TheVariants as call
 use Rattle.flow_law.specs.declared.call.SharedReply.{SharedReply}
 use Rattle.flow_law.specs.declared.call.SharedReply.TheVariants as reply
-use Rattle.flow_law.specs.SharedFlow.{SharedFlowState, Answer, first_state, config_fault, position_of}
+use Rattle.flow_law.specs.SharedFlow.{SharedFlowState, Answer, first_state, config_fault, position_of, own_of}
 use Rattle.flow_law.specs.EmitRule.{emit_case, is_accepted, is_accepted_now}
 use Rattle.flow_law.specs.SharedStep as flow
 use Rattle.flow_law.specs.History.{Number, subscriber, emission, Owner, Kind}
@@ -35,7 +35,7 @@ module _ {T : Type 0} where
   answer_to (call.Emit v) s = outcome_of reply.Emitted (flow.emit v s)
   answer_to (call.Poll e) s = outcome_of reply.Tested (flow.poll e s)
   answer_to (call.Cancel e) s = outcome_of reply.Tested (flow.cancel e s)
-  answer_to (call.Subscribe name) s = outcome_of reply.Subscribed (flow.subscribe s)
+  answer_to (call.Subscribe name first) s = outcome_of reply.Subscribed (flow.subscribe first s)
   answer_to (call.TakeNext u) s = outcome_of reply.Received (flow.next u s)
   answer_to (call.Unsubscribe u) s = outcome_of reply.Tested (flow.unsubscribe u s)
   answer_to call.ReplayCache s = outcome_of reply.Cached (flow.replay_cache s)
@@ -57,8 +57,9 @@ module _ {T : Type 0} where
   abbrev pub may_need_memory : SharedFlowState T → SharedCall T → Bool
   may_need_memory s (call.TryEmit v) = is_accepted_now (emit_case s)
   may_need_memory s (call.Emit v) = is_accepted (emit_case s)
-  may_need_memory s (call.Subscribe name) = true
-  may_need_memory s (call.TakeNext u) = hands_out (answer_to (call.TakeNext u) s).reply
+  may_need_memory s (call.Subscribe name first) = true
+  -- an own first value is moved out
+  may_need_memory s (call.TakeNext u) = (length (own_of u s.subscribers) == 0) && hands_out (answer_to (call.TakeNext u) s).reply
   may_need_memory s call.ReplayCache = hands_out (answer_to call.ReplayCache s).reply
   may_need_memory s _ = false
 
@@ -73,7 +74,7 @@ module _ {T : Type 0} where
 
   -- the subscription gets the subscriber's number, and the emitter that of an emission that waits
   abbrev pub gives : List ℕ → SharedCall T → SharedReply T → Option Owner
-  gives name (call.Subscribe given) (reply.Subscribed u) = Some (record { number = subscriber u; name = given })
+  gives name (call.Subscribe given first) (reply.Subscribed u) = Some (record { number = subscriber u; name = given })
   gives name (call.Emit v) (reply.Emitted (Queued e)) = Some (record { number = emission e; name = name })
   gives name _ _ = None
 
@@ -93,7 +94,7 @@ module _ {T : Type 0} where
     gives = gives;
     speaks_of = speaks_of;
     HasSubscriber = λ u s. IsSome (position_of u s.subscribers);
-    subscribe = call.Subscribe;
+    subscribe = λ name. call.Subscribe name [];
     take_next = call.TakeNext;
     unsubscribe = call.Unsubscribe;
     count = call.SubscriptionCount;

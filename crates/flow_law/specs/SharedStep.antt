@@ -4,7 +4,7 @@ use Rattle.std.specs.Prelude.{ℕ, ◌+◌, Bool, not, ◌||◌, ◌==◌, if◌
 use Rattle.std.specs.Option.{option_map_or}
 use Rattle.flow_law.specs.declared.outcome.Next.{Next}
 use Rattle.flow_law.specs.declared.outcome.Next.TheVariants.{Value, Empty, Gone}
-use Rattle.flow_law.specs.SharedFlow.{Numbered, SharedFlowState, issuing, is_blocked, cache, entry, values, is_queued, is_offered_as, position_of, stand_at, move_to, without}
+use Rattle.flow_law.specs.SharedFlow.{Numbered, SharedFlowState, issuing, is_blocked, cache, entry, values, is_queued, is_offered_as, position_of, stand_at, move_to, without, own_of, with_own}
 pub use Rattle.flow_law.specs.SharedFlow.{Answer, answer}
 pub use Rattle.flow_law.specs.EmitRule.{emit, try_emit}
 
@@ -37,15 +37,15 @@ module _ {T : Type 0} where
 
   -- ---- subscribers
 
-  -- the subscriber takes the next number, and stands where the cache begins or at the offered value
-  abbrev pub enroll : SharedFlowState T → SharedFlowState T
-  enroll s = record s {
-    subscribers = s.subscribers ++ record { number = s.issued + 1; position = entry s } ∷ [];
+  -- the subscriber takes the next number, and stands where the cache begins or at the offered value, with its own first values
+  abbrev pub enroll : List T → SharedFlowState T → SharedFlowState T
+  enroll first s = record s {
+    subscribers = s.subscribers ++ record { number = s.issued + 1; own = first; position = entry s } ∷ [];
     issued = s.issued + 1;
   }
 
-  abbrev pub subscribe : SharedFlowState T → Answer ℕ T
-  subscribe s = issuing s (answer (s.issued + 1) (enroll s))
+  abbrev pub subscribe : List T → SharedFlowState T → Answer ℕ T
+  subscribe first s = issuing s (answer (s.issued + 1) (enroll first s))
 
   abbrev pub advance : ℕ → ℕ → SharedFlowState T → SharedFlowState T
   advance number position s = record s { subscribers = move_to number position s.subscribers }
@@ -56,8 +56,20 @@ module _ {T : Type 0} where
       option_map_or (λ value. answer (Value value) (settle (advance number (position + 1) s)))
       (slice_get (values s) position) (answer Empty s)
 
+  abbrev pub next_emitted : ℕ → SharedFlowState T → Answer (Next T) T
+  next_emitted number s = option_map_or (λ position. read number position s) (position_of number s.subscribers) (answer Gone s)
+
+  -- so much is left of the subscriber's own first values
+  abbrev pub keep_own : ℕ → List T → SharedFlowState T → SharedFlowState T
+  keep_own number own s = record s { subscribers = with_own number own s.subscribers }
+
+  -- the first of what is left of its own values, and an emitted one where nothing is left
+  abbrev pub next_from : ℕ → List T → SharedFlowState T → Answer (Next T) T
+  next_from number [] s = next_emitted number s
+  next_from number (value ∷ own) s = answer (Value value) (keep_own number own s)
+
   abbrev pub next : ℕ → SharedFlowState T → Answer (Next T) T
-  next number s = option_map_or (λ position. read number position s) (position_of number s.subscribers) (answer Gone s)
+  next number s = next_from number (own_of number s.subscribers) s
 
   abbrev pub leave : ℕ → SharedFlowState T → SharedFlowState T
   leave number s = record s { subscribers = without number s.subscribers }

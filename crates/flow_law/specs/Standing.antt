@@ -46,11 +46,11 @@ pub record Core (T : Type 0) : Type 0 where
   pub newest : ℕ
   pub reset_mark : ℕ
   pub queue : List (Numbered T)
-  pub subscribers : List Subscriber
+  pub subscribers : List (Subscriber T)
   pub issued : ℕ
 
 -- the least of a bound and all positions
-abbrev pub least_position : ℕ → List Subscriber → ℕ
+abbrev pub least_position : {T : Type 0} → ℕ → List (Subscriber T) → ℕ
 least_position bound [] = bound
 least_position bound (u ∷ us) = min u.position (least_position bound us)
 

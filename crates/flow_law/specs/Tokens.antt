@@ -85,12 +85,13 @@ module _ {Id T S C R : Type 0} (kind : Kind T S C R) (first : S) where
     pub sees_one : one_after ≡ knowing one (sees history one.knows)
     pub sees_other : other_after ≡ knowing other (sees history other.knows)
 
-  -- The subscription's token is made through the caller's, after the event: both have seen it.
-  abbrev pub SubscribesIn : Token Id (Said C R) → Result (NumberedToken Id (Said C R)) FlowFault → Token Id (Said C R) → Type 0
-  SubscribesIn before (Ok s) after =
-      (between : Token Id (Said C R)) × CallsIn before (kind.subscribe (subscription_name before.knows)) (kind.subscribed s.number) between
+  -- `subscribe` is the call, by the subscription's name. The subscription's token is made through the caller's, after the event:
+  -- both have seen it.
+  abbrev pub SubscribesIn : (List ℕ → C) → Token Id (Said C R) → Result (NumberedToken Id (Said C R)) FlowFault → Token Id (Said C R) → Type 0
+  SubscribesIn subscribe before (Ok s) after =
+      (between : Token Id (Said C R)) × CallsIn before (subscribe (subscription_name before.knows)) (kind.subscribed s.number) between
       × (after ≡ knowing between (makes between.knows)) × (s.token ≡ knowing between (child between.knows))
-  SubscribesIn before (Err fault) after = CallsIn before (kind.subscribe (subscription_name before.knows)) (kind.refused fault) after
+  SubscribesIn subscribe before (Err fault) after = CallsIn before (subscribe (subscription_name before.knows)) (kind.refused fault) after
 
   -- ---- calls that do not wait: Busy exactly where one exchange was lost
 

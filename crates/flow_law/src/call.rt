@@ -13,8 +13,8 @@ pub enum SharedCall<T> {
     Poll(u64),
     /// With the emission's number.
     Cancel(u64),
-    /// With the name of the subscription.
-    Subscribe(LinkedList<u64>),
+    /// `subscribe` and `subscribe_with`, with the name of the subscription and its own first values.
+    Subscribe(LinkedList<u64>, LinkedList<T>),
     /// `next`, with the subscriber's number.
     TakeNext(u64),
     /// With the subscriber's number.

@@ -10,9 +10,10 @@ pub struct Numbered<T> {
     pub number: u64,
 }
 
-/// A subscriber's number, and how many emitted values lie behind it.
-pub struct Subscriber {
+/// A subscriber: its number, what is left of its own first values, and how many emitted values lie behind it.
+pub struct Subscriber<T> {
     pub number: u64,
+    pub own: LinkedList<T>,
     pub position: u64,
 }
 
@@ -26,7 +27,7 @@ pub struct SharedFlowState<T> {
     /// The values whose emitters wait, the first one in front.
     pub queue: LinkedList<Numbered<T>>,
     /// In the order in which they subscribed, so in the order of their numbers.
-    pub subscribers: LinkedList<Subscriber>,
+    pub subscribers: LinkedList<Subscriber<T>>,
     /// How many numbers were issued. The next one is one more.
     pub issued: u64,
 }

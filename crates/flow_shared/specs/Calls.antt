@@ -1,6 +1,6 @@
 -- What each call of a flow for several threads does, for any kind of flow. Begin with `Calls`: one word for every call that is
 -- an event. `flow` is the flow: which one, and the state that it began with.
-use Rattle.std.specs.Prelude.{◌≡◌, ℕ, ◌∷◌, [], ◌++◌, Result}
+use Rattle.std.specs.Prelude.{◌≡◌, ℕ, List, ◌∷◌, [], ◌++◌, Result}
 use Rattle.atomic_table.specs.Seated.{TableId}
 use Rattle.flow_law.specs.declared.fault.FlowFault.{FlowFault}
 use Rattle.flow_law.specs.declared.history.Said.{Said}
@@ -25,7 +25,8 @@ module _ {T S C R : Type 0} (kind : Kind T S C R) (flow : Origin S) where
   abbrev pub Meets : Token (Said C R) → Token (Said C R) → Token (Said C R) → Token (Said C R) → Type 0
   Meets = MeetsIn kind flow.first
 
-  abbrev pub Subscribes : Token (Said C R) → Result (NumberedToken (Said C R)) FlowFault → Token (Said C R) → Type 0
+  -- the call comes first, by the subscription's name
+  abbrev pub Subscribes : (List ℕ → C) → Token (Said C R) → Result (NumberedToken (Said C R)) FlowFault → Token (Said C R) → Type 0
   Subscribes = SubscribesIn kind flow.first
 
   abbrev pub Nexts : NumberedToken (Said C R) → Result (Next T) FlowFault → NumberedToken (Said C R) → Type 0

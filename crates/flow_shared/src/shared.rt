@@ -18,6 +18,7 @@ use std::sync::Wait;
 mod calls;
 mod emission;
 mod now;
+mod subscribe;
 
 use calls::{ReplayCache, ResetReplayCache};
 

@@ -98,7 +98,7 @@ impl<S: FlowCore + Drop, A: Allocator + Copy> Flow<S, A> {
         seat: &mut FlowSeat<S, A>,
     ) -> Result<FlowSubscription<S, A>, FlowFault>
         requires { seat.old.table_id ≡ self.now.table_id }
-        ensures { Subscribes S.kind self.now seat.old result seat.new }
+        ensures { Subscribes S.kind self.now S.kind.subscribe seat.old result seat.new }
     {
         let own = seat.seat.take().unwrap();
         let (mut own, answer) = self.call_by(rt, own, Subscribe);

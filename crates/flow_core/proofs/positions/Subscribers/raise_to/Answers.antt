@@ -9,7 +9,7 @@ use Rattle.flow_core.proofs.positions.Subscribers.raise_to.Goals as goal
 pub loop-row-preserved : goal.loop-row-preserved
 loop-row-preserved g c =
     rw c.max-row.ensures (map_over_more (raised c.args.floor) c.deref_mut-row-items.result.now c.loop-row.row-items c.loop-row.row-index
-    (get_or c.loop-row.row-items c.loop-row.row-index (record { number = 0; position = 0 })) c.loop-row-test.true c.loop-row.invariant
+    (get_or c.loop-row.row-items c.loop-row.row-index c.row-item.result) c.loop-row-test.true c.loop-row.invariant
     (get_or_default c.loop-row.row-items c.loop-row.row-index _ _ (omega (arith, c.loop-row-test.true, c.loop-row.auto.row-items))))
 
 pub returns : goal.returns

@@ -1,35 +1,17 @@
-use Rattle.std.proofs.Common.{◌≡◌, ◌∙◌, ◌+◌, false, sym, ap, subst, arith}
-use Rattle.flow_law.specs.declared.call.SharedReply.TheVariants as reply
-use Rattle.flow_law.specs.SharedFlow.{answer, is_exhausted}
-use Rattle.flow_law.specs.SharedStep.{subscribe, enroll}
-use Rattle.flow_law.specs.SharedHistory.{reply_by}
-use Rattle.flow_law.specs.Standing.{StandsFor}
-use Rattle.flow_law.proofs.Rows.{rises_higher}
-use Rattle.flow_law.proofs.StandingLemmas.{stands-enroll}
-use Rattle.flow_core.specs.SharedCore.{fields_of}
-use Rattle.flow_core.proofs.CallLemmas.{not_exhausted, issued_now}
+use Rattle.std.proofs.Common.{Ok, Err, subst}
+use Rattle.flow_law.specs.declared.call.SharedCall.TheVariants as call
+use Rattle.flow_law.specs.Standing.{Conforms}
+use Rattle.flow_core.specs.SharedCore.{subscribe_reply}
 use Rattle.flow_core.proofs.shared.SharedCore.subscribe.Goals as goal
-
-pub invariant_of-self : goal.invariant_of-self
-invariant_of-self g c = record {
-  issued = omega (arith, c.self.invariant.issued, c.if-self.false);
-  reset_mark = c.self.invariant.reset_mark;
-  room = c.self.invariant.room;
-  rising = rises_higher 0 c.self.inside.issued (c.self.inside.issued + 1) _ (omega arith) c.self.invariant.rising;
-}
 
 pub returns-in-Ok : goal.returns-in-Ok
 returns-in-Ok g c = record {
-  documented = λ name. (
-    λ s stands.
-        let within : StandsFor (fields_of c.self.inside) s = subst (λ k. StandsFor k s) (sym c.self.view_is) stands in
-        let left : is_exhausted s ≡ false = not_exhausted (fields_of c.self.inside) s within c.if-self.false in
-        let all : subscribe s ≡ answer (s.issued + 1) (enroll s) = issued_now s _ left in (
-          ap (λ n. reply.Subscribed (n + 1)) within.issued ∙ sym (ap (λ a. reply_by reply.Subscribed a.reply) all),
-          subst (λ t. StandsFor (record (fields_of c.self.inside) { subscribers = c.push.new.self; issued = c.self.inside.issued + 1 }) t) (sym (ap (λ a. a.after) all))
-              (subst (λ us. StandsFor (record (fields_of c.self.inside) { subscribers = us; issued = c.self.inside.issued + 1 }) (enroll s)) (sym c.in-Ok.ensures.pushed)
-              (stands-enroll (fields_of c.self.inside) s c.entry-position.result within (c.entry-position.ensures s stands))),
-        ),
-    tt,
-  );
+  documented = λ name. subst (λ first. Conforms c.args.self.now (call.Subscribe name first) (subscribe_reply (Ok c.in-Ok.id)) c.subscribe_with-2.new.self)
+      c.new.ensures.items (c.in-Ok.ensures.documented name);
+}
+
+pub returns-in-Err : goal.returns-in-Err
+returns-in-Err g c = record {
+  documented = λ name. subst (λ first. Conforms c.args.self.now (call.Subscribe name first) (subscribe_reply (Err c.in-Err.refused.fault)) c.subscribe_with-2.new.self)
+      c.new.ensures.items (c.in-Err.ensures.documented name);
 }
