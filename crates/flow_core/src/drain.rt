@@ -51,7 +51,8 @@ fn take_all<S: TakesNext, B: Allocator>(
     most: usize,
     values: &mut Vec<S::Item, B>,
 ) -> Result<Drained, FlowFault>
-    ensures { DrainsBy (S.nexts (number_of id)) most core.old values.old.items result values.new.items core.new }
+    ensures { DrainsBy
+        (S.nexts (number_of id)) most core.old values.old.items result values.new.items core.new }
 {
     for _ in 0..most {
         if values.reserve(1).is_err() {

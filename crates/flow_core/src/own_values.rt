@@ -28,7 +28,8 @@ impl<T: Drop, A: Allocator> OwnValues<T, A> {
     }
 
     pub(crate) fn pop_front(&mut self) -> Option<T>
-        ensures { MatchOption result ((self.old ≡ []) × self.new ≡ []) (λ first. self.old ≡ first ∷ self.new) }
+        ensures { MatchOption result ((self.old ≡ []) × self.new ≡ [])
+            (λ first. self.old ≡ first ∷ self.new) }
     {
         self.reversed.pop()
     }

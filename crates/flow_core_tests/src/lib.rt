@@ -9,6 +9,8 @@ mod compare;
 #[cfg(test)]
 mod many;
 #[cfg(test)]
+mod own_values;
+#[cfg(test)]
 mod shared;
 #[cfg(test)]
 mod shared_calls;

@@ -17,6 +17,8 @@ pub enum Call {
     Cancel(u64, bool),
     /// The number of the new subscription.
     Subscribe(u64),
+    /// The subscriber's own first values, and the number of the new subscription.
+    SubscribeWith(&'static [i64], u64),
     Next(usize, Next<i64>),
     /// A subscriber, and whether the subscription was there.
     Unsubscribe(usize, bool),
@@ -62,6 +64,12 @@ impl Caller {
         Ok(id.number())
     }
 
+    fn subscribe_with(&mut self, alloc: Global, first: &[i64]) -> Result<u64, Fail> {
+        let id = self.flow.subscribe_with(first.to_vec(alloc)?)?;
+        self.subscribers.push(id)?;
+        Ok(id.number())
+    }
+
     pub fn next(&mut self, subscriber: usize) -> Result<Next<i64>, Fail> {
         let id = *self.subscribers.get(subscriber).ok_or("a subscriber")?;
         Ok(self.flow.next(id)?)
@@ -85,13 +93,22 @@ impl Caller {
     }
 
     /// Makes a call, and compares what it answers.
-    fn make(&mut self, rt: &impl Abort, place: usize, call: &Call) -> Result<(), Fail> {
+    fn make(
+        &mut self,
+        rt: &impl Abort,
+        alloc: Global,
+        place: usize,
+        call: &Call,
+    ) -> Result<(), Fail> {
         match call {
             Call::TryEmit(value, taken) => compare(rt, place, self.try_emit(*value)?, *taken),
             Call::Emit(value, emission) => compare(rt, place, self.emit(*value)?, *emission),
             Call::Poll(number, waits) => compare(rt, place, self.poll(*number), *waits),
             Call::Cancel(number, waited) => compare(rt, place, self.cancel(*number), *waited),
             Call::Subscribe(number) => compare(rt, place, self.subscribe()?, *number),
+            Call::SubscribeWith(first, number) => {
+                compare(rt, place, self.subscribe_with(alloc, first)?, *number);
+            }
             Call::Next(subscriber, next) => compare(rt, place, &self.next(*subscriber)?, next),
             Call::Unsubscribe(subscriber, was_there) => {
                 compare(rt, place, self.unsubscribe(*subscriber)?, *was_there);
@@ -109,7 +126,7 @@ impl Caller {
 pub fn answers(rt: &impl Abort, alloc: Global, config: Config, calls: &[Call]) -> Result<(), Fail> {
     let mut caller = Caller::new(alloc, config)?;
     for place in 0..calls.len() {
-        caller.make(rt, place, &calls[place])?;
+        caller.make(rt, alloc, place, &calls[place])?;
     }
     Ok(())
 }

@@ -15,7 +15,8 @@ impl<T: FlowValue, A: Allocator + Copy> SharedCore<T, A> {
     ///
     /// A subscriber who does not read blocks emitters or loses values, as the strategy says, until `unsubscribe`.
     pub fn subscribe(&mut self) -> Result<SubId, FlowFault>
-        ensures documented { (name : List ℕ) → Conforms self.old (call.Subscribe name []) (subscribe_reply result) self.new }
+        ensures documented { (name : List ℕ)
+            → Conforms self.old (call.Subscribe name []) (subscribe_reply result) self.new }
     {
         match self.subscribe_with(Vec::new(self.alloc)) {
             Ok(id) => Ok(id),
@@ -29,7 +30,8 @@ impl<T: FlowValue, A: Allocator + Copy> SharedCore<T, A> {
     /// back.
     pub fn subscribe_with(&mut self, first: Vec<T, A>) -> Result<SubId, Refused<Vec<T, A>>>
         ensures documented { (name : List ℕ)
-            → Conforms self.old (call.Subscribe name first.items) (subscribe_reply (fault_alone result)) self.new }
+            → Conforms self.old (call.Subscribe name first.items)
+            (subscribe_reply (fault_alone result)) self.new }
         ensures handed_back { IfErr result (λ refused. refused.value ≡ first) }
     {
         if self.issued == self.config.limit {

@@ -47,7 +47,8 @@ impl<T: FlowValue, A: Allocator + Copy> Flow<SharedCore<T, A>, A> {
         first: Vec<T, A>,
     ) -> Result<Subscription<T, A>, Refused<Vec<T, A>>>
         requires { seat.old.table_id ≡ self.now.table_id }
-        ensures subscribed { Subscribes shared_flow self.now (λ name. call.Subscribe name first.items) seat.old (fault_alone result) seat.new }
+        ensures subscribed { Subscribes shared_flow self.now
+            (λ name. call.Subscribe name first.items) seat.old (fault_alone result) seat.new }
         ensures handed_back { IfErr result (λ refused. refused.value ≡ first) }
     {
         let own = seat.seat.take().unwrap();
