@@ -1,4 +1,4 @@
-//! All that a reader can receive now, in one call.
+//! All that a reader can receive now, in one call. The reader is greeted with a value of its own.
 #![tactic(auto)]
 
 use anyhow::Result;
@@ -10,7 +10,7 @@ fn main(rt: HostRuntime) -> Result<()> {
     for value in 1..4 {
         flow.try_emit(value)?;
     }
-    let reader = flow.subscribe()?;
+    let reader = flow.subscribe_with(vec![in rt.alloc(); 0]?)?;
     let mut values = Vec::new(rt.alloc());
     let ended = flow.drain(reader, 100, &mut values)?;
     println!(rt; "{:?}, {:?}", values.as_slice(), ended)?;
