@@ -6,16 +6,19 @@ use flow_core::StateCore;
 use flow_law::{Next, Text};
 
 fn main(rt: HostRuntime) -> Result<()> {
-    let text = |word: &str| String::from_str(rt.alloc(), word);
-    let mut flow = StateCore::new(rt.alloc(), Text::new(text("loading")?), u64::MAX);
+    let mut flow = StateCore::new(rt.alloc(), text(&rt, "loading")?, u64::MAX);
     let reader = flow.subscribe()?;
     for word in ["page 1", "page 2", "page 3"] {
-        flow.set(Text::new(text(word)?));
+        flow.set(text(&rt, word)?);
     }
     for _ in 0..2 {
         print(&rt, flow.next(reader)?)?;
     }
     Ok(())
+}
+
+fn text(rt: &HostRuntime, word: &str) -> Result<Text> {
+    Ok(Text::new(String::from_str(rt.alloc(), word)?))
 }
 
 fn print(rt: &HostRuntime, next: Next<Text>) -> Result<()> {
