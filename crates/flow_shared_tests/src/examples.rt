@@ -3,6 +3,7 @@
 
 mod emissions;
 mod gate;
+mod own_values;
 mod state;
 mod subscribers;
 mod threads;

@@ -67,6 +67,21 @@ impl<'a> OneCaller<'a> {
         }
     }
 
+    /// Subscribes with values of its own. A refusal hands them back.
+    pub fn subscribe_with<R: Wait>(
+        &mut self,
+        rt: &R,
+        first: Vec<i64>,
+    ) -> Result<Reader<'a>, Refused<Vec<i64>>> {
+        match self.flow.subscribe_with(rt, &mut self.seat, first) {
+            Ok(subscription) => Ok(Reader {
+                flow: self.flow,
+                subscription,
+            }),
+            Err(refused) => Err(refused),
+        }
+    }
+
     pub fn replay_cache<R: Wait>(&mut self, rt: &R) -> Result<Vec<i64>, FlowFault> {
         self.flow.replay_cache(rt, &mut self.seat)
     }

@@ -1,7 +1,7 @@
 //! Steps on a shared flow by one caller, each with what it is to answer.
 use crate::compare::compare;
 use crate::one_caller::{OneCaller, Reader, Waiting};
-use flow_law::{Config, FlowFault, Next};
+use flow_law::{Config, FlowFault, Next, Refused};
 use flow_shared::SharedFlow;
 use std::alloc::Global;
 use std::process::Abort;
@@ -27,6 +27,10 @@ pub enum Step {
     Cancel(usize, bool),
     Subscribe,
     SubscribeRefused(FlowFault),
+    /// The subscriber's own first values.
+    SubscribeWith(&'static [i64]),
+    /// The values that are handed back.
+    SubscribeWithRefused(&'static [i64], FlowFault),
     Next(usize, Next<i64>),
     Unsubscribe(usize),
     Cache(&'static [i64]),
@@ -86,6 +90,22 @@ impl<'a> Player<'a> {
         }
     }
 
+    /// The values that were handed back and the fault, where the subscription was refused.
+    fn subscribe_with<R: Wait>(
+        &mut self,
+        rt: &R,
+        alloc: Global,
+        first: &[i64],
+    ) -> Result<Option<Refused<Vec<i64>>>, Fail> {
+        match self.caller.subscribe_with(rt, first.to_vec(alloc)?) {
+            Ok(reader) => {
+                self.readers.push(Some(reader))?;
+                Ok(None)
+            }
+            Err(refused) => Ok(Some(refused)),
+        }
+    }
+
     fn next<R: Wait>(&mut self, rt: &R, index: usize) -> Result<Next<i64>, Fail> {
         match self.readers.get_mut(index) {
             Some(Some(reader)) => Ok(reader.next(rt)?),
@@ -99,8 +119,33 @@ impl<'a> Player<'a> {
         Ok(())
     }
 
+    /// Subscribes with own first values, and compares what is handed back, if anything is.
+    fn take_first<R: Wait + Abort>(
+        &mut self,
+        rt: &R,
+        alloc: Global,
+        place: usize,
+        first: &[i64],
+        refused: Option<FlowFault>,
+    ) -> Result<(), Fail> {
+        match self.subscribe_with(rt, alloc, first)? {
+            Some(Refused { value, fault }) => {
+                compare(rt, place, value.as_slice(), first);
+                compare(rt, place, Some(fault), refused);
+            }
+            None => compare(rt, place, None, refused),
+        }
+        Ok(())
+    }
+
     /// Takes a step, and compares what it answers.
-    fn take<R: Wait + Abort>(&mut self, rt: &R, place: usize, step: &Step) -> Result<(), Fail> {
+    fn take<R: Wait + Abort>(
+        &mut self,
+        rt: &R,
+        alloc: Global,
+        place: usize,
+        step: &Step,
+    ) -> Result<(), Fail> {
         match step {
             Step::TryEmit(value, taken) => {
                 compare(rt, place, self.caller.try_emit(rt, *value), Ok(*taken));
@@ -116,6 +161,10 @@ impl<'a> Player<'a> {
             Step::Cancel(index, waited) => compare(rt, place, self.cancel(rt, *index)?, *waited),
             Step::Subscribe => compare(rt, place, self.subscribe(rt), Ok(())),
             Step::SubscribeRefused(fault) => compare(rt, place, self.subscribe(rt), Err(*fault)),
+            Step::SubscribeWith(first) => self.take_first(rt, alloc, place, first, None)?,
+            Step::SubscribeWithRefused(first, fault) => {
+                self.take_first(rt, alloc, place, first, Some(*fault))?;
+            }
             Step::Next(index, next) => compare(rt, place, &self.next(rt, *index)?, next),
             Step::Unsubscribe(index) => self.unsubscribe(rt, *index)?,
             Step::Cache(values) => {
@@ -143,7 +192,7 @@ pub fn answers<R: Wait + Abort>(
         readers: Vec::new(alloc),
     };
     for place in 0..steps.len() {
-        player.take(rt, place, &steps[place])?;
+        player.take(rt, alloc, place, &steps[place])?;
     }
     Ok(())
 }
