@@ -41,7 +41,7 @@ place_is {T} {A} number k place (u ∷ us) d found =
           rw further (omega (arith, rest.0), rest.1, λ p. ap (λ l. subscriber_of u ∷ l) (rest.2 p))
     ] found
 
--- and so are what is left of its own values
+-- and what is left of its own values is in that row
 pub own_is : {T A : Type 0} (number k place : ℕ) (rows : List (Row T A)) (d : Row T A) → position_from (λ u. u.number == number) k rows ≡ Some place
     → (k ≤ place) × (own_of number (map subscriber_of rows) ≡ (get_or rows (place - k) d).own)
     × ((own : List T) → with_own number own (map subscriber_of rows) ≡ map subscriber_of (set rows (place - k) (left own (get_or rows (place - k) d))))

@@ -13,6 +13,10 @@
 //! Without a buffer a value is offered to the subscribers of that moment, and its emitter waits until each of them has
 //! received it or left. Who subscribes meanwhile is offered it too.
 //!
+//! # Own first values
+//! `subscribe_with` gives a subscriber values of its own, which it receives before any value of the flow. They block
+//! nobody, and nothing but the subscriber's `next` takes one away.
+//!
 //! # Refusals
 //! A call that would issue a number when `limit` numbers are issued is refused as `Exhausted`; want of memory comes
 //! after that. A refused call hands its value back and has changed nothing. `poll`, `cancel`, `unsubscribe`,

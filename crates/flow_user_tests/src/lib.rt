@@ -4,6 +4,8 @@
 #[cfg(test)]
 mod one_thread;
 #[cfg(test)]
+mod own_values;
+#[cfg(test)]
 mod several_threads;
 #[cfg(test)]
 mod values;
