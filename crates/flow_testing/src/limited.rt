@@ -66,20 +66,3 @@ impl FlowValue for CopyLimited<'_> {
 
     ghost is_same_exact = { Prim.search rules };
 }
-
-#[cfg(test)]
-mod tests {
-    use super::*;
-    use std::test::Fail;
-
-    #[test]
-    fn one_copy_is_refused(rt: HostRuntime) -> Result<(), Fail> {
-        let copies = Cell::new(2);
-        let other = Cell::new(0);
-        let value = CopyLimited::new(7, &copies);
-        assert_eq!(rt; value.try_copy()?.number(), 7);
-        assert_eq!(rt; value.try_copy().err(), Some(FlowFault::OutOfMemory));
-        assert!(rt; value.try_copy()?.same(&CopyLimited::new(7, &other)));
-        Ok(())
-    }
-}

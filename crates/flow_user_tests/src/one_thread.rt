@@ -1,4 +1,5 @@
 //! Draining flows for one thread. The values are those that kotlinx.coroutines documents for the same collector.
+use crate::compare::compare;
 use flow_core::{SharedCore, StateCore};
 use flow_law::{Config, Drained, FlowFault};
 use flow_testing::CopyLimited;
@@ -9,18 +10,18 @@ use std::test::Fail;
 fn a_shared_flow_gives_all_that_is_there(rt: HostRuntime) -> Result<(), Fail> {
     let mut flow = SharedCore::<i64>::new(rt.alloc(), Config::new().replay(3))?;
     for value in 1..4 {
-        assert_eq!(rt; flow.try_emit(value).ok(), Some(true));
+        compare(&rt, flow.try_emit(value).ok(), Some(true));
     }
     let reader = flow.subscribe()?;
     let mut values = Vec::new(rt.alloc());
-    assert_eq!(rt; flow.drain(reader, 2, &mut values), Ok(Drained::Most));
-    assert_eq!(rt; values.as_slice(), [1, 2].as_slice());
-    assert_eq!(rt; flow.drain(reader, 10, &mut values), Ok(Drained::Empty));
-    assert_eq!(rt; values.as_slice(), [1, 2, 3].as_slice());
+    compare(&rt, flow.drain(reader, 2, &mut values), Ok(Drained::Most));
+    compare(&rt, values.as_slice(), [1, 2].as_slice());
+    compare(&rt, flow.drain(reader, 10, &mut values), Ok(Drained::Empty));
+    compare(&rt, values.as_slice(), [1, 2, 3].as_slice());
     assert!(rt; flow.unsubscribe(reader));
-    assert_eq!(rt; flow.drain(reader, 10, &mut values), Ok(Drained::Gone));
-    assert_eq!(rt; flow.drain(reader, 0, &mut values), Ok(Drained::Most));
-    assert_eq!(rt; values.len(), 3);
+    compare(&rt, flow.drain(reader, 10, &mut values), Ok(Drained::Gone));
+    compare(&rt, flow.drain(reader, 0, &mut values), Ok(Drained::Most));
+    compare(&rt, values.len(), 3);
     Ok(())
 }
 
@@ -33,8 +34,8 @@ fn a_queued_value_comes_with_the_others(rt: HostRuntime) -> Result<(), Fail> {
         assert!(rt; flow.emit(value).is_ok());
     }
     let mut values = Vec::new(rt.alloc());
-    assert_eq!(rt; flow.drain(reader, 10, &mut values), Ok(Drained::Empty));
-    assert_eq!(rt; values.as_slice(), [1, 2, 3].as_slice());
+    compare(&rt, flow.drain(reader, 10, &mut values), Ok(Drained::Empty));
+    compare(&rt, values.as_slice(), [1, 2, 3].as_slice());
     Ok(())
 }
 
@@ -45,8 +46,8 @@ fn a_state_flow_gives_its_value_once(rt: HostRuntime) -> Result<(), Fail> {
     flow.set(4);
     flow.set(5);
     let mut values = Vec::new(rt.alloc());
-    assert_eq!(rt; flow.drain(reader, 10, &mut values), Ok(Drained::Empty));
-    assert_eq!(rt; values.as_slice(), [5].as_slice());
+    compare(&rt, flow.drain(reader, 10, &mut values), Ok(Drained::Empty));
+    compare(&rt, values.as_slice(), [5].as_slice());
     Ok(())
 }
 
@@ -61,16 +62,17 @@ fn nothing_is_lost_where_memory_is_wanting(rt: HostRuntime) -> Result<(), Fail> 
     let reader = flow.subscribe()?;
     let mut values = Vec::new(rt.alloc());
     copies.set(2);
-    assert_eq!(rt;
+    compare(
+        &rt,
         flow.drain(reader, 10, &mut values),
-        Err(FlowFault::OutOfMemory)
+        Err(FlowFault::OutOfMemory),
     );
-    assert_eq!(rt; values.len(), 1);
-    assert_eq!(rt; flow.drain(reader, 10, &mut values), Ok(Drained::Empty));
+    compare(&rt, values.len(), 1);
+    compare(&rt, flow.drain(reader, 10, &mut values), Ok(Drained::Empty));
     let numbers: Vec<i64> = values
         .iter()
         .map(|value| value.number())
         .collect(rt.alloc())?;
-    assert_eq!(rt; numbers.as_slice(), [1, 2, 3].as_slice());
+    compare(&rt, numbers.as_slice(), [1, 2, 3].as_slice());
     Ok(())
 }

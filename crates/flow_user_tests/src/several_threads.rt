@@ -1,4 +1,5 @@
 //! Draining flows for several threads, by one caller.
+use crate::compare::compare;
 use flow_law::{Config, Drained};
 use flow_shared::{SharedFlow, StateFlow};
 use std::test::Fail;
@@ -7,18 +8,20 @@ use std::test::Fail;
 fn a_shared_flow_gives_all_that_is_there(rt: HostRuntime) -> Result<(), Fail> {
     let (flow, mut seat) = SharedFlow::<i64>::new(rt.alloc(), Config::new().extra(4))?;
     let mut subscription = flow.subscribe(&rt, &mut seat)?;
-    assert_eq!(rt; flow.try_emit(&rt, &mut seat, 1).ok(), Some(true));
-    assert_eq!(rt; flow.try_emit(&rt, &mut seat, 2).ok(), Some(true));
+    compare(&rt, flow.try_emit(&rt, &mut seat, 1).ok(), Some(true));
+    compare(&rt, flow.try_emit(&rt, &mut seat, 2).ok(), Some(true));
     let mut values = Vec::new(rt.alloc());
-    assert_eq!(rt;
+    compare(
+        &rt,
         flow.drain(&rt, &mut subscription, 1, &mut values),
-        Ok(Drained::Most)
+        Ok(Drained::Most),
     );
-    assert_eq!(rt;
+    compare(
+        &rt,
         flow.drain(&rt, &mut subscription, 9, &mut values),
-        Ok(Drained::Empty)
+        Ok(Drained::Empty),
     );
-    assert_eq!(rt; values.as_slice(), [1, 2].as_slice());
+    compare(&rt, values.as_slice(), [1, 2].as_slice());
     Ok(())
 }
 
@@ -28,10 +31,11 @@ fn a_state_flow_gives_its_value_once(rt: HostRuntime) -> Result<(), Fail> {
     let mut subscription = flow.subscribe(&rt, &mut seat)?;
     flow.set(&rt, &mut seat, 5);
     let mut values = Vec::new(rt.alloc());
-    assert_eq!(rt;
+    compare(
+        &rt,
         flow.drain(&rt, &mut subscription, 9, &mut values),
-        Ok(Drained::Empty)
+        Ok(Drained::Empty),
     );
-    assert_eq!(rt; values.as_slice(), [5].as_slice());
+    compare(&rt, values.as_slice(), [5].as_slice());
     Ok(())
 }
