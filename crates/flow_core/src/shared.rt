@@ -120,6 +120,9 @@ impl<T: FlowValue, A: Allocator + Copy> SharedCore<T, A> {
         ensures admitted { OnTrue result (Admits self.old self.new) }
         ensures settled { OnFalse result ((self.new ≡ self.old) × Leads self.old step.settle self.new) }
     {
+        if self.queue.len() == 0 {
+            return false;
+        }
         if self.is_blocked() {
             return false;
         }
