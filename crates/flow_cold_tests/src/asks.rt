@@ -1,10 +1,10 @@
 //! How often a chain is asked.
 
+use crate::compare::compare;
 use crate::gives::gives;
 use crate::operators::{Add, sum};
 use flow_cold::{Asked, Cold, End, OfRange, Scan, Take};
 use std::cell::Cell;
-use std::test::Fail;
 
 /// Counts how often a chain is asked.
 #[derive(Drop)]
@@ -34,30 +34,29 @@ impl<'a, C: Cold> Cold for Counted<'a, C> {
     }
 }
 
+/// 1 to 5, counting how often the range is asked.
+fn one_to_five(asks: &Cell<u32>) -> Counted<'_, OfRange> {
+    Counted {
+        chain: OfRange::new(1, 5),
+        asks,
+    }
+}
+
 /// The scan gives its initial value without asking, and nothing is asked after the last item of the take.
 #[test]
-fn a_scan_and_a_take_ask_twice(rt: HostRuntime) -> Result<(), Fail> {
+fn a_scan_and_a_take_ask_twice(rt: HostRuntime) {
     let asks = Cell::new(0);
-    let source = Counted {
-        chain: OfRange::new(1, 5),
-        asks: &asks,
-    };
-    let mut chain = Take::new(Scan::new(source, 0, Add, sum), 3)?;
-    gives(&rt, rt.alloc(), &mut chain, &[0, 1, 3], End::Completed)?;
-    assert_eq!(rt; asks.get(), 2);
-    Ok(())
+    let scan = Scan::new(one_to_five(&asks), 0, Add, sum);
+    let mut chain = Take::new(scan, 3).expect(&rt, "a take");
+    gives(&rt, rt.alloc(), &mut chain, &[0, 1, 3], End::Completed);
+    compare(&rt, 0, asks.get(), 2);
 }
 
 #[test]
-fn a_take_asks_no_more_than_it_gives(rt: HostRuntime) -> Result<(), Fail> {
+fn a_take_asks_no_more_than_it_gives(rt: HostRuntime) {
     let asks = Cell::new(0);
-    let source = Counted {
-        chain: OfRange::new(1, 5),
-        asks: &asks,
-    };
-    let mut chain = Take::new(source, 2)?;
-    gives(&rt, rt.alloc(), &mut chain, &[1, 2], End::Completed)?;
+    let mut chain = Take::new(one_to_five(&asks), 2).expect(&rt, "a take");
+    gives(&rt, rt.alloc(), &mut chain, &[1, 2], End::Completed);
     assert!(rt; matches!(chain.ask(), Asked::End));
-    assert_eq!(rt; asks.get(), 2);
-    Ok(())
+    compare(&rt, 0, asks.get(), 2);
 }

@@ -1,8 +1,8 @@
 //! What a chain gives, beside what it is to give.
-use flow_cold::{Cold, End, Entry, Scripted, collect_all};
+use crate::compare::compare;
+use flow_cold::{Cold, End, Entry, OfList, Scripted, collect_all};
 use std::alloc::Global;
 use std::process::Abort;
-use std::test::Fail;
 
 /// Collects the chain, and compares its items and its end.
 pub fn gives<C: Cold<Item = i64>>(
@@ -11,21 +11,39 @@ pub fn gives<C: Cold<Item = i64>>(
     chain: &mut C,
     items: &[i64],
     end: End,
-) -> Result<(), Fail>
+)
     requires { C.sound chain.old }
+    ensures { C.sound chain.new }
 {
-    let got = collect_all(alloc, chain)?;
-    assert_eq!(rt; got.items.as_slice(), items);
-    assert_eq!(rt; got.end, end);
-    Ok(())
+    let got = collect_all(alloc, chain).expect(rt, "memory");
+    compare(rt, 0, got.items.as_slice(), items);
+    compare(rt, 1, got.end, end);
+}
+
+/// The chain of a list.
+pub fn list(rt: &impl Abort, alloc: Global, items: &[i64]) -> OfList<i64> {
+    OfList::new(items.to_vec(alloc).expect(rt, "memory"))
+}
+
+/// The chain of a script.
+pub fn script<const N: usize>(
+    rt: &impl Abort,
+    alloc: Global,
+    entries: [Entry<i64>; N],
+) -> Scripted<i64> {
+    let Ok(entries) = Vec::from_array(alloc, entries) else {
+        panic!(rt; "memory")
+    };
+    Scripted::new(entries)
 }
 
 /// It gives 5, pends, gives 6 and fails.
-pub fn fails_after_two(alloc: Global) -> Result<Scripted<i64>, Fail> {
-    let mut entries = Vec::new(alloc);
-    entries.push(Entry::Item(5))?;
-    entries.push(Entry::Pending)?;
-    entries.push(Entry::Item(6))?;
-    entries.push(Entry::Fault(7))?;
-    Ok(Scripted::new(entries))
+pub fn fails_after_two(rt: &impl Abort, alloc: Global) -> Scripted<i64> {
+    let entries = [
+        Entry::Item(5),
+        Entry::Pending,
+        Entry::Item(6),
+        Entry::Fault(7),
+    ];
+    script(rt, alloc, entries)
 }

@@ -9,6 +9,8 @@ pub use callers::{Plus, collect_plus};
 #[cfg(test)]
 mod asks;
 #[cfg(test)]
+mod compare;
+#[cfg(test)]
 mod gives;
 #[cfg(test)]
 mod methods;

@@ -1,51 +1,49 @@
 //! Chains as one writes them: operators as methods, ready computations and tests, and terminal operators.
 
-use crate::gives::{fails_after_two, gives};
+use crate::compare::compare;
+use crate::gives::{fails_after_two, gives, list};
 use crate::operators::{Add, AddOne, IsAboveOne, Twice, TwiceRun, increased, listed, opened, sum};
 use flow_cold::{
-    Chain, ChainFault, End, Even, Greater, Less, Not, Odd, OfList, OfRange, Plus, Terminal, Times,
+    Chain, ChainFault, End, Even, Greater, Less, Not, Odd, OfRange, Plus, Terminal, Times,
 };
-use std::test::Fail;
 
 #[test]
-fn operators_are_methods(rt: HostRuntime) -> Result<(), Fail> {
-    let alloc = rt.alloc();
-    let mut chain = OfList::new([1i64, 2, 2, 3, 9].to_vec(alloc)?)
+fn operators_are_methods(rt: HostRuntime) {
+    let mut chain = list(&rt, rt.alloc(), &[1, 2, 2, 3, 9])
         .distinct()
         .drop_first(1)
         .map(AddOne, increased)
         .filter(IsAboveOne, |x| *x > 1);
-    gives(&rt, alloc, &mut chain, &[3, 4, 10], End::Completed)
+    gives(&rt, rt.alloc(), &mut chain, &[3, 4, 10], End::Completed);
 }
 
 #[test]
-fn operators_on_pairs_are_methods(rt: HostRuntime) -> Result<(), Fail> {
+fn operators_on_pairs_are_methods(rt: HostRuntime) {
     let mut chain = OfRange::new(2, 5)
         .take_while(IsAboveOne, |x| *x > 1)
         .zip(OfRange::new(10, 12), Add, sum)
         .scan(0, Add, sum)
-        .take(3)?;
-    gives(&rt, rt.alloc(), &mut chain, &[0, 12, 26], End::Completed)
+        .take(3)
+        .expect(&rt, "a take");
+    gives(&rt, rt.alloc(), &mut chain, &[0, 12, 26], End::Completed);
 }
 
 #[test]
-fn operators_that_give_several_items_are_methods(rt: HostRuntime) -> Result<(), Fail> {
+fn a_transform_is_a_method(rt: HostRuntime) {
     let alloc = rt.alloc();
-    let mut chain = OfRange::new(1, 2)
-        .transform(Twice, |x: i64| listed(alloc, x))
-        .flat_map_concat(TwiceRun, |x: i64| opened(alloc, x));
-    gives(
-        &rt,
-        alloc,
-        &mut chain,
-        &[1, 1, 1, 1, 2, 2, 2, 2],
-        End::Completed,
-    )
+    let mut chain = OfRange::new(1, 2).transform(Twice, |x: i64| listed(alloc, x));
+    gives(&rt, alloc, &mut chain, &[1, 1, 2, 2], End::Completed);
 }
 
 #[test]
-fn ready_computations_need_no_closure(rt: HostRuntime) -> Result<(), Fail> {
+fn a_concatenation_is_a_method(rt: HostRuntime) {
     let alloc = rt.alloc();
+    let mut chain = OfRange::new(1, 2).flat_map_concat(TwiceRun, |x: i64| opened(alloc, x));
+    gives(&rt, alloc, &mut chain, &[1, 1, 2, 2], End::Completed);
+}
+
+#[test]
+fn ready_computations_need_no_closure(rt: HostRuntime) {
     let mut chain = OfRange::new(-3, 12)
         .filter_by(Even)
         .filter_by(Not { test: Odd })
@@ -53,70 +51,62 @@ fn ready_computations_need_no_closure(rt: HostRuntime) -> Result<(), Fail> {
         .take_while_by(Less { k: 8 })
         .map_by(Times { k: 2 })
         .map_by(Plus { k: -1 });
-    gives(&rt, alloc, &mut chain, &[3, 7, 11], End::Completed)
+    gives(&rt, rt.alloc(), &mut chain, &[3, 7, 11], End::Completed);
 }
 
+const OVERFLOW: End = End::Failed(ChainFault::Overflow);
+
 #[test]
-fn a_ready_computation_overflows(rt: HostRuntime) -> Result<(), Fail> {
+fn a_ready_computation_overflows(rt: HostRuntime) {
     let mut chain = OfRange::new(i64::MAX - 1, i64::MAX).map_by(Plus { k: 1 });
-    gives(
-        &rt,
-        rt.alloc(),
-        &mut chain,
-        &[i64::MAX],
-        End::Failed(ChainFault::Overflow),
-    )
+    gives(&rt, rt.alloc(), &mut chain, &[i64::MAX], OVERFLOW);
 }
 
 /// `runningFold` gives the initial value, and then the sums of the first items.
 #[test]
-fn a_scan_needs_no_closure(rt: HostRuntime) -> Result<(), Fail> {
+fn a_scan_needs_no_closure(rt: HostRuntime) {
     let mut chain = OfRange::new(1, 3).scan_by(0, Add);
-    gives(&rt, rt.alloc(), &mut chain, &[0, 1, 3, 6], End::Completed)
+    gives(&rt, rt.alloc(), &mut chain, &[0, 1, 3, 6], End::Completed);
 }
 
 #[test]
-fn a_scan_without_a_closure_overflows(rt: HostRuntime) -> Result<(), Fail> {
+fn a_scan_without_a_closure_overflows(rt: HostRuntime) {
     let mut chain = OfRange::new(1, 3).scan_by(i64::MAX - 1, Add);
-    let overflow = End::Failed(ChainFault::Overflow);
     gives(
         &rt,
         rt.alloc(),
         &mut chain,
         &[i64::MAX - 1, i64::MAX],
-        overflow,
-    )
+        OVERFLOW,
+    );
 }
 
 /// `zip` completes as soon as one of its sides does: the item 40 has no partner.
 #[test]
-fn a_zip_needs_no_closure(rt: HostRuntime) -> Result<(), Fail> {
-    let alloc = rt.alloc();
-    let tens = OfList::new([10i64, 20, 30, 40].to_vec(alloc)?);
+fn a_zip_needs_no_closure(rt: HostRuntime) {
+    let tens = list(&rt, rt.alloc(), &[10, 20, 30, 40]);
     let mut chain = OfRange::new(1, 3).zip_by(tens, Add);
-    gives(&rt, alloc, &mut chain, &[11, 22, 33], End::Completed)
+    gives(&rt, rt.alloc(), &mut chain, &[11, 22, 33], End::Completed);
 }
 
 #[test]
-fn a_chain_comes_to_one_answer(rt: HostRuntime) -> Result<(), Fail> {
+fn a_chain_comes_to_one_answer(rt: HostRuntime) {
     let mut chain = OfRange::new(1, 4);
-    assert_eq!(rt; chain.fold(0, Add, sum)?, 10);
-    assert_eq!(rt; chain.first()?, Some(1));
-    assert_eq!(rt; chain.count()?, 4);
-    assert_eq!(rt; OfRange::new(2, 1).first()?, None);
-    Ok(())
+    compare(&rt, 0, chain.fold(0, Add, sum), Ok(10));
+    compare(&rt, 1, chain.first(), Ok(Some(1)));
+    compare(&rt, 2, chain.count(), Ok(4));
+    compare(&rt, 3, OfRange::new(2, 1).first(), Ok(None));
 }
 
 #[test]
-fn a_chain_that_fails_has_a_first_item_and_no_count(rt: HostRuntime) -> Result<(), Fail> {
-    let mut failing = fails_after_two(rt.alloc())?;
-    assert!(rt; failing.first() == Ok(Some(5)));
-    assert!(rt; failing.count() == Err(ChainFault::Source(7)));
-    Ok(())
+fn a_chain_that_fails_has_a_first_item_and_no_count(rt: HostRuntime) {
+    let mut failing = fails_after_two(&rt, rt.alloc());
+    compare(&rt, 0, failing.first(), Ok(Some(5)));
+    compare(&rt, 1, failing.count(), Err(ChainFault::Source(7)));
 }
 
 #[test]
-fn each_item_is_visited_up_to_a_fault(rt: HostRuntime) -> Result<(), Fail> {
+fn each_item_is_visited_up_to_a_fault(rt: HostRuntime) {
     let mut visited = Vec::new(rt.alloc());
     let answer = OfRange::new(1, 4).for_each(|x| {
         if x == 3 {
@@ -127,7 +117,6 @@ fn each_item_is_visited_up_to_a_fault(rt: HostRuntime) -> Result<(), Fail> {
             Err(_) => Err(ChainFault::OutOfMemory),
         }
     });
-    assert_eq!(rt; answer, Err(ChainFault::Source(9)));
-    assert_eq!(rt; visited.as_slice(), [1, 2].as_slice());
-    Ok(())
+    compare(&rt, 0, answer, Err(ChainFault::Source(9)));
+    compare(&rt, 1, visited.as_slice(), [1, 2].as_slice());
 }

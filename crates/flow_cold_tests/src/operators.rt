@@ -3,14 +3,14 @@ ghost use Rattle.std.specs.Prelude.{◌≡◌};
 ghost use Rattle.std.proofs.Common.{rules};
 ghost use Rattle.flow_cold_tests.specs.Meanings.{GivesTwice, OpensTwice, add, add_one, is_above_one, twice, twice_run};
 
-use crate::gives::gives;
+use crate::compare::compare;
+use crate::gives::{gives, list};
 use flow_cold::{
     ChainFault, Distinct, DropFirst, End, Entry, Filter, FlatMapConcat, InnerMeaning, ItemMeaning,
-    ListMeaning, Map, OfList, OfRange, PairComputation, PairMeaning, Scripted, Take, TakeWhile,
+    ListMeaning, Map, OfRange, PairComputation, PairMeaning, Scripted, Take, TakeWhile,
     TestMeaning, Transform, Zip,
 };
 use std::alloc::Global;
-use std::test::Fail;
 
 #[derive(Drop)]
 pub struct AddOne;
@@ -71,45 +71,34 @@ pub fn sum(x: i64, y: i64) -> Result<i64, ChainFault>
 }
 
 #[test]
-fn items_are_mapped_and_tested(rt: HostRuntime) -> Result<(), Fail> {
-    let alloc = rt.alloc();
-    let source = OfList::new([0i64, 1, i64::MAX, 2].to_vec(alloc)?);
+fn items_are_mapped_and_tested(rt: HostRuntime) {
+    let source = list(&rt, rt.alloc(), &[0, 1, i64::MAX, 2]);
     let mut chain = Filter::new(Map::new(source, AddOne, increased), IsAboveOne, |x| *x > 1);
-    gives(
-        &rt,
-        alloc,
-        &mut chain,
-        &[2],
-        End::Failed(ChainFault::Overflow),
-    )
+    let overflow = End::Failed(ChainFault::Overflow);
+    gives(&rt, rt.alloc(), &mut chain, &[2], overflow);
 }
 
 #[test]
-fn items_are_taken_and_dropped(rt: HostRuntime) -> Result<(), Fail> {
-    let alloc = rt.alloc();
-    let source = OfList::new([7i64, 3, 3, 2, 1, 5].to_vec(alloc)?);
+fn items_are_taken_and_dropped(rt: HostRuntime) {
+    let source = list(&rt, rt.alloc(), &[7, 3, 3, 2, 1, 5]);
     let dropped = DropFirst::new(Distinct::new(source), 1);
-    let mut chain = Take::new(TakeWhile::new(dropped, IsAboveOne, |x| *x > 1), 5)?;
-    gives(&rt, alloc, &mut chain, &[3, 2], End::Completed)
+    let above = TakeWhile::new(dropped, IsAboveOne, |x| *x > 1);
+    let mut chain = Take::new(above, 5).expect(&rt, "a take");
+    gives(&rt, rt.alloc(), &mut chain, &[3, 2], End::Completed);
 }
 
 #[test]
 fn a_take_of_nothing_is_refused(rt: HostRuntime) {
-    assert!(rt;
-        matches!(
-            Take::new(OfRange::new(1, 5), 0),
-            Err(ChainFault::NotPositive)
-        )
-    );
+    let refused = Take::new(OfRange::new(1, 5), 0);
+    compare(&rt, 0, refused.err(), Some(ChainFault::NotPositive));
 }
 
 #[test]
-fn pairs_are_made(rt: HostRuntime) -> Result<(), Fail> {
-    let alloc = rt.alloc();
-    let left = OfList::new([1i64, 2].to_vec(alloc)?);
-    let right = OfList::new([10i64, 20, 30].to_vec(alloc)?);
+fn pairs_are_made(rt: HostRuntime) {
+    let left = list(&rt, rt.alloc(), &[1, 2]);
+    let right = list(&rt, rt.alloc(), &[10, 20, 30]);
     let mut chain = Zip::new(left, right, Add, sum);
-    gives(&rt, alloc, &mut chain, &[11, 22], End::Completed)
+    gives(&rt, rt.alloc(), &mut chain, &[11, 22], End::Completed);
 }
 
 pub fn listed(alloc: Global, x: i64) -> Result<Vec<i64>, ChainFault>
@@ -139,17 +128,17 @@ pub fn opened(alloc: Global, x: i64) -> Result<Scripted<i64>, ChainFault>
 }
 
 #[test]
-fn items_become_several(rt: HostRuntime) -> Result<(), Fail> {
+fn items_become_several(rt: HostRuntime) {
     let alloc = rt.alloc();
-    let source = OfList::new([1i64, 2].to_vec(alloc)?);
+    let source = list(&rt, alloc, &[1, 2]);
     let mut chain = Transform::new(source, Twice, |x: i64| listed(alloc, x));
-    gives(&rt, alloc, &mut chain, &[1, 1, 2, 2], End::Completed)
+    gives(&rt, alloc, &mut chain, &[1, 1, 2, 2], End::Completed);
 }
 
 #[test]
-fn items_become_chains(rt: HostRuntime) -> Result<(), Fail> {
+fn items_become_chains(rt: HostRuntime) {
     let alloc = rt.alloc();
-    let source = OfList::new([1i64, 2].to_vec(alloc)?);
+    let source = list(&rt, alloc, &[1, 2]);
     let mut chain = FlatMapConcat::new(source, TwiceRun, |x: i64| opened(alloc, x));
-    gives(&rt, alloc, &mut chain, &[1, 1, 2, 2], End::Completed)
+    gives(&rt, alloc, &mut chain, &[1, 1, 2, 2], End::Completed);
 }

@@ -1,49 +1,71 @@
 //! Memory that is wanted inside a chain is the end of the chain, and no refusal of the collection.
 
-use flow_cold::{ChainFault, Collected, Distinct, End, OfList, collect_all};
+use crate::compare::compare;
+use flow_cold::{ChainFault, Cold, Distinct, End, OfList, collect_all};
 use flow_testing::CopyLimited;
+use std::alloc::Global;
 use std::cell::Cell;
 use std::process::Abort;
-use std::test::Fail;
 
-fn gave<R: Abort>(rt: &R, got: &Collected<CopyLimited>, numbers: &[i64], end: End) {
-    let items = got.items.as_slice();
-    assert_eq!(rt; items.len(), numbers.len());
-    for (item, number) in items.iter().zip(numbers) {
-        assert_eq!(rt; item.number(), *number);
+/// The number of the item at a place, if there is one.
+fn number_at(items: &[CopyLimited<'_>], place: usize) -> Option<i64> {
+    match items.get(place) {
+        Some(item) => Some(item.number()),
+        None => None,
     }
-    assert_eq!(rt; got.end, end);
+}
+
+/// The numbers of the items are these.
+fn are(rt: &impl Abort, items: &[CopyLimited<'_>], numbers: &[i64]) {
+    compare(rt, 0, items.len(), numbers.len());
+    for place in 0..numbers.len() {
+        compare(rt, place, number_at(items, place), Some(numbers[place]));
+    }
+}
+
+/// Collects the chain, and compares its items and its end.
+fn gives<'a, C: Cold<Item = CopyLimited<'a>>>(
+    rt: &impl Abort,
+    alloc: Global,
+    chain: &mut C,
+    numbers: &[i64],
+    end: End,
+)
+    requires { C.sound chain.old }
+    ensures { C.sound chain.new }
+{
+    let Ok(got) = collect_all(alloc, chain) else {
+        panic!(rt; "memory")
+    };
+    are(rt, got.items.as_slice(), numbers);
+    compare(rt, 0, got.end, end);
+}
+
+/// 1 to 3.
+fn three<'a>(rt: &impl Abort, alloc: Global, copies: &'a Cell<u64>) -> OfList<CopyLimited<'a>> {
+    let mut items = Vec::new(alloc);
+    for number in 1..4 {
+        let pushed = items.push(CopyLimited::new(number, copies));
+        assert!(rt; pushed.is_ok());
+    }
+    OfList::new(items)
 }
 
 const WANTED: End = End::Failed(ChainFault::OutOfMemory);
 
 #[test]
-fn a_refused_copy_ends_a_list(rt: HostRuntime) -> Result<(), Fail> {
-    let alloc = rt.alloc();
+fn a_refused_copy_ends_a_list(rt: HostRuntime) {
     let copies = Cell::new(3);
-    let mut items = Vec::new(alloc);
-    for number in 1..4 {
-        items.push(CopyLimited::new(number, &copies))?;
-    }
-    let mut chain = OfList::new(items);
-    gave(&rt, &collect_all(alloc, &mut chain)?, &[1, 2], WANTED);
-    let got = collect_all(alloc, &mut chain)?;
-    gave(&rt, &got, &[1, 2, 3], End::Completed);
-    Ok(())
+    let mut chain = three(&rt, rt.alloc(), &copies);
+    gives(&rt, rt.alloc(), &mut chain, &[1, 2], WANTED);
+    gives(&rt, rt.alloc(), &mut chain, &[1, 2, 3], End::Completed);
 }
 
 /// The list copies each item, and `Distinct` copies each item that it keeps: the fourth copy is its second.
 #[test]
-fn a_refused_copy_ends_an_operator(rt: HostRuntime) -> Result<(), Fail> {
-    let alloc = rt.alloc();
+fn a_refused_copy_ends_an_operator(rt: HostRuntime) {
     let copies = Cell::new(4);
-    let mut items = Vec::new(alloc);
-    for number in 1..4 {
-        items.push(CopyLimited::new(number, &copies))?;
-    }
-    let mut chain = Distinct::new(OfList::new(items));
-    gave(&rt, &collect_all(alloc, &mut chain)?, &[1], WANTED);
-    let got = collect_all(alloc, &mut chain)?;
-    gave(&rt, &got, &[1, 2, 3], End::Completed);
-    Ok(())
+    let mut chain = Distinct::new(three(&rt, rt.alloc(), &copies));
+    gives(&rt, rt.alloc(), &mut chain, &[1], WANTED);
+    gives(&rt, rt.alloc(), &mut chain, &[1, 2, 3], End::Completed);
 }
