@@ -1,11 +1,15 @@
-//! Tests of flows for one thread. What each call answers is proved; here the values come from kotlinx.coroutines'
-//! documentation of `MutableSharedFlow`, `BufferOverflow` and `MutableStateFlow`.
+//! Tests of flows for one thread, and of values that own memory. What each call answers is proved; here the values come
+//! from kotlinx.coroutines' documentation of `MutableSharedFlow`, `BufferOverflow` and `MutableStateFlow`.
 //!
 //! A worked example is a list of calls, each with what it is to answer. Another module makes the calls.
 #![tactic(auto)]
 
 #[cfg(test)]
 mod compare;
+#[cfg(test)]
+mod drains;
+#[cfg(test)]
+mod limited;
 #[cfg(test)]
 mod many;
 #[cfg(test)]
@@ -18,3 +22,5 @@ mod shared_calls;
 mod state;
 #[cfg(test)]
 mod state_calls;
+#[cfg(test)]
+mod values;

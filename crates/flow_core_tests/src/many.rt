@@ -1,71 +1,108 @@
 //! Flows of many values.
 use crate::compare::compare;
-use crate::shared_calls::Caller;
-use flow_law::{Config, Emit, Next, Overflow};
-use std::ops::Range;
+use crate::shared_calls::Call::{CacheLength, Emit, Next, Series as Each, Subscribe};
+use crate::shared_calls::{Caller, answers};
+use flow_law::Emit::{Done, Queued};
+use flow_law::Next::Value;
+use flow_law::{Config, Overflow};
 use std::process::Abort;
-use std::test::Fail;
 
-/// Emits the values, for which nobody waits.
-fn emit_each(rt: &impl Abort, caller: &mut Caller, values: Range<i64>) -> Result<(), Fail> {
-    for value in values {
-        assert_eq!(rt; caller.emit(value)?, Emit::Done);
-    }
-    Ok(())
+/// Calls with one value after the other, from the first to the last.
+pub enum Series {
+    /// The flow takes or drops each value.
+    TryEmits(i64, i64),
+    /// No emission waits.
+    Emits(i64, i64),
+    /// Each emission waits. The first one has this number, and the others the next ones.
+    Queues(i64, i64, u64),
+    /// The subscriber receives the values.
+    Receives(usize, i64, i64),
 }
 
-/// The subscriber receives the values, in their order.
-fn receive_each(rt: &impl Abort, caller: &mut Caller, values: Range<i64>) -> Result<(), Fail> {
-    for value in values {
-        assert_eq!(rt; caller.next(0)?, Next::Value(value));
+impl Caller {
+    pub fn make_each(&mut self, rt: &impl Abort, place: usize, series: &Series) {
+        match series {
+            Series::TryEmits(first, last) => self.try_emit_each(rt, place, *first, *last),
+            Series::Emits(first, last) => self.emit_each(rt, place, *first, *last),
+            Series::Queues(first, last, number) => {
+                self.queue_each(rt, place, *first, *last, *number);
+            }
+            Series::Receives(index, first, last) => {
+                self.receive_each(rt, place, *index, *first, *last);
+            }
+        }
     }
-    Ok(())
+
+    fn try_emit_each(&mut self, rt: &impl Abort, place: usize, first: i64, last: i64) {
+        for value in first..=last {
+            compare(rt, place, self.try_emit(value), Ok(true));
+        }
+    }
+
+    fn emit_each(&mut self, rt: &impl Abort, place: usize, first: i64, last: i64) {
+        for value in first..=last {
+            compare(rt, place, self.emit(value), Ok(Done));
+        }
+    }
+
+    fn queue_each(&mut self, rt: &impl Abort, place: usize, first: i64, last: i64, number: u64) {
+        let mut number = number;
+        for value in first..=last {
+            compare(rt, place, self.emit(value), Ok(Queued(number)));
+            number = number.wrapping_add(1);
+        }
+    }
+
+    fn receive_each(&mut self, rt: &impl Abort, place: usize, index: usize, first: i64, last: i64) {
+        for value in first..=last {
+            compare(rt, place, self.next(rt, index), Ok(Value(value)));
+        }
+    }
 }
 
 #[test]
-fn the_largest_buffer_is_filled_and_more(rt: HostRuntime) -> Result<(), Fail> {
-    let config = Config::new().replay(65_536).overflow(Overflow::DropOldest);
-    let mut caller = Caller::new(rt.alloc(), config)?;
-    fill_the_largest_buffer(&rt, &mut caller)
-}
-
-fn fill_the_largest_buffer(rt: &impl Abort, caller: &mut Caller) -> Result<(), Fail> {
-    compare(rt, 0, caller.subscribe()?, 1);
-    emit_each(rt, caller, 0..65_540)?;
-    compare(rt, 65_541, caller.cache()?.len(), 65_536);
-    compare(rt, 65_542, caller.next(0)?, Next::Value(4));
-    Ok(())
-}
-
-#[test]
-fn two_thousand_emitters_wait_in_order(rt: HostRuntime) -> Result<(), Fail> {
-    let mut caller = Caller::new(rt.alloc(), Config::new().replay(1))?;
-    queue_two_thousand(&rt, &mut caller)?;
-    receive_each(&rt, &mut caller, 0..2_001)
+fn the_largest_buffer_is_filled_and_more(rt: HostRuntime) {
+    answers(
+        &rt,
+        rt.alloc(),
+        Config::new().replay(65_536).overflow(Overflow::DropOldest),
+        &[
+            Subscribe(1),
+            Each(Series::Emits(0, 65_539)),
+            CacheLength(65_536),
+            Next(0, Value(4)),
+        ],
+    );
 }
 
 /// The subscription and value 0 have the numbers 1 and 2.
-fn queue_two_thousand(rt: &impl Abort, caller: &mut Caller) -> Result<(), Fail> {
-    compare(rt, 0, caller.subscribe()?, 1);
-    emit_each(rt, caller, 0..1)?;
-    for value in 1..2_001_u64 {
-        assert_eq!(rt; caller.emit(value as i64)?, Emit::Queued(value + 2));
-    }
-    Ok(())
+#[test]
+fn two_thousand_emitters_wait_in_order(rt: HostRuntime) {
+    answers(
+        &rt,
+        rt.alloc(),
+        Config::new().replay(1),
+        &[
+            Subscribe(1),
+            Emit(0, Done),
+            Each(Series::Queues(1, 2_000, 3)),
+            Each(Series::Receives(0, 0, 2_000)),
+        ],
+    );
 }
 
 #[test]
-fn an_emission_after_a_hundred_thousand(rt: HostRuntime) -> Result<(), Fail> {
-    let mut caller = Caller::new(rt.alloc(), Config::new().replay(1))?;
-    for value in 0..100_000_i64 {
-        assert_eq!(rt; caller.try_emit(value)?, true);
-    }
-    emit_after_a_hundred_thousand(&rt, &mut caller)
-}
-
-fn emit_after_a_hundred_thousand(rt: &impl Abort, caller: &mut Caller) -> Result<(), Fail> {
-    compare(rt, 100_000, caller.subscribe()?, 100_001);
-    receive_each(rt, caller, 99_999..100_000)?;
-    emit_each(rt, caller, 7..8)?;
-    receive_each(rt, caller, 7..8)
+fn an_emission_after_a_hundred_thousand(rt: HostRuntime) {
+    answers(
+        &rt,
+        rt.alloc(),
+        Config::new().replay(1),
+        &[
+            Each(Series::TryEmits(0, 99_999)),
+            Subscribe(100_001),
+            Next(0, Value(99_999)),
+            Emit(7, Done),
+            Next(0, Value(7)),
+        ],
+    );
 }

@@ -1,19 +1,21 @@
 //! Worked examples of subscribers with first values of their own (`onSubscription`).
 use crate::compare::compare;
-use crate::shared_calls::Call::{Cache, Cancel, Emit, Next, Poll, SubscribeWith, TryEmit};
+use crate::limited::{emit_each, list_of, number_of};
+use crate::shared_calls::Call::{
+    Cache, Cancel, Emit, Next, Poll, SubscribeWith, SubscribeWithRefused, TryEmit,
+};
 use crate::shared_calls::answers;
 use flow_core::{SharedCore, SubId};
 use flow_law::Emit::{Done, Queued};
 use flow_law::Next::{Empty, Value};
-use flow_law::{Config, FlowFault, Next as Reply, Overflow, Refused};
+use flow_law::{Config, FlowFault, Overflow};
 use flow_testing::CopyLimited;
 use std::alloc::Global;
 use std::cell::Cell;
 use std::process::Abort;
-use std::test::Fail;
 
 #[test]
-fn own_values_come_before_the_cache_and_are_never_dropped(rt: HostRuntime) -> Result<(), Fail> {
+fn own_values_come_before_the_cache_and_are_never_dropped(rt: HostRuntime) {
     answers(
         &rt,
         rt.alloc(),
@@ -34,11 +36,11 @@ fn own_values_come_before_the_cache_and_are_never_dropped(rt: HostRuntime) -> Re
             Next(0, Empty),
             Cache(&[4]),
         ],
-    )
+    );
 }
 
 #[test]
-fn an_own_value_lets_an_emission_wait(rt: HostRuntime) -> Result<(), Fail> {
+fn an_own_value_lets_an_emission_wait(rt: HostRuntime) {
     answers(
         &rt,
         rt.alloc(),
@@ -51,11 +53,11 @@ fn an_own_value_lets_an_emission_wait(rt: HostRuntime) -> Result<(), Fail> {
             Next(0, Value(7)),
             Poll(2, false),
         ],
-    )
+    );
 }
 
 #[test]
-fn a_cancel_leaves_an_own_value(rt: HostRuntime) -> Result<(), Fail> {
+fn a_cancel_leaves_an_own_value(rt: HostRuntime) {
     answers(
         &rt,
         rt.alloc(),
@@ -67,76 +69,59 @@ fn a_cancel_leaves_an_own_value(rt: HostRuntime) -> Result<(), Fail> {
             Next(0, Value(8)),
             Next(0, Empty),
         ],
-    )
+    );
 }
 
 #[test]
-fn a_refused_subscription_hands_its_values_back(rt: HostRuntime) -> Result<(), Fail> {
-    let mut flow = SharedCore::<i64>::new(rt.alloc(), Config::new().limit(0))?;
-    match flow.subscribe_with([1, 2].to_vec(rt.alloc())?) {
-        Ok(_subscriber) => Err(Fail::from("a subscription beyond the limit")),
-        Err(Refused { value, fault }) => {
-            compare(&rt, 0, value.as_slice(), [1, 2].as_slice());
-            compare(&rt, 0, fault, FlowFault::Exhausted);
-            Ok(())
-        }
-    }
-}
-
-/// The number that comes next, if there is one, where a refused copy is asked for again; and whether one was refused.
-fn next_number(
-    flow: &mut SharedCore<CopyLimited<'_>>,
-    id: SubId,
-) -> Result<(Option<i64>, bool), FlowFault> {
-    let (next, was_refused) = match flow.next(id) {
-        Err(FlowFault::OutOfMemory) => (flow.next(id)?, true),
-        answer => (answer?, false),
-    };
-    let number = match next {
-        Reply::Value(value) => Some(value.number()),
-        Reply::Empty | Reply::Gone => None,
-    };
-    Ok((number, was_refused))
+fn a_refused_subscription_hands_its_values_back(rt: HostRuntime) {
+    answers(
+        &rt,
+        rt.alloc(),
+        Config::new().limit(0),
+        &[SubscribeWithRefused(&[1, 2], FlowFault::Exhausted)],
+    );
 }
 
 /// A flow with room for two values that took 1 to 4, and a subscriber from after the 1, with 8 and 9 of its own.
-fn with_own_values(
+fn with_own_values<'a>(
+    rt: &impl Abort,
     alloc: Global,
-    copies: &Cell<u64>,
-) -> Result<(SharedCore<CopyLimited<'_>>, SubId), FlowFault> {
+    copies: &'a Cell<u64>,
+) -> (SharedCore<CopyLimited<'a>>, SubId) {
     let config = Config::new()
         .replay(1)
         .extra(1)
         .overflow(Overflow::DropOldest);
-    let mut flow = SharedCore::new(alloc, config)?;
-    flow.try_emit(CopyLimited::new(1, copies))?;
-    let own = [CopyLimited::new(8, copies), CopyLimited::new(9, copies)];
-    let Ok(own) = Vec::from_array(alloc, own) else {
-        return Err(FlowFault::OutOfMemory);
+    let mut flow = SharedCore::new(alloc, config).expect(rt, "a flow");
+    emit_each(rt, &mut flow, copies, 1..2);
+    let Ok(a) = flow.subscribe_with(list_of(rt, alloc, copies, 8..10)) else {
+        panic!(rt; "a subscription")
     };
-    let a = flow.subscribe_with(own)?;
-    for number in [2, 3, 4] {
-        flow.emit(CopyLimited::new(number, copies))?;
-    }
-    Ok((flow, a))
+    emit_each(rt, &mut flow, copies, 2..5);
+    (flow, a)
 }
 
-/// The copy that is refused is the first or the second one: only the values of the flow are copied.
-fn refuse_copy(rt: &impl Abort, alloc: Global, refused: u64) -> Result<(), Fail> {
+/// What the subscriber receives, where this copy is refused. Only the values of the flow are copied.
+fn receives(
+    rt: &impl Abort,
+    alloc: Global,
+    refused: u64,
+    wanted: &[Result<Option<i64>, FlowFault>],
+) {
     let copies = Cell::new(0);
-    let (mut flow, a) = with_own_values(alloc, &copies)?;
+    let (mut flow, a) = with_own_values(rt, alloc, &copies);
     copies.set(refused);
-    let wanted = [(8, false), (9, false), (3, refused == 1), (4, refused == 2)];
     for place in 0..wanted.len() {
-        let (number, was_refused) = wanted[place];
-        let next = next_number(&mut flow, a)?;
-        compare(rt, place, next, (Some(number), was_refused));
+        compare(rt, place, number_of(flow.next(a)), wanted[place]);
     }
-    Ok(())
 }
 
+/// The copy that is refused is the first or the second one.
 #[test]
-fn an_own_value_is_not_copied(rt: HostRuntime) -> Result<(), Fail> {
-    refuse_copy(&rt, rt.alloc(), 1)?;
-    refuse_copy(&rt, rt.alloc(), 2)
+fn an_own_value_is_not_copied(rt: HostRuntime) {
+    let wanting = Err(FlowFault::OutOfMemory);
+    let first = [Ok(Some(8)), Ok(Some(9)), wanting, Ok(Some(3)), Ok(Some(4))];
+    receives(&rt, rt.alloc(), 1, &first);
+    let second = [Ok(Some(8)), Ok(Some(9)), Ok(Some(3)), wanting, Ok(Some(4))];
+    receives(&rt, rt.alloc(), 2, &second);
 }

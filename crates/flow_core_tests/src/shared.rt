@@ -1,4 +1,5 @@
 //! Worked examples over a shared flow.
+use crate::compare::compare;
 use crate::shared_calls::Call::{
     Cache, Cancel, Count, Emit, Next, Poll, Reset, Subscribe, TryEmit, Unsubscribe,
 };
@@ -7,10 +8,9 @@ use flow_core::SharedCore;
 use flow_law::Emit::{Done, Queued};
 use flow_law::Next::{Empty, Gone, Value};
 use flow_law::{Config, FlowFault, Overflow};
-use std::test::Fail;
 
 #[test]
-fn a_new_subscriber_gets_the_cache(rt: HostRuntime) -> Result<(), Fail> {
+fn a_new_subscriber_gets_the_cache(rt: HostRuntime) {
     answers(
         &rt,
         rt.alloc(),
@@ -30,11 +30,11 @@ fn a_new_subscriber_gets_the_cache(rt: HostRuntime) -> Result<(), Fail> {
             Unsubscribe(0, true),
             Next(0, Gone),
         ],
-    )
+    );
 }
 
 #[test]
-fn two_emissions_without_a_buffer_wait_for_each_other(rt: HostRuntime) -> Result<(), Fail> {
+fn two_emissions_without_a_buffer_wait_for_each_other(rt: HostRuntime) {
     answers(
         &rt,
         rt.alloc(),
@@ -51,11 +51,11 @@ fn two_emissions_without_a_buffer_wait_for_each_other(rt: HostRuntime) -> Result
             Poll(3, false),
             Next(0, Empty),
         ],
-    )
+    );
 }
 
 #[test]
-fn a_cancelled_emission_leaves_the_middle_of_the_queue(rt: HostRuntime) -> Result<(), Fail> {
+fn a_cancelled_emission_leaves_the_middle_of_the_queue(rt: HostRuntime) {
     answers(
         &rt,
         rt.alloc(),
@@ -73,12 +73,11 @@ fn a_cancelled_emission_leaves_the_middle_of_the_queue(rt: HostRuntime) -> Resul
             Next(0, Value(4)),
             Next(0, Empty),
         ],
-    )
+    );
 }
 
 #[test]
-fn a_strategy_that_drops_needs_a_buffer(rt: HostRuntime) -> Result<(), Fail> {
+fn a_strategy_that_drops_needs_a_buffer(rt: HostRuntime) {
     let refused = SharedCore::<i64>::new(rt.alloc(), Config::new().overflow(Overflow::DropLatest));
-    assert_eq!(rt; refused.err(), Some(FlowFault::NeedsBuffer));
-    Ok(())
+    compare(&rt, 0, refused.err(), Some(FlowFault::NeedsBuffer));
 }
