@@ -1,18 +1,16 @@
-//! A shared flow on one thread: a reader that comes late gets the last two values first.
-#![tactic(auto)]
-
+//! A shared flow: a reader that comes late gets the last two values first.
 use anyhow::Result;
 use flow_core::SharedCore;
 use flow_law::{Config, Next};
 
-fn main(rt: HostRuntime) -> Result<()> {
+pub fn show(rt: &HostRuntime) -> Result<()> {
     let mut flow = SharedCore::<i64>::new(rt.alloc(), Config::new().replay(2))?;
     for value in 1..4 {
         flow.try_emit(value)?;
     }
     let reader = flow.subscribe()?;
     for _ in 0..3 {
-        print(&rt, flow.next(reader)?)?;
+        print(rt, flow.next(reader)?)?;
     }
     Ok(())
 }

@@ -1,20 +1,16 @@
 //! A state flow of values of one's own.
-#![tactic(auto)]
-
-mod position;
-
+use crate::position::Position;
 use anyhow::Result;
 use flow_core::StateCore;
 use flow_law::Next;
-use position::Position;
 
-fn main(rt: HostRuntime) -> Result<()> {
+pub fn show(rt: &HostRuntime) -> Result<()> {
     let mut flow = StateCore::new(rt.alloc(), Position { x: 0, y: 0 }, u64::MAX);
     let reader = flow.subscribe()?;
     flow.set(Position { x: 3, y: 4 });
     flow.set(Position { x: 3, y: 4 });
     for _ in 0..2 {
-        print(&rt, flow.next(reader)?)?;
+        print(rt, flow.next(reader)?)?;
     }
     Ok(())
 }

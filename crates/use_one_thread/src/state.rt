@@ -1,18 +1,16 @@
-//! A state flow on one thread: a slow reader gets the most recent value alone.
-#![tactic(auto)]
-
+//! A state flow: a slow reader gets the most recent value alone.
 use anyhow::Result;
 use flow_core::StateCore;
 use flow_law::{Next, Text};
 
-fn main(rt: HostRuntime) -> Result<()> {
-    let mut flow = StateCore::new(rt.alloc(), text(&rt, "loading")?, u64::MAX);
+pub fn show(rt: &HostRuntime) -> Result<()> {
+    let mut flow = StateCore::new(rt.alloc(), text(rt, "loading")?, u64::MAX);
     let reader = flow.subscribe()?;
     for word in ["page 1", "page 2", "page 3"] {
-        flow.set(text(&rt, word)?);
+        flow.set(text(rt, word)?);
     }
     for _ in 0..2 {
-        print(&rt, flow.next(reader)?)?;
+        print(rt, flow.next(reader)?)?;
     }
     Ok(())
 }
