@@ -1,8 +1,10 @@
 //! Worked examples by one caller with a seat for each emission. The values come from kotlinx.coroutines' documentation of
 //! `MutableSharedFlow` and `BufferOverflow`.
 
+mod drains;
 mod emissions;
 mod gate;
+mod never_copied;
 mod own_values;
 mod state;
 mod subscribers;

@@ -1,7 +1,7 @@
 //! One caller of a shared flow, who makes a seat for each emission.
 ghost use Rattle.std.specs.Prelude.{◌≡◌};
 
-use flow_law::{FlowFault, Next, Refused};
+use flow_law::{Drained, FlowFault, Next, Refused};
 use flow_shared::{Emission, Emitted, Polled, Seat, SharedFlow, Subscription};
 use std::sync::Wait;
 
@@ -115,6 +115,16 @@ impl<'a> Waiting<'a> {
 impl<'a> Reader<'a> {
     pub fn next<R: Wait>(&mut self, rt: &R) -> Result<Next<i64>, FlowFault> {
         self.flow.next(rt, &mut self.subscription)
+    }
+
+    /// Takes at most `most` values to the end of the list.
+    pub fn drain<R: Wait>(
+        &mut self,
+        rt: &R,
+        most: usize,
+        values: &mut Vec<i64>,
+    ) -> Result<Drained, FlowFault> {
+        self.flow.drain(rt, &mut self.subscription, most, values)
     }
 
     pub fn unsubscribe<R: Wait>(self, rt: &R) {

@@ -4,10 +4,9 @@ use crate::playing::Step::{Cache, Cancel, Emit, Next, Poll, Subscribe, TryEmit, 
 use crate::playing::answers;
 use flow_law::Next::{Empty, Value};
 use flow_law::{Config, Overflow};
-use std::test::Fail;
 
 #[test]
-fn try_emit_does_not_wait(rt: HostRuntime) -> Result<(), Fail> {
+fn try_emit_does_not_wait(rt: HostRuntime) {
     answers(
         &rt,
         rt.alloc(),
@@ -18,11 +17,11 @@ fn try_emit_does_not_wait(rt: HostRuntime) -> Result<(), Fail> {
             TryEmit(2, true),
             TryEmit(3, false),
         ],
-    )
+    );
 }
 
 #[test]
-fn an_emitter_waits_for_room(rt: HostRuntime) -> Result<(), Fail> {
+fn an_emitter_waits_for_room(rt: HostRuntime) {
     answers(
         &rt,
         rt.alloc(),
@@ -41,11 +40,11 @@ fn an_emitter_waits_for_room(rt: HostRuntime) -> Result<(), Fail> {
             Next(0, Value(3)),
             Next(0, Empty),
         ],
-    )
+    );
 }
 
 #[test]
-fn drop_oldest_keeps_the_newest(rt: HostRuntime) -> Result<(), Fail> {
+fn drop_oldest_keeps_the_newest(rt: HostRuntime) {
     answers(
         &rt,
         rt.alloc(),
@@ -62,11 +61,11 @@ fn drop_oldest_keeps_the_newest(rt: HostRuntime) -> Result<(), Fail> {
             Next(0, Empty),
             Cache(&[]),
         ],
-    )
+    );
 }
 
 #[test]
-fn drop_latest_keeps_the_oldest(rt: HostRuntime) -> Result<(), Fail> {
+fn drop_latest_keeps_the_oldest(rt: HostRuntime) {
     answers(
         &rt,
         rt.alloc(),
@@ -86,11 +85,11 @@ fn drop_latest_keeps_the_oldest(rt: HostRuntime) -> Result<(), Fail> {
             Next(0, Empty),
             Cache(&[2]),
         ],
-    )
+    );
 }
 
 #[test]
-fn without_a_buffer_an_emitter_waits_for_each_subscriber(rt: HostRuntime) -> Result<(), Fail> {
+fn without_a_buffer_an_emitter_waits_for_each_subscriber(rt: HostRuntime) {
     answers(
         &rt,
         rt.alloc(),
@@ -105,11 +104,11 @@ fn without_a_buffer_an_emitter_waits_for_each_subscriber(rt: HostRuntime) -> Res
             Next(1, Value(7)),
             Poll(0, Done),
         ],
-    )
+    );
 }
 
 #[test]
-fn a_cancelled_offer_is_not_received(rt: HostRuntime) -> Result<(), Fail> {
+fn a_cancelled_offer_is_not_received(rt: HostRuntime) {
     answers(
         &rt,
         rt.alloc(),
@@ -123,11 +122,11 @@ fn a_cancelled_offer_is_not_received(rt: HostRuntime) -> Result<(), Fail> {
             Cancel(0, true),
             Next(1, Empty),
         ],
-    )
+    );
 }
 
 #[test]
-fn a_late_subscriber_is_offered_the_value_too(rt: HostRuntime) -> Result<(), Fail> {
+fn a_late_subscriber_is_offered_the_value_too(rt: HostRuntime) {
     answers(
         &rt,
         rt.alloc(),
@@ -143,11 +142,11 @@ fn a_late_subscriber_is_offered_the_value_too(rt: HostRuntime) -> Result<(), Fai
             Subscribe,
             Next(2, Empty),
         ],
-    )
+    );
 }
 
 #[test]
-fn emitters_go_on_when_the_last_subscriber_leaves(rt: HostRuntime) -> Result<(), Fail> {
+fn emitters_go_on_when_the_last_subscriber_leaves(rt: HostRuntime) {
     answers(
         &rt,
         rt.alloc(),
@@ -164,11 +163,11 @@ fn emitters_go_on_when_the_last_subscriber_leaves(rt: HostRuntime) -> Result<(),
             Poll(3, Done),
             Cache(&[4]),
         ],
-    )
+    );
 }
 
 #[test]
-fn a_cancelled_value_is_never_emitted(rt: HostRuntime) -> Result<(), Fail> {
+fn a_cancelled_value_is_never_emitted(rt: HostRuntime) {
     answers(
         &rt,
         rt.alloc(),
@@ -183,5 +182,5 @@ fn a_cancelled_value_is_never_emitted(rt: HostRuntime) -> Result<(), Fail> {
             Unsubscribe(0),
             Cache(&[3]),
         ],
-    )
+    );
 }

@@ -4,9 +4,10 @@ ghost use Rattle.std.specs.Prelude.{◌≡◌, ◌%◌, ◌^◌, [], ◌∷◌, 
 use crate::compare::compare;
 use flow_gate::{Adds, Gate, Held, Seat};
 use flow_law::Guarded;
+use std::alloc::Global;
 use std::marker::Brand;
+use std::process::Abort;
 use std::sync::Wait;
-use std::test::Fail;
 use std::thread::join;
 
 /// It begins at 0 again after 2^64 events.
@@ -64,66 +65,78 @@ fn meet_in_one_history(
     gate.meet(one, other)
 }
 
-#[test]
-fn who_is_inside_keeps_others_out(rt: HostRuntime) -> Result<(), Fail> {
-    let Ok((gate, mut seat)) = Gate::new(rt.alloc(), Count { events: 0 }) else {
-        panic!(rt; "a gate was made")
-    };
-    let other = gate.seat(&mut seat);
-    let mut held = gate.enter(&rt, seat);
+/// A gate that nobody has entered, and a seat.
+fn new_gate(rt: &impl Abort, alloc: Global) -> (Gate<Count>, Seat<Count>)
+    ensures { result.1.table_id ≡ result.0.table_id }
+{
+    match Gate::new(alloc, Count { events: 0 }) {
+        Ok(made) => made,
+        Err(_) => panic!(rt; "memory"),
+    }
+}
+
+/// How many events a gate has had that nobody is in.
+fn count_of(rt: &impl Abort, gate: Gate<Count>) -> u64 {
+    match gate.close() {
+        Some(count) => count.events,
+        None => panic!(rt; "somebody is inside"),
+    }
+}
+
+/// One seat enters, and the other one after it.
+fn enter_in_turn<R: Wait + Abort>(rt: &R, gate: &Gate<Count>, seat: Seat<Count>, other: Seat<Count>)
+    requires { (seat.table_id ≡ gate.now.table_id) × (other.table_id ≡ gate.now.table_id) }
+{
+    let mut held = gate.enter(rt, seat);
     let other = match gate.try_enter(other) {
         Err(back) => back,
         Ok(_) => panic!(rt; "somebody is inside"),
     };
-    compare(&rt, 0, held.state().events, 0);
+    compare(rt, 0, held.state().events, 0);
     let _seat = add_one(held);
     let Ok(mut held) = gate.try_enter(other) else {
         panic!(rt; "nobody is inside")
     };
-    compare(&rt, 1, held.state().events, 1);
+    compare(rt, 1, held.state().events, 1);
     let _other = add_one(held);
-    let Some(count) = gate.close() else {
-        panic!(rt; "nobody is inside")
-    };
-    compare(&rt, 2, count.events, 2);
-    Ok(())
 }
 
 #[test]
-fn a_fresh_gate_gives_its_state(rt: HostRuntime) -> Result<(), Fail> {
-    let Ok((gate, _seat)) = Gate::new(rt.alloc(), Count { events: 0 }) else {
-        panic!(rt; "a gate was made")
-    };
-    let Some(count) = gate.close() else {
-        panic!(rt; "nobody is inside")
-    };
-    compare(&rt, 0, count.events, 0);
-    Ok(())
-}
-
-#[test]
-fn two_seats_meet_and_go_on(rt: HostRuntime) -> Result<(), Fail> {
-    let Ok((gate, mut seat)) = Gate::new(rt.alloc(), Count { events: 0 }) else {
-        panic!(rt; "a gate was made")
-    };
+fn who_is_inside_keeps_others_out(rt: HostRuntime) {
+    let (gate, mut seat) = new_gate(&rt, rt.alloc());
     let other = gate.seat(&mut seat);
-    let seat = add_one(gate.enter(&rt, seat));
-    let (seat, other) = meet_in_one_history(&gate, seat, other);
-    let other = add_one(gate.enter(&rt, other));
-    let _seat = add_one(gate.enter(&rt, seat));
-    let _other = gate.enter(&rt, other).leave::<Brand, _>(&());
-    let Some(count) = gate.close() else {
-        panic!(rt; "nobody is inside")
-    };
-    compare(&rt, 0, count.events, 3);
-    Ok(())
+    enter_in_turn(&rt, &gate, seat, other);
+    compare(&rt, 2, count_of(&rt, gate), 2);
 }
 
 #[test]
-fn two_threads_lose_no_addition(rt: HostRuntime) -> Result<(), Fail> {
-    let Ok((gate, mut seat)) = Gate::new(rt.alloc(), Count { events: 0 }) else {
-        panic!(rt; "a gate was made")
-    };
+fn a_fresh_gate_gives_its_state(rt: HostRuntime) {
+    let (gate, _seat) = new_gate(&rt, rt.alloc());
+    compare(&rt, 0, count_of(&rt, gate), 0);
+}
+
+/// One seat adds an event and meets the other one. Each of them then adds one, and the second one leaves once more.
+fn meet_and_go_on<R: Wait>(rt: &R, gate: &Gate<Count>, seat: Seat<Count>, other: Seat<Count>)
+    requires { (seat.table_id ≡ gate.now.table_id) × (other.table_id ≡ gate.now.table_id) }
+{
+    let seat = add_one(gate.enter(rt, seat));
+    let (seat, other) = meet_in_one_history(gate, seat, other);
+    let other = add_one(gate.enter(rt, other));
+    let _seat = add_one(gate.enter(rt, seat));
+    let _other = gate.enter(rt, other).leave::<Brand, _>(&());
+}
+
+#[test]
+fn two_seats_meet_and_go_on(rt: HostRuntime) {
+    let (gate, mut seat) = new_gate(&rt, rt.alloc());
+    let other = gate.seat(&mut seat);
+    meet_and_go_on(&rt, &gate, seat, other);
+    compare(&rt, 0, count_of(&rt, gate), 3);
+}
+
+#[test]
+fn two_threads_lose_no_addition(rt: HostRuntime) {
+    let (gate, mut seat) = new_gate(&rt, rt.alloc());
     let other = gate.seat(&mut seat);
     let shared = &gate;
     let (seat, other) = join(
@@ -138,9 +151,5 @@ fn two_threads_lose_no_addition(rt: HostRuntime) -> Result<(), Fail> {
         { add_thousand(&rt, shared, other) },
     );
     let _both = meet_in_one_history(&gate, seat, other);
-    let Some(count) = gate.close() else {
-        panic!(rt; "nobody is inside")
-    };
-    compare(&rt, 0, count.events, 2000);
-    Ok(())
+    compare(&rt, 0, count_of(&rt, gate), 2000);
 }

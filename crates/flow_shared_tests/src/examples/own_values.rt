@@ -7,10 +7,9 @@ use crate::playing::answers;
 use flow_law::FlowFault::Exhausted;
 use flow_law::Next::{Empty, Value};
 use flow_law::{Config, Overflow};
-use std::test::Fail;
 
 #[test]
-fn own_values_come_before_the_cache_and_are_never_dropped(rt: HostRuntime) -> Result<(), Fail> {
+fn own_values_come_before_the_cache_and_are_never_dropped(rt: HostRuntime) {
     answers(
         &rt,
         rt.alloc(),
@@ -31,11 +30,11 @@ fn own_values_come_before_the_cache_and_are_never_dropped(rt: HostRuntime) -> Re
             Next(0, Empty),
             Cache(&[4]),
         ],
-    )
+    );
 }
 
 #[test]
-fn an_own_value_lets_an_emission_wait(rt: HostRuntime) -> Result<(), Fail> {
+fn an_own_value_lets_an_emission_wait(rt: HostRuntime) {
     answers(
         &rt,
         rt.alloc(),
@@ -48,11 +47,11 @@ fn an_own_value_lets_an_emission_wait(rt: HostRuntime) -> Result<(), Fail> {
             Next(0, Value(7)),
             Poll(0, Done),
         ],
-    )
+    );
 }
 
 #[test]
-fn a_cancel_leaves_an_own_value(rt: HostRuntime) -> Result<(), Fail> {
+fn a_cancel_leaves_an_own_value(rt: HostRuntime) {
     answers(
         &rt,
         rt.alloc(),
@@ -64,15 +63,15 @@ fn a_cancel_leaves_an_own_value(rt: HostRuntime) -> Result<(), Fail> {
             Next(0, Value(8)),
             Next(0, Empty),
         ],
-    )
+    );
 }
 
 #[test]
-fn a_refused_subscription_hands_its_values_back(rt: HostRuntime) -> Result<(), Fail> {
+fn a_refused_subscription_hands_its_values_back(rt: HostRuntime) {
     answers(
         &rt,
         rt.alloc(),
         Config::new().limit(0),
         &[SubscribeWithRefused(&[1, 2], Exhausted)],
-    )
+    );
 }

@@ -1,4 +1,5 @@
 //! A state flow, by one caller. The values come from kotlinx.coroutines' documentation of `MutableStateFlow`.
+use crate::compare::compare;
 use crate::state_playing::StateStep::{
     Cache, CompareAndSet, Count, Current, Next, ResetRefused, Set, TryEmit,
 };
@@ -6,10 +7,9 @@ use crate::state_playing::{StatePlayer, state_answers};
 use flow_law::FlowFault;
 use flow_law::Next::{Empty, Value};
 use flow_shared::StateFlow;
-use std::test::Fail;
 
 #[test]
-fn a_subscriber_gets_no_value_twice_in_a_row(rt: HostRuntime) -> Result<(), Fail> {
+fn a_subscriber_gets_no_value_twice_in_a_row(rt: HostRuntime) {
     state_answers(
         &rt,
         rt.alloc(),
@@ -29,13 +29,12 @@ fn a_subscriber_gets_no_value_twice_in_a_row(rt: HostRuntime) -> Result<(), Fail
             Current(6),
             Count(1),
         ],
-    )
+    );
 }
 
 #[test]
-fn a_state_flow_issues_no_number_beyond_its_limit(rt: HostRuntime) -> Result<(), Fail> {
-    let (flow, seat) = StateFlow::new(rt.alloc(), 0, 0)?;
-    let refused = StatePlayer::new(&rt, &flow, seat);
-    assert_eq!(rt; refused.err(), Some(FlowFault::Exhausted));
-    Ok(())
+fn a_state_flow_issues_no_number_beyond_its_limit(rt: HostRuntime) {
+    let (flow, seat) = StateFlow::new(rt.alloc(), 0, 0).expect(&rt, "a flow");
+    let refused = StatePlayer::new(&rt, rt.alloc(), &flow, seat);
+    compare(&rt, 0, refused.err(), Some(FlowFault::Exhausted));
 }

@@ -1,4 +1,5 @@
 //! What subscribers receive, and what is refused.
+use crate::compare::compare;
 use crate::playing::Emission::Done;
 use crate::playing::Step::{
     Cache, Count, Emit, EmitRefused, Next, Reset, Subscribe, SubscribeRefused, TryEmit,
@@ -7,13 +8,11 @@ use crate::playing::Step::{
 use crate::playing::answers;
 use flow_law::FlowFault::{Exhausted, NeedsBuffer, TooLarge};
 use flow_law::Next::{Empty, Value};
-use flow_law::{Config, FlowFault, Overflow};
+use flow_law::{Config, Overflow};
 use flow_shared::SharedFlow;
-use std::alloc::Global;
-use std::test::Fail;
 
 #[test]
-fn nobody_receives_what_was_emitted_before(rt: HostRuntime) -> Result<(), Fail> {
+fn nobody_receives_what_was_emitted_before(rt: HostRuntime) {
     answers(
         &rt,
         rt.alloc(),
@@ -25,11 +24,11 @@ fn nobody_receives_what_was_emitted_before(rt: HostRuntime) -> Result<(), Fail> 
             Subscribe,
             Next(0, Empty),
         ],
-    )
+    );
 }
 
 #[test]
-fn a_new_subscriber_gets_the_cache(rt: HostRuntime) -> Result<(), Fail> {
+fn a_new_subscriber_gets_the_cache(rt: HostRuntime) {
     answers(
         &rt,
         rt.alloc(),
@@ -44,11 +43,11 @@ fn a_new_subscriber_gets_the_cache(rt: HostRuntime) -> Result<(), Fail> {
             Next(0, Value(3)),
             Next(0, Empty),
         ],
-    )
+    );
 }
 
 #[test]
-fn a_slow_subscriber_loses_the_oldest(rt: HostRuntime) -> Result<(), Fail> {
+fn a_slow_subscriber_loses_the_oldest(rt: HostRuntime) {
     answers(
         &rt,
         rt.alloc(),
@@ -66,11 +65,11 @@ fn a_slow_subscriber_loses_the_oldest(rt: HostRuntime) -> Result<(), Fail> {
             Next(0, Value(3)),
             Next(0, Empty),
         ],
-    )
+    );
 }
 
 #[test]
-fn a_reset_leaves_old_subscribers_what_they_have(rt: HostRuntime) -> Result<(), Fail> {
+fn a_reset_leaves_old_subscribers_what_they_have(rt: HostRuntime) {
     answers(
         &rt,
         rt.alloc(),
@@ -91,11 +90,11 @@ fn a_reset_leaves_old_subscribers_what_they_have(rt: HostRuntime) -> Result<(), 
             Next(1, Value(3)),
             Cache(&[3]),
         ],
-    )
+    );
 }
 
 #[test]
-fn no_number_is_issued_beyond_the_limit(rt: HostRuntime) -> Result<(), Fail> {
+fn no_number_is_issued_beyond_the_limit(rt: HostRuntime) {
     let three = Config {
         limit: 3,
         ..Config::new().replay(1).extra(1)
@@ -114,17 +113,16 @@ fn no_number_is_issued_beyond_the_limit(rt: HostRuntime) -> Result<(), Fail> {
             Next(0, Value(1)),
             TryEmitRefused(3, Exhausted),
         ],
-    )
-}
-
-fn refusal_of(alloc: Global, config: Config) -> Option<FlowFault> {
-    SharedFlow::<i64>::new(alloc, config).err()
+    );
 }
 
 #[test]
 fn a_flow_is_refused_by_name(rt: HostRuntime) {
-    let no_buffer = Config::new().overflow(Overflow::DropOldest);
-    assert_eq!(rt; refusal_of(rt.alloc(), no_buffer), Some(NeedsBuffer));
-    let too_large = Config::new().replay(65_536).extra(1);
-    assert_eq!(rt; refusal_of(rt.alloc(), too_large), Some(TooLarge));
+    for (place, config, fault) in [
+        (0, Config::new().overflow(Overflow::DropOldest), NeedsBuffer),
+        (1, Config::new().replay(65_536).extra(1), TooLarge),
+    ] {
+        let refused = SharedFlow::<i64>::new(rt.alloc(), config);
+        compare(&rt, place, refused.err(), Some(fault));
+    }
 }

@@ -5,10 +5,22 @@ use crate::compare::compare;
 use crate::set_and_read;
 use flow_law::{Config, FlowFault, Next, Refused};
 use flow_shared::{Emitted, PolledNow, Seat, SharedFlow, StateFlow, StateSeat, Subscription};
+use std::alloc::Global;
 use std::process::Abort;
 use std::sync::Wait;
-use std::test::Fail;
 use std::thread::join;
+
+fn new_flow(rt: &impl Abort, alloc: Global, config: Config) -> (SharedFlow<i64>, Seat<i64>)
+    ensures { result.1.table_id ≡ result.0.table_id }
+{
+    SharedFlow::new(alloc, config).expect(rt, "a flow")
+}
+
+fn new_state_flow(rt: &impl Abort, alloc: Global) -> (StateFlow<i64>, StateSeat<i64>)
+    ensures { result.1.table_id ≡ result.0.table_id }
+{
+    StateFlow::new(alloc, 0, u64::MAX).expect(rt, "a flow")
+}
 
 /// Emits a value, and hands the seat back where the emission need not wait.
 fn emit_once<R: Wait>(
@@ -28,10 +40,10 @@ fn emit_once<R: Wait>(
 }
 
 #[test]
-fn what_a_thread_emitted_is_received(rt: HostRuntime) -> Result<(), Fail> {
-    let (flow, mut seat) = SharedFlow::new(rt.alloc(), Config::new().extra(4))?;
+fn what_a_thread_emitted_is_received(rt: HostRuntime) {
+    let (flow, mut seat) = new_flow(&rt, rt.alloc(), Config::new().extra(4));
     let other = flow.seat(&mut seat);
-    let mut subscription = flow.subscribe(&rt, &mut seat)?;
+    let mut subscription = flow.subscribe(&rt, &mut seat).expect(&rt, "a subscription");
     let shared = &flow;
     let (ended, count) = join(
         &rt,
@@ -57,7 +69,6 @@ fn what_a_thread_emitted_is_received(rt: HostRuntime) -> Result<(), Fail> {
         flow.next(&rt, &mut subscription),
         Ok(Next::Value(8)),
     );
-    Ok(())
 }
 
 /// A value is emitted and received, twice, at once.
@@ -105,11 +116,10 @@ fn rounds<R: Wait>(
 }
 
 #[test]
-fn alone_no_call_is_busy(rt: HostRuntime) -> Result<(), Fail> {
-    let (flow, mut seat) = SharedFlow::new(rt.alloc(), Config::new().extra(4))?;
-    let mut subscription = flow.subscribe(&rt, &mut seat)?;
+fn alone_no_call_is_busy(rt: HostRuntime) {
+    let (flow, mut seat) = new_flow(&rt, rt.alloc(), Config::new().extra(4));
+    let mut subscription = flow.subscribe(&rt, &mut seat).expect(&rt, "a subscription");
     compare(&rt, 0, rounds(&rt, &flow, seat, &mut subscription), 10_000);
-    Ok(())
 }
 
 /// An emission waits, and is cancelled.
@@ -129,18 +139,17 @@ fn poll_and_cancel<R: Abort>(rt: &R, flow: &SharedFlow<i64>, seat: Seat<i64>)
 }
 
 #[test]
-fn an_emission_is_polled_and_cancelled_at_once(rt: HostRuntime) -> Result<(), Fail> {
-    let (flow, mut seat) = SharedFlow::new(rt.alloc(), Config::new())?;
-    let _subscription = flow.subscribe(&rt, &mut seat)?;
+fn an_emission_is_polled_and_cancelled_at_once(rt: HostRuntime) {
+    let (flow, mut seat) = new_flow(&rt, rt.alloc(), Config::new());
+    let _subscription = flow.subscribe(&rt, &mut seat).expect(&rt, "a subscription");
     compare(&rt, 0, flow.count_now(&mut seat), Ok(1));
     compare(&rt, 1, flow.reset_now(&mut seat), Ok(()));
     poll_and_cancel(&rt, &flow, seat);
-    Ok(())
 }
 
 #[test]
-fn a_thread_reads_what_it_set_or_what_another_set(rt: HostRuntime) -> Result<(), Fail> {
-    let (flow, mut seat) = StateFlow::new(rt.alloc(), 0, u64::MAX)?;
+fn a_thread_reads_what_it_set_or_what_another_set(rt: HostRuntime) {
+    let (flow, mut seat) = new_state_flow(&rt, rt.alloc());
     let other = flow.seat(&mut seat);
     let shared = &flow;
     let (found, also) = join(
@@ -160,7 +169,6 @@ fn a_thread_reads_what_it_set_or_what_another_set(rt: HostRuntime) -> Result<(),
     );
     assert!(rt; found == Ok(9) || found == Ok(4));
     assert!(rt; also == Ok(9) || also == Ok(4));
-    Ok(())
 }
 
 /// What one seat sets at once, another reads that has met it.
@@ -181,11 +189,11 @@ fn set_and_meet<R: Wait + Abort>(
 }
 
 #[test]
-fn a_state_flow_is_set_at_once(rt: HostRuntime) -> Result<(), Fail> {
-    let (flow, mut seat) = StateFlow::new(rt.alloc(), 0, u64::MAX)?;
+fn a_state_flow_is_set_at_once(rt: HostRuntime) {
+    let (flow, mut seat) = new_state_flow(&rt, rt.alloc());
     let mut other = flow.seat(&mut seat);
     set_and_meet(&rt, &flow, &mut seat, &mut other);
-    let mut subscription = flow.subscribe(&rt, &mut seat)?;
+    let mut subscription = flow.subscribe(&rt, &mut seat).expect(&rt, "a subscription");
     flow.meet_subscription(&mut subscription, &mut other);
     compare(
         &rt,
@@ -195,5 +203,4 @@ fn a_state_flow_is_set_at_once(rt: HostRuntime) -> Result<(), Fail> {
     );
     let mut seat = flow.unsubscribe(&rt, subscription);
     compare(&rt, 4, flow.subscription_count(&rt, &mut seat), 0);
-    Ok(())
 }
