@@ -1,19 +1,12 @@
-//! A cold chain: the even numbers from 1 to 10, each times three and plus one, the first three of them.
+//! Cold chains: one is collected, and one is shared into a flow.
 #![tactic(auto)]
 
+mod collected;
+mod shared;
+
 use anyhow::Result;
-use flow_cold::{Chain, Even, OfRange, Plus, Times, collect_all};
 
 fn main(rt: HostRuntime) -> Result<()> {
-    let mut chain = OfRange::new(1, 10)
-        .filter_by(Even)
-        .map_by(Times { k: 3 })
-        .map_by(Plus { k: 1 })
-        .take(3)?;
-    let collected = collect_all(rt.alloc(), &mut chain)?;
-    for item in &collected.items {
-        println!(rt; "{item}")?;
-    }
-    println!(rt; "{:?}", collected.end)?;
-    Ok(())
+    collected::show(&rt)?;
+    shared::show(&rt)
 }

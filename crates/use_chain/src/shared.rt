@@ -1,0 +1,33 @@
+//! A chain shared into a flow: it runs while somebody subscribes and two moments longer, and gives one item a turn.
+use anyhow::Result;
+use flow_cold::OfRange;
+use flow_law::report::Report;
+use flow_law::{Next, Started};
+use flow_sharing::share_in;
+
+pub fn show(rt: &HostRuntime) -> Result<()> {
+    let started = Started::WhileSubscribed { stop: 2 };
+    let mut sharing = share_in(rt.alloc(), OfRange::new(1, 3), started, 1, u64::MAX)?;
+    let reader = sharing.hub_mut().core_mut().subscribe()?;
+    for moment in 0..4 {
+        print(rt, moment, sharing.turn(moment)?)?;
+        print_value(rt, sharing.hub_mut().core_mut().next(reader)?)?;
+    }
+    sharing.hub_mut().core_mut().unsubscribe(reader);
+    for moment in 4..8 {
+        print(rt, moment, sharing.turn(moment)?)?;
+    }
+    Ok(())
+}
+
+fn print(rt: &HostRuntime, moment: u64, report: Report) -> Result<()> {
+    println!(rt; "{moment}: {:?}, {:?}", report.command, report.event)?;
+    Ok(())
+}
+
+fn print_value(rt: &HostRuntime, next: Next<i64>) -> Result<()> {
+    if let Next::Value(value) = next {
+        println!(rt; "value {value}")?;
+    }
+    Ok(())
+}
