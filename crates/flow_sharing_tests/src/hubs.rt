@@ -7,20 +7,19 @@ use flow_sharing::{
 };
 use std::alloc::Global;
 use std::process::Abort;
-use std::test::Fail;
 
 /// Moments may stand still, and do not go back.
 #[test]
 fn observes_subscribers(rt: HostRuntime) {
     let mut policy = Policy::new(Started::WhileSubscribed { stop: 10 });
-    for (moment, subscribers, command) in [
-        (5, 0, Ok(Command::Keep)),
-        (5, 2, Ok(Command::Start)),
-        (7, 0, Ok(Command::Keep)),
-        (6, 1, Err(Backwards { last: 7 })),
-        (17, 0, Ok(Command::Stop)),
+    for (place, moment, subscribers, command) in [
+        (0, 5, 0, Ok(Command::Keep)),
+        (1, 5, 2, Ok(Command::Start)),
+        (2, 7, 0, Ok(Command::Keep)),
+        (3, 6, 1, Err(Backwards { last: 7 })),
+        (4, 17, 0, Ok(Command::Stop)),
     ] {
-        assert_eq!(rt; policy.observe(moment, subscribers), command, "at {moment}");
+        compare(&rt, place, policy.observe(moment, subscribers), command);
     }
 }
 
@@ -32,13 +31,12 @@ fn laws_hold_of_whole_numbers() {
 
 /// Without a buffer an emission waits until its subscriber has received it.
 #[test]
-fn a_hub_cancels_what_waits(rt: HostRuntime) -> Result<(), Fail> {
-    let mut core = SharedCore::new(rt.alloc(), Config::new())?;
-    let id = core.subscribe()?;
+fn a_hub_cancels_what_waits(rt: HostRuntime) {
+    let mut core = SharedCore::new(rt.alloc(), Config::new()).expect(&rt, "a flow");
+    let id = core.subscribe().expect(&rt, "a subscription");
     let mut hub = CoreHub::new(core);
     compare(&rt, 0, hub.put(7i64), Ok(true));
     cancel_what_waits(&rt, &mut hub, id);
-    Ok(())
 }
 
 fn cancel_what_waits(rt: &impl Abort, hub: &mut CoreHub<i64>, id: SubId) {

@@ -5,7 +5,7 @@ use flow_cold::OfList;
 use flow_law::report::{Event, Report, ShareFault};
 use flow_law::{Command, Started};
 use flow_sharing::Sharing;
-use std::alloc::{AllocError, Global};
+use std::alloc::Global;
 use std::cell::Cell;
 use std::process::Abort;
 
@@ -35,9 +35,9 @@ struct Shared<'a> {
 }
 
 impl<'a> Shared<'a> {
-    fn new(alloc: Global, items: &[i64], asks: &'a Cell<u64>) -> Result<Shared<'a>, AllocError> {
+    fn new(rt: &impl Abort, alloc: Global, items: &[i64], asks: &'a Cell<u64>) -> Shared<'a> {
         let chain = Counted {
-            list: OfList::new(items.to_vec(alloc)?),
+            list: OfList::new(items.to_vec(alloc).expect(rt, "memory")),
             asks,
         };
         let hub = TestHub {
@@ -47,7 +47,7 @@ impl<'a> Shared<'a> {
             accepted: Vec::new(alloc),
         };
         let sharing = Sharing::new(chain, Started::WhileSubscribed { stop: 0 }, hub);
-        Ok(Shared { sharing, asks })
+        Shared { sharing, asks }
     }
 
     fn turn(&mut self, now: u64) -> Result<Report, ShareFault> {
@@ -80,16 +80,10 @@ impl<'a> Shared<'a> {
 
 /// Takes the steps of a new sharing of these items, and compares what they answer. A wrong answer is told by the place
 /// of its step, from 0.
-pub fn answers(
-    rt: &impl Abort,
-    alloc: Global,
-    items: &[i64],
-    steps: &[Step],
-) -> Result<(), AllocError> {
+pub fn answers(rt: &impl Abort, alloc: Global, items: &[i64], steps: &[Step]) {
     let asks = Cell::new(0);
-    let mut shared = Shared::new(alloc, items, &asks)?;
+    let mut shared = Shared::new(rt, alloc, items, &asks);
     for place in 0..steps.len() {
         shared.take(rt, place, &steps[place]);
     }
-    Ok(())
 }

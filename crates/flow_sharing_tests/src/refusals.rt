@@ -7,11 +7,10 @@ use flow_law::Command::{Keep, Start, Stop};
 use flow_law::FlowFault::{Busy, OutOfMemory};
 use flow_law::report::Event::{self, Completed, Idle, Put, Queued, Waiting};
 use flow_law::report::ShareFault::Flow;
-use std::alloc::AllocError;
 
 /// A kept item is put again in the next turn. At a stop it is dropped, and the chain starts from its first item.
 #[test]
-fn drops_the_kept_item_at_a_stop(rt: HostRuntime) -> Result<(), AllocError> {
+fn drops_the_kept_item_at_a_stop(rt: HostRuntime) {
     answers(
         &rt,
         rt.alloc(),
@@ -33,12 +32,12 @@ fn drops_the_kept_item_at_a_stop(rt: HostRuntime) -> Result<(), AllocError> {
             Turn(6, Start, Put),
             Accepted(&[1, 2, 1]),
         ],
-    )
+    );
 }
 
 /// An emission that waits is cancelled at a stop.
 #[test]
-fn cancels_the_waiting_emission_at_a_stop(rt: HostRuntime) -> Result<(), AllocError> {
+fn cancels_the_waiting_emission_at_a_stop(rt: HostRuntime) {
     answers(
         &rt,
         rt.alloc(),
@@ -53,12 +52,12 @@ fn cancels_the_waiting_emission_at_a_stop(rt: HostRuntime) -> Result<(), AllocEr
             Waits(false),
             Accepted(&[1]),
         ],
-    )
+    );
 }
 
 /// A chain that has ended normally is asked again only after a stop and a start.
 #[test]
-fn asks_a_completed_chain_after_a_start_alone(rt: HostRuntime) -> Result<(), AllocError> {
+fn asks_a_completed_chain_after_a_start_alone(rt: HostRuntime) {
     answers(
         &rt,
         rt.alloc(),
@@ -75,5 +74,5 @@ fn asks_a_completed_chain_after_a_start_alone(rt: HostRuntime) -> Result<(), All
             Turn(4, Start, Put),
             Asked(3),
         ],
-    )
+    );
 }

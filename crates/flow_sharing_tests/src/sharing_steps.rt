@@ -5,10 +5,9 @@ use flow_core::SubId;
 use flow_law::report::{Event, Report, ShareFault};
 use flow_law::{Command, FlowFault, Next, Started};
 use flow_sharing::{CoreHub, Hub, Sharing, StateHub, share_in};
-use std::alloc::{AllocError, Global};
+use std::alloc::Global;
 use std::ops::RangeInclusive;
 use std::process::Abort;
-use std::test::Fail;
 
 /// A step, and what it answers. Subscribers are named by the order in which they came, from 0.
 pub enum Step {
@@ -74,9 +73,9 @@ impl Flow for StateHub<i64> {
 }
 
 /// The chain of a list.
-pub fn list(alloc: Global, items: &[i64]) -> Result<ScriptChain, AllocError> {
-    let items = items.to_vec(alloc)?;
-    Ok(ScriptChain::source(Source::List(OfList::new(items))))
+pub fn list(rt: &impl Abort, alloc: Global, items: &[i64]) -> ScriptChain {
+    let items = items.to_vec(alloc).expect(rt, "memory");
+    ScriptChain::source(Source::List(OfList::new(items)))
 }
 
 /// A sharing and its flow's subscribers.
@@ -99,24 +98,28 @@ impl<H: Flow> Shared<H> {
         self.sharing.turn(now)
     }
 
-    fn subscribe(&mut self) -> Result<(), Fail> {
-        let id = self.sharing.hub_mut().subscribe()?;
-        self.subscribers.push(id)?;
-        Ok(())
+    fn subscribe(&mut self, rt: &impl Abort) {
+        let subscribed = self.sharing.hub_mut().subscribe();
+        let id = subscribed.expect(rt, "a subscription");
+        self.subscribers.push(id).expect(rt, "memory");
     }
 
-    fn next(&mut self, subscriber: usize) -> Result<Next<i64>, Fail> {
-        let id = *self.subscribers.get(subscriber).ok_or("a subscriber")?;
-        Ok(self.sharing.hub_mut().next(id)?)
+    fn subscriber(&self, rt: &impl Abort, index: usize) -> SubId {
+        *self.subscribers.get(index).expect(rt, "a subscriber")
     }
 
-    fn unsubscribe(&mut self, subscriber: usize) -> Result<bool, Fail> {
-        let id = *self.subscribers.get(subscriber).ok_or("a subscriber")?;
-        Ok(self.sharing.hub_mut().unsubscribe(id))
+    fn next(&mut self, rt: &impl Abort, index: usize) -> Result<Next<i64>, FlowFault> {
+        let id = self.subscriber(rt, index);
+        self.sharing.hub_mut().next(id)
     }
 
-    fn cache(&mut self) -> Result<Vec<i64>, FlowFault> {
-        self.sharing.hub_mut().cache()
+    fn unsubscribe(&mut self, rt: &impl Abort, index: usize) -> bool {
+        let id = self.subscriber(rt, index);
+        self.sharing.hub_mut().unsubscribe(id)
+    }
+
+    fn cache(&mut self, rt: &impl Abort) -> Vec<i64> {
+        self.sharing.hub_mut().cache().expect(rt, "memory")
     }
 
     /// Takes a turn, and compares what it reports.
@@ -139,21 +142,18 @@ impl<H: Flow> Shared<H> {
     }
 
     /// Takes a step, and compares what it answers.
-    fn take(&mut self, rt: &impl Abort, place: usize, step: &Step) -> Result<(), Fail> {
+    fn take(&mut self, rt: &impl Abort, place: usize, step: &Step) {
         match step {
             Step::Turn(now, command, event) => self.report(rt, place, *now, *command, *event),
             Step::Turns(first, last, command, event) => {
                 self.reports(rt, place, *first..=*last, *command, *event);
             }
             Step::Refused(now, fault) => compare(rt, place, self.turn(*now), Err(*fault)),
-            Step::Subscribe => self.subscribe()?,
-            Step::Next(subscriber, next) => compare(rt, place, &self.next(*subscriber)?, next),
-            Step::Unsubscribe(subscriber) => {
-                compare(rt, place, self.unsubscribe(*subscriber)?, true);
-            }
-            Step::Cache(values) => compare(rt, place, self.cache()?.as_slice(), *values),
+            Step::Subscribe => self.subscribe(rt),
+            Step::Next(index, next) => compare(rt, place, self.next(rt, *index).as_ref(), Ok(next)),
+            Step::Unsubscribe(index) => compare(rt, place, self.unsubscribe(rt, *index), true),
+            Step::Cache(values) => compare(rt, place, self.cache(rt).as_slice(), *values),
         }
-        Ok(())
     }
 }
 
@@ -164,12 +164,11 @@ pub fn answers<H: Flow>(
     alloc: Global,
     sharing: Sharing<ScriptChain, H>,
     steps: &[Step],
-) -> Result<(), Fail> {
+) {
     let mut shared = Shared::new(alloc, sharing);
     for place in 0..steps.len() {
-        shared.take(rt, place, &steps[place])?;
+        shared.take(rt, place, &steps[place]);
     }
-    Ok(())
 }
 
 /// Takes the steps of a chain that is shared by a shared flow (`shareIn`).
@@ -180,7 +179,9 @@ pub fn share_answers(
     started: Started,
     replay: u32,
     steps: &[Step],
-) -> Result<(), Fail> {
-    let sharing = share_in(alloc, chain, started, replay, u64::MAX)?;
-    answers(rt, alloc, sharing, steps)
+) {
+    match share_in(alloc, chain, started, replay, u64::MAX) {
+        Ok(sharing) => answers(rt, alloc, sharing, steps),
+        Err(fault) => panic!(rt; "{fault}"),
+    }
 }

@@ -8,12 +8,11 @@ use flow_law::report::Event::{Completed, Idle, Pending, Put, Queued, Waiting};
 use flow_law::report::ShareFault::{Backwards, Chain, Ended};
 use flow_law::{ChainFault, Started};
 use flow_sharing::state_in;
-use std::test::Fail;
 
 /// A subscriber at 0 goes, another comes at 149 and goes before 200, a third comes at 301.
 #[test]
-fn stops_some_time_after_the_last_subscriber(rt: HostRuntime) -> Result<(), Fail> {
-    let chain = list(rt.alloc(), &[10, 20, 30, 40])?;
+fn stops_some_time_after_the_last_subscriber(rt: HostRuntime) {
+    let chain = list(&rt, rt.alloc(), &[10, 20, 30, 40]);
     share_answers(
         &rt,
         rt.alloc(),
@@ -37,13 +36,13 @@ fn stops_some_time_after_the_last_subscriber(rt: HostRuntime) -> Result<(), Fail
             Next(2, Value(10)),
             Refused(300, Backwards(301)),
         ],
-    )
+    );
 }
 
 /// With a stop that never comes, the greatest moment is no stop.
 #[test]
-fn never_stops(rt: HostRuntime) -> Result<(), Fail> {
-    let chain = list(rt.alloc(), &[1, 2, 3])?;
+fn never_stops(rt: HostRuntime) {
+    let chain = list(&rt, rt.alloc(), &[1, 2, 3]);
     share_answers(
         &rt,
         rt.alloc(),
@@ -57,12 +56,12 @@ fn never_stops(rt: HostRuntime) -> Result<(), Fail> {
             Turn(0, Keep, Put),
             Turn(u64::MAX, Keep, Put),
         ],
-    )
+    );
 }
 
 /// A subscriber that reads nothing has 64 values buffered. The next one waits, until it has read one.
 #[test]
-fn waits_for_a_slow_subscriber(rt: HostRuntime) -> Result<(), Fail> {
+fn waits_for_a_slow_subscriber(rt: HostRuntime) {
     let chain = ScriptChain::source(Source::Range(OfRange::new(1, 66)));
     share_answers(
         &rt,
@@ -79,16 +78,16 @@ fn waits_for_a_slow_subscriber(rt: HostRuntime) -> Result<(), Fail> {
             Next(0, Value(1)),
             Turn(66, Keep, Queued),
         ],
-    )
+    );
 }
 
 /// The fault of a chain is told once, ends the sharing, and leaves the subscribers what they have.
 #[test]
-fn ends_with_its_chain(rt: HostRuntime) -> Result<(), Fail> {
-    let mut entries = Vec::new(rt.alloc());
-    entries.push(Entry::Pending)?;
-    entries.push(Entry::Item(1i64))?;
-    entries.push(Entry::Fault(7))?;
+fn ends_with_its_chain(rt: HostRuntime) {
+    let entries = [Entry::Pending, Entry::Item(1), Entry::Fault(7)];
+    let Ok(entries) = Vec::from_array(rt.alloc(), entries) else {
+        panic!(rt; "memory")
+    };
     let chain = ScriptChain::source(Source::Scripted(Scripted::new(entries)));
     share_answers(
         &rt,
@@ -106,14 +105,16 @@ fn ends_with_its_chain(rt: HostRuntime) -> Result<(), Fail> {
             Cache(&[1]),
             Next(0, Value(1)),
         ],
-    )
+    );
 }
 
 /// A state flow has the newest item, and a subscriber gets no item that is the same as the one before.
 #[test]
-fn sets_a_state_flow(rt: HostRuntime) -> Result<(), Fail> {
-    let chain = list(rt.alloc(), &[3, 3, 4])?;
-    let sharing = state_in(rt.alloc(), chain, Started::Eagerly, 0, u64::MAX)?;
+fn sets_a_state_flow(rt: HostRuntime) {
+    let chain = list(&rt, rt.alloc(), &[3, 3, 4]);
+    let Ok(sharing) = state_in(rt.alloc(), chain, Started::Eagerly, 0, u64::MAX) else {
+        panic!(rt; "memory")
+    };
     answers(
         &rt,
         rt.alloc(),
@@ -130,5 +131,5 @@ fn sets_a_state_flow(rt: HostRuntime) -> Result<(), Fail> {
             Turn(3, Keep, Completed),
             Turn(4, Keep, Completed),
         ],
-    )
+    );
 }
