@@ -83,6 +83,17 @@ fn count_of(rt: &impl Abort, gate: Gate<Count>) -> u64 {
     }
 }
 
+/// Enters after the other seat has left.
+fn enter_alone(rt: &impl Abort, gate: &Gate<Count>, seat: Seat<Count>)
+    requires { seat.table_id ≡ gate.now.table_id }
+{
+    let Ok(mut held) = gate.try_enter(seat) else {
+        panic!(rt; "nobody is inside")
+    };
+    compare(rt, 1, held.state().events, 1);
+    let _seat = add_one(held);
+}
+
 /// One seat enters, and the other one after it.
 fn enter_in_turn<R: Wait + Abort>(rt: &R, gate: &Gate<Count>, seat: Seat<Count>, other: Seat<Count>)
     requires { (seat.table_id ≡ gate.now.table_id) × (other.table_id ≡ gate.now.table_id) }
@@ -94,11 +105,7 @@ fn enter_in_turn<R: Wait + Abort>(rt: &R, gate: &Gate<Count>, seat: Seat<Count>,
     };
     compare(rt, 0, held.state().events, 0);
     let _seat = add_one(held);
-    let Ok(mut held) = gate.try_enter(other) else {
-        panic!(rt; "nobody is inside")
-    };
-    compare(rt, 1, held.state().events, 1);
-    let _other = add_one(held);
+    enter_alone(rt, gate, other);
 }
 
 #[test]

@@ -4,7 +4,9 @@ ghost use Rattle.std.specs.Prelude.{◌≡◌, IfSome};
 use crate::compare::compare;
 use crate::set_and_read;
 use flow_law::{Config, FlowFault, Next, Refused};
-use flow_shared::{Emitted, PolledNow, Seat, SharedFlow, StateFlow, StateSeat, Subscription};
+use flow_shared::{
+    Emitted, PolledNow, Seat, SharedFlow, StateFlow, StateSeat, StateSubscription, Subscription,
+};
 use std::alloc::Global;
 use std::process::Abort;
 use std::sync::Wait;
@@ -171,6 +173,15 @@ fn a_thread_reads_what_it_set_or_what_another_set(rt: HostRuntime) {
     assert!(rt; also == Ok(9) || also == Ok(4));
 }
 
+/// Sets a value at once, where nobody subscribes.
+fn set_at_once(rt: &impl Abort, flow: &StateFlow<i64>, seat: &mut StateSeat<i64>)
+    requires { seat.old.table_id ≡ flow.now.table_id }
+    ensures { seat.new.table_id ≡ flow.entry.now.table_id }
+{
+    compare(rt, 0, flow.set_now(seat, 5), Ok(()));
+    compare(rt, 1, flow.count_now(seat), Ok(0));
+}
+
 /// What one seat sets at once, another reads that has met it.
 fn set_and_meet<R: Wait + Abort>(
     rt: &R,
@@ -182,10 +193,23 @@ fn set_and_meet<R: Wait + Abort>(
     ensures seat { seat.new.table_id ≡ flow.entry.now.table_id }
     ensures other { other.new.table_id ≡ flow.entry.now.table_id }
 {
-    compare(rt, 0, flow.set_now(other, 5), Ok(()));
-    compare(rt, 1, flow.count_now(other), Ok(0));
+    set_at_once(rt, flow, other);
     flow.meet(seat, other);
     compare(rt, 2, flow.value(rt, seat), Ok(5));
+}
+
+/// Receives the value, and unsubscribes.
+fn receive_and_leave<R: Wait + Abort>(
+    rt: &R,
+    flow: &StateFlow<i64>,
+    subscription: StateSubscription<i64>,
+)
+    requires { subscription.token.table_id ≡ flow.now.table_id }
+{
+    let mut subscription = subscription;
+    compare(rt, 3, flow.next(rt, &mut subscription), Ok(Next::Value(5)));
+    let mut seat = flow.unsubscribe(rt, subscription);
+    compare(rt, 4, flow.subscription_count(rt, &mut seat), 0);
 }
 
 #[test]
@@ -193,14 +217,8 @@ fn a_state_flow_is_set_at_once(rt: HostRuntime) {
     let (flow, mut seat) = new_state_flow(&rt, rt.alloc());
     let mut other = flow.seat(&mut seat);
     set_and_meet(&rt, &flow, &mut seat, &mut other);
-    let mut subscription = flow.subscribe(&rt, &mut seat).expect(&rt, "a subscription");
+    let subscribed = flow.subscribe(&rt, &mut seat);
+    let mut subscription = subscribed.expect(&rt, "a subscription");
     flow.meet_subscription(&mut subscription, &mut other);
-    compare(
-        &rt,
-        3,
-        flow.next(&rt, &mut subscription),
-        Ok(Next::Value(5)),
-    );
-    let mut seat = flow.unsubscribe(&rt, subscription);
-    compare(&rt, 4, flow.subscription_count(&rt, &mut seat), 0);
+    receive_and_leave(&rt, &flow, subscription);
 }
