@@ -5,7 +5,7 @@ mod reader;
 mod sender;
 
 use anyhow::Result;
-use flow_law::Config;
+use flow_law::{Config, FlowFault};
 use flow_shared::SharedFlow;
 use reader::Reader;
 use sender::Sender;
@@ -17,6 +17,10 @@ fn main(rt: HostRuntime) -> Result<()> {
     let mut sender = Sender::new(&flow, seat);
     let mut reader = Reader::new(&flow, subscription);
     let (sent, sum) = join(&rt, || sender.send(&rt, 1..6), || reader.add_up(&rt, 5));
+    tell(&rt, sent, sum)
+}
+
+fn tell(rt: &HostRuntime, sent: Result<(), FlowFault>, sum: Result<i64, FlowFault>) -> Result<()> {
     sent?;
     println!(rt; "the sum is {}", sum?)?;
     Ok(())
