@@ -2,9 +2,8 @@
 //! give or take little.
 use crate::program::run;
 use flow_script::Watched;
-use std::alloc::Global;
+use std::alloc::{AllocError, Global};
 use std::process::Abort;
-use std::test::Fail;
 
 mod chains;
 mod refused;
@@ -14,38 +13,40 @@ mod state;
 mod streams;
 
 /// Plays a text, and compares the status and what was printed.
-pub fn expect(
-    rt: &impl Abort,
-    alloc: Global,
-    script: &[u8],
-    status: u8,
-    lines: &str,
-) -> Result<(), Fail> {
+pub fn expect(rt: &impl Abort, alloc: Global, script: &[u8], status: u8, lines: &str) {
     let mut printed = Vec::new(alloc);
     let mut input = Watched::new(script);
     let mut output = Watched::new(&mut printed);
     let answered = run(alloc, &[], &mut input, &mut output);
     assert_eq!(rt; printed.as_slice(), lines.as_bytes(), "of {lines:?}");
     assert_eq!(rt; answered, status, "of {lines:?}");
-    Ok(())
 }
 
-/// Plays steps over a flow, each with the line that it is to print.
-pub fn plays(
-    rt: &impl Abort,
-    alloc: Global,
-    flow: &str,
-    steps: &[(&str, &str)],
-) -> Result<(), Fail> {
+/// The script of these steps over a flow.
+fn script_of(alloc: Global, flow: &str, steps: &[(&str, &str)]) -> Result<String, AllocError> {
     let mut script = String::new(alloc);
-    let mut lines = String::new(alloc);
     write!(script, "{{\"version\":1,\"flow\":{{{flow}}},\"steps\":[")?;
     let mut separator = "";
-    for (step, line) in steps {
+    for (step, _) in steps {
         write!(script, "{separator}{{{step}}}")?;
-        writeln!(lines, "{line}")?;
         separator = ",";
     }
     script.push_str("]}")?;
-    expect(rt, alloc, script.as_bytes(), 0, lines.as_str())
+    Ok(script)
+}
+
+/// The lines of these steps.
+fn lines_of(alloc: Global, steps: &[(&str, &str)]) -> Result<String, AllocError> {
+    let mut lines = String::new(alloc);
+    for (_, line) in steps {
+        writeln!(lines, "{line}")?;
+    }
+    Ok(lines)
+}
+
+/// Plays steps over a flow, each with the line that it is to print.
+pub fn plays(rt: &impl Abort, alloc: Global, flow: &str, steps: &[(&str, &str)]) {
+    let script = script_of(alloc, flow, steps).expect(rt, "memory");
+    let lines = lines_of(alloc, steps).expect(rt, "memory");
+    expect(rt, alloc, script.as_bytes(), 0, lines.as_str());
 }

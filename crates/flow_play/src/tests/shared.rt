@@ -1,9 +1,8 @@
 //! Worked examples over a shared flow.
 use crate::tests::{expect, plays};
-use std::test::Fail;
 
 #[test]
-fn a_value_without_a_subscriber_is_gone(rt: HostRuntime) -> Result<(), Fail> {
+fn a_value_without_a_subscriber_is_gone(rt: HostRuntime) {
     plays(
         &rt,
         rt.alloc(),
@@ -15,11 +14,11 @@ fn a_value_without_a_subscriber_is_gone(rt: HostRuntime) -> Result<(), Fail> {
             (r#""do":"subscribe","name":"a""#, "subscribed"),
             (r#""do":"next","name":"a""#, "empty"),
         ],
-    )
+    );
 }
 
 #[test]
-fn a_new_subscriber_gets_the_replay_cache(rt: HostRuntime) -> Result<(), Fail> {
+fn a_new_subscriber_gets_the_replay_cache(rt: HostRuntime) {
     plays(
         &rt,
         rt.alloc(),
@@ -34,11 +33,11 @@ fn a_new_subscriber_gets_the_replay_cache(rt: HostRuntime) -> Result<(), Fail> {
             (r#""do":"next","name":"a""#, "value 3"),
             (r#""do":"next","name":"a""#, "empty"),
         ],
-    )
+    );
 }
 
 #[test]
-fn a_slow_subscriber_suspends_the_emitter(rt: HostRuntime) -> Result<(), Fail> {
+fn a_slow_subscriber_suspends_the_emitter(rt: HostRuntime) {
     plays(
         &rt,
         rt.alloc(),
@@ -57,11 +56,11 @@ fn a_slow_subscriber_suspends_the_emitter(rt: HostRuntime) -> Result<(), Fail> {
             (r#""do":"next","name":"a""#, "value 3"),
             (r#""do":"next","name":"a""#, "empty"),
         ],
-    )
+    );
 }
 
 #[test]
-fn the_oldest_values_are_dropped(rt: HostRuntime) -> Result<(), Fail> {
+fn the_oldest_values_are_dropped(rt: HostRuntime) {
     plays(
         &rt,
         rt.alloc(),
@@ -78,11 +77,11 @@ fn the_oldest_values_are_dropped(rt: HostRuntime) -> Result<(), Fail> {
             (r#""do":"next","name":"a""#, "empty"),
             (r#""do":"cache""#, "[]"),
         ],
-    )
+    );
 }
 
 #[test]
-fn the_latest_values_are_dropped(rt: HostRuntime) -> Result<(), Fail> {
+fn the_latest_values_are_dropped(rt: HostRuntime) {
     plays(
         &rt,
         rt.alloc(),
@@ -99,11 +98,11 @@ fn the_latest_values_are_dropped(rt: HostRuntime) -> Result<(), Fail> {
             (r#""do":"next","name":"a""#, "empty"),
             (r#""do":"cache""#, "[2]"),
         ],
-    )
+    );
 }
 
 #[test]
-fn a_fast_subscriber_loses_nothing(rt: HostRuntime) -> Result<(), Fail> {
+fn a_fast_subscriber_loses_nothing(rt: HostRuntime) {
     plays(
         &rt,
         rt.alloc(),
@@ -121,11 +120,11 @@ fn a_fast_subscriber_loses_nothing(rt: HostRuntime) -> Result<(), Fail> {
             (r#""do":"next","name":"a""#, "value 3"),
             (r#""do":"next","name":"a""#, "empty"),
         ],
-    )
+    );
 }
 
 #[test]
-fn an_offered_value_waits_for_every_subscriber(rt: HostRuntime) -> Result<(), Fail> {
+fn an_offered_value_waits_for_every_subscriber(rt: HostRuntime) {
     plays(
         &rt,
         rt.alloc(),
@@ -140,11 +139,11 @@ fn an_offered_value_waits_for_every_subscriber(rt: HostRuntime) -> Result<(), Fa
             (r#""do":"next","name":"b""#, "value 7"),
             (r#""do":"poll","name":"e""#, "done"),
         ],
-    )
+    );
 }
 
 #[test]
-fn a_cancelled_offer_reaches_nobody_else(rt: HostRuntime) -> Result<(), Fail> {
+fn a_cancelled_offer_reaches_nobody_else(rt: HostRuntime) {
     plays(
         &rt,
         rt.alloc(),
@@ -161,11 +160,11 @@ fn a_cancelled_offer_reaches_nobody_else(rt: HostRuntime) -> Result<(), Fail> {
             (r#""do":"poll","name":"e""#, "done"),
             (r#""do":"cancel","name":"e""#, "false"),
         ],
-    )
+    );
 }
 
 #[test]
-fn a_late_subscriber_is_offered_the_value(rt: HostRuntime) -> Result<(), Fail> {
+fn a_late_subscriber_is_offered_the_value(rt: HostRuntime) {
     plays(
         &rt,
         rt.alloc(),
@@ -181,11 +180,11 @@ fn a_late_subscriber_is_offered_the_value(rt: HostRuntime) -> Result<(), Fail> {
             (r#""do":"subscribe","name":"c""#, "subscribed"),
             (r#""do":"next","name":"c""#, "empty"),
         ],
-    )
+    );
 }
 
 #[test]
-fn the_last_unsubscribe_admits_the_queue(rt: HostRuntime) -> Result<(), Fail> {
+fn the_last_unsubscribe_admits_the_queue(rt: HostRuntime) {
     plays(
         &rt,
         rt.alloc(),
@@ -204,11 +203,11 @@ fn the_last_unsubscribe_admits_the_queue(rt: HostRuntime) -> Result<(), Fail> {
             (r#""do":"unsubscribe","name":"a""#, "false"),
             (r#""do":"next","name":"a""#, "gone"),
         ],
-    )
+    );
 }
 
 #[test]
-fn a_cancelled_emission_is_never_emitted(rt: HostRuntime) -> Result<(), Fail> {
+fn a_cancelled_emission_is_never_emitted(rt: HostRuntime) {
     plays(
         &rt,
         rt.alloc(),
@@ -228,11 +227,11 @@ fn a_cancelled_emission_is_never_emitted(rt: HostRuntime) -> Result<(), Fail> {
             (r#""do":"unsubscribe","name":"a""#, "false"),
             (r#""do":"next","name":"a""#, "gone"),
         ],
-    )
+    );
 }
 
 #[test]
-fn a_reset_empties_the_cache_for_new_subscribers(rt: HostRuntime) -> Result<(), Fail> {
+fn a_reset_empties_the_cache_for_new_subscribers(rt: HostRuntime) {
     plays(
         &rt,
         rt.alloc(),
@@ -253,11 +252,11 @@ fn a_reset_empties_the_cache_for_new_subscribers(rt: HostRuntime) -> Result<(), 
             (r#""do":"next","name":"b""#, "value 3"),
             (r#""do":"cache""#, "[3]"),
         ],
-    )
+    );
 }
 
 #[test]
-fn a_flow_issues_no_more_numbers_than_its_limit(rt: HostRuntime) -> Result<(), Fail> {
+fn a_flow_issues_no_more_numbers_than_its_limit(rt: HostRuntime) {
     plays(
         &rt,
         rt.alloc(),
@@ -275,11 +274,11 @@ fn a_flow_issues_no_more_numbers_than_its_limit(rt: HostRuntime) -> Result<(), F
             (r#""do":"cancel","name":"e""#, "false"),
             (r#""do":"next","name":"b""#, "gone"),
         ],
-    )
+    );
 }
 
 #[test]
-fn a_refused_flow_plays_no_step(rt: HostRuntime) -> Result<(), Fail> {
+fn a_refused_flow_plays_no_step(rt: HostRuntime) {
     for (script, line) in [
         (
             r#"{"version":1,"flow":{"kind":"shared","replay":0,"extra":0,"overflow":"drop_oldest"},"steps":[{"do":"count"}]}"#,
@@ -290,7 +289,6 @@ fn a_refused_flow_plays_no_step(rt: HostRuntime) -> Result<(), Fail> {
             "refused 2 TooLarge\n",
         ),
     ] {
-        expect(&rt, rt.alloc(), script.as_bytes(), 0, line)?;
+        expect(&rt, rt.alloc(), script.as_bytes(), 0, line);
     }
-    Ok(())
 }

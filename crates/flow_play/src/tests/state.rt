@@ -1,9 +1,8 @@
 //! A worked example over a state flow.
 use crate::tests::plays;
-use std::test::Fail;
 
 #[test]
-fn a_subscriber_gets_the_newest_value_once(rt: HostRuntime) -> Result<(), Fail> {
+fn a_subscriber_gets_the_newest_value_once(rt: HostRuntime) {
     plays(
         &rt,
         rt.alloc(),
@@ -24,5 +23,5 @@ fn a_subscriber_gets_the_newest_value_once(rt: HostRuntime) -> Result<(), Fail> 
             (r#""do":"value""#, "6"),
             (r#""do":"count""#, "1"),
         ],
-    )
+    );
 }

@@ -5,7 +5,6 @@ use std::alloc::Global;
 use std::io;
 use std::io::{Read, Write};
 use std::process::Abort;
-use std::test::Fail;
 
 const SCRIPT: &str =
     r#"{"version":1,"flow":{"kind":"shared","replay":2,"extra":0,"overflow":"suspend"},"steps":[{"do":"try_emit","value":1},{"do":"try_emit","value":2},{"do":"try_emit","value":3},{"do":"cache"},{"do":"subscribe","name":"a"},{"do":"next","name":"a"},{"do":"next","name":"a"},{"do":"next","name":"a"}]}"#;
@@ -137,11 +136,10 @@ fn a_slow_writer_changes_nothing(rt: HostRuntime) {
 }
 
 #[test]
-fn a_script_that_was_read_has_the_same_lines(rt: HostRuntime) -> Result<(), Fail> {
+fn a_script_that_was_read_has_the_same_lines(rt: HostRuntime) {
     let script = read_script(rt.alloc(), SCRIPT.as_bytes()).expect(&rt, "a script");
     let lines = script.lines(rt.alloc()).expect(&rt, "lines");
     assert_eq!(rt; lines.as_str(), LINES);
-    Ok(())
 }
 
 /// The reader fails after so many bytes.
