@@ -6,7 +6,7 @@ use Rattle.std.proofs.lemmas.Bool.Decides.{nat_tests}
 use Rattle.flow_format.specs.declared.fault.ScriptFault.{ScriptFault}
 use Rattle.flow_format.specs.declared.fault.ScriptFault.TheVariants.{OutOfMemory, ReadFailed, WriteFailed, NotJson, BadVersion, BadShape, UnknownName, DuplicateName, TooLarge}
 use Rattle.flow_format.specs.Checks.{Gives, most_bytes, read_script, script_of, json_of, result_map, result_then}
-use Rattle.flow_script.specs.ScriptMeaning.{meaning, text_of}
+use Rattle.flow_lines.specs.ScriptMeaning.{meaning, text_of}
 use Rattle.flow_script.specs.Playing.{Plays}
 
 below : (n : ℕ) → most_bytes < n → nat_lt most_bytes n ≡ true

@@ -6,7 +6,7 @@ use Rattle.std.specs.Io.KnownBytes.{Appends, Keeps, Consumes}
 use Rattle.flow_format.specs.declared.fault.ScriptFault.{ScriptFault}
 use Rattle.flow_format.specs.declared.fault.ScriptFault.TheVariants.{OutOfMemory, ReadFailed, WriteFailed, NotJson, BadVersion, BadShape, UnknownName, DuplicateName, TooLarge}
 use Rattle.flow_format.specs.Checks.{result_map, most_bytes}
-use Rattle.flow_script.specs.ScriptMeaning.{meaning}
+use Rattle.flow_lines.specs.ScriptMeaning.{meaning}
 
 -- ---- readers and writers that failed
 

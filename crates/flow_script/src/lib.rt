@@ -4,24 +4,12 @@
 //! that is refused writes nothing, and the refusal names the step.
 #![tactic(auto)]
 
-mod collect;
-mod flow_steps;
-mod lines;
-mod memory;
-mod numbers;
-mod player;
 mod playing;
-mod script_core;
-mod script_hub;
-mod share_lines;
-mod shared_calls;
-mod sharing_steps;
-mod state_calls;
 mod transfer;
 mod watched;
 
 pub use flow_format::{Build, FlowStep, Script, ScriptFault, ScriptFlow, Step, read_script};
-pub use player::ScriptLines;
+pub use flow_lines::ScriptLines;
 pub use playing::play;
 pub use transfer::write_all;
 pub use watched::Watched;

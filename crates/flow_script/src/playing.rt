@@ -1,14 +1,14 @@
 //! Playing a script from a reader to a writer.
 ghost use Rattle.std.specs.Prelude.{◌≡◌, false};
 ghost use Rattle.flow_format.specs.Checks.{Gives};
-ghost use Rattle.flow_script.specs.ScriptMeaning.{meaning};
+ghost use Rattle.flow_lines.specs.ScriptMeaning.{meaning};
 ghost use Rattle.flow_script.specs.Playing.{Plays, TakesWithin, text_result, is_read_failed, is_write_failed};
 ghost use Rattle.flow_script.specs.Watching.{inner_of, has_failed};
 
-use crate::player::ScriptLines;
 use crate::transfer::{read_all, write_all};
 use crate::watched::Watched;
 use flow_format::{ScriptFault, read_script};
+use flow_lines::ScriptLines;
 use std::alloc::Global;
 use std::io::{Read, Write};
 

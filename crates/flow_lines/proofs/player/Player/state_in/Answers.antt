@@ -1,0 +1,24 @@
+use Rattle.std.proofs.Common.{◌≡◌, ap, subst, ◌∙◌}
+use Rattle.std.proofs.Math.Facts.{to_z-of_z}
+use Rattle.flow_law.specs.StateFlow.{first_state_flow}
+use Rattle.flow_cold.specs.ScriptChain.{node_rest}
+use Rattle.flow_sharing.specs.StateHub.{state_core_of}
+use Rattle.flow_format.specs.Heads.{state_chain}
+use Rattle.flow_lines.specs.ScriptMeaning.{player_of, state_in}
+use Rattle.flow_lines.specs.SharingMeaning.{first_sharing}
+use Rattle.flow_lines.proofs.SharingLemmas.{begun, chained}
+use Rattle.flow_lines.proofs.player.Player.state_in.Goals as goal
+
+pub returns-in-Ok-state_in : goal.returns-in-Ok-state_in
+returns-in-Ok-state_in c =
+    let started = c.args.started in
+    let built = c.in-Ok.ensures.0 in
+    let flow = first_state_flow c.args.limit c.args.initial in
+    let sharing = c.in-Ok-state_in.sharing in
+    let made = c.in-Ok-state_in.ensures in
+    let is = made.chain ∙ ap (λ r. chained r (node_rest c.in-Ok.chain.node) sharing.hub) c.in-Ok.ensures.2 ∙ ap (λ r. chained built.run r sharing.hub) c.in-Ok.ensures.3 in
+    let core = subst (λ v. state_core_of sharing.hub ≡ first_state_flow c.args.limit v) (to_z-of_z c.ranges.initial) made.flow in (
+      state_in (first_sharing built.run started flow),
+      ap (λ b. player_of (state_chain b started c.args.initial c.args.limit)) c.in-Ok.ensures.1,
+      begun (λ hub s. state_core_of hub ≡ s) sharing started built.run flow made.nothing made.state is core,
+    )

@@ -1,0 +1,11 @@
+pub mod Lines
+pub mod Memory
+pub mod Numbers
+pub mod FlowMeaning
+pub mod StateMeaning
+pub mod SharedMeaning
+pub mod SharingMeaning
+pub mod ScriptMeaning
+pub mod Shown
+pub mod Sharings
+pub mod Players

@@ -1,0 +1,43 @@
+-- What a player stands for, and how it begins. No public clause cites this module.
+use Rattle.std.specs.Prelude.{◌≡◌, ◌++◌, ℕ, List, Option, Some, None, Result, Ok, Err}
+use Rattle.flow_law.specs.Standing.{StandsFor}
+use Rattle.flow_cold.specs.declared.script_chain.ScriptChain.{ScriptChain}
+use Rattle.flow_cold.specs.ScriptChain.{node_whole, node_rest}
+use Rattle.flow_law.specs.declared.report.ShareFault.{ShareFault}
+use Rattle.flow_law.specs.declared.report.ShareFault.TheVariants.{Chain}
+use Rattle.flow_law.specs.declared.chain.ChainFault.{ChainFault}
+use Rattle.flow_sharing.specs.OverCores.{Emits}
+use Rattle.flow_sharing.specs.StateHub.{state_core_of}
+use Rattle.flow_lines.specs.declared.player.Player.{Player}
+use Rattle.flow_lines.specs.declared.player.Player.TheVariants.{Idle, Shared, State, Share, StateIn}
+use Rattle.flow_format.specs.ChainFormat.{BuiltChain}
+use Rattle.flow_format.specs.Chains.{build_of}
+use Rattle.flow_format.specs.Heads.{Head}
+use Rattle.flow_lines.specs.Lines.{lined, share_fault_text}
+use Rattle.flow_lines.specs.ScriptMeaning.{player_of}
+use Rattle.flow_lines.specs.ScriptMeaning as player
+use Rattle.flow_lines.specs.Sharings.{ShowsSharing}
+
+abbrev pub Shows : Player → player.Player → Type 0
+Shows Idle player.idle = Unit {0}
+Shows (Shared core) (player.shared s) = StandsFor core s
+Shows (State core) (player.state s) = core ≡ s
+Shows (Share sharing) (player.share p) = ShowsSharing Emits sharing p
+Shows (StateIn sharing) (player.state_in p) = ShowsSharing (λ hub s. state_core_of hub ≡ s) sharing p
+Shows _ _ = ⊥
+
+-- the player before the first step, or the line of a flow that is itself refused
+abbrev pub Begins : Head → List ℕ → List ℕ → Option Player → Type 0
+Begins head before after (Some made) = (p : player.Player) × (player_of head ≡ Ok p) × Shows made p × (after ≡ before)
+Begins head before after None = (text : List ℕ) × (player_of head ≡ Err text) × (after ≡ before ++ lined text)
+
+-- the player before the first step, or why no sharing is made
+abbrev pub Makes : Head → Result Player ShareFault → Type 0
+Makes head (Ok made) = (p : player.Player) × (player_of head ≡ Ok p) × Shows made p
+Makes head (Err fault) = player_of head ≡ Err (share_fault_text fault)
+
+-- the chain that was built, from its beginning, or why it was not built
+abbrev pub Rewinds : Result ScriptChain ChainFault → Result ScriptChain ShareFault → Type 0
+Rewinds build (Ok chain) =
+    (built : BuiltChain) × (build_of build ≡ Ok built) × (node_whole chain.node ≡ built.run) × (node_rest chain.node ≡ built.run)
+Rewinds build (Err fault) = (refusal : ChainFault) × (build ≡ Err refusal) × (fault ≡ Chain refusal)

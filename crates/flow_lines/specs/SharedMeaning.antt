@@ -1,0 +1,26 @@
+-- Shared flows, as scripts play on them.
+use Rattle.std.specs.Prelude.{ℕ, ℤ, List, Option, Some, None, option_map}
+use Rattle.flow_law.specs.declared.call.SharedCall.{SharedCall}
+use Rattle.flow_law.specs.declared.call.SharedCall.TheVariants as call
+use Rattle.flow_law.specs.declared.call.SharedReply.{SharedReply}
+use Rattle.flow_law.specs.declared.states.SharedFlowState.{SharedFlowState}
+use Rattle.flow_law.specs.SharedHistory.{answer_to}
+use Rattle.flow_format.specs.declared.script.FlowStep.{FlowStep}
+use Rattle.flow_format.specs.declared.script.FlowStep.TheVariants as step
+use Rattle.flow_lines.specs.FlowMeaning.{Played}
+use Rattle.flow_lines.specs.Lines.{line_of}
+use Rattle.flow_lines.specs.Numbers.{number_at}
+
+abbrev pub shared_reply : SharedCall ℤ → SharedFlowState ℤ → SharedReply ℤ
+shared_reply call s = (answer_to call s).reply
+
+-- the steps that shared flows alone have
+abbrev pub shared_own_call : FlowStep → List (Option ℕ) → Option (SharedCall ℤ)
+shared_own_call (step.Emit value) emissions = Some (call.Emit value)
+shared_own_call (step.Poll place) emissions = option_map call.Poll (number_at place emissions)
+shared_own_call (step.Cancel place) emissions = option_map call.Cancel (number_at place emissions)
+shared_own_call step.Reset emissions = Some call.ResetReplayCache
+shared_own_call _ emissions = None
+
+abbrev pub plays_shared : Played (SharedFlowState ℤ) (SharedCall ℤ) (SharedReply ℤ)
+plays_shared = record { try_emit = call.TryEmit; own_call = shared_own_call; reply_to = shared_reply; line = line_of }

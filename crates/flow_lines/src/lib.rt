@@ -1,0 +1,19 @@
+//! The lines of a JSON flow script that was read.
+//!
+//! A checked script is played over flows for one thread, and each step adds its line to a text. Nothing is read or written here.
+#![tactic(auto)]
+
+mod collect;
+mod flow_steps;
+mod lines;
+mod memory;
+mod numbers;
+mod player;
+mod script_core;
+mod script_hub;
+mod share_lines;
+mod shared_calls;
+mod sharing_steps;
+mod state_calls;
+
+pub use player::ScriptLines;

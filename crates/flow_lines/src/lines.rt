@@ -1,0 +1,130 @@
+//! Writing lines.
+ghost use Rattle.std.specs.Prelude.{◌≡◌, OnOk, IfErr, decimal};
+ghost use Rattle.std.specs.Fmt.{signed_decimal};
+ghost use Rattle.flow_lines.specs.FlowMeaning.{line_without_call};
+ghost use Rattle.flow_lines.specs.Lines as lines;
+ghost use Rattle.flow_lines.specs.Memory.{IsToldFlowFault};
+
+use crate::memory::is_flow_memory;
+use flow_format::{FlowStep, ScriptFault};
+use flow_law::{FlowFault, Next};
+use std::alloc::AllocError;
+
+pub fn add_line(text: &mut String, line: &str) -> Result<(), AllocError>
+    ensures { OnOk result (lines.AddsLine line.now text.old text.new) }
+{
+    text.push_str(line)?;
+    text.push('\n')
+}
+
+fn add_more_items(text: &mut String, values: &[i64]) -> Result<(), AllocError>
+    ensures { OnOk result (lines.Adds (lines.more_items values.now) text.old text.new) }
+{
+    for value in values {
+        write!(text, ", {value}")?;
+    }
+    Ok(())
+}
+
+/// A list, in a line that is not ended.
+pub fn add_items(text: &mut String, values: &[i64]) -> Result<(), AllocError>
+    ensures { OnOk result (lines.Adds (lines.list_text values.now) text.old text.new) }
+{
+    let Some((first, more)) = values.split_first() else {
+        return text.push_str("[]");
+    };
+    write!(text, "[{first}")?;
+    add_more_items(text, more)?;
+    text.push(']')
+}
+
+pub fn add_list(text: &mut String, values: &[i64]) -> Result<(), AllocError>
+    ensures { OnOk result (lines.AddsLine (lines.list_text values.now) text.old text.new) }
+{
+    add_items(text, values)?;
+    text.push('\n')
+}
+
+pub fn add_test(text: &mut String, test: bool) -> Result<(), AllocError>
+    ensures { OnOk result (lines.AddsLine (lines.test_text test) text.old text.new) }
+{
+    if test {
+        add_line(text, "true")
+    } else {
+        add_line(text, "false")
+    }
+}
+
+pub fn add_wait(text: &mut String, waits: bool) -> Result<(), AllocError>
+    ensures { OnOk result (lines.AddsLine (lines.wait_text waits) text.old text.new) }
+{
+    if waits {
+        add_line(text, "waiting")
+    } else {
+        add_line(text, "done")
+    }
+}
+
+pub fn add_next(text: &mut String, next: Next<i64>) -> Result<(), AllocError>
+    ensures { OnOk result (lines.AddsLine (lines.next_text next) text.old text.new) }
+{
+    match next {
+        Next::Value(value) => writeln!(text, "value {value}"),
+        Next::Empty => add_line(text, "empty"),
+        Next::Gone => add_line(text, "gone"),
+    }
+}
+
+pub fn add_value(text: &mut String, value: i64) -> Result<(), AllocError>
+    ensures { OnOk result (lines.AddsLine (signed_decimal value) text.old text.new) }
+{
+    writeln!(text, "{value}")
+}
+
+pub fn add_count(text: &mut String, count: u64) -> Result<(), AllocError>
+    ensures { OnOk result (lines.AddsLine (decimal count) text.old text.new) }
+{
+    writeln!(text, "{count}")
+}
+
+/// The line of a step that makes no call.
+pub fn add_line_without_call(text: &mut String, step: FlowStep) -> Result<(), ScriptFault>
+    ensures line { OnOk result (lines.AddsLine (line_without_call step) text.old text.new) }
+    ensures refused { IfErr result (λ refused. refused ≡ ScriptFault.OutOfMemory) }
+{
+    match step {
+        FlowStep::Poll(_) => add_line(text, "done")?,
+        FlowStep::Next(_) => add_line(text, "gone")?,
+        FlowStep::Cancel(_) | FlowStep::Unsubscribe(_) => add_line(text, "false")?,
+        _ => add_line(text, "not allowed")?,
+    }
+    Ok(())
+}
+
+/// The rest of a line that tells a fault of a flow.
+pub fn add_flow_fault(text: &mut String, fault: FlowFault) -> Result<(), AllocError>
+    ensures { OnOk result (lines.AddsLine (lines.flow_fault_text fault) text.old text.new) }
+{
+    match fault {
+        FlowFault::OutOfMemory => add_line(text, "1 OutOfMemory"),
+        FlowFault::TooLarge => add_line(text, "2 TooLarge"),
+        FlowFault::NeedsBuffer => add_line(text, "3 NeedsBuffer"),
+        FlowFault::Exhausted => add_line(text, "4 Exhausted"),
+        FlowFault::Unsupported => add_line(text, "5 Unsupported"),
+        FlowFault::Busy => add_line(text, "6 Busy"),
+    }
+}
+
+/// The line of a refused call. Want of memory has none: it ends the script.
+pub fn add_refusal(text: &mut String, fault: FlowFault) -> Result<(), ScriptFault>
+    ensures told { OnOk result (IsToldFlowFault fault) }
+    ensures line { OnOk result (lines.AddsLine (lines.refusal_text fault) text.old text.new) }
+    ensures refused { IfErr result (λ refused. refused ≡ ScriptFault.OutOfMemory) }
+{
+    if is_flow_memory(fault) {
+        return Err(ScriptFault::OutOfMemory);
+    }
+    text.push_str("refused ")?;
+    add_flow_fault(text, fault)?;
+    Ok(())
+}

@@ -1,0 +1,72 @@
+//! What the names of a script stand for.
+ghost use Rattle.std.specs.Prelude.{◌≡◌, OnOk, IfErr, option_map};
+ghost use Rattle.flow_core.specs.SubId.{number_of};
+ghost use Rattle.flow_lines.specs.Numbers.{no_numbers, number_at, with_emission, with_subscriber};
+ghost use Rattle.flow_lines.specs.Shown.{numbers_of};
+
+use flow_core::SubId;
+use flow_format::ScriptFault;
+use std::alloc::Global;
+
+/// What the names of a script stand for, each kind in the order of introduction.
+#[derive(Drop)]
+pub struct Numbers {
+    /// The number of each emission that waited at first.
+    emissions: Vec<Option<u64>>,
+    /// Each subscription that was not refused.
+    subscribers: Vec<Option<SubId>>,
+}
+
+impl Numbers {
+    pub fn new(alloc: Global) -> Self
+        ensures { numbers_of result ≡ no_numbers }
+    {
+        Numbers {
+            emissions: Vec::new(alloc),
+            subscribers: Vec::new(alloc),
+        }
+    }
+
+    pub fn emission_at(&self, place: usize) -> Option<u64>
+        ensures { result ≡ number_at place (numbers_of self.now).emissions }
+    {
+        if place < self.emissions.len() {
+            self.emissions[place]
+        } else {
+            None
+        }
+    }
+
+    pub fn subscriber_at(&self, place: usize) -> Option<SubId>
+        ensures { option_map number_of result ≡ number_at place (numbers_of self.now).subscribers }
+    {
+        if place < self.subscribers.len() {
+            self.subscribers[place]
+        } else {
+            None
+        }
+    }
+
+    /// The next name of an emission, and its number where it waits.
+    pub fn add_emission(&mut self, number: Option<u64>) -> Result<(), ScriptFault>
+        ensures added { OnOk result (numbers_of self.new ≡ with_emission number (numbers_of self.old)) }
+        ensures fault { IfErr result (λ fault. fault ≡ ScriptFault.OutOfMemory) }
+    {
+        match self.emissions.push(number) {
+            Ok(()) => Ok(()),
+            Err(_) => Err(ScriptFault::OutOfMemory),
+        }
+    }
+
+    /// The next name of a subscriber, unless its subscription was refused.
+    pub fn add_subscriber(&mut self, id: Option<SubId>) -> Result<(), ScriptFault>
+        ensures added { OnOk result (
+            numbers_of self.new ≡ with_subscriber (option_map number_of id) (numbers_of self.old)) }
+        ensures fault { IfErr result (λ fault. fault ≡ ScriptFault.OutOfMemory) }
+    {
+        match self.subscribers.push(id) {
+            Ok(()) => Ok(()),
+            Err(_) => Err(ScriptFault::OutOfMemory),
+        }
+    }
+}

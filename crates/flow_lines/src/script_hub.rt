@@ -1,0 +1,105 @@
+//! The flows of sharings, as scripts play on them.
+ghost use Rattle.std.specs.Prelude.{◌≡◌, ℤ, OnOk, IfErr};
+ghost use Rattle.flow_law.specs.SharingCalls.{HubCall, HubAnswer};
+ghost use Rattle.flow_law.specs.Steps.{After};
+ghost use Rattle.flow_format.specs.declared.script.FlowStep.{FlowStep};
+ghost use Rattle.flow_lines.specs.Numbers.{Numbers};
+ghost use Rattle.flow_lines.specs.FlowMeaning.{Turn};
+ghost use Rattle.flow_lines.specs.Shown.{Follows};
+ghost use Rattle.flow_lines.specs.Sharings.{TurnsAsDocumented};
+
+use crate::flow_steps::flow_step;
+use crate::numbers::Numbers;
+use flow_format::{FlowStep, ScriptFault};
+use flow_law::{EmittingFlow, StateFlowState};
+use flow_sharing::{CoreHub, Hub, StateHub, law_turn_over_core, law_turn_over_state_core};
+use std::alloc::Global;
+
+/// The flow of a sharing that scripts play on.
+pub trait ScriptHub: Hub<Item = i64> {
+    /// The states of the documented flow.
+    type State;
+
+    /// For which states the hub's flow stands.
+    ghost stands: { Self → Self.State → Type 0 };
+
+    /// What a step does on the documented flow.
+    ghost flow: { FlowStep → Self.State → Numbers → Turn Self.State };
+
+    /// What the documented flow answers the sharing, want of memory aside.
+    ghost reply: { (c : HubCall ℤ) → Self.State → After (HubAnswer c) Self.State };
+
+    /// Plays a step on the hub's flow.
+    fn step(
+        &mut self,
+        numbers: &mut Numbers,
+        text: &mut String,
+        step: FlowStep,
+    ) -> Result<(), ScriptFault>
+        ensures plays { OnOk result (Follows stands (flow step)
+            self.old self.new numbers.old numbers.new text.old text.new) }
+        ensures fault { IfErr result (λ fault. fault ≡ ScriptFault.OutOfMemory) };
+
+    /// A turn over the hub is the documented turn.
+    fn law_turn()
+        ensures { TurnsAsDocumented Self.does Self.waits stands reply };
+}
+
+impl ScriptHub for CoreHub<i64> {
+    type State = EmittingFlow<i64>;
+
+    ghost use Rattle.flow_law.specs.SharedHistory.{shared_flow};
+    ghost use Rattle.flow_law.specs.SharingFlows.{shared_reply};
+    ghost use Rattle.flow_sharing.specs.OverCores.{Emits};
+    ghost use Rattle.flow_lines.specs.FlowMeaning.{flow_turn};
+    ghost use Rattle.flow_lines.specs.SharedMeaning.{plays_shared};
+    ghost use Rattle.flow_lines.specs.SharingMeaning.{beside_emission};
+
+    ghost stands = { Emits };
+
+    ghost flow = { beside_emission (flow_turn shared_flow plays_shared) };
+
+    ghost reply = { shared_reply };
+
+    fn step(
+        &mut self,
+        numbers: &mut Numbers,
+        text: &mut String,
+        step: FlowStep,
+    ) -> Result<(), ScriptFault> {
+        flow_step(self.core_mut(), numbers, text, step)
+    }
+
+    fn law_turn() {
+        law_turn_over_core::<i64, Global>();
+    }
+}
+
+impl ScriptHub for StateHub<i64> {
+    type State = StateFlowState<i64>;
+
+    ghost use Rattle.flow_law.specs.SharingFlows.{state_reply};
+    ghost use Rattle.flow_law.specs.StateFlow.{state_flow};
+    ghost use Rattle.flow_sharing.specs.StateHub.{state_core_of};
+    ghost use Rattle.flow_lines.specs.FlowMeaning.{flow_turn};
+    ghost use Rattle.flow_lines.specs.StateMeaning.{plays_state};
+
+    ghost stands = { λ hub s. state_core_of hub ≡ s };
+
+    ghost flow = { flow_turn state_flow plays_state };
+
+    ghost reply = { state_reply };
+
+    fn step(
+        &mut self,
+        numbers: &mut Numbers,
+        text: &mut String,
+        step: FlowStep,
+    ) -> Result<(), ScriptFault> {
+        flow_step(self.core_mut(), numbers, text, step)
+    }
+
+    fn law_turn() {
+        law_turn_over_state_core::<i64, Global>();
+    }
+}
