@@ -1,3 +1,4 @@
+pub mod PlaceLemmas
 pub mod PositionLemmas
 pub mod QueueLemmas
 pub mod CallLemmas

@@ -27,6 +27,7 @@ mod copies;
 mod drain;
 mod kind;
 mod own_values;
+mod position_counts;
 mod positions;
 mod queue;
 mod shared;
