@@ -1,3 +1,4 @@
+pub mod CountLemmas
 pub mod PlaceLemmas
 pub mod PositionLemmas
 pub mod QueueLemmas

@@ -38,3 +38,8 @@ module _ {T : Type 0} where
     pub long : length row ≡ w + 1
     pub counts : (r : ℕ) → r < w + 1 → get_or row r 0 ≡ count_of (w + 1) r us
     pub window : AreWithin w emitted us
+
+  -- the subscribers without the first of this number
+  abbrev pub take_out : ℕ → List (Subscriber T) → List (Subscriber T)
+  take_out number [] = []
+  take_out number (u ∷ us) = if u.number == number then us else u ∷ take_out number us
