@@ -2,5 +2,10 @@ pub mod CountLemmas
 pub mod PlaceLemmas
 pub mod PositionLemmas
 pub mod QueueLemmas
+pub mod SlotLemmas
+pub mod SeatLemmas
+pub mod FoundLemmas
+pub mod SeatingLemmas
+pub mod SubscriberLemmas
 pub mod CallLemmas
 pub mod StateLemmas

@@ -30,6 +30,7 @@ mod own_values;
 mod position_counts;
 mod positions;
 mod queue;
+mod seats;
 mod shared;
 mod state;
 mod sub_id;

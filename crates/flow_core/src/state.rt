@@ -131,7 +131,7 @@ impl<T: FlowValue, A: Allocator + Copy> StateCore<T, A> {
         match self.rows.push(Row { number, last: None }) {
             Ok(()) => {
                 self.issued = number;
-                Ok(SubId { number })
+                Ok(SubId { number, key: 0 })
             }
             Err(_refused) => Err(FlowFault::OutOfMemory),
         }

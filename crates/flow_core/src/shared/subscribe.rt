@@ -45,7 +45,7 @@ impl<T: FlowValue, A: Allocator + Copy> SharedCore<T, A> {
         match self.subscribers.push(number, first, position) {
             Ok(()) => {
                 self.issued = number;
-                Ok(SubId { number })
+                Ok(SubId { number, key: 0 })
             }
             Err(first) => Err(Refused {
                 value: first,

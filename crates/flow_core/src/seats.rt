@@ -1,0 +1,134 @@
+//! The subscribers of a flow, each under a key of a slab.
+//!
+//! A `SubId` has the key where its subscriber stood last. It is a hint: whoever is not there any more, because the
+//! `SubId` came from elsewhere, is looked for through the whole slab.
+ghost use Rattle.std.specs.Prelude.{◌≡◌, ℕ, ◌+◌, ◌<◌, ◌≤◌, ◌++◌, [], ◌∷◌, length, Some, IfSome, IfNone, IsSomeAnd, MatchResult, MatchOption, is_some, option_copied};
+ghost use Rattle.std.specs.Option.{option_copied_mut};
+ghost use Rattle.std.specs.Borrow.{sem};
+ghost use Rattle.slab.specs.Slab.{get};
+ghost use Rattle.flow_law.specs.Laws.{RisesTo};
+ghost use Rattle.flow_core.specs.SubId.{number_of};
+ghost use Rattle.flow_core.specs.Seats.{numbers, row_of, with_row, without_number, take_out};
+
+use crate::sub_id::SubId;
+use slab::Slab;
+use std::alloc::Allocator;
+use std::marker::Model;
+
+/// What is kept of one subscriber.
+#[derive(Drop)]
+pub(crate) struct Seat<R> {
+    pub number: u64,
+    pub row: R,
+}
+
+/// The subscribers in the order of their numbers.
+#[derive(Drop)]
+pub(crate) struct Seats<R: Drop, A: Allocator> {
+    slab: Slab<Seat<R>, A>,
+    last: u64,
+}
+
+impl<R: Drop, A: Allocator> Model for Seats<R, A> {
+    ghost use Rattle.flow_core.specs.Seats.{Seating, seating_of, IsSound};
+
+    ghost Value = { Seating R };
+
+    ghost view = { seating_of };
+
+    ghost invariant = { IsSound };
+}
+
+/// The key of the subscriber of this number: at the hint, or else wherever it is found.
+fn key_of<R: Drop, A: Allocator>(slab: &Slab<Seat<R>, A>, id: SubId) -> Option<usize>
+    ensures found { IfSome result (λ key. IsSomeAnd (get slab.now key) (λ seat. seat.number ≡ number_of id)) }
+    ensures absent { IfNone result ((key : ℕ) (seat : Seat R) → get slab.now key ≡ Some seat → seat.number ≡ number_of id → ⊥) }
+{
+    if let Some(seat) = slab.get(id.key)
+        && seat.number == id.number
+    {
+        return Some(id.key);
+    }
+    for (key, seat) in slab.iter() {
+        if seat.number == id.number {
+            return Some(key);
+        }
+    }
+    None
+}
+
+impl<R: Drop, A: Allocator> Seats<R, A> {
+    ghost use Rattle.flow_core.specs.SeatsLends.{lends_row};
+
+    pub(crate) fn new(alloc: A) -> Self
+        ensures empty { result.seats ≡ [] }
+        ensures last { result.last ≡ 0 }
+    {
+        Seats {
+            slab: Slab::new(alloc),
+            last: 0,
+        }
+    }
+
+    pub(crate) fn len(&self) -> usize
+        ensures value { result ≡ length self.now.seats }
+        // In every state, so that a caller may take it from here: no two have one number.
+        ensures rising { RisesTo 0 (numbers self.now.seats) self.now.last }
+    {
+        self.slab.len()
+    }
+
+    /// What is kept of a subscriber.
+    pub(crate) fn get(&self, id: SubId) -> Option<&R>
+        ensures { option_copied result ≡ row_of (number_of id) self.now.seats }
+    {
+        let key = key_of(&self.slab, id)?;
+        match self.slab.get(key) {
+            Some(seat) => Some(&seat.row),
+            None => None,
+        }
+    }
+
+    /// Adds a subscriber. A refusal for want of memory hands the row back.
+    pub(crate) fn insert(&mut self, number: u64, row: R) -> Result<SubId, R>
+        requires { self.old.last < number }
+        ensures { MatchResult result
+            (λ id. (number_of id ≡ number)
+            × (self.new.seats ≡ self.old.seats ++ record { number = number; row = row } ∷ [])
+            × (self.new.last ≡ number))
+            (λ refused. (refused ≡ row) × (self.new ≡ self.old)) }
+    {
+        match self.slab.insert(Seat { number, row }) {
+            Ok(key) => {
+                self.last = number;
+                Ok(SubId { number, key })
+            }
+            Err(refused) => Err(refused.value.row),
+        }
+    }
+
+    /// What is kept of a subscriber, for writing.
+    pub(crate) fn get_mut(&mut self, id: SubId) -> Option<&mut R>
+        ensures* writes_back { sem 𝓛 (lends_row R.row A.row A.Allocator self.entry (number_of id) result) }
+        ensures value { option_copied_mut result ≡ row_of (number_of id) self.old.seats }
+    {
+        match key_of(&self.slab, id) {
+            Some(key) => match self.slab.get_mut(key) {
+                Some(seat) => Some(&mut seat.row),
+                None => None,
+            },
+            None => None,
+        }
+    }
+
+    /// Removes a subscriber, and gives what was kept of it.
+    pub(crate) fn remove(&mut self, id: SubId) -> Option<R>
+        ensures value { result ≡ row_of (number_of id) self.old.seats }
+        ensures seats { self.new.seats ≡ without_number (number_of id) self.old.seats }
+        ensures one { self.new.seats ≡ take_out (number_of id) self.old.seats }
+        ensures last { self.new.last ≡ self.old.last }
+    {
+        let key = key_of(&self.slab, id)?;
+        Some(self.slab.remove(key).row)
+    }
+}
