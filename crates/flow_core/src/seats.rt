@@ -121,6 +121,16 @@ impl<R: Drop, A: Allocator> Seats<R, A> {
         }
     }
 
+    /// Keeps this row of a subscriber in place of the one before, if there is such a subscriber.
+    pub(crate) fn set(&mut self, id: SubId, row: R)
+        ensures seats { self.new.seats ≡ with_row (number_of id) row self.old.seats }
+        ensures last { self.new.last ≡ self.old.last }
+    {
+        if let Some(kept) = self.get_mut(id) {
+            *kept = row;
+        }
+    }
+
     /// Removes a subscriber, and gives what was kept of it.
     pub(crate) fn remove(&mut self, id: SubId) -> Option<R>
         ensures value { result ≡ row_of (number_of id) self.old.seats }

@@ -1,6 +1,5 @@
 //! A state flow for one thread.
-ghost use Rattle.std.specs.Prelude.{◌≡◌, ◌↔◌, ◌==◌, ℕ, List, Some, Ok, Err, IsTrue, IfOk, IfErr};
-ghost use Rattle.std.specs.List.{position};
+ghost use Rattle.std.specs.Prelude.{◌≡◌, ◌↔◌, ℕ, List, Some, Ok, Err, IsTrue, IfOk, IfErr};
 ghost use Rattle.flow_law.specs.StateFlow as flow;
 ghost use Rattle.flow_law.specs.Standing.{StateConforms};
 ghost use Rattle.flow_law.specs.declared.call.StateCall.TheVariants as call;
@@ -10,17 +9,11 @@ ghost use Rattle.flow_core.specs.StateCore.{value_reply, subscribe_reply, next_r
 
 mod kind;
 
+use crate::seats::Seats;
 use crate::sub_id::SubId;
 use flow_law::{FlowFault, FlowValue, Next};
 use std::alloc::{Allocator, Global};
 use std::marker::Model;
-
-/// A subscriber's number, and the last value that it got.
-#[derive(Drop)]
-struct Row<T: FlowValue> {
-    number: u64,
-    last: Option<T>,
-}
 
 /// A state flow (`MutableStateFlow`) for one thread: one current value, of which each subscriber gets the most recent
 /// that it has not got already.
@@ -31,7 +24,8 @@ struct Row<T: FlowValue> {
 pub struct StateCore<T: FlowValue, A: Allocator + Copy = Global> {
     alloc: A,
     value: T,
-    rows: Vec<Row<T>, A>,
+    /// The last value that each subscriber got.
+    subscribers: Seats<Option<T>, A>,
     issued: u64,
     limit: u64,
 }
@@ -46,14 +40,7 @@ impl<T: FlowValue, A: Allocator + Copy> Model for StateCore<T, A> {
 
     ghost view = { fields_of };
 
-    ghost invariant = { λ c. c.issued ≤ c.limit };
-}
-
-/// The place of a subscriber's row.
-fn place_of<T: FlowValue>(rows: &[Row<T>], number: u64) -> Option<usize>
-    ensures { result ≡ position (λ row. row.number == number) rows.now }
-{
-    rows.iter().position(|row| row.number == number)
+    ghost invariant = { λ c. (c.issued ≤ c.limit) × (c.subscribers.last ≤ c.issued) };
 }
 
 /// Whether the last value that a subscriber got is this one.
@@ -74,7 +61,7 @@ impl<T: FlowValue, A: Allocator + Copy> StateCore<T, A> {
         StateCore {
             alloc,
             value: initial,
-            rows: Vec::new(alloc),
+            subscribers: Seats::new(alloc),
             issued: 0,
             limit,
         }
@@ -128,10 +115,10 @@ impl<T: FlowValue, A: Allocator + Copy> StateCore<T, A> {
             return Err(FlowFault::Exhausted);
         }
         let number = self.issued + 1;
-        match self.rows.push(Row { number, last: None }) {
-            Ok(()) => {
+        match self.subscribers.insert(number, None) {
+            Ok(id) => {
                 self.issued = number;
-                Ok(SubId { number, key: 0 })
+                Ok(id)
             }
             Err(_refused) => Err(FlowFault::OutOfMemory),
         }
@@ -142,10 +129,10 @@ impl<T: FlowValue, A: Allocator + Copy> StateCore<T, A> {
         ensures documented { StateConforms self.old (call.TakeNext (number_of id))
             (next_reply result) self.new }
     {
-        let Some(place) = place_of(self.rows.as_slice(), id.number) else {
+        let Some(last) = self.subscribers.get(id) else {
             return Ok(Next::Gone);
         };
-        if has_got(&self.rows[place].last, &self.value) {
+        if has_got(last, &self.value) {
             return Ok(Next::Empty);
         }
         match self.value.try_copy() {
@@ -153,7 +140,7 @@ impl<T: FlowValue, A: Allocator + Copy> StateCore<T, A> {
             Ok(last) => match self.value.try_copy() {
                 Err(fault) => Err(fault),
                 Ok(value) => {
-                    self.rows[place].last = Some(last);
+                    self.subscribers.set(id, Some(last));
                     Ok(Next::Value(value))
                 }
             },
@@ -165,9 +152,7 @@ impl<T: FlowValue, A: Allocator + Copy> StateCore<T, A> {
         ensures documented { StateConforms self.old (call.Unsubscribe (number_of id))
             (reply.Answered result) self.new }
     {
-        let was_there = place_of(self.rows.as_slice(), id.number).is_some();
-        self.rows.retain(|row| row.number != id.number);
-        was_there
+        self.subscribers.remove(id).is_some()
     }
 
     /// The current value alone: that is a state flow's replay cache.
@@ -197,6 +182,6 @@ impl<T: FlowValue, A: Allocator + Copy> StateCore<T, A> {
     pub fn subscription_count(&self) -> u64
         ensures documented { StateConforms self.now call.SubscriptionCount (reply.Counted result) self.now }
     {
-        self.rows.len() as u64
+        self.subscribers.len() as u64
     }
 }

@@ -1,13 +1,12 @@
-use Rattle.std.proofs.Common.{inl, inr, ◌≡◌, ◌≢◌, ◌==◌, ◌∙◌, Option, Some, None, map, set, refl, sym, ap, subst}
-use Rattle.std.proofs.lemmas.Iterator.Adapters.{position_from-zero}
+use Rattle.std.proofs.Common.{inl, inr, ◌≡◌, ◌≢◌, ◌∙◌, Some, None, map, refl, sym, ap, subst}
 use Rattle.flow_law.specs.declared.outcome.Next.TheVariants.{Value, Empty, Gone}
 use Rattle.flow_law.specs.declared.call.StateReply.TheVariants as reply
 use Rattle.flow_law.specs.declared.states.StateFlowState.{StateFlowState}
 use Rattle.flow_law.specs.declared.call.StateCall.TheVariants as call
 use Rattle.flow_law.specs.StateFlow.{last_of, with_last, Receives, Replies}
-use Rattle.flow_core.specs.declared.state.Row.{Row}
+use Rattle.flow_core.specs.Seats.{with_row}
 use Rattle.flow_core.specs.StateCore.{subscriber_of, fields_of}
-use Rattle.flow_core.proofs.StateLemmas.{place_at, place_none, copy_refused}
+use Rattle.flow_core.proofs.StateLemmas.{last_is, got, copy_refused}
 use Rattle.flow_core.proofs.state.StateCore.next.Goals as goal
 
 pub returns-in_default : goal.returns-in_default
@@ -15,9 +14,8 @@ returns-in_default g c = record {
   documented = (
     λ s same.
         let number = c.args.id.number in
-        let rows = c.self.inside.rows.items in
-        let found = sym (position_from-zero (λ u. u.number == number) rows) ∙ sym (rw c.as_slice.ensures.value at c.place_of.ensures) ∙ c.in_default.is in
-        let gone : last_of number (fields_of c.self.inside).subscribers ≡ None = place_none number 0 rows found in (
+        let seats = c.self.inside.subscribers.seats in
+        let gone : last_of number (fields_of c.self.inside).subscribers ≡ None = last_is number seats ∙ sym c.in_default.ensures in (
           subst (λ (k : StateFlowState _). Receives k.value (last_of number k.subscribers) (reply.Received Gone)) (c.self.view_is ∙ same)
               (subst (λ o. Receives c.self.inside.value o (reply.Received Gone)) (sym gone) refl),
           same,
@@ -31,10 +29,8 @@ returns-then-has_got g c = record {
   documented = (
     λ s same.
         let number = c.args.id.number in
-        let rows = c.self.inside.rows.items in
-        let found = sym (position_from-zero (λ u. u.number == number) rows) ∙ sym (rw c.as_slice.ensures.value at c.place_of.ensures) ∙ c.in-Some.is in
-        let there : last_of number (fields_of c.self.inside).subscribers ≡ Some c.index.result.now.last =
-        (place_at number c.in-Some.place rows c.index.result.now found).0 ∙ ap (λ (u : Row _). Some u.last) (sym c.index.ensures) in (
+        let seats = c.self.inside.subscribers.seats in
+        let there : last_of number (fields_of c.self.inside).subscribers ≡ Some c.in-Some.last.now = last_is number seats ∙ sym c.in-Some.ensures in (
           subst (λ (k : StateFlowState _). Receives k.value (last_of number k.subscribers) (reply.Received Empty)) (c.self.view_is ∙ same)
               (subst (λ o. Receives c.self.inside.value o (reply.Received Empty)) (sym there) (inl (c.has_got.ensures.0 c.if-has_got.true, refl))),
           same,
@@ -48,19 +44,17 @@ returns-in-Ok-try_copy g c = record {
   documented = (
     λ s same.
         let number = c.args.id.number in
-        let rows = c.self.inside.rows.items in
+        let seats = c.self.inside.subscribers.seats in
         let value = c.in-Ok-try_copy.value in
-        let found = sym (position_from-zero (λ u. u.number == number) rows) ∙ sym (rw c.as_slice.ensures.value at c.place_of.ensures) ∙ c.in-Some.is in
-        let there : last_of number (fields_of c.self.inside).subscribers ≡ Some c.index.result.now.last =
-        (place_at number c.in-Some.place rows c.index.result.now found).0 ∙ ap (λ (u : Row _). Some u.last) (sym c.index.ensures) in
+        let there : last_of number (fields_of c.self.inside).subscribers ≡ Some c.in-Some.last.now = last_is number seats ∙ sym c.in-Some.ensures in
         let copied : value ≡ c.self.inside.value = c.in-Ok-try_copy.ensures.copy in
         let received : Receives c.self.inside.value (last_of number (fields_of c.self.inside).subscribers) (reply.Received (Value value)) =
         subst (λ o. Receives c.self.inside.value o (reply.Received (Value value))) (sym there)
         (inr (λ is. Rattle.std.proofs.lemmas.Bool.both_ways c.has_got.result c.if-has_got.false (c.has_got.ensures.1 is), ap (λ v. reply.Received (Value v)) copied)) in
         let same_last = c.in-Ok.ensures.copy ∙ sym copied in
-        let moved = ap (λ (u : Row _). map subscriber_of (set rows c.in-Some.place (record { number = u.number; last = Some c.in-Ok.last }))) c.index_mut.ensures.value
-        ∙ ap (λ v. map subscriber_of (set rows c.in-Some.place (record { number = (Rattle.std.proofs.Common.get_or rows c.in-Some.place c.index_mut.result.now).number; last = Some v }))) same_last
-        ∙ sym ((place_at number c.in-Some.place rows c.index_mut.result.now found).1 value) in (
+        let moved = ap (map subscriber_of) c.set.ensures.seats
+        ∙ ap (λ v. map subscriber_of (with_row number (Some v) seats)) same_last
+        ∙ got number value c.in-Some.last.now seats (sym c.in-Some.ensures) in (
           subst (λ (k : StateFlowState _). Receives k.value (last_of number k.subscribers) (reply.Received (Value value))) (c.self.view_is ∙ same) received,
           ap (λ us. record (fields_of c.self.inside) { subscribers = us }) moved ∙ ap (λ (k : StateFlowState _). record k { subscribers = with_last number value k.subscribers }) (c.self.view_is ∙ same),
         ),
@@ -73,13 +67,11 @@ returns-in-Err g c = record {
   documented = (
     λ s same.
         let number = c.args.id.number in
-        let rows = c.self.inside.rows.items in
-        let found = sym (position_from-zero (λ u. u.number == number) rows) ∙ sym (rw c.as_slice.ensures.value at c.place_of.ensures) ∙ c.in-Some.is in
-        let there : last_of number (fields_of c.self.inside).subscribers ≡ Some c.index.result.now.last =
-        (place_at number c.in-Some.place rows c.index.result.now found).0 ∙ ap (λ (u : Row _). Some u.last) (sym c.index.ensures) in
-        let differs : c.index.result.now.last ≢ Some c.self.inside.value = λ is. Rattle.std.proofs.lemmas.Bool.both_ways c.has_got.result c.if-has_got.false (c.has_got.ensures.1 is) in (
+        let seats = c.self.inside.subscribers.seats in
+        let there : last_of number (fields_of c.self.inside).subscribers ≡ Some c.in-Some.last.now = last_is number seats ∙ sym c.in-Some.ensures in
+        let differs : c.in-Some.last.now ≢ Some c.self.inside.value = λ is. Rattle.std.proofs.lemmas.Bool.both_ways c.has_got.result c.if-has_got.false (c.has_got.ensures.1 is) in (
           subst (λ (k : StateFlowState _). Replies k (call.TakeNext number) (reply.Refused c.in-Err.fault)) (c.self.view_is ∙ same)
-              (copy_refused (fields_of c.self.inside) number c.index.result.now.last c.in-Err.fault there differs c.in-Err.ensures.memory),
+              (copy_refused (fields_of c.self.inside) number c.in-Some.last.now c.in-Err.fault there differs c.in-Err.ensures.memory),
           same,
         ),
     refl,
@@ -91,13 +83,11 @@ returns-in-Err-try_copy g c = record {
   documented = (
     λ s same.
         let number = c.args.id.number in
-        let rows = c.self.inside.rows.items in
-        let found = sym (position_from-zero (λ u. u.number == number) rows) ∙ sym (rw c.as_slice.ensures.value at c.place_of.ensures) ∙ c.in-Some.is in
-        let there : last_of number (fields_of c.self.inside).subscribers ≡ Some c.index.result.now.last =
-        (place_at number c.in-Some.place rows c.index.result.now found).0 ∙ ap (λ (u : Row _). Some u.last) (sym c.index.ensures) in
-        let differs : c.index.result.now.last ≢ Some c.self.inside.value = λ is. Rattle.std.proofs.lemmas.Bool.both_ways c.has_got.result c.if-has_got.false (c.has_got.ensures.1 is) in (
+        let seats = c.self.inside.subscribers.seats in
+        let there : last_of number (fields_of c.self.inside).subscribers ≡ Some c.in-Some.last.now = last_is number seats ∙ sym c.in-Some.ensures in
+        let differs : c.in-Some.last.now ≢ Some c.self.inside.value = λ is. Rattle.std.proofs.lemmas.Bool.both_ways c.has_got.result c.if-has_got.false (c.has_got.ensures.1 is) in (
           subst (λ (k : StateFlowState _). Replies k (call.TakeNext number) (reply.Refused c.in-Err-try_copy.fault)) (c.self.view_is ∙ same)
-              (copy_refused (fields_of c.self.inside) number c.index.result.now.last c.in-Err-try_copy.fault there differs c.in-Err-try_copy.ensures.memory),
+              (copy_refused (fields_of c.self.inside) number c.in-Some.last.now c.in-Err-try_copy.fault there differs c.in-Err-try_copy.ensures.memory),
           same,
         ),
     refl,
