@@ -149,14 +149,19 @@ module _ (w p : ℕ) (h : 0 < w) where
     where
       x : ℕ
       x = p % (w + 1)
+
       y : ℕ
       y = (p + 1) % (w + 1)
+
       both : ℕ
       both = get_or row x 0 + get_or row y 0
+
       x_in : x < w + 1
       x_in = mod_below p (w + 1) (omega arith)
+
       y_in : y < w + 1
       y_in = mod_below (p + 1) (w + 1) (omega arith)
+
       at : (r : ℕ) → r < w + 1 → get_or (set (set row y both) x 0) r 0 ≡ count_of (w + 1) r (raise_to (p + 1) us)
       at r below =
           elim (r == x) as (λ t. (r == x) ≡ t → get_or (set (set row y both) x 0) r 0 ≡ count_of (w + 1) r (raise_to (p + 1) us)) [
@@ -347,9 +352,9 @@ counts_bound n a b (u ∷ us) off =
           let other : (u.position % n == b) ≡ false = unequal _ _ (λ same. off (sym here.1 ∙ same)) in
           rw (here.0, other) (omega (arith, rest))
       | inr off_a ↦ rw off_a.0 (elim (u.position % n == b) as (λ t. count_of n a us + (if t then suc (count_of n b us) else count_of n b us) ≤ suc (length us)) [
-          | true ↦ omega (arith, rest)
-          | false ↦ omega (arith, rest)
-        ])
+        | true ↦ omega (arith, rest)
+        | false ↦ omega (arith, rest)
+      ])
     ]
 
 -- ---- the least position is found by walking along the row
@@ -370,6 +375,7 @@ nobody_before n first start q (u ∷ us) le from none =
     fewer : (t : Bool) (k : ℕ) → (if t then suc k else k) ≡ 0 → k ≡ 0
     fewer true k e = omega (arith, e)
     fewer false k e = e
+
     some : (k : ℕ) → suc k ≡ 0 → ⊥
     some k e = omega (arith, e)
 

@@ -1,4 +1,6 @@
 pub mod CountLemmas
+pub mod RaisedLemmas
+pub mod SubscribersLemmas
 pub mod PlaceLemmas
 pub mod PositionLemmas
 pub mod QueueLemmas

@@ -1,5 +1,5 @@
 -- What each call on `Seats` makes of the fields, from what the slab's call ensures.
-use Rattle.std.proofs.Common.{inl, inr, ◌≡◌, ◌⊎◌, ℕ, ◌+◌, ◌<◌, ◌≤◌, List, [], ◌∷◌, ◌++◌, length, Some, None, is_some, refl, sym, ap, ◌∙◌, arith}
+use Rattle.std.proofs.Common.{inl, inr, ◌≡◌, ◌⊎◌, ℕ, ◌+◌, ◌<◌, ◌≤◌, List, [], ◌∷◌, ◌++◌, length, Some, None, is_some, refl, sym, ap, ◌∙◌, arith, subst}
 use Rattle.std.proofs.lemmas.Bool.{cases_eq}
 use Rattle.std.proofs.lemmas.List.{length_push}
 use Rattle.slab.specs.Slab.{Slab, get, slab_len, with_value, Updates}
@@ -43,6 +43,10 @@ module _ {R A : Type 0} where
 
   pub row_none : (s : Inside R A) (n : ℕ) → IsSound s → ((key : ℕ) (x : Seat R) → get s.slab key ≡ Some x → x.number ≡ n → ⊥) → row_of n (seating_of s).seats ≡ None
   row_none s n sound none = row_absent (λ n. seek n s.slab.slots) n s.last (has_numbers s) (seek_is s.slab n None sound.distinct none)
+
+  -- more room is nothing that is seen
+  pub reserved_sound : (s : Inside R A) (new : Slab (Seat R)) → IsSound s → new ≡ record s.slab { capacity = new.capacity } → IsSound (with_slab s new)
+  reserved_sound s new sound same = subst (λ slab. IsSound (with_slab s slab)) (sym same) (record { distinct = sound.distinct; within = sound.within; count = sound.count })
 
   -- ---- one more
 

@@ -3,6 +3,8 @@ pub mod PositionCounts
 pub mod Positions
 pub mod Queue
 pub mod Seats
+pub mod Rows
+pub mod Subscribers
 pub mod SeatsLends
 pub mod SharedCore
 pub mod StateCore

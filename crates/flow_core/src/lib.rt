@@ -34,6 +34,7 @@ mod seats;
 mod shared;
 mod state;
 mod sub_id;
+mod subscribers;
 
 pub use kind::FlowCore;
 pub use shared::SharedCore;

@@ -56,6 +56,22 @@ impl<A: Allocator> PositionCounts<A> {
         self.emitted
     }
 
+    /// The most that somebody may be behind: one place less than there are.
+    pub(crate) fn window(&self) -> usize
+        ensures { result ≡ length self.now.row - 1 }
+    {
+        self.row.len() - 1
+    }
+
+    /// The position behind one that is not the last.
+    pub(crate) fn following(&self, position: u64) -> u64
+        requires { position < self.now.emitted }
+        ensures { result ≡ position + 1 }
+    {
+        let others = self.emitted - position - 1;
+        self.emitted - others
+    }
+
     fn place_of(&self, position: u64) -> usize
         requires past { position ≤ self.now.emitted }
         requires near { self.now.emitted < position + length self.now.row }

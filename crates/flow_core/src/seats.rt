@@ -10,7 +10,10 @@ ghost use Rattle.flow_law.specs.Laws.{RisesTo};
 ghost use Rattle.flow_core.specs.SubId.{number_of};
 ghost use Rattle.flow_core.specs.Seats.{numbers, row_of, with_row, without_number, take_out};
 
+mod enroll;
+
 use crate::sub_id::SubId;
+pub(crate) use enroll::Row;
 use slab::Slab;
 use std::alloc::Allocator;
 use std::marker::Model;

@@ -1,0 +1,245 @@
+-- What each step of `Subscribers` needs, and that its fields are sound after it.
+use Rattle.std.proofs.Common.{◌≡◌, ◌≢◌, ℕ, suc, ◌+◌, ◌-◌, ◌<◌, ◌≤◌, ◌%◌, ◌^◌, ◌==◌, max, nat_le, nat_lt, Bool, true, false, cond, if◌then◌else◌, List, [], ◌∷◌, ◌++◌, length, map, get_or, set, replicate, Option, Some, None, refl, sym, ap, subst, ◌∙◌, arith, length-append}
+use Rattle.std.specs.List.{list_any}
+use Rattle.std.specs.Option.{option_map}
+use Rattle.std.proofs.lemmas.Nat.{mod_below}
+use Rattle.std.proofs.lemmas.List.{length-set}
+use Rattle.flow_law.specs.declared.states.Subscriber.{Subscriber}
+use Rattle.flow_law.specs.SharedFlow.{position_of, stand_at, move_to, raise_to, with_own, leave_own}
+use Rattle.flow_core.specs.declared.seats.Seat.{Seat}
+use Rattle.flow_core.specs.declared.seats.enroll.Row.{Row}
+use Rattle.flow_core.specs.Seats.{row_of, with_row}
+use Rattle.flow_core.specs.Seats as slab
+use Rattle.flow_core.specs.Rows.{moved, left}
+use Rattle.flow_core.specs.PositionCounts.{Counted, AreWithin, count_of, Fits, take_out}
+use Rattle.flow_core.specs.Subscribers.{Standing, subscriber_of, read, AreSound}
+use Rattle.flow_core.proofs.CountLemmas.{blocked_by_count, fits-append, fits-shift, apart, fits-enroll, fits-take_out, fits-move_to, found_within, found_counted, count_bound, counts_bound}
+use Rattle.flow_core.proofs.SeatLemmas.{length-with_row, length-take_out}
+use Rattle.flow_core.proofs.RaisedLemmas.{raise_to_twice, raise_to_last, position_of-row, move_to-row, with_own-row, take_out-row, append-row, length-raised}
+
+-- one row of counts after the value that was emitted, and after a shift
+abbrev pub shifted : List ℕ → ℕ → List ℕ
+shifted row p = set (set row ((p + 1) % length row) (get_or row (p % length row) 0 + get_or row ((p + 1) % length row) 0)) (p % length row) 0
+
+abbrev pub entered : List ℕ → ℕ → List ℕ
+entered row p = set row (p % length row) (get_or row (p % length row) 0 + 1)
+
+abbrev pub left_at : List ℕ → ℕ → List ℕ
+left_at row p = set row (p % length row) (get_or row (p % length row) 0 - 1)
+
+pub length-shifted : (row : List ℕ) (p : ℕ) → length (shifted row p) ≡ length row
+length-shifted row p = length-set _ (p % length row) 0 ∙ length-set row _ _
+
+within_same : {T : Type 0} (n : ℕ) (us : List (Subscriber T)) → AreWithin 1 n (map (stand_at n) us)
+within_same n [] = tt
+within_same n (u ∷ us) = (omega arith, omega arith, within_same n us)
+
+count-with_own : {T : Type 0} (n r number : ℕ) (own : List T) (us : List (Subscriber T)) → count_of n r (with_own number own us) ≡ count_of n r us
+count-with_own n r number own [] = refl
+count-with_own n r number own (u ∷ us) =
+    elim (u.number == number) as (λ t. count_of n r (if t then leave_own own u ∷ us else u ∷ with_own number own us) ≡ (if u.position % n == r then suc (count_of n r us) else count_of n r us)) [
+      | true ↦ refl
+      | false ↦ ap (λ k. if u.position % n == r then suc k else k) (count-with_own n r number own us)
+    ]
+
+within-with_own : {T : Type 0} (w n number : ℕ) (own : List T) (us : List (Subscriber T)) → AreWithin w n us → AreWithin w n (with_own number own us)
+within-with_own w n number own [] h = tt
+within-with_own w n number own (u ∷ us) h =
+    elim (u.number == number) as (λ t. AreWithin w n (if t then leave_own own u ∷ us else u ∷ with_own number own us)) [
+      | true ↦ h
+      | false ↦ (h.0, h.1, within-with_own w n number own us h.2)
+    ]
+
+pub standing_same : {T : Type 0} (xs ys : List (Subscriber T)) (m n v w f g k l : ℕ) → xs ≡ ys → m ≡ n → v ≡ w → f ≡ g → k ≡ l
+    → ◌≡◌ {A = Standing T} (record { list = xs; emitted = m; window = v; floor = f; last = k }) (record { list = ys; emitted = n; window = w; floor = g; last = l })
+standing_same xs ys m n v w f g k l a b c d e = cc (a, b, c, d, e)
+
+-- a row of another length list, for the window that is read off its length
+pub resized : {T A : Type 0} (row new : List ℕ) (emitted floor last : ℕ) (seats : List (Seat (Row T A))) → length new ≡ length row
+    → AreSound (length row - 1) new emitted floor seats last → AreSound (length new - 1) new emitted floor seats last
+resized row new emitted floor last seats same sound = subst (λ k. AreSound (k - 1) new emitted floor seats last) (sym same) sound
+
+pub sound_at_first : {T A : Type 0} (window : ℕ) (row : List ℕ) → 0 < window → length row ≡ window + 1 → ((r : ℕ) → r < window + 1 → get_or row r 0 ≡ 0) → AreSound {T = T} {A = A} (length row - 1) row 0 0 [] 0
+sound_at_first {T} {A} window row some long zeros =
+    let same : length row - 1 ≡ window = omega (arith, long) in
+    subst (λ k. AreSound {T = T} {A = A} k row 0 0 [] 0) (sym same) (record {
+      some = some;
+      fits = record { long = long; counts = zeros; window = tt };
+      floor = omega arith;
+      count = omega arith;
+      last = omega arith;
+    })
+
+module _ {T A : Type 0} (row : List ℕ) (emitted floor last : ℕ) (seats : List (Seat (Row T A))) (sound : AreSound (length row - 1) row emitted floor seats last) where
+  abbrev w : ℕ
+  w = length row - 1
+
+  abbrev us : List (Subscriber T)
+  us = read floor seats
+
+  long : length row ≡ w + 1
+  long = sound.fits.long
+
+  bounded : length us < 2 ^ 64
+  bounded = omega (arith, length-raised floor seats, sound.count, sound.last)
+
+  pub blocked : nat_lt 0 (get_or row ((emitted + 1) % length row) 0) ≡ list_any (λ u. nat_le w (emitted - u.position)) us
+  blocked = ap (λ k. nat_lt 0 (get_or row ((emitted + 1) % k) 0)) long ∙ blocked_by_count w emitted row us sound.fits
+
+  pub added : list_any (λ u. nat_le w (emitted - u.position)) us ≡ false → AreSound w row (emitted + 1) floor seats last
+  added none = record {
+    some = sound.some;
+    fits = fits-append w emitted row us sound.fits none;
+    floor = omega (arith, sound.floor);
+    count = sound.count;
+    last = sound.last;
+  }
+
+  -- ---- the floor rises
+
+  count_at : (p : ℕ) → get_or row (p % length row) 0 ≡ count_of (w + 1) (p % (w + 1)) us
+  count_at p = ap (λ k. get_or row (p % k) 0) long ∙ sound.fits.counts (p % (w + 1)) (mod_below p (w + 1) (omega arith))
+
+  pub shift_room : (p : ℕ) → get_or row (p % length row) 0 + get_or row ((p + 1) % length row) 0 < 2 ^ 64
+  shift_room p = omega (arith, count_at p, count_at (p + 1), counts_bound (w + 1) (p % (w + 1)) ((p + 1) % (w + 1)) us (apart w p sound.some), bounded)
+
+  shift_fits : (p : ℕ) → p + w ≡ emitted → Fits w (emitted + 1) (shifted row p) (read (p + 1) seats)
+  shift_fits p at =
+      let below : floor ≤ p + 1 = omega (arith, sound.floor, at) in
+      let was : Fits w (p + w) row us = subst (λ k. Fits w k row us) (sym at) sound.fits in
+      let now : Fits w (p + w + 1) (shifted row p) (raise_to (p + 1) us) =
+      subst (λ k. Fits w (p + w + 1) (set (set row ((p + 1) % k) (get_or row (p % k) 0 + get_or row ((p + 1) % k) 0)) (p % k) 0) (raise_to (p + 1) us)) (sym long)
+      (fits-shift w p sound.some row us was) in
+      let raised : Fits w (p + w + 1) (shifted row p) (read (p + 1) seats) = subst (Fits w (p + w + 1) (shifted row p)) (raise_to_twice floor (p + 1) (map subscriber_of seats) below) now in
+      subst (λ k. Fits w (k + 1) (shifted row p) (read (p + 1) seats)) at raised
+
+  pub dropped : (p : ℕ) → p + w ≡ emitted → AreSound (length (shifted row p) - 1) (shifted row p) (emitted + 1) (p + 1) seats last
+  dropped p at = resized row (shifted row p) (emitted + 1) (p + 1) last seats (length-shifted row p) (record {
+    some = sound.some;
+    fits = shift_fits p at;
+    floor = omega (arith, at, sound.some);
+    count = sound.count;
+    last = sound.last;
+  })
+
+  pub dropped_list : (p : ℕ) → p + w ≡ emitted → read (p + 1) seats ≡ raise_to (emitted + 1 - w) us
+  dropped_list p at =
+      let same : p + 1 ≡ emitted + 1 - w = omega (arith, at) in
+      sym (raise_to_twice floor (p + 1) (map subscriber_of seats) (omega (arith, sound.floor, at))) ∙ ap (λ k. raise_to k us) same
+
+  -- without a buffer all are brought to the last position
+  pub gathered_list : w ≡ 1 → read emitted seats ≡ map (stand_at emitted) us
+  gathered_list one =
+      sym (raise_to_twice floor emitted (map subscriber_of seats) (omega (arith, sound.floor, one)))
+      ∙ raise_to_last emitted us (subst (λ k. AreWithin k emitted us) one sound.fits.window)
+
+  pub gathered : (p : ℕ) → w ≡ 1 → p + 1 ≡ emitted → AreSound (length (shifted row p) - 1) (shifted row p) emitted emitted seats last
+  gathered p one at =
+      let shift : Fits w (emitted + 1) (shifted row p) (read (p + 1) seats) = shift_fits p (omega (arith, one, at)) in
+      let there : Fits w (emitted + 1) (shifted row p) (read emitted seats) = subst (λ k. Fits w (emitted + 1) (shifted row p) (read k seats)) at shift in
+      let here : AreWithin 1 emitted (read emitted seats) = subst (AreWithin 1 emitted) (sym (gathered_list one)) (within_same emitted us) in
+      resized row (shifted row p) emitted emitted last seats (length-shifted row p) (record {
+        some = sound.some;
+        fits = record { long = there.long; counts = there.counts; window = subst (λ k. AreWithin k emitted (read emitted seats)) (sym one) here };
+        floor = omega (arith, one);
+        count = sound.count;
+        last = sound.last;
+      })
+
+  -- ---- one more
+
+  pub enter_room : (p number : ℕ) → last < number → number < 2 ^ 64 → get_or row (p % length row) 0 + 1 < 2 ^ 64
+  enter_room p number above fits = omega (arith, count_at p, count_bound (w + 1) (p % (w + 1)) us, length-raised floor seats, sound.count, above, fits)
+
+  pub enrolled : (number p : ℕ) (r : Row T A) → r.position ≡ p → p ≤ emitted → emitted ≤ p + w → floor ≤ p → last < number → number < 2 ^ 64
+      → AreSound (length (entered row p) - 1) (entered row p) emitted floor (seats ++ record { number = number; row = r } ∷ []) number
+  enrolled number p r at past near above more fits = resized row (entered row p) emitted floor number (seats ++ record { number = number; row = r } ∷ []) (length-set row _ _) (record {
+    some = sound.some;
+    fits = subst (Fits w emitted (entered row p)) (sym (append-row floor seats number p r at above))
+        (subst (λ k. Fits w emitted (set row (p % k) (get_or row (p % k) 0 + 1)) (us ++ record { number = number; own = r.own; position = p } ∷ [])) (sym long)
+        (fits-enroll w emitted row us (record { number = number; own = r.own; position = p }) sound.fits past near));
+    floor = sound.floor;
+    count = omega (arith, length-append seats (record { number = number; row = r } ∷ []), sound.count, more);
+    last = fits;
+  })
+
+  -- ---- one less, or one further
+
+  module _ (number p : ℕ) (found : position_of number us ≡ Some p) where
+    pub found_near : (p ≤ emitted) × (emitted < p + length row)
+    found_near = let within = found_within w emitted number p us sound.fits.window found in (within.0, omega (arith, within.1, long))
+
+    pub leave_some : 0 < get_or row (p % length row) 0
+    leave_some = omega (arith, count_at p, found_counted (w + 1) number p us found)
+
+    left_fits : Fits w emitted (left_at row p) (take_out number us)
+    left_fits = subst (λ k. Fits w emitted (set row (p % k) (get_or row (p % k) 0 - 1)) (take_out number us)) (sym long) (fits-take_out w emitted number p row us sound.fits found)
+
+    pub removed : AreSound (length (left_at row p) - 1) (left_at row p) emitted floor (slab.take_out number seats) last
+    removed = resized row (left_at row p) emitted floor last (slab.take_out number seats) (length-set row _ _) (record {
+      some = sound.some;
+      fits = subst (Fits w emitted (left_at row p)) (sym (take_out-row floor number seats)) left_fits;
+      floor = sound.floor;
+      count = omega (arith, shorter number seats, sound.count);
+      last = sound.last;
+    })
+      where
+        shorter : (number : ℕ) (seats : List (Seat (Row T A))) → length (slab.take_out number seats) ≤ length seats
+        shorter number [] = omega arith
+        shorter number (seat ∷ seats) = elim (seat.number == number) as (λ t. length (if t then seats else seat ∷ slab.take_out number seats) ≤ suc (length seats)) [
+          | true ↦ omega arith
+          | false ↦ omega (arith, shorter number seats)
+        ]
+
+    pub enter_again : get_or (left_at row p) ((p + 1) % length (left_at row p)) 0 + 1 < 2 ^ 64
+    enter_again =
+        let same : length (left_at row p) ≡ w + 1 = length-set row _ _ ∙ long in
+        let counted : get_or (left_at row p) ((p + 1) % length (left_at row p)) 0 ≡ count_of (w + 1) ((p + 1) % (w + 1)) (take_out number us) =
+        ap (λ k. get_or (left_at row p) ((p + 1) % k) 0) same ∙ left_fits.counts ((p + 1) % (w + 1)) (mod_below (p + 1) (w + 1) (omega arith)) in
+        omega (arith, counted, count_bound (w + 1) ((p + 1) % (w + 1)) (take_out number us), one_less number p us found, bounded)
+      where
+        one_less : (number p : ℕ) (us : List (Subscriber T)) → position_of number us ≡ Some p → length (take_out number us) + 1 ≡ length us
+        one_less number p [] found = absurd (cc)
+        one_less number p (u ∷ us) found =
+            elim (u.number == number) as (λ t. (if t then Some u.position else position_of number us) ≡ Some p → length (if t then us else u ∷ take_out number us) + 1 ≡ suc (length us)) [
+              | true ↦ λ here. omega arith
+              | false ↦ λ there. omega (arith, one_less number p us there)
+            ] found
+
+    pub above_floor : (r : Row T A) → row_of number seats ≡ Some r → floor ≤ p
+    above_floor r at =
+        let same : Some (max r.position floor) ≡ Some p = ap (option_map (λ (r : Row T A). max r.position floor)) (sym at) ∙ sym (position_of-row floor number seats) ∙ found in
+        let is : max r.position floor ≡ p = cc in
+        omega (arith, is)
+
+    pub advanced : (r : Row T A) → row_of number seats ≡ Some r → p < emitted
+        → AreSound (length (entered (left_at row p) (p + 1)) - 1) (entered (left_at row p) (p + 1)) emitted floor (with_row number (moved (p + 1) r) seats) last
+    advanced r at more =
+        let kept : length (entered (left_at row p) (p + 1)) ≡ length row = length-set (left_at row p) _ _ ∙ length-set row _ _ in
+        let high : floor ≤ p + 1 = omega (arith, above_floor r at) in
+        let within = found_within w emitted number p us sound.fits.window found in
+        let same : length (left_at row p) ≡ w + 1 = length-set row _ _ ∙ long in
+        let moves : Fits w emitted (entered (left_at row p) (p + 1)) (move_to number (p + 1) us) =
+        subst (λ k. Fits w emitted (set (left_at row p) ((p + 1) % k) (get_or (left_at row p) ((p + 1) % k) 0 + 1)) (move_to number (p + 1) us)) (sym same)
+        (subst (λ k. Fits w emitted (set (set row (p % k) (get_or row (p % k) 0 - 1)) ((p + 1) % (w + 1)) (get_or (set row (p % k) (get_or row (p % k) 0 - 1)) ((p + 1) % (w + 1)) 0 + 1)) (move_to number (p + 1) us)) (sym long)
+        (fits-move_to w emitted number p (p + 1) row us sound.fits found (omega (arith, more)) (omega (arith, within.1)))) in
+        resized row (entered (left_at row p) (p + 1)) emitted floor last (with_row number (moved (p + 1) r) seats) kept (record {
+          some = sound.some;
+          fits = subst (Fits w emitted (entered (left_at row p) (p + 1))) (sym (move_to-row floor number (p + 1) r seats high at)) moves;
+          floor = sound.floor;
+          count = omega (arith, length-with_row number (moved (p + 1) r) seats, sound.count);
+          last = sound.last;
+        })
+
+  pub took_own : (number : ℕ) (own : List T) (r : Row T A) → row_of number seats ≡ Some r → AreSound w row emitted floor (with_row number (left own r) seats) last
+  took_own number own r at = record {
+    some = sound.some;
+    fits = subst (Fits w emitted row) (sym (with_own-row floor number own r seats at)) (record {
+      long = sound.fits.long;
+      counts = λ k below. sound.fits.counts k below ∙ sym (count-with_own (w + 1) k number own us);
+      window = within-with_own w emitted number own us sound.fits.window;
+    });
+    floor = sound.floor;
+    count = omega (arith, length-with_row number (left own r) seats, sound.count);
+    last = sound.last;
+  }

@@ -1,0 +1,59 @@
+-- The subscribers of a shared core as the definitions have them. No public clause cites this module.
+use Rattle.std.specs.Prelude.{◌≡◌, ℕ, ◌+◌, ◌-◌, ◌<◌, ◌≤◌, ◌^◌, Bool, nat_le, List, [], ◌∷◌, map, length, Option, Some, None}
+use Rattle.std.specs.List.{list_any}
+use Rattle.flow_law.specs.declared.states.Subscriber.{Subscriber}
+use Rattle.flow_law.specs.SharedFlow.{raise_to, own_of, with_own}
+use Rattle.flow_core.specs.declared.seats.Seat.{Seat}
+use Rattle.flow_core.specs.declared.seats.enroll.Row.{Row}
+use Rattle.flow_core.specs.declared.subscribers.Subscribers.TheInside.{Inside}
+use Rattle.flow_core.specs.PositionCounts.{Fits}
+
+-- the subscribers, and what the row of counts knows besides
+pub record Standing (T : Type 0) : Type 0 where
+  -- in the order of their numbers
+  pub list : List (Subscriber T)
+  -- how many values were emitted
+  pub emitted : ℕ
+  -- the most that somebody may be behind
+  pub window : ℕ
+  -- no position is below it
+  pub floor : ℕ
+  -- the greatest number that a subscriber has had
+  pub last : ℕ
+
+-- somebody has a whole window of values still to receive
+abbrev pub is_full : {T : Type 0} → ℕ → ℕ → List (Subscriber T) → Bool
+is_full window emitted us = list_any (λ u. nat_le window (emitted - u.position)) us
+
+module _ {T A : Type 0} where
+  abbrev pub subscriber_of : Seat (Row T A) → Subscriber T
+  subscriber_of seat = record { number = seat.number; own = seat.row.own; position = seat.row.position }
+
+  -- the subscribers, each at least at the floor
+  abbrev pub read : ℕ → List (Seat (Row T A)) → List (Subscriber T)
+  read floor seats = raise_to floor (map subscriber_of seats)
+
+  abbrev pub standing_of : Inside T A → Standing T
+  standing_of s = record {
+    list = read s.floor s.seats.seats;
+    emitted = s.counts.emitted;
+    window = length s.counts.row - 1;
+    floor = s.floor;
+    last = s.seats.last;
+  }
+
+  pub record AreSound (window : ℕ) (row : List ℕ) (emitted lowest : ℕ) (seats : List (Seat (Row T A))) (greatest : ℕ) : Type 0 where
+    pub some : 0 < window
+    -- the row counts the subscribers, and nobody is further behind than the window
+    pub fits : Fits window emitted row (read lowest seats)
+    pub floor : lowest ≤ emitted + 1 - window
+    pub count : length seats ≤ greatest
+    pub last : greatest < 2 ^ 64
+
+  abbrev pub IsSound : Inside T A → Type 0
+  IsSound s = AreSound (length s.counts.row - 1) s.counts.row s.counts.emitted s.floor s.seats.seats s.seats.last
+
+-- the first of what was left of a subscriber's own values was taken, and nothing where nothing was left
+abbrev pub TakesOwn : {T : Type 0} → ℕ → Option T → List (Subscriber T) → List (Subscriber T) → Type 0
+TakesOwn number None old new = (own_of number old ≡ []) × (new ≡ old)
+TakesOwn {T} number (Some value) old new = (own : List T) × (own_of number old ≡ value ∷ own) × (new ≡ with_own number own old)

@@ -1,0 +1,193 @@
+//! Who has subscribed, how far each one has come, and who is a whole window behind.
+ghost use Rattle.std.specs.Prelude.{◌≡◌, ◌+◌, ◌-◌, ◌<◌, ◌≤◌, ◌^◌, ◌∷◌, ◌++◌, [], Some, false, is_some, length, map, IfOk, MatchResult};
+ghost use Rattle.flow_law.specs.SharedFlow as flow;
+ghost use Rattle.flow_law.specs.Standing.{least_position};
+ghost use Rattle.flow_core.specs.SubId.{number_of};
+ghost use Rattle.flow_core.specs.Subscribers.{TakesOwn, is_full};
+
+use crate::position_counts::PositionCounts;
+use crate::seats::{Row, Seats};
+use crate::sub_id::SubId;
+use std::alloc::{AllocError, Allocator};
+use std::marker::Model;
+
+/// The subscribers in the order of their numbers.
+///
+/// A position below the floor is read as the floor, so that all who are behind are brought forward without a visit.
+#[derive(Drop)]
+pub(crate) struct Subscribers<T: Drop, A: Allocator> {
+    seats: Seats<Row<T, A>, A>,
+    counts: PositionCounts<A>,
+    floor: u64,
+}
+
+impl<T: Drop, A: Allocator> Model for Subscribers<T, A> {
+    ghost use Rattle.flow_core.specs.Subscribers.{Standing, standing_of, IsSound};
+
+    ghost Value = { Standing T };
+
+    ghost view = { standing_of };
+
+    ghost invariant = { λ s. IsSound s };
+}
+
+impl<T: Drop, A: Allocator> Subscribers<T, A> {
+    /// Nobody, before any value was emitted. The window is the most that somebody may be behind.
+    pub(crate) fn new(alloc: A, window: usize) -> Result<Self, AllocError>
+    where
+        A: Copy,
+        requires some { 0 < window }
+        requires bounded { window ≤ 65536 }
+        ensures { IfOk result (λ s. s ≡ record { list = []; emitted = 0; window = window; floor = 0; last = 0 }) }
+    {
+        let counts = PositionCounts::new(alloc, window + 1)?;
+        Ok(Subscribers {
+            seats: Seats::new(alloc),
+            counts,
+            floor: 0,
+        })
+    }
+
+    pub(crate) fn len(&self) -> usize
+        ensures { result ≡ length self.now.list }
+    {
+        self.seats.len()
+    }
+
+    pub(crate) fn emitted(&self) -> u64
+        ensures { result ≡ self.now.emitted }
+    {
+        self.counts.emitted()
+    }
+
+    /// Whether somebody has a whole window still to receive.
+    pub(crate) fn is_blocked(&self) -> bool
+        ensures { result ≡ is_full self.now.window self.now.emitted self.now.list }
+    {
+        self.counts.at_oldest() > 0
+    }
+
+    pub(crate) fn position_of(&self, id: SubId) -> Option<u64>
+        ensures { result ≡ flow.position_of (number_of id) self.now.list }
+    {
+        match self.seats.get(id) {
+            Some(row) => Some(row.position.max(self.floor)),
+            None => None,
+        }
+    }
+
+    /// The least of `first` and all positions, which are at least `start`.
+    pub(crate) fn least(&self, start: u64, first: u64) -> u64
+        requires below { start ≤ least_position first self.now.list }
+        requires within { (first ≤ self.now.emitted) × (self.now.emitted ≤ start + self.now.window) }
+        ensures { result ≡ least_position first self.now.list }
+    {
+        self.counts.least(start, first)
+    }
+
+    /// One value more was emitted, while nobody had a whole window to receive.
+    pub(crate) fn add(&mut self)
+        requires free { is_full self.old.window self.old.emitted self.old.list ≡ false }
+        requires room { self.old.emitted + 1 < 2 ^ 64 }
+        ensures { self.new ≡ record self.old { emitted = self.old.emitted + 1 } }
+    {
+        self.counts.add();
+    }
+
+    /// One value more was emitted, and who had a whole window to receive loses the oldest one.
+    pub(crate) fn add_dropping(&mut self)
+        requires full { self.old.window ≤ self.old.emitted }
+        requires room { self.old.emitted + 1 < 2 ^ 64 }
+        ensures { self.new ≡ record self.old {
+          emitted = self.old.emitted + 1;
+          list = flow.raise_to (self.old.emitted + 1 - self.old.window) self.old.list;
+          floor = self.old.emitted + 1 - self.old.window;
+        } }
+    {
+        let oldest = self.counts.emitted() - self.counts.window() as u64;
+        self.counts.shift(oldest);
+        self.counts.add();
+        self.floor = oldest + 1;
+    }
+
+    /// Nobody is to receive the value that was offered any more.
+    pub(crate) fn gather(&mut self)
+        requires { self.old.window ≡ 1 }
+        ensures { self.new ≡ record self.old {
+          list = map (flow.stand_at self.old.emitted) self.old.list;
+          floor = self.old.emitted;
+        } }
+    {
+        let emitted = self.counts.emitted();
+        if emitted > 0 {
+            self.counts.shift(emitted - 1);
+            self.floor = emitted;
+        }
+    }
+
+    /// Takes the first of what is left of a subscriber's own values.
+    pub(crate) fn take_own(&mut self, id: SubId) -> Option<T>
+        ensures taken { TakesOwn (number_of id) result self.old.list self.new.list }
+        ensures same { self.new ≡ record self.old { list = self.new.list } }
+    {
+        let Some(row) = self.seats.get_mut(id) else {
+            return None;
+        };
+        row.own.pop_front()
+    }
+
+    /// Adds a subscriber with its own first values. A refusal hands them back.
+    pub(crate) fn push(
+        &mut self,
+        number: u64,
+        first: Vec<T, A>,
+        position: u64,
+    ) -> Result<SubId, Vec<T, A>>
+        requires later { self.old.last < number }
+        requires above { self.old.floor ≤ position }
+        requires within { (position ≤ self.old.emitted) × (self.old.emitted ≤ position + self.old.window) }
+        ensures { MatchResult result
+            (λ id. (number_of id ≡ number) × self.new ≡ record self.old {
+              list = self.old.list ++ record { number = number; own = first.items; position = position } ∷ [];
+              last = number;
+            })
+            (λ refused. (refused ≡ first) × self.new ≡ self.old) }
+    {
+        match self.seats.enroll(number, first, position) {
+            Ok(id) => {
+                self.counts.enter(position);
+                Ok(id)
+            }
+            Err(first) => Err(first),
+        }
+    }
+
+    /// A subscriber goes one further.
+    pub(crate) fn advance(&mut self, id: SubId, position: u64)
+        requires there { flow.position_of (number_of id) self.old.list ≡ Some position }
+        requires more { position < self.old.emitted }
+        ensures { self.new ≡ record self.old { list = flow.move_to (number_of id) (position + 1) self.old.list } }
+    {
+        let next = self.counts.following(position);
+        self.counts.leave(position);
+        self.counts.enter(next);
+        let Some(row) = self.seats.get_mut(id) else {
+            return;
+        };
+        row.position = next;
+    }
+
+    /// Removes a subscriber, and answers whether it was there.
+    pub(crate) fn remove(&mut self, id: SubId) -> bool
+        ensures there { result ≡ is_some (flow.position_of (number_of id) self.old.list) }
+        ensures removed { self.new ≡ record self.old { list = flow.without (number_of id) self.old.list } }
+    {
+        match self.seats.remove(id) {
+            Some(row) => {
+                self.counts.leave(row.position.max(self.floor));
+                true
+            }
+            None => false,
+        }
+    }
+}
