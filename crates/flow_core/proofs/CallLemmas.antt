@@ -1,20 +1,23 @@
 -- What the documented calls come to where a core has found out which case it is in.
-use Rattle.std.proofs.Common.{◌≡◌, ℕ, ◌+◌, Bool, true, false, cond, List, Some, sym, ap, ◌∙◌, ◌≤◌, length, ◌∷◌, [], take, drop, ◌-◌, arith}
+use Rattle.std.proofs.Common.{◌≡◌, ℕ, ◌+◌, Bool, true, false, cond, ◌==◌, List, Some, None, refl, sym, ap, ◌∙◌, ◌≤◌, length, ◌∷◌, [], arith}
 use Rattle.std.specs.Prelude.{Err, filter}
 use Rattle.std.specs.List.{slice_get}
 use Rattle.std.specs.Option.{option_map_or}
-use Rattle.std.proofs.lemmas.Grind.{common_steps}
-use Rattle.flow_law.specs.declared.fault.FlowFault.TheVariants.{Exhausted}
+use Rattle.flow_law.specs.declared.fault.FlowFault.TheVariants.{OutOfMemory, Exhausted}
+use Rattle.flow_law.specs.declared.call.SharedCall.TheVariants as call
+use Rattle.flow_law.specs.declared.call.SharedReply.TheVariants as reply
 use Rattle.flow_law.specs.declared.outcome.Next.TheVariants.{Value, Empty, Gone}
 use Rattle.flow_law.specs.declared.states.SharedFlowState.{SharedFlowState}
 use Rattle.flow_law.specs.SharedFlow.{Answer, answer, issuing, is_exhausted, values, position_of, own_of}
 use Rattle.flow_law.specs.EmitRule.{EmitCase, emit_case, emit, emit_in, try_emit, try_emit_in}
 use Rattle.flow_law.specs.SharedStep.{settle, advance, keep_own, read, next_from, next}
-use Rattle.flow_law.specs.Standing.{Core, StandsFor}
+use Rattle.flow_law.specs.SharedHistory.{reply_by, hands_out, is_refused, Replies}
+use Rattle.flow_law.specs.Standing.{Core}
+use Rattle.flow_law.specs.Covering.{Covers}
 use Rattle.flow_core.proofs.QueueLemmas.{unequal}
 
 module _ {T : Type 0} where
-  pub not_exhausted : (core : Core T) (s : SharedFlowState T) → StandsFor core s → (core.issued ≡ core.config.limit → ⊥) → is_exhausted s ≡ false
+  pub not_exhausted : (core : Core T) (s : SharedFlowState T) → Covers core s → (core.issued ≡ core.config.limit → ⊥) → is_exhausted s ≡ false
   not_exhausted core s stands left = unequal s.issued s.config.limit (λ e. left (stands.issued ∙ e ∙ sym (ap (λ c. c.limit) stands.config)))
 
   pub issued_now : {R : Type 0} (s : SharedFlowState T) (a : Answer R T) → is_exhausted s ≡ false → issuing s a ≡ a
@@ -35,6 +38,21 @@ module _ {T : Type 0} where
       ap (λ o. next_from number o s) none ∙ ap (λ o. option_map_or (λ position. read number position s) o (answer Gone s)) at
       ∙ ap (λ o. option_map_or (λ value. answer (Value value) (settle (advance number (p + 1) s))) o (answer Empty s)) here
 
+  pub next_empty : (number p : ℕ) (s : SharedFlowState T) → own_of number s.subscribers ≡ [] → position_of number s.subscribers ≡ Some p → slice_get (values s) p ≡ None
+      → next number s ≡ answer Empty s
+  next_empty number p s none at here =
+      ap (λ o. next_from number o s) none ∙ ap (λ o. option_map_or (λ position. read number position s) o (answer Gone s)) at
+      ∙ ap (λ o. option_map_or (λ value. answer (Value value) (settle (advance number (p + 1) s))) o (answer Empty s)) here
+
+  -- a `next` that has a value to copy may be refused for want of memory
+  pub next_wants_memory : (number : ℕ) (v : T) (s after : SharedFlowState T) → own_of number s.subscribers ≡ [] → next number s ≡ answer (Value v) after
+      → Replies s (call.TakeNext number) (reply.Refused OutOfMemory)
+  next_wants_memory number v s after none all =
+      let own : (length (own_of number s.subscribers) == 0) ≡ true = ap (λ l. length l == 0) none in
+      let given : hands_out (reply_by reply.Received (next number s).reply) ≡ true = ap (λ a. hands_out (reply_by reply.Received a.reply)) all in
+      let kept : is_refused (reply_by reply.Received (next number s).reply) ≡ false = ap (λ a. is_refused (reply_by reply.Received a.reply)) all in
+      rw own (rw given (rw kept refl))
+
 pub length-filter : {X : Type 0} (p : X → Bool) (xs : List X) → length (filter p xs) ≤ length xs
 length-filter p [] = omega arith
 length-filter p (x ∷ xs) =
@@ -42,6 +60,3 @@ length-filter p (x ∷ xs) =
       | true ↦ omega (arith, length-filter p xs)
       | false ↦ omega (arith, length-filter p xs)
     ]
-
-pub rest_whole : {X : Type 0} (n : ℕ) (xs : List X) → take (length xs - n) (drop n xs) ≡ drop n xs
-rest_whole n xs = grind (arith, common_steps)

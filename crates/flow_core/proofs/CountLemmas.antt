@@ -1,17 +1,16 @@
 -- A row of counts beside the subscribers whose positions it counts.
 -- The key facts: `blocked_by_count` (one look tells who is a whole window behind), `fits-shift` (the floor rises by one), `fits-enroll`,
 -- `fits-take_out`, `fits-move_to`, `least_is` (where a walk along the row ends).
-use Rattle.std.proofs.Common.{◌≡◌, ◌≢◌, ◌⊎◌, inl, inr, ℕ, zero, suc, ◌+◌, ◌-◌, ◌<◌, ◌≤◌, ◌%◌, max, min, Bool, true, false, cond, not, ◌&&◌, ◌||◌, ◌==◌, nat_lt, nat_le, if◌then◌else◌, List, [], ◌∷◌, ◌++◌, length, map, get_or, set, take, drop, Some, None, refl, sym, ap, subst, ◌∙◌, arith}
+use Rattle.std.proofs.Common.{◌≡◌, ◌≢◌, ◌⊎◌, inl, inr, ℕ, suc, ◌+◌, ◌-◌, ◌<◌, ◌≤◌, ◌%◌, max, Bool, true, false, ◌||◌, ◌==◌, nat_lt, nat_le, if◌then◌else◌, List, [], ◌∷◌, ◌++◌, length, get_or, set, Some, refl, sym, ap, subst, ◌∙◌, arith}
 use Rattle.std.specs.List.{list_any}
 use Rattle.std.proofs.Math.Nat.{add-mod_right}
 use Rattle.std.proofs.lemmas.Nat.{mod_below}
-use Rattle.std.proofs.lemmas.Grind.{common_steps}
 use Rattle.std.proofs.lemmas.Bool.Decides.{Decides-eqb, leb_tells, eqb_tells, nat_tests}
 use Rattle.std.proofs.lemmas.List.{get_or-set_same, get_or-set_other, length-set}
 use Rattle.flow_law.specs.declared.states.Subscriber.{Subscriber}
 use Rattle.flow_law.specs.SharedFlow.{position_of, stand_at, move_to, raise_to}
 use Rattle.flow_law.specs.Standing.{least_position}
-use Rattle.flow_law.proofs.StandingLemmas.{least_position_bound}
+use Rattle.flow_law.proofs.CoveringLemmas.{least_position_bound}
 use Rattle.flow_core.specs.PositionCounts.{IsLeast, AreWithin, count_of, Fits, take_out}
 use Rattle.flow_core.proofs.PlaceLemmas.{same_place, same_place_in, other_place}
 

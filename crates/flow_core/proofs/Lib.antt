@@ -2,12 +2,14 @@ pub mod CountLemmas
 pub mod RaisedLemmas
 pub mod SubscribersLemmas
 pub mod PlaceLemmas
-pub mod PositionLemmas
 pub mod QueueLemmas
 pub mod SlotLemmas
 pub mod SeatLemmas
 pub mod FoundLemmas
 pub mod SeatingLemmas
 pub mod SubscriberLemmas
+pub mod RingLemmas
+pub mod SoundLemmas
+pub mod EmissionLemmas
 pub mod CallLemmas
 pub mod StateLemmas

@@ -13,8 +13,19 @@ use Rattle.flow_law.specs.declared.states.Numbered.{Numbered}
 use Rattle.flow_law.specs.Laws.{RisesTo}
 use Rattle.flow_core.specs.declared.queue.Queued.{Queued}
 use Rattle.flow_core.specs.Queue.{numbered_of, Rises, IsPlace}
-use Rattle.flow_core.proofs.PositionLemmas.{list_any-map, filter-map}
 use Rattle.flow_law.proofs.Rows.{rises_from, rises_more, rises_higher, rises_filter}
+
+pub list_any-map : {X Y : Type 0} (p : Y → Bool) (f : X → Y) (xs : List X) → list_any p (map f xs) ≡ list_any (λ x. p (f x)) xs
+list_any-map p f [] = refl
+list_any-map p f (x ∷ xs) = ap (λ b. p (f x) || b) (list_any-map p f xs)
+
+pub filter-map : {X Y : Type 0} (p : Y → Bool) (f : X → Y) (xs : List X) → filter p (map f xs) ≡ map f (filter (λ x. p (f x)) xs)
+filter-map p f [] = refl
+filter-map p f (x ∷ xs) =
+    elim (p (f x)) as (λ t. cond t (f x ∷ filter p (map f xs)) (filter p (map f xs)) ≡ map f (cond t (x ∷ filter (λ y. p (f y)) xs) (filter (λ y. p (f y)) xs))) [
+      | true ↦ ap (λ l. f x ∷ l) (filter-map p f xs)
+      | false ↦ filter-map p f xs
+    ]
 
 pub unequal : (a b : ℕ) → (a ≡ b → ⊥) → (a == b) ≡ false
 unequal a b other = elim (a == b) as (λ t. (a == b) ≡ t → t ≡ false) [ true ↦ λ e. absurd (other ((Decides-eqb a b).0 e)) | false ↦ λ _. refl ] refl

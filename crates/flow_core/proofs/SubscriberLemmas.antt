@@ -10,7 +10,7 @@ use Rattle.flow_law.specs.declared.states.StateSubscriber.{StateSubscriber}
 use Rattle.flow_law.specs.SharedFlow.{position_of, stand_at, move_to, own_of, leave_own, with_own, without}
 use Rattle.flow_law.specs.StateFlow.{last_of, with_last, without_subscriber}
 use Rattle.flow_core.specs.declared.seats.Seat.{Seat}
-use Rattle.flow_core.specs.Seats.{numbers, row_of, seat_with, with_row, without_number}
+use Rattle.flow_core.specs.Seats.{row_of, seat_with, with_row, without_number}
 
 module _ {R U : Type 0} (f : Seat R → U) (number_in : U → ℕ) (same : (seat : Seat R) → number_in (f seat) ≡ seat.number) (number : ℕ) where
   -- the subscriber that f makes of a row under this number
@@ -57,18 +57,6 @@ module _ {R U : Type 0} (f : Seat R → U) (number_in : U → ℕ) (same : (seat
             ∙ sym (ap (λ t. map f (cond t (seat_with new seat ∷ seats) (seat ∷ with_row number new seats))) other.0)
       ]
 
-  -- and nothing where there is none
-  pub unchanged : (change : List U → List U) (g : U → U) → change [] ≡ [] → ((u : U) (us : List U) → change (u ∷ us) ≡ (if number_in u == number then g u ∷ us else u ∷ change us))
-      → (seats : List (Seat R)) → row_of number seats ≡ None → change (map f seats) ≡ map f seats
-  unchanged change g at_end steps [] none = at_end
-  unchanged change g at_end steps (seat ∷ seats) none =
-      steps (f seat) (map f seats) ∙ ap (λ t. cond t (g (f seat) ∷ map f seats) (f seat ∷ change (map f seats))) (test_is seat) ∙ elim (eqb_tells seat.number number) [
-        | inl here ↦ let row : Some seat.row ≡ None = sym (ap (λ t. cond t (Some seat.row) (row_of number seats)) here.0) ∙ none in absurd (cc)
-        | inr other ↦
-            ap (λ t. cond t (g (f seat) ∷ map f seats) (f seat ∷ change (map f seats))) other.0
-            ∙ ap (λ l. f seat ∷ l) (unchanged change g at_end steps seats (sym (ap (λ t. cond t (Some seat.row) (row_of number seats)) other.0) ∙ none))
-      ]
-
   pub left_out : (seats : List (Seat R)) → filter (λ u. not (number_in u == number)) (map f seats) ≡ map f (without_number number seats)
   left_out [] = refl
   left_out (seat ∷ seats) =
@@ -86,10 +74,6 @@ mapped_some h (Some a) = refl
 
 pub insert-row : {R U : Type 0} (f : Seat R → U) (number : ℕ) (row : R) (seats : List (Seat R)) → map f (seats ++ record { number = number; row = row } ∷ []) ≡ map f seats ++ f (record { number = number; row = row }) ∷ []
 insert-row f number row seats = map-append f seats (record { number = number; row = row } ∷ [])
-
-pub numbers-row : {R U : Type 0} (f : Seat R → U) (number_in : U → ℕ) (same : (seat : Seat R) → number_in (f seat) ≡ seat.number) (seats : List (Seat R)) → map number_in (map f seats) ≡ numbers seats
-numbers-row f number_in same [] = refl
-numbers-row f number_in same (seat ∷ seats) = ap (λ n. n ∷ map number_in (map f seats)) (same seat) ∙ ap (λ l. seat.number ∷ l) (numbers-row f number_in same seats)
 
 -- ---- subscribers of a shared flow
 
@@ -110,15 +94,9 @@ module _ {R T : Type 0} (f : Seat R → Subscriber T) (same : (seat : Seat R) �
       → move_to number position (map f seats) ≡ map f (with_row number new seats)
   move_to-row position old new moved seats there = changed f (λ u. u.number) same number (move_to number position) (stand_at position) (λ u us. refl) old new moved seats there
 
-  pub move_to-absent : (position : ℕ) (seats : List (Seat R)) → row_of number seats ≡ None → move_to number position (map f seats) ≡ map f seats
-  move_to-absent position seats none = unchanged f (λ u. u.number) same number (move_to number position) (stand_at position) refl (λ u us. refl) seats none
-
   pub with_own-row : (own : List T) (old new : R) → subscriber_with new ≡ leave_own own (subscriber_with old) → (seats : List (Seat R)) → row_of number seats ≡ Some old
       → with_own number own (map f seats) ≡ map f (with_row number new seats)
   with_own-row own old new left seats there = changed f (λ u. u.number) same number (with_own number own) (leave_own own) (λ u us. refl) old new left seats there
-
-  pub with_own-absent : (own : List T) (seats : List (Seat R)) → row_of number seats ≡ None → with_own number own (map f seats) ≡ map f seats
-  with_own-absent own seats none = unchanged f (λ u. u.number) same number (with_own number own) (leave_own own) refl (λ u us. refl) seats none
 
   pub without-row : (seats : List (Seat R)) → without number (map f seats) ≡ map f (without_number number seats)
   without-row = left_out f (λ u. u.number) same number

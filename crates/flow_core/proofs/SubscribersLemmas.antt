@@ -1,5 +1,5 @@
 -- What each step of `Subscribers` needs, and that its fields are sound after it.
-use Rattle.std.proofs.Common.{◌≡◌, ◌≢◌, ℕ, suc, ◌+◌, ◌-◌, ◌<◌, ◌≤◌, ◌%◌, ◌^◌, ◌==◌, max, nat_le, nat_lt, Bool, true, false, cond, if◌then◌else◌, List, [], ◌∷◌, ◌++◌, length, map, get_or, set, replicate, Option, Some, None, refl, sym, ap, subst, ◌∙◌, arith, length-append}
+use Rattle.std.proofs.Common.{◌≡◌, ℕ, suc, ◌+◌, ◌-◌, ◌<◌, ◌≤◌, ◌%◌, ◌^◌, ◌==◌, max, nat_le, nat_lt, true, false, if◌then◌else◌, List, [], ◌∷◌, ◌++◌, length, map, get_or, set, Some, refl, sym, ap, subst, ◌∙◌, arith, length-append}
 use Rattle.std.specs.List.{list_any}
 use Rattle.std.specs.Option.{option_map}
 use Rattle.std.proofs.lemmas.Nat.{mod_below}
@@ -11,11 +11,11 @@ use Rattle.flow_core.specs.declared.seats.enroll.Row.{Row}
 use Rattle.flow_core.specs.Seats.{row_of, with_row}
 use Rattle.flow_core.specs.Seats as slab
 use Rattle.flow_core.specs.Rows.{moved, left}
-use Rattle.flow_core.specs.PositionCounts.{Counted, AreWithin, count_of, Fits, take_out}
-use Rattle.flow_core.specs.Subscribers.{Standing, subscriber_of, read, AreSound}
+use Rattle.flow_core.specs.PositionCounts.{AreWithin, count_of, Fits, take_out}
+use Rattle.flow_core.specs.Subscribers.{Standing, read, AreSound}
 use Rattle.flow_core.proofs.CountLemmas.{blocked_by_count, fits-append, fits-shift, apart, fits-enroll, fits-take_out, fits-move_to, found_within, found_counted, count_bound, counts_bound}
-use Rattle.flow_core.proofs.SeatLemmas.{length-with_row, length-take_out}
-use Rattle.flow_core.proofs.RaisedLemmas.{raise_to_twice, raise_to_last, position_of-row, move_to-row, with_own-row, take_out-row, append-row, length-raised}
+use Rattle.flow_core.proofs.SeatLemmas.{length-with_row}
+use Rattle.flow_core.proofs.RaisedLemmas.{read_higher, length-read, raise_to_last, position_of-row, move_to-row, with_own-row, take_out-row, append-row}
 
 -- one row of counts after the value that was emitted, and after a shift
 abbrev pub shifted : List ℕ → ℕ → List ℕ
@@ -81,7 +81,7 @@ module _ {T A : Type 0} (row : List ℕ) (emitted floor last : ℕ) (seats : Lis
   long = sound.fits.long
 
   bounded : length us < 2 ^ 64
-  bounded = omega (arith, length-raised floor seats, sound.count, sound.last)
+  bounded = omega (arith, length-read floor seats, sound.count, sound.last)
 
   pub blocked : nat_lt 0 (get_or row ((emitted + 1) % length row) 0) ≡ list_any (λ u. nat_le w (emitted - u.position)) us
   blocked = ap (λ k. nat_lt 0 (get_or row ((emitted + 1) % k) 0)) long ∙ blocked_by_count w emitted row us sound.fits
@@ -110,7 +110,7 @@ module _ {T A : Type 0} (row : List ℕ) (emitted floor last : ℕ) (seats : Lis
       let now : Fits w (p + w + 1) (shifted row p) (raise_to (p + 1) us) =
       subst (λ k. Fits w (p + w + 1) (set (set row ((p + 1) % k) (get_or row (p % k) 0 + get_or row ((p + 1) % k) 0)) (p % k) 0) (raise_to (p + 1) us)) (sym long)
       (fits-shift w p sound.some row us was) in
-      let raised : Fits w (p + w + 1) (shifted row p) (read (p + 1) seats) = subst (Fits w (p + w + 1) (shifted row p)) (raise_to_twice floor (p + 1) (map subscriber_of seats) below) now in
+      let raised : Fits w (p + w + 1) (shifted row p) (read (p + 1) seats) = subst (Fits w (p + w + 1) (shifted row p)) (read_higher floor (p + 1) seats below) now in
       subst (λ k. Fits w (k + 1) (shifted row p) (read (p + 1) seats)) at raised
 
   pub dropped : (p : ℕ) → p + w ≡ emitted → AreSound (length (shifted row p) - 1) (shifted row p) (emitted + 1) (p + 1) seats last
@@ -125,12 +125,12 @@ module _ {T A : Type 0} (row : List ℕ) (emitted floor last : ℕ) (seats : Lis
   pub dropped_list : (p : ℕ) → p + w ≡ emitted → read (p + 1) seats ≡ raise_to (emitted + 1 - w) us
   dropped_list p at =
       let same : p + 1 ≡ emitted + 1 - w = omega (arith, at) in
-      sym (raise_to_twice floor (p + 1) (map subscriber_of seats) (omega (arith, sound.floor, at))) ∙ ap (λ k. raise_to k us) same
+      sym (read_higher floor (p + 1) seats (omega (arith, sound.floor, at))) ∙ ap (λ k. raise_to k us) same
 
   -- without a buffer all are brought to the last position
   pub gathered_list : w ≡ 1 → read emitted seats ≡ map (stand_at emitted) us
   gathered_list one =
-      sym (raise_to_twice floor emitted (map subscriber_of seats) (omega (arith, sound.floor, one)))
+      sym (read_higher floor emitted seats (omega (arith, sound.floor, one)))
       ∙ raise_to_last emitted us (subst (λ k. AreWithin k emitted us) one sound.fits.window)
 
   pub gathered : (p : ℕ) → w ≡ 1 → p + 1 ≡ emitted → AreSound (length (shifted row p) - 1) (shifted row p) emitted emitted seats last
@@ -149,7 +149,7 @@ module _ {T A : Type 0} (row : List ℕ) (emitted floor last : ℕ) (seats : Lis
   -- ---- one more
 
   pub enter_room : (p number : ℕ) → last < number → number < 2 ^ 64 → get_or row (p % length row) 0 + 1 < 2 ^ 64
-  enter_room p number above fits = omega (arith, count_at p, count_bound (w + 1) (p % (w + 1)) us, length-raised floor seats, sound.count, above, fits)
+  enter_room p number above fits = omega (arith, count_at p, count_bound (w + 1) (p % (w + 1)) us, length-read floor seats, sound.count, above, fits)
 
   pub enrolled : (number p : ℕ) (r : Row T A) → r.position ≡ p → p ≤ emitted → emitted ≤ p + w → floor ≤ p → last < number → number < 2 ^ 64
       → AreSound (length (entered row p) - 1) (entered row p) emitted floor (seats ++ record { number = number; row = r } ∷ []) number

@@ -1,6 +1,5 @@
 pub mod SubId
 pub mod PositionCounts
-pub mod Positions
 pub mod Queue
 pub mod Seats
 pub mod Rows

@@ -1,7 +1,10 @@
 -- What contracts see of a shared core, and the results of its calls as the replies of a history.
 -- Public clauses cite the replies (`try_emit_reply` to `cache_reply`); the rest is for private functions.
-use Rattle.std.specs.Prelude.{◌≡◌, ℕ, ◌+◌, ◌<◌, ◌≤◌, Bool, map, length, Vec, vec_len, Result, Ok, Err}
-use Rattle.std.specs.Vec.{vec_capacity}
+use Rattle.std.specs.Prelude.{◌≡◌, ℕ, ◌+◌, ◌-◌, ◌<◌, ◌≤◌, max, Bool, true, false, List, [], ◌∷◌, ◌++◌, map, length, Vec, Result, Ok, Err}
+use Rattle.std.specs.List.{AllByRecursion}
+use Rattle.circular_buffer.specs.Buffer.{keep_last}
+use Rattle.flow_law.specs.declared.config.Config.{Config}
+use Rattle.flow_law.specs.declared.config.Overflow.TheVariants.{DropOldest}
 use Rattle.flow_law.specs.declared.fault.FlowFault.{FlowFault}
 use Rattle.flow_law.specs.declared.fault.FlowFault.TheVariants.{OutOfMemory, Exhausted}
 use Rattle.flow_law.specs.declared.fault.Refused.{Refused}
@@ -16,7 +19,11 @@ use Rattle.flow_law.specs.History.{replied}
 use Rattle.flow_law.specs.SharedHistory.{shared_flow}
 use Rattle.flow_law.specs.SharedStep.{settle}
 use Rattle.flow_law.specs.Laws.{RisesTo}
+use Rattle.flow_law.specs.declared.states.Subscriber.{Subscriber}
+use Rattle.flow_law.specs.SharedFlow.{raise_to}
 use Rattle.flow_law.specs.Standing.{Core, StandsFor, Conforms}
+use Rattle.flow_law.specs.Covering.{Covers, kept_start, kept_need}
+use Rattle.flow_core.specs.Subscribers.{is_full}
 use Rattle.flow_core.specs.declared.shared.SharedCore.TheInside.{Inside}
 use Rattle.flow_core.specs.declared.sub_id.SubId.{SubId}
 use Rattle.flow_core.specs.SubId.{number_of}
@@ -48,24 +55,41 @@ cache_reply = replied shared_flow (λ values. reply.Cached values.items)
 
 -- ---- the fields
 
--- what a core's fields keep of a flow. It never lets go of a value
+-- how many values the ring has room for
+abbrev pub window_of : Config → ℕ
+window_of config = max (config.replay + config.extra) 1
+
+-- what a core's fields keep of a flow
 abbrev pub fields_of : {T A : Type 0} → Inside T A → Core T
 fields_of c = record {
   config = c.config;
   held = c.values.items;
-  appended = vec_len c.values;
+  appended = c.subscribers.emitted;
   newest = c.newest;
   reset_mark = c.reset_mark;
   queue = c.queue;
-  subscribers = c.subscribers;
+  subscribers = c.subscribers.list;
   issued = c.issued;
 }
 
+-- each of them stands within the last values, and none before the floor
+abbrev pub AreWithin : {T : Type 0} → ℕ → ℕ → ℕ → List (Subscriber T) → Type 0
+AreWithin floor emitted window = AllByRecursion (λ u. (floor ≤ u.position) × (u.position ≤ emitted) × (emitted ≤ u.position + window))
+
 pub record IsSound {T A : Type 0} (c : Inside T A) : Type 0 where
+  pub window : c.subscribers.window ≡ window_of c.config
+  pub capacity : c.values.capacity ≡ window_of c.config
+  pub buffered : c.config.overflow ≡ DropOldest → 0 < c.config.replay + c.config.extra
+  pub within : AreWithin c.subscribers.floor c.subscribers.emitted (window_of c.config) c.subscribers.list
+  pub floor : c.subscribers.floor ≤ kept_start (fields_of c)
+  pub reset_mark : c.reset_mark ≤ c.subscribers.emitted
+  -- the ring has all that may still be asked for
+  pub enough : c.subscribers.emitted ≤ length c.values.items + kept_need (fields_of c)
+  pub held : length c.values.items ≤ c.subscribers.emitted
+  -- each value and each subscriber took a number of its own
+  pub last : c.subscribers.last ≤ c.issued
+  pub numbers : c.subscribers.emitted + length c.queue ≤ c.issued
   pub issued : c.issued ≤ c.config.limit
-  pub reset_mark : c.reset_mark ≤ vec_len c.values
-  -- there is room for each queued value, so that no admission grows anything
-  pub room : vec_len c.values + length c.queue ≤ vec_capacity c.values
   pub rising : RisesTo 0 (map (λ q. q.number) c.queue) c.issued
 
 -- ---- private steps
@@ -77,13 +101,24 @@ case_of Queues = law.queues
 case_of DropsLatest = law.drops_latest
 case_of DropsOldest = law.drops_oldest
 
--- in each state that the core stands for, what is read off it is this
-abbrev pub Shows : {T R : Type 0} → Core T → (SharedFlowState T → R) → R → Type 0
-Shows {T} core read result = (s : SharedFlowState T) → StandsFor core s → result ≡ read s
+-- by the core's own numbers: somebody has a whole window of values still to receive
+abbrev pub kept_full : {T : Type 0} → Core T → Bool
+kept_full core = is_full (window_of core.config) core.appended core.subscribers
 
--- from each state that the old core stands for, this step leads to one that the new core stands for
-abbrev pub Leads : {T : Type 0} → Core T → (SharedFlowState T → SharedFlowState T) → Core T → Type 0
-Leads {T} old step new = (s : SharedFlowState T) → StandsFor old s → StandsFor new (step s)
+-- what a core finds for an emission that is to be appended
+abbrev pub Finds : {T : Type 0} → EmitCase → Core T → Type 0
+Finds Appends core = kept_full core ≡ false
+Finds Offers core = kept_full core ≡ false
+Finds DropsOldest core = (kept_full core ≡ true) × (core.config.overflow ≡ DropOldest)
+Finds _ core = Unit {0}
+
+-- in each state that the core covers, what is read off it is this
+abbrev pub Shows : {T R : Type 0} → Core T → (SharedFlowState T → R) → R → Type 0
+Shows {T} core read result = (s : SharedFlowState T) → Covers core s → result ≡ read s
+
+-- why an emission at once was refused
+abbrev pub IsExhausted : {T : Type 0} → FlowFault → Core T → Type 0
+IsExhausted fault core = (fault ≡ Exhausted) × (core.issued ≡ core.config.limit)
 
 -- why a step that issues a number was refused
 abbrev pub RefusedFor : {T : Type 0} → FlowFault → Core T → Type 0
@@ -91,6 +126,30 @@ RefusedFor Exhausted core = core.issued ≡ core.config.limit
 RefusedFor OutOfMemory core = core.issued ≡ core.config.limit → ⊥
 RefusedFor _ core = ⊥
 
+-- from each state that the old core covers, this step leads to one that the new core covers
+abbrev pub Leads : {T : Type 0} → Core T → (SharedFlowState T → SharedFlowState T) → Core T → Type 0
+Leads {T} old step new = (s : SharedFlowState T) → Covers old s → Covers new (step s)
+
+-- and the new core holds no more than what may be asked for there
+abbrev pub Reaches : {T : Type 0} → Core T → (SharedFlowState T → SharedFlowState T) → Core T → Type 0
+Reaches {T} old step new = (s : SharedFlowState T) → Covers old s → StandsFor new (step s)
+
+-- from each state that the old core stands for, this step leads to one that the new core stands for
+abbrev pub Keeps : {T : Type 0} → Core T → (SharedFlowState T → SharedFlowState T) → Core T → Type 0
+Keeps {T} old step new = (s : SharedFlowState T) → StandsFor old s → StandsFor new (step s)
+
+-- a value was emitted, and the oldest was let go where the ring was full
+abbrev pub pushed : {T : Type 0} → T → ℕ → Core T → Core T
+pushed value number core = record core {
+  held = keep_last (window_of core.config) (core.held ++ value ∷ []);
+  appended = core.appended + 1;
+  newest = number;
+}
+
+-- and nobody has more than a buffer to receive
+abbrev pub dropped : {T : Type 0} → Core T → Core T
+dropped core = record core { subscribers = raise_to (core.appended - (core.config.replay + core.config.extra)) core.subscribers }
+
 -- the first queued value was emitted, and what is left to settle is the same
 abbrev pub Admits : {T : Type 0} → Core T → Core T → Type 0
-Admits {T} old new = (length new.queue < length old.queue) × ((s : SharedFlowState T) → StandsFor old s → (t : SharedFlowState T) × StandsFor new t × settle t ≡ settle s)
+Admits {T} old new = (length new.queue < length old.queue) × ((s : SharedFlowState T) → Covers old s → (t : SharedFlowState T) × Covers new t × settle t ≡ settle s)

@@ -1,8 +1,8 @@
 -- The subscribers of a shared core as the definitions have them. No public clause cites this module.
-use Rattle.std.specs.Prelude.{◌≡◌, ℕ, ◌+◌, ◌-◌, ◌<◌, ◌≤◌, ◌^◌, Bool, nat_le, List, [], ◌∷◌, map, length, Option, Some, None}
+use Rattle.std.specs.Prelude.{◌≡◌, ℕ, ◌+◌, ◌-◌, ◌<◌, ◌≤◌, ◌^◌, max, Bool, nat_le, List, [], ◌∷◌, map, length, Option, Some, None}
 use Rattle.std.specs.List.{list_any}
 use Rattle.flow_law.specs.declared.states.Subscriber.{Subscriber}
-use Rattle.flow_law.specs.SharedFlow.{raise_to, own_of, with_own}
+use Rattle.flow_law.specs.SharedFlow.{own_of, with_own}
 use Rattle.flow_core.specs.declared.seats.Seat.{Seat}
 use Rattle.flow_core.specs.declared.seats.enroll.Row.{Row}
 use Rattle.flow_core.specs.declared.subscribers.Subscribers.TheInside.{Inside}
@@ -26,12 +26,12 @@ abbrev pub is_full : {T : Type 0} → ℕ → ℕ → List (Subscriber T) → Bo
 is_full window emitted us = list_any (λ u. nat_le window (emitted - u.position)) us
 
 module _ {T A : Type 0} where
-  abbrev pub subscriber_of : Seat (Row T A) → Subscriber T
-  subscriber_of seat = record { number = seat.number; own = seat.row.own; position = seat.row.position }
+  -- a position below the floor is read as the floor
+  abbrev pub subscriber_of : ℕ → Seat (Row T A) → Subscriber T
+  subscriber_of floor seat = record { number = seat.number; own = seat.row.own; position = max seat.row.position floor }
 
-  -- the subscribers, each at least at the floor
   abbrev pub read : ℕ → List (Seat (Row T A)) → List (Subscriber T)
-  read floor seats = raise_to floor (map subscriber_of seats)
+  read floor = map (subscriber_of floor)
 
   abbrev pub standing_of : Inside T A → Standing T
   standing_of s = record {

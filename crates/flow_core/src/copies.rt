@@ -1,20 +1,25 @@
 //! Copies of values.
-ghost use Rattle.std.specs.Prelude.{◌≡◌, ◌≢◌, [], IfOk, IfErr, OnErr};
+ghost use Rattle.std.specs.Prelude.{◌≡◌, ◌≢◌, [], drop, IfOk, IfErr, OnErr};
 
+use circular_buffer::HeapCircularBuffer;
 use flow_law::{FlowFault, FlowValue};
 use std::alloc::Allocator;
 
-/// Copies values in order.
-pub(crate) fn copies<T: FlowValue, A: Allocator>(
+/// Copies values in order, from this place on.
+pub(crate) fn copies<T: FlowValue, A: Allocator, B: Allocator>(
     alloc: A,
-    values: &[T],
+    values: &HeapCircularBuffer<T, B>,
+    from: usize,
 ) -> Result<Vec<T, A>, FlowFault>
-    ensures copies { IfOk result (λ copies. copies.items ≡ values.now) }
+    ensures copies { IfOk result (λ copies. copies.items ≡ drop from values.now.items) }
     ensures memory { IfErr result (λ fault. fault ≡ FlowFault.OutOfMemory) }
-    ensures any { OnErr result (values.now ≢ []) }
+    ensures any { OnErr result (drop from values.now.items ≢ []) }
 {
     let mut copies = Vec::new(alloc);
-    for value in values {
+    for place in from..values.len() {
+        let Some(value) = values.get(place) else {
+            unreachable!()
+        };
         let copy = value.try_copy()?;
         if copies.push(copy).is_err() {
             return Err(FlowFault::OutOfMemory);

@@ -17,10 +17,15 @@
 //! `subscribe_with` gives a subscriber values of its own, which it receives before any value of the flow. They block
 //! nobody, and nothing but the subscriber's `next` takes one away.
 //!
+//! # What is kept
+//! A shared flow keeps the values that a new subscriber may get or an old one has still to receive, and no others
+//! (`held`). Room for them is made with the flow.
+//!
 //! # Refusals
 //! A call that would issue a number when `limit` numbers are issued is refused as `Exhausted`; want of memory comes
-//! after that. A refused call hands its value back and has changed nothing. `poll`, `cancel`, `unsubscribe`,
-//! `reset_replay_cache` and `subscription_count` are never refused: room for a queued value is taken when it is queued.
+//! after that. A refused call hands its value back and has changed nothing. Memory is wanted by `subscribe`, by a value
+//! that is put into the queue, and by copies. `try_emit` wants none, and `poll`, `cancel`, `unsubscribe`,
+//! `reset_replay_cache` and `subscription_count` are never refused.
 #![tactic(auto)]
 
 mod copies;
@@ -28,7 +33,6 @@ mod drain;
 mod kind;
 mod own_values;
 mod position_counts;
-mod positions;
 mod queue;
 mod seats;
 mod shared;

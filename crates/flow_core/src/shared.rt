@@ -1,38 +1,42 @@
 //! A shared flow for one thread.
-ghost use Rattle.std.specs.Prelude.{◌≡◌, ℕ, ◌+◌, ◌-◌, ◌<◌, ◌≤◌, List, [], Some, None, MatchResult, length};
+ghost use Rattle.std.specs.Prelude.{◌≡◌, ℕ, ◌+◌, ◌-◌, ◌<◌, ◌≤◌, max, true, false, List, [], Some, None, MatchResult, length};
 ghost use Rattle.std.specs.Bool.{OnTrue, OnFalse};
 ghost use Rattle.flow_law.specs.SharedFlow as flow;
 ghost use Rattle.flow_law.specs.SharedStep as step;
-ghost use Rattle.flow_law.specs.Standing.{StandsFor, Conforms};
+ghost use Rattle.flow_law.specs.Standing.{StandsFor, Conforms, held};
+ghost use Rattle.flow_law.specs.Covering.{kept_start, kept_need};
+ghost use Rattle.flow_law.specs.declared.states.SharedFlowState.{SharedFlowState};
 ghost use Rattle.flow_law.specs.declared.call.SharedCall.TheVariants as call;
 ghost use Rattle.flow_law.specs.declared.call.SharedReply.TheVariants as reply;
 ghost use Rattle.flow_core.specs.SubId.{number_of};
-ghost use Rattle.flow_core.specs.SharedCore.{next_reply, cache_reply, Shows, Leads, Admits};
+ghost use Rattle.flow_core.specs.SharedCore.{next_reply, cache_reply, window_of, kept_full, pushed, Shows, Leads, Reaches, Admits};
 
 mod emission;
 mod kind;
 mod subscribe;
 
 use crate::copies::copies;
-use crate::positions::Subscribers;
 use crate::queue::Queue;
 use crate::sub_id::SubId;
+use crate::subscribers::Subscribers;
+use circular_buffer::HeapCircularBuffer;
 use flow_law::{Config, FlowFault, FlowValue, Next, Overflow};
 use std::alloc::{Allocator, Global};
 use std::marker::Model;
 
 /// A shared flow (`MutableSharedFlow`) for one thread.
 ///
-/// It keeps every value that was emitted. A subscription that is only forgotten stays, and may block emitters:
-/// `unsubscribe` ends it.
+/// It keeps the values that may still be asked for, in room for `replay` and `extra` values that is made with it. A
+/// subscription that is only forgotten stays, and may block emitters: `unsubscribe` ends it.
 #[derive(Drop)]
 pub struct SharedCore<T: FlowValue, A: Allocator + Copy = Global> {
     alloc: A,
     config: Config,
-    values: Vec<T, A>,
-    /// The number of the last of `values`, or 0.
+    /// The last values that were emitted, from the first that may still be asked for.
+    values: HeapCircularBuffer<T, A>,
+    /// The number of the value that was emitted last, or 0.
     newest: u64,
-    reset_mark: usize,
+    reset_mark: u64,
     queue: Queue<T, A>,
     subscribers: Subscribers<T, A>,
     issued: u64,
@@ -72,47 +76,102 @@ fn fault_of(config: Config) -> Option<FlowFault>
     }
 }
 
+/// How many values a flow keeps for a subscriber before it is blocked.
+fn capacity_of(config: Config) -> usize
+    ensures { result ≡ config.replay + config.extra }
+{
+    config.replay as usize + config.extra as usize
+}
+
 impl<T: FlowValue, A: Allocator + Copy> SharedCore<T, A> {
-    /// A flow that nobody emitted into and nobody subscribed to. It takes no memory.
+    /// A flow that nobody emitted into and nobody subscribed to, with room for the values that it may keep: as many as
+    /// `replay` and `extra` say, and one at least.
+    ///
+    /// A configuration of which no flow is made is refused as `TooLarge` or `NeedsBuffer`, and want of memory comes after
+    /// that.
     pub fn new(alloc: A, config: Config) -> Result<Self, FlowFault>
         ensures { MatchResult result
             (λ core. (flow.config_fault config ≡ None) × StandsFor core (flow.first_state config))
-            (λ fault. flow.config_fault config ≡ Some fault) }
+            (flow.NoFlow config) }
     {
-        match fault_of(config) {
-            Some(fault) => Err(fault),
-            None => Ok(SharedCore {
-                alloc,
-                config,
-                values: Vec::new(alloc),
-                newest: 0,
-                reset_mark: 0,
-                queue: Queue::new(alloc),
-                subscribers: Subscribers::new(alloc),
-                issued: 0,
-            }),
+        if let Some(fault) = fault_of(config) {
+            return Err(fault);
         }
+        let window = capacity_of(config).max(1);
+        let Ok(values) = HeapCircularBuffer::with_capacity(alloc, window) else {
+            return Err(FlowFault::OutOfMemory);
+        };
+        let Ok(subscribers) = Subscribers::new(alloc, window) else {
+            return Err(FlowFault::OutOfMemory);
+        };
+        Ok(SharedCore {
+            alloc,
+            config,
+            values,
+            newest: 0,
+            reset_mark: 0,
+            queue: Queue::new(alloc),
+            subscribers,
+            issued: 0,
+        })
     }
 
     fn capacity(&self) -> usize
         ensures { result ≡ self.now.config.replay + self.now.config.extra }
     {
-        self.config.replay as usize + self.config.extra as usize
+        capacity_of(self.config)
     }
 
     /// Whether somebody has a whole window of values still to receive.
     fn is_blocked(&self) -> bool
-        ensures { Shows self.now flow.is_blocked result }
+        ensures own { result ≡ kept_full self.now }
+        ensures shown { Shows self.now flow.is_blocked result }
     {
-        self.subscribers
-            .has_lag(self.values.len(), self.capacity().max(1))
+        self.subscribers.is_blocked()
     }
 
     /// Whether the last value is offered to somebody.
     fn is_offering(&self) -> bool
-        ensures { Shows self.now flow.is_offering result }
+        ensures own { OnTrue result ((self.now.config.replay + self.now.config.extra ≡ 0) × kept_full self.now ≡ true) }
+        ensures shown { Shows self.now flow.is_offering result }
     {
-        self.capacity() == 0 && self.subscribers.has_last(self.values.len())
+        self.capacity() == 0 && self.subscribers.is_blocked()
+    }
+
+    /// How many values were emitted before the first that is held.
+    fn held_from(&self) -> u64
+        ensures from { result ≡ self.now.appended - length self.now.held }
+        ensures near { self.now.appended ≤ result + window_of self.now.config }
+    {
+        self.subscribers.emitted() - self.values.len() as u64
+    }
+
+    /// Where a value that may still be asked for is among those that are held.
+    fn place_of(&self, position: u64) -> usize
+        requires { self.now.appended - length self.now.held ≤ position }
+        ensures { result ≡ position - (self.now.appended - length self.now.held) }
+    {
+        (position - self.held_from()) as usize
+    }
+
+    /// Lets go of the values that nobody may ask for any more.
+    fn trim(&mut self)
+        ensures { Reaches self.old (λ s. s) self.new }
+    {
+        let needed = self.subscribers.least(self.held_from(), self.cache_start());
+        let count = self.subscribers.emitted() - needed;
+        self.values.truncate_front(count as usize);
+    }
+
+    /// Adds a value to those that were emitted, where nobody is blocked.
+    fn push(&mut self, value: T, number: u64)
+        requires free { kept_full self.old ≡ false }
+        requires issued { self.old.appended + length self.old.queue < self.old.issued }
+        ensures { self.new ≡ pushed value number self.old }
+    {
+        let _oldest = self.values.push_back(value);
+        self.subscribers.add();
+        self.newest = number;
     }
 
     /// Emits the first queued value, if there is one and the flow is not blocked.
@@ -129,40 +188,52 @@ impl<T: FlowValue, A: Allocator + Copy> SharedCore<T, A> {
         match self.queue.pop_front() {
             None => false,
             Some(first) => {
-                self.newest = first.number;
-                self.values.push_reserved(first.value);
+                self.push(first.value, first.number);
                 true
             }
         }
     }
 
-    /// Emits queued values until the flow is blocked.
+    /// Emits queued values until the flow is blocked, and then lets go of what nobody may ask for any more.
     fn settle(&mut self)
-        ensures { Leads self.old step.settle self.new }
+        ensures { Reaches self.old step.settle self.new }
     {
         while self.admit() {}
+        self.trim();
     }
 
-    /// Where the replay cache begins among the values.
-    fn cache_start(&self) -> usize
-        ensures within { result ≤ length self.now.held }
-        ensures start { Shows self.now flow.cache_start result }
+    /// Where the replay cache begins among the emitted values.
+    fn cache_start(&self) -> u64
+        ensures start { result ≡ kept_start self.now }
+        ensures within { (self.now.appended - length self.now.held ≤ result) × (result ≤ self.now.appended) }
     {
-        self.values
-            .len()
-            .saturating_sub(self.config.replay as usize)
+        self.subscribers
+            .emitted()
+            .saturating_sub(self.config.replay as u64)
             .max(self.reset_mark)
     }
 
     /// Where a new subscriber stands.
-    fn entry(&self) -> usize
-        ensures { Shows self.now flow.entry result }
+    fn entry(&self) -> u64
+        ensures within { (kept_need self.now ≤ result) × (result ≤ self.now.appended) }
+        ensures shown { Shows self.now flow.entry result }
     {
         if self.is_offering() {
-            self.values.len().saturating_sub(1)
+            self.subscribers.emitted().saturating_sub(1)
         } else {
             self.cache_start()
         }
+    }
+
+    /// How many values the flow keeps: those that a new subscriber may get, or that a subscriber has still to receive.
+    ///
+    /// They are at most `replay` and `extra` values, and one where both are 0. Values that wait in the queue are not among
+    /// them, nor are own first values.
+    pub fn held(&self) -> usize
+        ensures held { (s : SharedFlowState T) → StandsFor self.now s → result ≡ held s }
+        ensures most { result ≤ max (self.now.config.replay + self.now.config.extra) 1 }
+    {
+        self.values.len()
     }
 
     /// What a subscriber receives next: its own first values, and then what was emitted.
@@ -171,7 +242,7 @@ impl<T: FlowValue, A: Allocator + Copy> SharedCore<T, A> {
     pub fn next(&mut self, id: SubId) -> Result<Next<T>, FlowFault>
         ensures documented { Conforms self.old (call.TakeNext (number_of id)) (next_reply result) self.new }
     {
-        match self.subscribers.take_own(id.number) {
+        match self.subscribers.take_own(id) {
             Some(value) => Ok(Next::Value(value)),
             None => self.next_emitted(id),
         }
@@ -182,15 +253,15 @@ impl<T: FlowValue, A: Allocator + Copy> SharedCore<T, A> {
         requires { flow.own_of (number_of id) self.old.subscribers ≡ [] }
         ensures documented { Conforms self.old (call.TakeNext (number_of id)) (next_reply result) self.new }
     {
-        let Some(position) = self.subscribers.position_of(id.number) else {
+        let Some(position) = self.subscribers.position_of(id) else {
             return Ok(Next::Gone);
         };
-        let Some(value) = self.values.get(position) else {
+        let Some(value) = self.values.get(self.place_of(position)) else {
             return Ok(Next::Empty);
         };
         match value.try_copy() {
             Ok(copy) => {
-                self.subscribers.move_to(id.number, position + 1);
+                self.subscribers.advance(id, position);
                 self.settle();
                 Ok(Next::Value(copy))
             }
@@ -203,8 +274,7 @@ impl<T: FlowValue, A: Allocator + Copy> SharedCore<T, A> {
         ensures documented { Conforms self.old (call.Unsubscribe (number_of id))
             (reply.Tested result) self.new }
     {
-        let was_there = self.subscribers.position_of(id.number).is_some();
-        self.subscribers.remove(id.number);
+        let was_there = self.subscribers.remove(id);
         self.settle();
         was_there
     }
@@ -213,7 +283,7 @@ impl<T: FlowValue, A: Allocator + Copy> SharedCore<T, A> {
     pub fn replay_cache(&self) -> Result<Vec<T, A>, FlowFault>
         ensures documented { Conforms self.now call.ReplayCache (cache_reply result) self.now }
     {
-        match copies(self.alloc, &self.values.as_slice()[self.cache_start()..]) {
+        match copies(self.alloc, &self.values, self.place_of(self.cache_start())) {
             Ok(cache) => Ok(cache),
             Err(fault) => Err(fault),
         }
@@ -223,7 +293,8 @@ impl<T: FlowValue, A: Allocator + Copy> SharedCore<T, A> {
     pub fn reset_replay_cache(&mut self)
         ensures documented { Conforms self.old call.ResetReplayCache reply.Reset self.new }
     {
-        self.reset_mark = self.values.len();
+        self.reset_mark = self.subscribers.emitted();
+        self.trim();
     }
 
     /// How many subscribers there are.

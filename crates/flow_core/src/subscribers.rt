@@ -37,7 +37,7 @@ impl<T: Drop, A: Allocator> Subscribers<T, A> {
     where
         A: Copy,
         requires some { 0 < window }
-        requires bounded { window ≤ 65536 }
+        requires room { window + 1 < 2 ^ 64 }
         ensures { IfOk result (λ s. s ≡ record { list = []; emitted = 0; window = window; floor = 0; last = 0 }) }
     {
         let counts = PositionCounts::new(alloc, window + 1)?;

@@ -9,6 +9,8 @@ mod compare;
 #[cfg(test)]
 mod drains;
 #[cfg(test)]
+mod held;
+#[cfg(test)]
 mod limited;
 #[cfg(test)]
 mod many;

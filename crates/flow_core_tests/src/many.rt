@@ -1,6 +1,6 @@
 //! Flows of many values.
 use crate::compare::compare;
-use crate::shared_calls::Call::{CacheLength, Emit, Next, Series as Each, Subscribe};
+use crate::shared_calls::Call::{CacheLength, Emit, Held, Next, Series as Each, Subscribe};
 use crate::shared_calls::{Caller, answers};
 use flow_law::Emit::{Done, Queued};
 use flow_law::Next::Value;
@@ -103,6 +103,21 @@ fn an_emission_after_a_hundred_thousand(rt: HostRuntime) {
             Next(0, Value(99_999)),
             Emit(7, Done),
             Next(0, Value(7)),
+        ],
+    );
+}
+
+#[test]
+fn a_slow_subscriber_keeps_no_more_than_the_buffer(rt: HostRuntime) {
+    answers(
+        &rt,
+        rt.alloc(),
+        Config::new().extra(2).overflow(Overflow::DropOldest),
+        &[
+            Subscribe(1),
+            Each(Series::TryEmits(0, 9_999)),
+            Held(2),
+            Each(Series::Receives(0, 9_998, 9_999)),
         ],
     );
 }

@@ -76,6 +76,25 @@ fn a_cancelled_emission_leaves_the_middle_of_the_queue(rt: HostRuntime) {
     );
 }
 
+/// The second subscriber stands where the first one stood.
+#[test]
+fn a_place_that_is_used_again_does_not_answer_for_who_left(rt: HostRuntime) {
+    answers(
+        &rt,
+        rt.alloc(),
+        Config::new().replay(1).extra(1),
+        &[
+            Subscribe(1),
+            Unsubscribe(0, true),
+            Subscribe(2),
+            TryEmit(7, true),
+            Next(0, Gone),
+            Unsubscribe(0, false),
+            Next(1, Value(7)),
+        ],
+    );
+}
+
 #[test]
 fn a_strategy_that_drops_needs_a_buffer(rt: HostRuntime) {
     let refused = SharedCore::<i64>::new(rt.alloc(), Config::new().overflow(Overflow::DropLatest));

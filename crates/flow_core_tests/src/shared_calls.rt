@@ -29,6 +29,8 @@ pub enum Call {
     CacheLength(usize),
     Reset,
     Count(u64),
+    /// How many values the flow keeps.
+    Held(usize),
     /// A subscriber, how many values it takes at most, and why it stopped.
     Drain(usize, usize, Drained),
     /// All that was drained so far.
@@ -119,6 +121,10 @@ impl Caller {
         self.flow.subscription_count()
     }
 
+    fn held(&self) -> usize {
+        self.flow.held()
+    }
+
     fn drain(&mut self, rt: &impl Abort, index: usize, most: usize) -> Result<Drained, FlowFault> {
         let id = self.subscriber(rt, index);
         self.flow.drain(id, most, &mut self.drained)
@@ -157,6 +163,7 @@ impl Caller {
             Call::CacheLength(length) => compare(rt, place, self.cache(rt).len(), *length),
             Call::Reset => self.reset(),
             Call::Count(count) => compare(rt, place, self.count(), *count),
+            Call::Held(held) => compare(rt, place, self.held(), *held),
             Call::Drain(index, most, ended) => {
                 compare(rt, place, self.drain(rt, *index, *most), Ok(*ended));
             }

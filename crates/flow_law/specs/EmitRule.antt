@@ -26,16 +26,10 @@ when_blocked Suspend = queues
 when_blocked DropLatest = drops_latest
 when_blocked DropOldest = drops_oldest
 
--- `emit` makes the list of emitted values or the queue longer
-abbrev pub is_accepted : EmitCase → Bool
-is_accepted drops_latest = false
-is_accepted _ = true
-
--- the same of `try_emit`
-abbrev pub is_accepted_now : EmitCase → Bool
-is_accepted_now appends = true
-is_accepted_now drops_oldest = true
-is_accepted_now _ = false
+-- `emit` makes the queue longer
+abbrev pub is_suspended : EmitCase → Bool
+is_suspended queues = true
+is_suspended _ = false
 
 module _ {T : Type 0} where
   -- the value is accepted at once: nobody subscribed, or there is a buffer with room for all

@@ -12,6 +12,7 @@ pub mod Growth
 pub mod OneHistory
 pub mod Tokens
 pub mod Standing
+pub mod Covering
 pub mod Draining
 pub mod Sharing
 pub mod Steps

@@ -8,14 +8,14 @@
 --   queue      v6  v7                  values whose emitters wait, not emitted yet
 --   own        o1  o2                  a subscriber's own first values, which it receives before any emitted one
 -- Begin with `is_blocked`, `cache_start` and `entry`. What a call does is in EmitRule and SharedStep.
-use Rattle.std.specs.Prelude.{ℕ, ◌+◌, ◌-◌, max, Bool, true, false, not, ◌&&◌, ◌==◌, nat_lt, nat_le, if◌then◌else◌, List, [], ◌∷◌, length, drop, map, filter, slice_get, Option, Some, None, Result, Ok, Err}
+use Rattle.std.specs.Prelude.{◌≡◌, ◌⊎◌, ℕ, ◌+◌, ◌-◌, max, Bool, true, false, not, ◌&&◌, ◌==◌, nat_lt, nat_le, if◌then◌else◌, List, [], ◌∷◌, length, drop, map, filter, slice_get, Option, Some, None, Result, Ok, Err}
 use Rattle.std.specs.List.{list_any}
 use Rattle.std.specs.Option.{option_map_or}
 use Rattle.flow_law.specs.declared.config.Config.{Config}
 use Rattle.flow_law.specs.declared.config.Overflow.{Overflow}
 use Rattle.flow_law.specs.declared.config.Overflow.TheVariants.{Suspend, DropOldest, DropLatest}
 use Rattle.flow_law.specs.declared.fault.FlowFault.{FlowFault}
-use Rattle.flow_law.specs.declared.fault.FlowFault.TheVariants.{TooLarge, NeedsBuffer, Exhausted}
+use Rattle.flow_law.specs.declared.fault.FlowFault.TheVariants.{OutOfMemory, TooLarge, NeedsBuffer, Exhausted}
 pub use Rattle.flow_law.specs.declared.states.Numbered.{Numbered}
 pub use Rattle.flow_law.specs.declared.states.Subscriber.{Subscriber}
 pub use Rattle.flow_law.specs.declared.states.SharedFlowState.{SharedFlowState}
@@ -43,6 +43,10 @@ abbrev pub config_fault : Config → Option FlowFault
 config_fault config =
     if nat_lt largest_capacity (config.replay + config.extra) then Some TooLarge
     else (if (config.replay + config.extra == 0) && not (needs_no_buffer config.overflow) then Some NeedsBuffer else None)
+
+-- why no flow was made of a configuration: for its fault, and for want of memory only where it has none
+abbrev pub NoFlow : Config → FlowFault → Type 0
+NoFlow config fault = (config_fault config ≡ Some fault) ⊎ ((config_fault config ≡ None) × (fault ≡ OutOfMemory))
 
 -- ---- subscribers
 

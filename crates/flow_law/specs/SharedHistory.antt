@@ -12,7 +12,7 @@ use Rattle.flow_law.specs.declared.call.SharedCall.TheVariants as call
 use Rattle.flow_law.specs.declared.call.SharedReply.{SharedReply}
 use Rattle.flow_law.specs.declared.call.SharedReply.TheVariants as reply
 use Rattle.flow_law.specs.SharedFlow.{SharedFlowState, Answer, first_state, config_fault, position_of, own_of}
-use Rattle.flow_law.specs.EmitRule.{emit_case, is_accepted, is_accepted_now}
+use Rattle.flow_law.specs.EmitRule.{emit_case, is_suspended}
 use Rattle.flow_law.specs.SharedStep as flow
 use Rattle.flow_law.specs.History.{Number, subscriber, emission, Owner, Kind}
 use Rattle.flow_law.specs.History as histories
@@ -52,11 +52,10 @@ module _ {T : Type 0} where
   hands_out (reply.Cached (v ∷ vs)) = true
   hands_out _ = false
 
-  -- The calls that may be refused for want of memory, by the state too: those that make the flow grow there, or that copy a
-  -- value. With a buffer made in advance fewer need any.
+  -- The calls that may be refused for want of memory, by the state too: those that make the queue or the subscribers more, or
+  -- that copy a value. Room for the values that a flow keeps is made with the flow, so no `try_emit` needs any.
   abbrev pub may_need_memory : SharedFlowState T → SharedCall T → Bool
-  may_need_memory s (call.TryEmit v) = is_accepted_now (emit_case s)
-  may_need_memory s (call.Emit v) = is_accepted (emit_case s)
+  may_need_memory s (call.Emit v) = is_suspended (emit_case s)
   may_need_memory s (call.Subscribe name first) = true
   -- an own first value is moved out
   may_need_memory s (call.TakeNext u) = (length (own_of u s.subscribers) == 0) && hands_out (answer_to (call.TakeNext u) s).reply

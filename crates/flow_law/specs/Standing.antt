@@ -1,6 +1,6 @@
 -- What contracts see of a core, when it stands for a state of the documented flow, and what a call of it does.
 -- Begin with `Conforms`: one word for each call of a core. A reader who knows it can read every contract of flow_core.
-use Rattle.std.specs.Prelude.{◌≡◌, ℕ, min, List, [], ◌∷◌, ◌++◌, length, drop, Bool}
+use Rattle.std.specs.Prelude.{◌≡◌, ℕ, ◌-◌, min, List, [], ◌∷◌, length, drop, Bool}
 use Rattle.std.specs.Bool.{OnTrue}
 use Rattle.flow_law.specs.declared.config.Config.{Config}
 use Rattle.flow_law.specs.declared.history.Event.{Event}
@@ -61,13 +61,14 @@ first_needed s = least_position (cache_start s) s.subscribers
 abbrev pub needed : {T : Type 0} → SharedFlowState T → List T
 needed s = drop (first_needed s) (values s)
 
-abbrev pub EndsWith : {X : Type 0} → List X → List X → Type 0
-EndsWith {X} xs ys = (front : List X) × (xs ≡ front ++ ys)
+-- how many values those are: the ones between where they begin and the last that was emitted
+abbrev pub held : {T : Type 0} → SharedFlowState T → ℕ
+held s = length s.emitted - first_needed s
 
--- a core holds at least what may still be asked for
+-- A core holds exactly what may still be asked for, and nothing that lies before it.
 pub record StandsFor {T : Type 0} (core : Core T) (s : SharedFlowState T) : Type 0 where
   pub config : core.config ≡ s.config
-  pub held : EndsWith core.held (needed s)
+  pub held : core.held ≡ needed s
   pub appended : core.appended ≡ length s.emitted
   pub newest : core.newest ≡ newest s
   pub reset_mark : core.reset_mark ≡ s.reset_mark

@@ -1,10 +1,11 @@
 -- What a player stands for, and how it begins. No public clause cites this module.
-use Rattle.std.specs.Prelude.{◌≡◌, ◌++◌, ℕ, List, Option, Some, None, Result, Ok, Err}
+use Rattle.std.specs.Prelude.{◌≡◌, ◌⊎◌, ◌++◌, ℕ, List, Option, Some, None, Result, Ok, Err}
 use Rattle.flow_law.specs.Standing.{StandsFor}
 use Rattle.flow_cold.specs.declared.script_chain.ScriptChain.{ScriptChain}
 use Rattle.flow_cold.specs.ScriptChain.{node_whole, node_rest}
 use Rattle.flow_law.specs.declared.report.ShareFault.{ShareFault}
-use Rattle.flow_law.specs.declared.report.ShareFault.TheVariants.{Chain}
+use Rattle.flow_law.specs.declared.report.ShareFault.TheVariants.{Chain, Flow}
+use Rattle.flow_law.specs.declared.fault.FlowFault.TheVariants.{OutOfMemory}
 use Rattle.flow_law.specs.declared.chain.ChainFault.{ChainFault}
 use Rattle.flow_sharing.specs.OverCores.{Emits}
 use Rattle.flow_sharing.specs.StateHub.{state_core_of}
@@ -31,10 +32,10 @@ abbrev pub Begins : Head → List ℕ → List ℕ → Option Player → Type 0
 Begins head before after (Some made) = (p : player.Player) × (player_of head ≡ Ok p) × Shows made p × (after ≡ before)
 Begins head before after None = (text : List ℕ) × (player_of head ≡ Err text) × (after ≡ before ++ lined text)
 
--- the player before the first step, or why no sharing is made
+-- the player before the first step, or why no sharing is made: want of memory is no fault of the script
 abbrev pub Makes : Head → Result Player ShareFault → Type 0
 Makes head (Ok made) = (p : player.Player) × (player_of head ≡ Ok p) × Shows made p
-Makes head (Err fault) = player_of head ≡ Err (share_fault_text fault)
+Makes head (Err fault) = (player_of head ≡ Err (share_fault_text fault)) ⊎ (fault ≡ Flow OutOfMemory)
 
 -- the chain that was built, from its beginning, or why it was not built
 abbrev pub Rewinds : Result ScriptChain ChainFault → Result ScriptChain ShareFault → Type 0

@@ -1,8 +1,7 @@
 -- What the calls of a shared flow for several threads answer. `flow` is the flow: which one, and its configuration.
-use Rattle.std.specs.Prelude.{◌≡◌, ◌⊎◌, ⊤, ℕ, Bool, true, false, Some, None, Result, Ok, Err}
-use Rattle.flow_law.specs.declared.config.Config.{Config}
+use Rattle.std.specs.Prelude.{◌≡◌, ⊤, ℕ, Bool, true, false, Result, Ok, Err}
 use Rattle.flow_law.specs.declared.fault.FlowFault.{FlowFault}
-use Rattle.flow_law.specs.declared.fault.FlowFault.TheVariants.{OutOfMemory, Busy}
+use Rattle.flow_law.specs.declared.fault.FlowFault.TheVariants.{Busy}
 use Rattle.flow_law.specs.declared.history.Knowledge.{Knowledge}
 use Rattle.flow_law.specs.declared.history.Said.{Said}
 use Rattle.flow_law.specs.declared.fault.Refused.{Refused}
@@ -13,7 +12,6 @@ use Rattle.flow_law.specs.declared.call.SharedCall.TheVariants as call
 use Rattle.flow_law.specs.declared.call.SharedReply.{SharedReply}
 use Rattle.flow_law.specs.declared.call.SharedReply.TheVariants as reply
 use Rattle.flow_law.specs.History.{IsEmission}
-use Rattle.flow_law.specs.SharedFlow.{config_fault}
 use Rattle.flow_law.specs.SharedHistory.{shared_flow}
 use Rattle.flow_law.specs.declared.states.SharedFlowState.{SharedFlowState}
 use Rattle.flow_law.specs.Tokens.{IsBusy}
@@ -26,10 +24,6 @@ use Rattle.flow_shared.specs.declared.answers.PolledNow.{PolledNow}
 use Rattle.flow_shared.specs.declared.answers.PolledNow.TheVariants as polled_now
 use Rattle.flow_shared.specs.Calls.{NumberedToken}
 use Rattle.flow_shared.specs.Calls as flows
-
--- why no flow is made of a configuration
-abbrev pub NoFlow : Config → FlowFault → Type 0
-NoFlow config fault = (config_fault config ≡ Some fault) ⊎ ((config_fault config ≡ None) × (fault ≡ OutOfMemory))
 
 abbrev pub SharedToken : Type 0 → Type 0
 SharedToken T = Token (Said (SharedCall T) (SharedReply T))

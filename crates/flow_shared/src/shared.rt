@@ -1,11 +1,11 @@
 //! A shared flow for several threads.
 ghost use Rattle.std.specs.Prelude.{◌≡◌, None, MatchResult};
 ghost use Rattle.flow_law.specs.Tokens.{Begins};
-ghost use Rattle.flow_law.specs.SharedFlow.{config_fault, first_state};
+ghost use Rattle.flow_law.specs.SharedFlow.{NoFlow, config_fault, first_state};
 ghost use Rattle.flow_law.specs.declared.call.SharedCall.TheVariants as call;
 ghost use Rattle.flow_law.specs.declared.call.SharedReply.TheVariants as reply;
 ghost use Rattle.flow_core.specs.SharedCore.{cache_reply};
-ghost use Rattle.flow_shared.specs.SharedReplies.{NoFlow, Calls, ResetsNow};
+ghost use Rattle.flow_shared.specs.SharedReplies.{Calls, ResetsNow};
 
 use crate::flow::Flow;
 use crate::token::{FlowSeat, FlowSubscription};

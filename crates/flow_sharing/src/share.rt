@@ -1,7 +1,7 @@
 //! Sharings over flows for one thread (`shareIn`, `stateIn`).
-ghost use Rattle.std.specs.Prelude.{◌≡◌, [], None, Some, IfOk, IsOk, MatchResult};
+ghost use Rattle.std.specs.Prelude.{◌≡◌, [], None, IfOk, IsOk, MatchResult};
 ghost use Rattle.flow_law.specs.declared.fault.FlowFault.{FlowFault};
-ghost use Rattle.flow_law.specs.SharedFlow.{config_fault, first_state};
+ghost use Rattle.flow_law.specs.SharedFlow.{NoFlow, config_fault, first_state};
 ghost use Rattle.flow_law.specs.Standing.{StandsFor};
 ghost use Rattle.flow_law.specs.StateFlow.{first_state_flow};
 ghost use Rattle.flow_law.specs.SharingTurn.{at_rest};
@@ -37,7 +37,7 @@ pub fn share_in<C: Cold, A: Allocator + Copy>(
     ensures flow { MatchResult result
         (λ sharing. (config_fault (share_config replay limit) ≡ None)
         × StandsFor (core_of (hub_of sharing)) (first_state (share_config replay limit)))
-        (λ fault. (refusal : FlowFault) × (config_fault (share_config replay limit) ≡ Some refusal)
+        (λ fault. (refusal : FlowFault) × NoFlow (share_config replay limit) refusal
         × (fault ≡ ShareFault.Flow refusal)) }
     ensures nothing { IfOk result (λ sharing. HasObserved started sharing []) }
     ensures sound { IfOk result (λ sharing. IsSound C.sound sharing) }

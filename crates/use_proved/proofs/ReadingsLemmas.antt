@@ -1,16 +1,18 @@
 -- What the core has of the readings is the replay cache, and an emission adds its value to that.
-use Rattle.std.proofs.Common.{◌≡◌, ℕ, ◌+◌, ◌-◌, min, Bool, true, false, List, [], ◌∷◌, ◌++◌, length, drop, refl, sym, ap, ◌∙◌, arith, length-append, length-drop}
-use Rattle.std.specs.Prelude.{Err, if◌then◌else◌}
-use Rattle.std.proofs.lemmas.List.{drop_at, drop-drop, drop-append-le, map-append, length-map}
+use Rattle.std.proofs.Common.{◌≡◌, ℕ, ◌+◌, ◌-◌, Bool, true, false, List, [], ◌∷◌, ◌++◌, length, drop, refl, sym, ap, ◌∙◌, arith, length-append, length-drop}
+use Rattle.std.specs.Prelude.{Ok, Err, Result, Vec, IfOk, if◌then◌else◌}
+use Rattle.std.proofs.lemmas.List.{drop-drop, drop-append-le, map-append, length-map}
 use Rattle.flow_law.specs.declared.states.SharedFlowState.{SharedFlowState}
 use Rattle.flow_law.specs.declared.call.SharedCall.TheVariants as call
 use Rattle.flow_law.specs.declared.call.SharedReply.{SharedReply}
 use Rattle.flow_law.specs.declared.call.SharedReply.TheVariants as reply
+use Rattle.flow_law.specs.declared.fault.FlowFault.{FlowFault}
 use Rattle.flow_law.specs.declared.fault.FlowFault.TheVariants.{Exhausted}
+use Rattle.flow_core.specs.SharedCore.{cache_reply}
 use Rattle.flow_law.specs.SharedFlow.{Answer, answer, issuing, is_exhausted, cache_start, values, cache}
 use Rattle.flow_law.specs.EmitRule.{emit_case, appends, append, numbered, try_emit, try_emit_in}
 use Rattle.flow_law.specs.SharedHistory.{Replies, after, reply_by}
-use Rattle.flow_law.specs.Standing.{Core, StandsFor, least_position, first_needed, needed}
+use Rattle.flow_law.specs.Standing.{Core, StandsFor, least_position, first_needed}
 use Rattle.use_proved.specs.Readings.{IsUnread, last, latest_of, with_reading}
 
 -- the last of the last values and of what follows them are the last of all
@@ -34,18 +36,8 @@ module _ {T : Type 0} where
 
   kept : (core : Core T) (s : SharedFlowState T) → StandsFor core s → IsUnread s → (latest_of core).values ≡ cache s
   kept core s stands unread =
-      let front = stands.held.0 in
       let first : first_needed s ≡ cache_start s = ap (least_position (cache_start s)) unread.nobody in
-      let replay : core.config.replay ≡ s.config.replay = ap (λ c. c.replay) stands.config in
-      let count : length (needed s) ≡ length (values s) - first_needed s = length-drop (first_needed s) (values s) in
-      let emitted : length (values s) ≡ length s.emitted = length-map s.emitted _ in
-      let all : length core.held ≡ length front + length (needed s) = ap length stands.held.1 ∙ length-append front (needed s) in
-      let start : cache_start s ≡ length s.emitted - s.config.replay = omega (arith, unread.whole) in
-      let most = min core.appended core.config.replay in
-      let at : length front ≡ length core.held - most = omega (arith, first, replay, count, emitted, all, start, stands.appended) in
-      ap (drop (length core.held - most)) stands.held.1
-      ∙ drop_at front (needed s) (length core.held - most) at
-      ∙ ap (λ k. drop k (values s)) first
+      stands.held ∙ ap (λ k. drop k (values s)) first
 
   unread_after : (x : T) (s : SharedFlowState T) → IsUnread s → IsUnread (append x s)
   unread_after x s unread = record { nobody = unread.nobody; whole = unread.whole }
@@ -89,3 +81,12 @@ module _ {T : Type 0} where
       ∙ ap (λ n. last n (cache s ++ x ∷ [])) replay
       ∙ ap (λ l. last old.config.replay (l ++ x ∷ [])) (sym (kept old s stands unread)) in
       λ i. record { most = (most ∙ replay) i; values = list i }
+
+  -- a cache that was given is the readings
+  pub latest_is : {A : Type 0} (core : Core T) (s : SharedFlowState T) (result : Result (Vec T A) FlowFault) → StandsFor core s → IsUnread s
+      → Replies s call.ReplayCache (cache_reply result) → IfOk result (λ latest. latest.items ≡ (latest_of core).values)
+  latest_is core s (Err fault) stands unread said = tt
+  latest_is core s (Ok latest) stands unread said = same latest.items (cache s) said ∙ sym (kept core s stands unread)
+    where
+      same : (xs ys : List T) → ◌≡◌ {A = SharedReply T} (reply.Cached xs) (reply.Cached ys) → xs ≡ ys
+      same xs ys e = cc

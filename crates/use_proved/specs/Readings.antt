@@ -1,5 +1,5 @@
 -- What contracts see of the readings, and how a shared flow keeps them.
-use Rattle.std.specs.Prelude.{◌≡◌, ℕ, ◌-◌, min, List, [], ◌∷◌, ◌++◌, length, drop}
+use Rattle.std.specs.Prelude.{◌≡◌, ℕ, ◌-◌, List, [], ◌∷◌, ◌++◌, length, drop}
 use Rattle.flow_law.specs.declared.states.SharedFlowState.{SharedFlowState}
 use Rattle.flow_law.specs.Standing.{Core, StandsFor}
 
@@ -24,6 +24,6 @@ module _ {T : Type 0} where
   abbrev pub KeepsReadings : Core T → Type 0
   KeepsReadings core = (s : SharedFlowState T) × StandsFor core s × IsUnread s
 
-  -- what its replay cache has then
+  -- what its replay cache has then: all that it holds
   abbrev pub latest_of : Core T → Latest T
-  latest_of core = record { most = core.config.replay; values = last (min core.appended core.config.replay) core.held }
+  latest_of core = record { most = core.config.replay; values = core.held }

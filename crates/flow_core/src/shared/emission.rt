@@ -1,14 +1,13 @@
 //! Emissions into a shared flow: what becomes of one, who waits, and how a wait is ended.
-ghost use Rattle.std.specs.Prelude.{◌≡◌, ◌≢◌, ◌+◌, ◌≤◌, IfErr, MatchResult, vec_len};
+ghost use Rattle.std.specs.Prelude.{◌≡◌, ◌≢◌, ◌+◌, ◌<◌, true, false, length, IfErr, MatchResult};
 ghost use Rattle.std.specs.Bool.{OnTrue};
-ghost use Rattle.std.specs.Vec.{vec_capacity};
 ghost use Rattle.flow_law.specs.SharedFlow as flow;
 ghost use Rattle.flow_law.specs.EmitRule as rule;
 ghost use Rattle.flow_law.specs.SharedStep as step;
 ghost use Rattle.flow_law.specs.Standing.{Conforms};
 ghost use Rattle.flow_law.specs.declared.call.SharedCall.TheVariants as call;
 ghost use Rattle.flow_law.specs.declared.call.SharedReply.TheVariants as reply;
-ghost use Rattle.flow_core.specs.SharedCore.{try_emit_reply, emit_reply, case_of, Shows, Leads, RefusedFor};
+ghost use Rattle.flow_core.specs.SharedCore.{try_emit_reply, emit_reply, case_of, kept_full, pushed, dropped, Finds, Shows, Leads, Keeps, Reaches, IsExhausted, RefusedFor};
 
 use super::SharedCore;
 use flow_law::{Emit, FlowFault, FlowValue, Overflow, Refused};
@@ -24,22 +23,10 @@ enum EmitCase {
     DropsOldest,
 }
 
-/// Makes room for one value more than `queued`.
-fn make_room<T, A: Allocator>(values: &mut Vec<T, A>, queued: usize) -> bool
-    ensures items { values.new.items ≡ values.old.items }
-    ensures len { vec_len values.new ≡ vec_len values.old }
-    ensures capacity { vec_capacity values.old ≤ vec_capacity values.new }
-    ensures room { OnTrue result (vec_len values.new + (queued + 1) ≤ vec_capacity values.new) }
-{
-    match queued.checked_add(1) {
-        Some(count) => values.reserve(count).is_ok(),
-        None => false,
-    }
-}
-
 impl<T: FlowValue, A: Allocator + Copy> SharedCore<T, A> {
     fn emit_case(&self) -> EmitCase
-        ensures { Shows self.now rule.emit_case (case_of result) }
+        ensures found { Finds result self.now }
+        ensures shown { Shows self.now rule.emit_case (case_of result) }
     {
         if self.subscribers.len() == 0 {
             return EmitCase::Appends;
@@ -57,11 +44,12 @@ impl<T: FlowValue, A: Allocator + Copy> SharedCore<T, A> {
         }
     }
 
-    /// Emits a value now, and answers its number.
+    /// Emits a value now, where nobody is blocked, and answers its number.
     fn append(&mut self, value: T) -> Result<u64, Refused<T>>
+        requires free { kept_full self.old ≡ false }
         ensures { MatchResult result
-            (λ number. (number ≡ self.old.issued + 1) × (self.old.issued ≢ self.old.config.limit) × Leads self.old (rule.append value) self.new)
-            (λ refused. (refused.value ≡ value) × (self.new ≡ self.old) × RefusedFor refused.fault self.old) }
+            (λ number. (number ≡ self.old.issued + 1) × (self.old.issued ≢ self.old.config.limit) × Reaches self.old (rule.append value) self.new)
+            (λ refused. (refused.value ≡ value) × (self.new ≡ self.old) × IsExhausted refused.fault self.old) }
     {
         if self.issued == self.config.limit {
             return Err(Refused {
@@ -69,23 +57,19 @@ impl<T: FlowValue, A: Allocator + Copy> SharedCore<T, A> {
                 fault: FlowFault::Exhausted,
             });
         }
-        if !make_room(&mut self.values, self.queue.len()) {
-            return Err(Refused {
-                value,
-                fault: FlowFault::OutOfMemory,
-            });
-        }
-        self.values.push_reserved(value);
-        self.issued += 1;
-        self.newest = self.issued;
-        Ok(self.issued)
+        let number = self.issued + 1;
+        self.issued = number;
+        self.push(value, number);
+        self.trim();
+        Ok(number)
     }
 
-    /// Puts a value into the queue, and answers its number. Room for its emission is made now.
-    fn suspend(&mut self, value: T) -> Result<u64, Refused<T>>
+    /// Emits a value now, and leaves nobody more than a buffer to receive. Answers its number.
+    fn append_dropping(&mut self, value: T) -> Result<u64, Refused<T>>
+        requires full { (kept_full self.old ≡ true) × (self.old.config.overflow ≡ Overflow.DropOldest) }
         ensures { MatchResult result
-            (λ number. (number ≡ self.old.issued + 1) × (self.old.issued ≢ self.old.config.limit) × Leads self.old (rule.suspend value) self.new)
-            (λ refused. (refused.value ≡ value) × (self.new ≡ self.old) × RefusedFor refused.fault self.old) }
+            (λ number. (number ≡ self.old.issued + 1) × (self.old.issued ≢ self.old.config.limit) × Reaches self.old (λ s. rule.drop_oldest (rule.append value s)) self.new)
+            (λ refused. (refused.value ≡ value) × (self.new ≡ self.old) × IsExhausted refused.fault self.old) }
     {
         if self.issued == self.config.limit {
             return Err(Refused {
@@ -93,10 +77,34 @@ impl<T: FlowValue, A: Allocator + Copy> SharedCore<T, A> {
                 fault: FlowFault::Exhausted,
             });
         }
-        if !make_room(&mut self.values, self.queue.len()) {
+        let number = self.issued + 1;
+        self.issued = number;
+        self.push_dropping(value, number);
+        self.trim();
+        Ok(number)
+    }
+
+    /// Adds a value to those that were emitted, and leaves nobody more than a buffer to receive.
+    fn push_dropping(&mut self, value: T, number: u64)
+        requires full { (kept_full self.old ≡ true) × (self.old.config.overflow ≡ Overflow.DropOldest) }
+        requires issued { self.old.appended + length self.old.queue < self.old.issued }
+        ensures { self.new ≡ dropped (pushed value number self.old) }
+    {
+        let _oldest = self.values.push_back(value);
+        self.subscribers.add_dropping();
+        self.newest = number;
+    }
+
+    /// Puts a value into the queue, and answers its number.
+    fn suspend(&mut self, value: T) -> Result<u64, Refused<T>>
+        ensures { MatchResult result
+            (λ number. (number ≡ self.old.issued + 1) × (self.old.issued ≢ self.old.config.limit) × Keeps self.old (rule.suspend value) self.new)
+            (λ refused. (refused.value ≡ value) × (self.new ≡ self.old) × RefusedFor refused.fault self.old) }
+    {
+        if self.issued == self.config.limit {
             return Err(Refused {
                 value,
-                fault: FlowFault::OutOfMemory,
+                fault: FlowFault::Exhausted,
             });
         }
         let number = self.issued + 1;
@@ -112,17 +120,9 @@ impl<T: FlowValue, A: Allocator + Copy> SharedCore<T, A> {
         }
     }
 
-    /// Leaves nobody more than a buffer to receive.
-    fn drop_oldest(&mut self)
-        ensures { Leads self.old rule.drop_oldest self.new }
-    {
-        let floor = self.values.len().saturating_sub(self.capacity());
-        self.subscribers.raise_to(floor);
-    }
-
     /// Emits a value, if it need not wait: `true` where the flow took it or, under `DropLatest`, dropped it.
     ///
-    /// At `false` an `emit` would wait. The value is dropped then, and nothing has changed.
+    /// At `false` an `emit` would wait. The value is dropped then, and nothing has changed. It takes no memory.
     pub fn try_emit(&mut self, value: T) -> Result<bool, Refused<T>>
         ensures documented { Conforms self.old (call.TryEmit value) (try_emit_reply result) self.new }
         ensures handed_back { IfErr result (λ refused. refused.value ≡ value) }
@@ -134,11 +134,8 @@ impl<T: FlowValue, A: Allocator + Copy> SharedCore<T, A> {
             },
             EmitCase::Offers | EmitCase::Queues => Ok(false),
             EmitCase::DropsLatest => Ok(true),
-            EmitCase::DropsOldest => match self.append(value) {
-                Ok(_number) => {
-                    self.drop_oldest();
-                    Ok(true)
-                }
+            EmitCase::DropsOldest => match self.append_dropping(value) {
+                Ok(_number) => Ok(true),
                 Err(refused) => Err(refused),
             },
         }
@@ -147,7 +144,8 @@ impl<T: FlowValue, A: Allocator + Copy> SharedCore<T, A> {
     /// Emits a value, or puts it where it waits.
     ///
     /// At `Queued` the emitter is to wait: `poll` tells by the number for how long, and `cancel` ends the wait. An
-    /// emission that is neither polled nor cancelled stays, and is emitted when room comes.
+    /// emission that is neither polled nor cancelled stays, and is emitted when room comes. Memory is taken only for a
+    /// value that is put into the queue.
     pub fn emit(&mut self, value: T) -> Result<Emit, Refused<T>>
         ensures documented { Conforms self.old (call.Emit value) (emit_reply result) self.new }
         ensures handed_back { IfErr result (λ refused. refused.value ≡ value) }
@@ -166,18 +164,16 @@ impl<T: FlowValue, A: Allocator + Copy> SharedCore<T, A> {
                 Err(refused) => Err(refused),
             },
             EmitCase::DropsLatest => Ok(Emit::Done),
-            EmitCase::DropsOldest => match self.append(value) {
-                Ok(_number) => {
-                    self.drop_oldest();
-                    Ok(Emit::Done)
-                }
+            EmitCase::DropsOldest => match self.append_dropping(value) {
+                Ok(_number) => Ok(Emit::Done),
                 Err(refused) => Err(refused),
             },
         }
     }
 
     fn is_offered_as(&self, number: u64) -> bool
-        ensures { Shows self.now (flow.is_offered_as number) result }
+        ensures own { OnTrue result (self.now.config.replay + self.now.config.extra ≡ 0) }
+        ensures shown { Shows self.now (flow.is_offered_as number) result }
     {
         self.is_offering() && self.newest == number
     }
@@ -208,7 +204,7 @@ impl<T: FlowValue, A: Allocator + Copy> SharedCore<T, A> {
         ensures { Leads self.old (step.withdraw number) self.new }
     {
         if self.is_offered_as(number) {
-            self.subscribers.gather_at(self.values.len());
+            self.subscribers.gather();
         } else {
             self.queue.remove(number);
         }

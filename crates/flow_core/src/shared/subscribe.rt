@@ -43,9 +43,9 @@ impl<T: FlowValue, A: Allocator + Copy> SharedCore<T, A> {
         let number = self.issued + 1;
         let position = self.entry();
         match self.subscribers.push(number, first, position) {
-            Ok(()) => {
+            Ok(id) => {
                 self.issued = number;
-                Ok(SubId { number, key: 0 })
+                Ok(id)
             }
             Err(first) => Err(Refused {
                 value: first,

@@ -1,5 +1,5 @@
-use Rattle.std.proofs.Common.{◌≡◌, take}
+use Rattle.std.proofs.Common.{◌≡◌, ◌-◌, take, drop}
 use Rattle.flow_core.proofs.copies.copies.Given as goal
 
-abbrev pub invariant-loop-value : goal.invariant-loop-value
-invariant-loop-value g l = l.copies.items ≡ take l.value-index l.values
+abbrev pub invariant-loop-place : goal.invariant-loop-place
+invariant-loop-place g l = l.copies.items ≡ take (l.place - l.fn.from) (drop l.fn.from l.fn.values.items)

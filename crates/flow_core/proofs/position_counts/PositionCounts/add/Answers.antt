@@ -1,5 +1,4 @@
-use Rattle.std.proofs.Common.{◌≡◌, ◌+◌, ◌%◌, ◌-◌, length, get_or, sym, ap, ◌∙◌, refl, arith}
-use Rattle.flow_core.specs.PositionCounts.{IsPlaced}
+use Rattle.std.proofs.Common.{◌+◌, ◌%◌, length, sym, ap, ◌∙◌, arith}
 use Rattle.flow_core.proofs.PlaceLemmas.{place_of_next}
 use Rattle.flow_core.proofs.position_counts.PositionCounts.add.Goals as goal
 

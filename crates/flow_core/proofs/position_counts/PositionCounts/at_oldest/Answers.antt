@@ -1,4 +1,4 @@
-use Rattle.std.proofs.Common.{◌≡◌, ◌+◌, ◌%◌, ◌-◌, ◌<◌, length, get_or, set, sym, ap, ◌∙◌, refl, arith, subst}
+use Rattle.std.proofs.Common.{◌%◌, length, get_or, ap, ◌∙◌}
 use Rattle.flow_core.proofs.PlaceLemmas.{place_of_next}
 use Rattle.flow_core.proofs.position_counts.PositionCounts.at_oldest.Goals as goal
 

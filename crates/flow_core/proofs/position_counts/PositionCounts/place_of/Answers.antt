@@ -1,5 +1,4 @@
-use Rattle.std.proofs.Common.{rules, ◌≡◌, ◌+◌, ◌%◌, ◌-◌, ◌<◌, length, get_or, set, sym, ap, ◌∙◌, refl, arith, subst}
-use Rattle.std.proofs.lemmas.Nat.{mod_below}
+use Rattle.std.proofs.Common.{rules, ◌≡◌, ◌%◌, ◌-◌, length, ap, ◌∙◌, arith}
 use Rattle.flow_core.proofs.PlaceLemmas.{place_before, place_round}
 use Rattle.flow_core.proofs.position_counts.PositionCounts.place_of.Goals as goal
 

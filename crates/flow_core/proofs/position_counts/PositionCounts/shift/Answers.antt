@@ -1,4 +1,4 @@
-use Rattle.std.proofs.Common.{◌≡◌, ◌+◌, ◌%◌, length, get_or, ap, ◌∙◌, arith}
+use Rattle.std.proofs.Common.{length, get_or, ap, ◌∙◌, arith}
 use Rattle.flow_core.proofs.PlaceLemmas.{place_of_next}
 use Rattle.flow_core.proofs.position_counts.PositionCounts.shift.Goals as goal
 

@@ -1,12 +1,12 @@
 use Rattle.std.proofs.Common.{◌≡◌, length}
 use Rattle.flow_law.specs.declared.states.SharedFlowState.{SharedFlowState}
 use Rattle.flow_law.specs.SharedStep.{settle}
-use Rattle.flow_law.specs.Standing.{StandsFor}
+use Rattle.flow_law.specs.Covering.{Covers}
 use Rattle.flow_core.proofs.shared.SharedCore.settle.Given as goal
 
 -- whatever was to settle when the loop began is to settle still
 abbrev pub invariant-loop : goal.invariant-loop
-invariant-loop g l = (s : SharedFlowState g.row.T.Denot) → StandsFor l.initial.self s → (t : SharedFlowState g.row.T.Denot) × StandsFor l.self t × (settle t ≡ settle s)
+invariant-loop g l = (s : SharedFlowState g.row.T.Denot) → Covers l.initial.self s → (t : SharedFlowState g.row.T.Denot) × Covers l.self t × (settle t ≡ settle s)
 
 abbrev pub decreases-loop : goal.decreases-loop
 decreases-loop g l = length l.self.queue

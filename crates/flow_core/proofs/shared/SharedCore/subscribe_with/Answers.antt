@@ -1,37 +1,65 @@
-use Rattle.std.proofs.Common.{◌≡◌, ◌∙◌, ◌+◌, false, sym, ap, subst, arith}
+use Rattle.std.proofs.Common.{◌≡◌, ◌∙◌, ◌+◌, ◌++◌, ◌∷◌, [], false, map, sym, ap, subst, arith}
 use Rattle.flow_law.specs.declared.call.SharedReply.TheVariants as reply
 use Rattle.flow_law.specs.SharedFlow.{answer, is_exhausted}
 use Rattle.flow_law.specs.SharedStep.{subscribe, enroll}
 use Rattle.flow_law.specs.SharedHistory.{reply_by}
 use Rattle.flow_law.specs.Standing.{StandsFor}
+use Rattle.flow_law.specs.Covering.{kept_start, kept_need}
 use Rattle.flow_law.proofs.Rows.{rises_higher}
-use Rattle.flow_law.proofs.StandingLemmas.{stands-enroll}
-use Rattle.flow_core.specs.SharedCore.{fields_of}
+use Rattle.flow_law.proofs.CoveringLemmas.{least_position-append}
+use Rattle.flow_law.proofs.HoldingLemmas.{covers, stands-enroll}
+use Rattle.flow_core.specs.SharedCore.{window_of, fields_of, IsSound}
 use Rattle.flow_core.proofs.CallLemmas.{not_exhausted, issued_now}
+use Rattle.flow_core.proofs.RingLemmas.{within_least, floor_least, within-snoc}
+use Rattle.flow_core.proofs.SoundLemmas.{sound_standing}
 use Rattle.flow_core.proofs.shared.SharedCore.subscribe_with.Goals as goal
 
-pub invariant_of-self : goal.invariant_of-self
-invariant_of-self g c = record {
-  issued = omega (arith, c.self.invariant.issued, c.if-self.false);
-  reset_mark = c.self.invariant.reset_mark;
-  room = c.self.invariant.room;
-  rising = rises_higher 0 c.self.inside.issued (c.self.inside.issued + 1) _ (omega arith) c.self.invariant.rising;
-}
+pub push-requires-clause-above : goal.push-requires-clause-above
+push-requires-clause-above g c =
+    let i = c.self.inside in
+    let need = ap kept_need c.self.view_is in
+    omega (arith, need, c.entry-position.ensures.within, floor_least i.subscribers.floor i.subscribers.emitted (window_of i.config) (kept_start (fields_of i)) i.subscribers.list c.self.invariant.within c.self.invariant.floor)
 
-pub returns-in-Ok : goal.returns-in-Ok
-returns-in-Ok g c = record {
-  documented = λ name. (
-    λ s stands.
-        let first = c.args.first.items in
-        let within : StandsFor (fields_of c.self.inside) s = subst (λ k. StandsFor k s) (sym c.self.view_is) stands in
-        let left : is_exhausted s ≡ false = not_exhausted (fields_of c.self.inside) s within c.if-self.false in
-        let all : subscribe first s ≡ answer (s.issued + 1) (enroll first s) = issued_now s _ left in (
-          ap (λ n. reply.Subscribed (n + 1)) within.issued ∙ sym (ap (λ a. reply_by reply.Subscribed a.reply) all),
-          subst (λ t. StandsFor (record (fields_of c.self.inside) { subscribers = c.push.new.self; issued = c.self.inside.issued + 1 }) t) (sym (ap (λ a. a.after) all))
-              (subst (λ us. StandsFor (record (fields_of c.self.inside) { subscribers = us; issued = c.self.inside.issued + 1 }) (enroll first s)) (sym c.in-Ok.ensures)
-              (stands-enroll (fields_of c.self.inside) s first c.entry-position.result within (c.entry-position.ensures s stands))),
-        ),
-    tt,
-  );
-  handed_back = tt;
-}
+pub push-requires-clause-within : goal.push-requires-clause-within
+push-requires-clause-within g c =
+    let i = c.self.inside in
+    let need = ap kept_need c.self.view_is in
+    let count = ap (λ core. core.appended) c.self.view_is in
+    let window = c.self.invariant.window in (
+      omega (arith, count, c.entry-position.ensures.within),
+      omega (arith, need, window, c.entry-position.ensures.within, within_least i.subscribers.floor i.subscribers.emitted (window_of i.config) (kept_start (fields_of i)) i.subscribers.list c.self.invariant.within (omega arith)),
+    )
+
+pub invariant_of-self : goal.invariant_of-self
+invariant_of-self g c =
+    let i = c.self.inside in
+    let number = i.issued + 1 in
+    let position = c.entry-position.result in
+    let need = ap kept_need c.self.view_is in
+    let count = ap (λ core. core.appended) c.self.view_is in
+    let issued = c.self.invariant.issued in
+    let low = floor_least i.subscribers.floor i.subscribers.emitted (window_of i.config) (kept_start (fields_of i)) i.subscribers.list c.self.invariant.within c.self.invariant.floor in
+    let near = within_least i.subscribers.floor i.subscribers.emitted (window_of i.config) (kept_start (fields_of i)) i.subscribers.list c.self.invariant.within (omega arith) in
+    let joined = least_position-append (kept_start (fields_of i)) i.subscribers.list (record { number = number; own = c.args.first.items; position = position }) in
+    subst (λ u. IsSound (record i { subscribers = u; issued = number })) (sym c.in-Ok.ensures.1)
+    (sound_standing i (i.subscribers.list ++ record { number = number; own = c.args.first.items; position = position } ∷ []) number i.subscribers.floor number c.self.invariant
+    (within-snoc i.subscribers.floor i.subscribers.emitted (window_of i.config) i.subscribers.list (record { number = number; own = c.args.first.items; position = position }) c.self.invariant.within
+    (omega (arith, need, c.entry-position.ensures.within, low)) (omega (arith, count, c.entry-position.ensures.within)) (omega (arith, need, c.entry-position.ensures.within, near)))
+    c.self.invariant.floor (omega (arith, joined, need, c.entry-position.ensures.within)) (omega arith) (omega arith) (omega (arith, issued, c.if-self.false))
+    (rises_higher 0 i.issued number (map (λ q. q.number) i.queue) (omega arith) c.self.invariant.rising))
+
+pub returns-in-Ok-clause-documented : goal.returns-in-Ok-clause-documented
+returns-in-Ok-clause-documented g c = λ name. (
+  λ s stands.
+      let i = c.self.inside in
+      let first = c.args.first.items in
+      let within : StandsFor (fields_of i) s = subst (λ k. StandsFor k s) (sym c.self.view_is) stands in
+      let left : is_exhausted s ≡ false = not_exhausted (fields_of i) s (covers (fields_of i) s within) c.if-self.false in
+      let all : subscribe first s ≡ answer (s.issued + 1) (enroll first s) = issued_now s _ left in
+      let joined = stands-enroll (fields_of i) s first c.entry-position.result within (c.entry-position.ensures.shown s (covers c.args.self.now s stands)) in (
+        ap reply.Subscribed (c.in-Ok.ensures.0 ∙ ap (λ n. n + 1) within.issued) ∙ sym (ap (λ a. reply_by reply.Subscribed a.reply) all),
+        subst (λ t. StandsFor (fields_of (record i { subscribers = c.push.new.self; issued = i.issued + 1 })) t) (sym (ap (λ a. a.after) all))
+            (subst (λ u. StandsFor (fields_of (record i { subscribers = u; issued = i.issued + 1 })) (enroll first s)) (sym c.in-Ok.ensures.1) joined),
+      ),
+  tt,
+)

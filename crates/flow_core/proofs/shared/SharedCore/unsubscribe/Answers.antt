@@ -3,20 +3,34 @@ use Rattle.std.specs.Prelude.{is_some}
 use Rattle.flow_law.specs.declared.call.SharedReply.TheVariants as reply
 use Rattle.flow_law.specs.SharedFlow.{position_of, without, cache_start}
 use Rattle.flow_law.specs.SharedStep.{leave}
-use Rattle.flow_law.specs.Standing.{StandsFor}
-use Rattle.flow_law.proofs.StandingLemmas.{stands-subscribers, least_position-without}
-use Rattle.flow_core.specs.SharedCore.{fields_of}
+use Rattle.flow_law.specs.Covering.{Covers, kept_start}
+use Rattle.flow_law.proofs.CoveringLemmas.{covers-subscribers, least_position-without}
+use Rattle.flow_law.proofs.HoldingLemmas.{covers}
+use Rattle.flow_core.specs.SharedCore.{window_of, fields_of, IsSound}
+use Rattle.flow_core.proofs.RingLemmas.{within-without}
+use Rattle.flow_core.proofs.SoundLemmas.{sound_subscribers}
 use Rattle.flow_core.proofs.shared.SharedCore.unsubscribe.Goals as goal
+
+pub invariant_of-self : goal.invariant_of-self
+invariant_of-self g c =
+    let i = c.self.inside in
+    let number = c.args.id.number in
+    subst (λ u. IsSound (record i { subscribers = u })) (sym c.remove-was_there.ensures.removed)
+    (sound_subscribers i (without number i.subscribers.list) i.subscribers.floor c.self.invariant
+    (within-without i.subscribers.floor i.subscribers.emitted (window_of i.config) number i.subscribers.list c.self.invariant.within) c.self.invariant.floor
+    (least_position-without (kept_start (fields_of i)) number i.subscribers.list))
 
 pub returns : goal.returns
 returns g c = record {
   documented = (
     λ s stands.
+        let i = c.self.inside in
         let number = c.args.id.number in
-        let within : StandsFor (fields_of c.self.inside) s = subst (λ k. StandsFor k s) (sym c.self.view_is) stands in (
-          ap reply.Tested (c.is_some-was_there.ensures ∙ ap (λ o. is_some o) (c.position_of.ensures ∙ ap (position_of number) within.subscribers)),
-          c.settle.ensures (leave number s) (stands-subscribers (fields_of c.self.inside) s c.remove.new.self (without number s.subscribers) c.self.inside.issued s.issued within
-              (c.remove.ensures ∙ ap (without number) within.subscribers) within.issued (least_position-without (cache_start s) number s.subscribers)),
+        let within : Covers (fields_of i) s = subst (λ k. Covers k s) (sym c.self.view_is) (covers c.args.self.now s stands) in
+        let left = covers-subscribers (fields_of i) s (without number i.subscribers.list) (without number s.subscribers) i.issued s.issued within
+        (ap (without number) within.subscribers) within.issued (least_position-without (cache_start s) number s.subscribers) in (
+          ap reply.Tested (c.remove-was_there.ensures.there ∙ ap (λ us. is_some (position_of number us)) within.subscribers),
+          c.settle.ensures (leave number s) (subst (λ u. Covers (fields_of (record i { subscribers = u })) (leave number s)) (sym c.remove-was_there.ensures.removed) left),
         ),
     tt,
   );

@@ -1,4 +1,4 @@
-use Rattle.std.proofs.Common.{◌≡◌, ◌+◌, ◌-◌, ◌≤◌, length, map, refl, sym, ap, subst, ◌∙◌, arith}
+use Rattle.std.proofs.Common.{◌≡◌, ◌+◌, ◌-◌, length, map, refl, sym, ap, subst, ◌∙◌, arith}
 use Rattle.flow_law.specs.SharedFlow.{stand_at, raise_to}
 use Rattle.flow_core.specs.Subscribers.{Standing, read, AreSound}
 use Rattle.flow_core.specs.PositionCounts.{AreWithin}

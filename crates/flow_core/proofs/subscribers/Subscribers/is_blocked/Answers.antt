@@ -1,4 +1,4 @@
-use Rattle.std.proofs.Common.{◌≡◌, nat_lt, ap, ◌∙◌}
+use Rattle.std.proofs.Common.{nat_lt, ap, ◌∙◌}
 use Rattle.flow_core.specs.Subscribers.{Standing, is_full}
 use Rattle.flow_core.proofs.SubscribersLemmas.{blocked}
 use Rattle.flow_core.proofs.subscribers.Subscribers.is_blocked.Goals as goal

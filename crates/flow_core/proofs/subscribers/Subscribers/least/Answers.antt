@@ -1,6 +1,6 @@
-use Rattle.std.proofs.Common.{◌≡◌, ◌+◌, ◌-◌, ◌≤◌, length, sym, ap, subst, ◌∙◌, arith}
+use Rattle.std.proofs.Common.{◌+◌, ◌-◌, ◌≤◌, length, sym, ap, subst, ◌∙◌, arith}
 use Rattle.flow_law.specs.Standing.{least_position}
-use Rattle.flow_law.proofs.StandingLemmas.{least_position_bound}
+use Rattle.flow_law.proofs.CoveringLemmas.{least_position_bound}
 use Rattle.flow_core.specs.Subscribers.{Standing, read}
 use Rattle.flow_core.proofs.CountLemmas.{least_is}
 use Rattle.flow_core.proofs.subscribers.Subscribers.least.Goals as goal

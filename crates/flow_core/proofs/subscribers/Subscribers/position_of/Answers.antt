@@ -1,4 +1,4 @@
-use Rattle.std.proofs.Common.{◌≡◌, max, Some, None, sym, ap, ◌∙◌}
+use Rattle.std.proofs.Common.{max, Some, sym, ap, ◌∙◌}
 use Rattle.std.specs.Option.{option_map}
 use Rattle.flow_law.specs.SharedFlow.{position_of}
 use Rattle.flow_core.specs.declared.seats.enroll.Row.{Row}

@@ -1,4 +1,4 @@
-use Rattle.std.proofs.Common.{◌≡◌, ◌+◌, ◌-◌, ◌<◌, ◌≤◌, ◌^◌, arith, length, refl, sym, subst}
+use Rattle.std.proofs.Common.{◌+◌, ◌<◌, ◌≤◌, ◌^◌, arith, refl, sym, subst}
 use Rattle.flow_core.specs.Subscribers.{Standing}
 use Rattle.flow_core.proofs.SubscribersLemmas.{enter_room, enrolled}
 use Rattle.flow_core.proofs.subscribers.Subscribers.push.Goals as goal

@@ -1,13 +1,14 @@
-use Rattle.std.proofs.Common.{rules, ◌≡◌, Ok, Err, refl, sym, ap, subst, w64, ◌∙◌}
+use Rattle.std.proofs.Common.{rules, inl, inr, ◌≡◌, Some, Ok, Err, refl, sym, ap, subst, w64, ◌∙◌}
 use Rattle.std.proofs.Math.Facts.{to_z-of_z}
 use mir.Val.{to_z, of_z}
 use Rattle.std.specs.Option.{option_map_or}
-use Rattle.flow_law.specs.SharedFlow.{first_state}
+use Rattle.flow_law.specs.SharedFlow.{config_fault, first_state}
 use Rattle.flow_law.specs.StateFlow.{first_state_flow}
 use Rattle.flow_format.specs.Actions.{head_of_flow}
 use Rattle.flow_format.specs.Chains.{build_of}
 use Rattle.flow_format.specs.Heads.{state_chain}
 use Rattle.flow_lines.specs.Lines.{refusal_text}
+use Rattle.flow_lines.specs.Memory.{IsToldFlowFault}
 use Rattle.flow_lines.specs.Players.{Makes}
 use Rattle.flow_lines.specs.ScriptMeaning.{player_of, shared, state}
 use Rattle.flow_lines.proofs.player.Player.new.Goals as goal
@@ -24,11 +25,16 @@ returns-in-Ok c =
 
 pub returns-in_ok-add_refusal-in-Err : goal.returns-in_ok-add_refusal-in-Err
 returns-in_ok-add_refusal-in-Err c =
-    let begins = Ok (shared (first_state c.in-Shared.config)) in (
-      refusal_text c.in-Err.fault,
-      ap (λ flow. player_of (head_of_flow flow)) c.in-Shared.is ∙ ap (λ o. option_map_or (λ fault. Err (refusal_text fault)) o begins) c.in-Err.ensures,
-      c.in_ok-add_refusal-in-Err.ensures.line,
-    )
+    let config = c.in-Shared.config in
+    let begins = Ok (shared (first_state config)) in
+    let of_fault : config_fault config ≡ Some c.in-Err.fault → player_of (head_of_flow c.args.flow) ≡ Err (refusal_text c.in-Err.fault) = λ none.
+        ap (λ flow. player_of (head_of_flow flow)) c.in-Shared.is ∙ ap (λ o. option_map_or (λ fault. Err (refusal_text fault)) o begins) none in
+    let told = c.in_ok-add_refusal-in-Err.ensures.told in
+    let refused : player_of (head_of_flow c.args.flow) ≡ Err (refusal_text c.in-Err.fault) = elim c.in-Err.ensures [
+      | inl none ↦ of_fault none
+      | inr memory ↦ absurd (subst IsToldFlowFault memory.1 told)
+    ] in
+    (refusal_text c.in-Err.fault, refused, c.in_ok-add_refusal-in-Err.ensures.line)
 
 pub returns-in-State : goal.returns-in-State
 returns-in-State c =

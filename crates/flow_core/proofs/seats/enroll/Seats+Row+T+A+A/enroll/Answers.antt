@@ -1,8 +1,8 @@
-use Rattle.std.proofs.Common.{◌≡◌, ◌<◌, ◌++◌, ◌∷◌, [], List, refl, sym, ap, subst, ◌∙◌}
+use Rattle.std.proofs.Common.{◌≡◌, ◌<◌, ◌++◌, ◌∷◌, [], refl, sym, ap, subst, ◌∙◌}
 use Rattle.slab.specs.Slab.{Slab}
 use Rattle.flow_core.specs.declared.seats.Seat.{Seat}
 use Rattle.flow_core.specs.declared.seats.enroll.Row.{Row}
-use Rattle.flow_core.specs.Seats.{Seating, seating_of, IsSound}
+use Rattle.flow_core.specs.Seats.{Seating, seating_of}
 use Rattle.flow_core.proofs.SeatingLemmas.{fields, inserted, inserted_sound, reserved_sound}
 use Rattle.flow_core.proofs.seats.enroll.Seats+Row+T+A+A.enroll.Goals as goal
 

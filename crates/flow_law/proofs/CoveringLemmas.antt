@@ -1,16 +1,15 @@
--- How a core goes on to stand for the states after the one that it stands for, and what it has of that state's values.
--- The key facts: `stands-longer` (a value more), `stands-subscribers` (other positions), `same_value`, `same_cache`.
-use Rattle.std.proofs.Common.{◌≡◌, ℕ, zero, suc, ◌+◌, ◌-◌, ◌≤◌, min, Bool, true, false, not, cond, ◌&&◌, ◌||◌, ◌==◌, if◌then◌else◌, List, [], ◌∷◌, ◌++◌, length, map, take, drop, Option, Some, None, refl, sym, ap, ◌∙◌, subst, arith, append_assoc, length-append, length-drop}
+-- How a core goes on to cover the states after the one that it covers (specs/Covering).
+-- The key facts: `covers-longer` (a value more), `covers-subscribers` (other positions). HoldingLemmas has what it holds then.
+use Rattle.std.proofs.Common.{◌≡◌, ℕ, zero, suc, ◌+◌, ◌-◌, ◌≤◌, min, Bool, true, false, not, cond, ◌&&◌, ◌||◌, ◌==◌, if◌then◌else◌, List, [], ◌∷◌, ◌++◌, length, map, take, drop, Option, Some, None, refl, sym, ap, ◌∙◌, arith, append_assoc, length-append}
 use Rattle.std.specs.Option.{IfSome, option_map_or}
 use Rattle.std.specs.List.{list_any, slice_get}
 use Rattle.std.proofs.lemmas.Bool.Decides.{Decides-eqb}
-use Rattle.std.proofs.Math.Seq.{drop-append-add}
 use Rattle.std.proofs.lemmas.List.{take-append-drop, drop-drop, drop-append-le, map-append, length-map}
 use Rattle.std.proofs.lemmas.Grind.{common_steps}
 use Rattle.flow_law.specs.SharedFlow.{Numbered, Subscriber, SharedFlowState, cache_start, values, cache, entry, is_offering, newest, position_of, move_to, stand_at, raise_to, without, leave_own, with_own}
-use Rattle.flow_law.specs.EmitRule.{append, suspend}
-use Rattle.flow_law.specs.SharedStep.{admit, settle, enroll, forget, keep_own}
-use Rattle.flow_law.specs.Standing.{Core, StandsFor, EndsWith, least_position, first_needed, needed}
+use Rattle.flow_law.specs.SharedStep.{admit, settle, forget}
+use Rattle.flow_law.specs.Standing.{Core, least_position, first_needed, needed}
+use Rattle.flow_law.specs.Covering.{Covers, EndsWith}
 
 -- ---- the least position
 
@@ -116,14 +115,14 @@ slice_get_last xs x =
 
 module _ {T : Type 0} where
   -- a core whose mark is within its values needs no more than there is
-  pub needed_within : (core : Core T) (s : SharedFlowState T) → StandsFor core s → core.reset_mark ≤ core.appended → first_needed s ≤ length s.emitted
+  pub needed_within : (core : Core T) (s : SharedFlowState T) → Covers core s → core.reset_mark ≤ core.appended → first_needed s ≤ length s.emitted
   needed_within core s stands h = omega (arith, least_position_bound (cache_start s) s.subscribers, stands.reset_mark, stands.appended)
 
   -- a value more, and another queue
-  pub stands-longer : (core : Core T) (s : SharedFlowState T) (e : Numbered T) (q : List (Numbered T)) (n : ℕ) → core.reset_mark ≤ core.appended → StandsFor core s
-      → StandsFor (record core { held = core.held ++ e.value ∷ []; appended = core.appended + 1; newest = e.number; queue = q; issued = n })
+  pub covers-longer : (core : Core T) (s : SharedFlowState T) (e : Numbered T) (q : List (Numbered T)) (n : ℕ) → core.reset_mark ≤ core.appended → Covers core s
+      → Covers (record core { held = core.held ++ e.value ∷ []; appended = core.appended + 1; newest = e.number; queue = q; issued = n })
       (record s { emitted = s.emitted ++ e ∷ []; queue = q; issued = n })
-  stands-longer core s e q n h stands =
+  covers-longer core s e q n h stands =
       let longer : SharedFlowState T = record s { emitted = s.emitted ++ e ∷ []; queue = q; issued = n } in
       let within : first_needed s ≤ length (values s) = rw length-map (needed_within core s stands h) in
       let all : values longer ≡ values s ++ e.value ∷ [] = map-append _ s.emitted _ in
@@ -142,63 +141,11 @@ module _ {T : Type 0} where
         issued = refl;
       }
 
-  pub stands-append : (core : Core T) (s : SharedFlowState T) (v : T) → core.reset_mark ≤ core.appended → StandsFor core s
-      → StandsFor (record core { held = core.held ++ v ∷ []; appended = core.appended + 1; newest = core.issued + 1; issued = core.issued + 1 }) (append v s)
-  stands-append core s v h stands =
-      subst (λ q. StandsFor (record core { held = core.held ++ v ∷ []; appended = core.appended + 1; newest = core.issued + 1; queue = core.queue; issued = core.issued + 1 })
-      (record s { emitted = s.emitted ++ record { value = v; number = s.issued + 1 } ∷ []; queue = q; issued = s.issued + 1 })) stands.queue
-      (subst (λ n. StandsFor (record core { held = core.held ++ v ∷ []; appended = core.appended + 1; newest = core.issued + 1; queue = core.queue; issued = core.issued + 1 })
-      (record s { emitted = s.emitted ++ record { value = v; number = n + 1 } ∷ []; queue = core.queue; issued = n + 1 })) stands.issued
-      (stands-longer core s (record { value = v; number = core.issued + 1 }) core.queue (core.issued + 1) h stands))
-
-  -- the first queued value is emitted
-  pub stands-admit : (core : Core T) (s : SharedFlowState T) (e : Numbered T) (q : List (Numbered T)) → core.reset_mark ≤ core.appended → StandsFor core s
-      → StandsFor (record core { held = core.held ++ e.value ∷ []; appended = core.appended + 1; newest = e.number; queue = q })
-      (record s { emitted = s.emitted ++ e ∷ []; queue = q })
-  stands-admit core s e q h stands =
-      subst (λ n. StandsFor (record core { held = core.held ++ e.value ∷ []; appended = core.appended + 1; newest = e.number; queue = q })
-      (record s { emitted = s.emitted ++ e ∷ []; queue = q; issued = n })) stands.issued
-      (stands-longer core s e q core.issued h stands)
-
-  -- the same values
-  pub stands-held : (core : Core T) (s : SharedFlowState T) (xs : List T) (n : ℕ) → StandsFor core s → xs ≡ core.held → n ≡ core.appended
-      → StandsFor (record core { held = xs; appended = n }) s
-  stands-held core s xs n stands same count = record {
-    config = stands.config;
-    held = (stands.held.0, same ∙ stands.held.1);
-    appended = count ∙ stands.appended;
-    newest = stands.newest;
-    reset_mark = stands.reset_mark;
-    queue = stands.queue;
-    subscribers = stands.subscribers;
-    issued = stands.issued;
-  }
-
-  -- another queue, and more numbers
-  pub stands-queue : (core : Core T) (s : SharedFlowState T) (old new : List (Numbered T)) (m n : ℕ) → StandsFor core s → old ≡ new → m ≡ n
-      → StandsFor (record core { queue = old; issued = m }) (record s { queue = new; issued = n })
-  stands-queue core s old new m n stands same count = record {
-    config = stands.config;
-    held = stands.held;
-    appended = stands.appended;
-    newest = stands.newest;
-    reset_mark = stands.reset_mark;
-    queue = same;
-    subscribers = stands.subscribers;
-    issued = count;
-  }
-
-  pub stands-suspend : (core : Core T) (s : SharedFlowState T) (v : T) → StandsFor core s
-      → StandsFor (record core { queue = core.queue ++ record { value = v; number = core.issued + 1 } ∷ []; issued = core.issued + 1 }) (suspend v s)
-  stands-suspend core s v stands = stands-queue core s _ _ _ _ stands
-      (ap (λ q. q ++ record { value = v; number = core.issued + 1 } ∷ []) stands.queue ∙ ap (λ n. s.queue ++ record { value = v; number = n + 1 } ∷ []) stands.issued)
-      (ap (λ n. n + 1) stands.issued)
-
   -- other positions, none of which asks for an earlier value
-  pub stands-subscribers : (core : Core T) (s : SharedFlowState T) (old new : List (Subscriber T)) (m n : ℕ) → StandsFor core s → old ≡ new → m ≡ n
+  pub covers-subscribers : (core : Core T) (s : SharedFlowState T) (old new : List (Subscriber T)) (m n : ℕ) → Covers core s → old ≡ new → m ≡ n
       → least_position (cache_start s) s.subscribers ≤ least_position (cache_start s) new
-      → StandsFor (record core { subscribers = old; issued = m }) (record s { subscribers = new; issued = n })
-  stands-subscribers core s old new m n stands same count later = record {
+      → Covers (record core { subscribers = old; issued = m }) (record s { subscribers = new; issued = n })
+  covers-subscribers core s old new m n stands same count later = record {
     config = stands.config;
     held = ends_further _ _ _ _ later stands.held;
     appended = stands.appended;
@@ -221,24 +168,10 @@ module _ {T : Type 0} where
       and_right true b h = h
       and_right false b h = absurd (cc)
 
-  -- a subscriber more
-  pub stands-enroll : (core : Core T) (s : SharedFlowState T) (first : List T) (p : ℕ) → StandsFor core s → p ≡ entry s
-      → StandsFor (record core { subscribers = core.subscribers ++ record { number = core.issued + 1; own = first; position = p } ∷ []; issued = core.issued + 1 }) (enroll first s)
-  stands-enroll core s first p stands at =
-      let joined = least_position-append (cache_start s) s.subscribers (record { number = s.issued + 1; own = first; position = entry s }) in
-      stands-subscribers core s _ _ _ _ stands (cc (stands.subscribers, stands.issued, at)) (ap (λ n. n + 1) stands.issued) (omega (arith, needed_entry s, joined))
-
-  -- a subscriber has an own value less
-  pub stands-own : (core : Core T) (s : SharedFlowState T) (number : ℕ) (own : List T) → StandsFor core s
-      → StandsFor (record core { subscribers = with_own number own core.subscribers }) (keep_own number own s)
-  stands-own core s number own stands =
-      let same = least_position-with_own (cache_start s) number own s.subscribers in
-      stands-subscribers core s _ _ _ _ stands (ap (with_own number own) stands.subscribers) stands.issued (omega (arith, same))
-
   -- the cache of a new subscriber is empty from now on
-  pub stands-forget : (core : Core T) (s : SharedFlowState T) → core.reset_mark ≤ core.appended → StandsFor core s
-      → StandsFor (record core { reset_mark = core.appended }) (forget s)
-  stands-forget core s h stands = record {
+  pub covers-forget : (core : Core T) (s : SharedFlowState T) → core.reset_mark ≤ core.appended → Covers core s
+      → Covers (record core { reset_mark = core.appended }) (forget s)
+  covers-forget core s h stands = record {
     config = stands.config;
     held = ends_further _ _ _ _ (least_position_rises (cache_start s) (cache_start (forget s)) s.subscribers (omega (arith, stands.reset_mark, stands.appended, h))) stands.held;
     appended = stands.appended;
@@ -272,31 +205,3 @@ module _ {T : Type 0} where
       at : (q : List (Numbered T)) → s.queue ≡ q → admit s q ≡ s
       at [] e = ap (λ r. record s { queue = r }) (sym e)
       at (x ∷ q) e = ap (λ t. cond t (record s { queue = x ∷ q }) (admit (record s { emitted = s.emitted ++ x ∷ [] }) q)) b ∙ ap (λ r. record s { queue = r }) (sym e)
-
-  -- ---- reads
-
-  -- where a core never let go of a value, it has all that was emitted
-  pub same_rest : (core : Core T) (s : SharedFlowState T) (i : ℕ) → StandsFor core s → core.reset_mark ≤ core.appended → length core.held ≡ core.appended
-      → first_needed s ≤ i → drop i core.held ≡ drop i (values s)
-  same_rest core s i stands h whole le =
-      let front = stands.held.0 in
-      let length_values : length (values s) ≡ length s.emitted = length-map s.emitted _ in
-      let within : first_needed s ≤ length s.emitted = needed_within core s stands h in
-      let count : length core.held ≡ length front + length (drop (first_needed s) (values s)) = ap length stands.held.1 ∙ length-append front _ in
-      let here : length front ≡ first_needed s = omega (arith, count, length-drop (first_needed s) (values s), length_values, stands.appended, whole) in
-      let split : length front + (i - first_needed s) ≡ i = omega arith in
-      let split_too : first_needed s + (i - first_needed s) ≡ i = omega arith in
-      ap (λ n. drop n core.held) (sym split) ∙ ap (λ l. drop (length front + (i - first_needed s)) l) stands.held.1
-      ∙ drop-append-add front (drop (first_needed s) (values s)) (i - first_needed s)
-      ∙ drop-drop (i - first_needed s) (first_needed s) (values s)
-      ∙ ap (λ n. drop n (values s)) split_too
-
-  pub same_value : (core : Core T) (s : SharedFlowState T) (number p : ℕ) → StandsFor core s → core.reset_mark ≤ core.appended → length core.held ≡ core.appended
-      → position_of number s.subscribers ≡ Some p → slice_get (values s) p ≡ slice_get core.held p
-  same_value core s number p stands h whole at =
-      let least : IfSome (Some p) (λ q. first_needed s ≤ q) = subst (λ o. IfSome o (λ q. first_needed s ≤ q)) at (least_position-position_of (cache_start s) number s.subscribers) in
-      sym (slice_get-drop p (values s)) ∙ ap (λ l. slice_get l 0) (sym (same_rest core s p stands h whole least)) ∙ slice_get-drop p core.held
-
-  pub same_cache : (core : Core T) (s : SharedFlowState T) → StandsFor core s → core.reset_mark ≤ core.appended → length core.held ≡ core.appended
-      → drop (cache_start s) core.held ≡ cache s
-  same_cache core s stands h whole = same_rest core s (cache_start s) stands h whole (least_position_bound (cache_start s) s.subscribers)

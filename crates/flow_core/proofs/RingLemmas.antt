@@ -1,0 +1,129 @@
+-- Lists that a ring keeps the end of, and subscribers who stand within a window.
+-- The key facts: `copied_more`, `within_least` (nobody asks for a value before the window), `within-more`, `offered_full`.
+use Rattle.std.proofs.Common.{inl, inr, ◌≡◌, ℕ, zero, suc, ◌+◌, ◌-◌, ◌≤◌, ◌<◌, true, false, not, ◌||◌, ◌==◌, nat_le, List, [], ◌∷◌, ◌++◌, length, map, take, drop, Some, refl, sym, ap, ◌∙◌, subst, arith}
+use Rattle.std.specs.List.{list_any, slice_get}
+use Rattle.std.specs.Option.{IfSome}
+use Rattle.std.proofs.lemmas.Bool.{or_parts}
+use Rattle.std.proofs.lemmas.Bool.Decides.{leb_tells, eqb_tells}
+use Rattle.std.proofs.lemmas.List.{drop-drop}
+use Rattle.flow_law.specs.declared.states.Subscriber.{Subscriber}
+use Rattle.flow_law.specs.SharedFlow.{position_of, raise_to, stand_at, move_to, without, with_own}
+use Rattle.flow_law.specs.Standing.{least_position}
+use Rattle.flow_law.proofs.CoveringLemmas.{slice_get-drop, least_position_offered, least_position-position_of}
+use Rattle.flow_law.proofs.Rows.{every_snoc, every_filter, every_move, every_with_own, position_holds}
+use Rattle.flow_core.specs.Subscribers.{is_full}
+use Rattle.flow_core.specs.SharedCore.{AreWithin}
+
+-- ---- lists
+
+take_more : {X : Type 0} (k : ℕ) (ys : List X) (v : X) → slice_get ys k ≡ Some v → take (k + 1) ys ≡ take k ys ++ v ∷ []
+take_more zero [] v at = absurd (cc)
+take_more (suc k) [] v at = absurd (cc)
+take_more {X} zero (y ∷ ys) v at = ap (λ x. x ∷ []) (same y v at)
+  where
+    same : (a b : X) → Some a ≡ Some b → a ≡ b
+    same a b e = cc
+take_more (suc k) (y ∷ ys) v at =
+    let further : suc k + 1 ≡ suc (k + 1) = omega arith in
+    rw further (ap (λ l. y ∷ l) (take_more k ys v at))
+
+-- a copy more, of the value at this place
+pub copied_more : {X : Type 0} (from place : ℕ) (xs : List X) (v : X) → from ≤ place → slice_get xs place ≡ Some v
+    → take (place - from) (drop from xs) ++ v ∷ [] ≡ take (place + 1 - from) (drop from xs)
+copied_more from place xs v le at =
+    let whole : from + (place - from) ≡ place = omega (arith, le) in
+    let next : place - from + 1 ≡ place + 1 - from = omega (arith, le) in
+    let there : slice_get (drop from xs) (place - from) ≡ Some v =
+    sym (slice_get-drop (place - from) (drop from xs))
+    ∙ ap (λ l. slice_get l 0) (drop-drop (place - from) from xs ∙ ap (λ n. drop n xs) whole)
+    ∙ slice_get-drop place xs ∙ at in
+    sym (take_more (place - from) (drop from xs) v there) ∙ ap (λ n. take n (drop from xs)) next
+
+pub found_below : {X : Type 0} (k : ℕ) (xs : List X) (v : X) → slice_get xs k ≡ Some v → k < length xs
+found_below zero [] v at = absurd (cc)
+found_below (suc k) [] v at = absurd (cc)
+found_below zero (x ∷ xs) v at = omega arith
+found_below (suc k) (x ∷ xs) v at = omega (arith, found_below k xs v at)
+
+-- ---- subscribers who stand within a window
+
+module _ {T : Type 0} where
+  -- nobody asks for a value that lies before the window
+  pub within_least : (floor n w b : ℕ) (us : List (Subscriber T)) → AreWithin floor n w us → n ≤ b + w → n ≤ least_position b us + w
+  within_least floor n w b [] h le = le
+  within_least floor n w b (u ∷ us) h le = omega (arith, h.0.2, within_least floor n w b us h.1 le)
+
+  pub floor_least : (floor n w b : ℕ) (us : List (Subscriber T)) → AreWithin floor n w us → floor ≤ b → floor ≤ least_position b us
+  floor_least floor n w b [] h le = le
+  floor_least floor n w b (u ∷ us) h le = omega (arith, h.0.0, floor_least floor n w b us h.1 le)
+
+  -- one value more, where nobody had a whole window to receive
+  pub within-more : (floor n w : ℕ) (us : List (Subscriber T)) → AreWithin floor n w us → is_full w n us ≡ false → AreWithin floor (n + 1) w us
+  within-more floor n w [] h free = tt
+  within-more floor n w (u ∷ us) h free =
+      let parts = or_parts (nat_le w (n - u.position)) (is_full w n us) free in
+      let near : n - u.position < w = elim (leb_tells w (n - u.position)) [
+        | inl far ↦ absurd (cc (far.0, parts.0))
+        | inr close ↦ omega (arith, close.1)
+      ] in
+      ((h.0.0, omega (arith, h.0.1), omega (arith, near, h.0.1)), within-more floor n w us h.1 parts.1)
+
+  -- one value more, and nobody is left behind the window
+  pub within-raised : (floor n w : ℕ) (us : List (Subscriber T)) → AreWithin floor n w us → 0 < w → w ≤ n → AreWithin (n + 1 - w) (n + 1) w (raise_to (n + 1 - w) us)
+  within-raised floor n w [] h some le = tt
+  within-raised floor n w (u ∷ us) h some le =
+      ((omega arith, omega (arith, h.0.1, some, le), omega (arith, le)), within-raised floor n w us h.1 some le)
+
+  pub within-gathered : (n w : ℕ) (us : List (Subscriber T)) → AreWithin n n w (map (stand_at n) us)
+  within-gathered n w [] = tt
+  within-gathered n w (u ∷ us) = ((omega arith, omega arith, omega arith), within-gathered n w us)
+
+  -- where somebody has a whole window to receive, there was a whole window
+  pub full_long : (w n : ℕ) (us : List (Subscriber T)) → 0 < w → is_full w n us ≡ true → w ≤ n
+  full_long w n [] some full = absurd (cc)
+  full_long w n (u ∷ us) some full =
+      elim (leb_tells w (n - u.position)) [
+        | inl far ↦ omega (arith, far.1)
+        | inr near ↦ full_long w n us some (subst (λ t. (t || is_full w n us) ≡ true) near.0 full)
+      ]
+
+  -- in a window of one, who has the whole window to receive has the last value to receive
+  pub offered_full : (floor n w : ℕ) (us : List (Subscriber T)) → AreWithin floor n w us → w ≡ 1 → is_full w n us ≡ list_any (λ u. (n - u.position) == 1) us
+  offered_full floor n w [] h one = refl
+  offered_full floor n w (u ∷ us) h one =
+      let here : nat_le w (n - u.position) ≡ (n - u.position == 1) = elim (eqb_tells (n - u.position) 1) [
+        | inl last ↦ elim (leb_tells w (n - u.position)) [
+          | inl far ↦ far.0 ∙ sym last.0
+          | inr near ↦ absurd (omega (arith, near.1, last.1, one))
+        ]
+        | inr other ↦ elim (leb_tells w (n - u.position)) [
+          | inl far ↦ absurd (other.1 (omega (arith, far.1, one, h.0.2)))
+          | inr near ↦ near.0 ∙ sym other.0
+        ]
+      ] in
+      ap (λ t. t || is_full w n us) here ∙ ap (λ t. (n - u.position == 1) || t) (offered_full floor n w us h.1 one)
+
+  pub within-moved : (floor n w number p : ℕ) (us : List (Subscriber T)) → AreWithin floor n w us → floor ≤ p → p ≤ n → n ≤ p + w → AreWithin floor n w (move_to number p us)
+  within-moved floor n w number p us h low high near = every_move (λ u. (floor ≤ u.position) × (u.position ≤ n) × (n ≤ u.position + w)) number p (λ u _. (low, high, near)) us h
+
+  pub within-without : (floor n w number : ℕ) (us : List (Subscriber T)) → AreWithin floor n w us → AreWithin floor n w (without number us)
+  within-without floor n w number us h = every_filter (λ u. (floor ≤ u.position) × (u.position ≤ n) × (n ≤ u.position + w)) (λ u. not (u.number == number)) us h
+
+  pub within-with_own : (floor n w number : ℕ) (own : List T) (us : List (Subscriber T)) → AreWithin floor n w us → AreWithin floor n w (with_own number own us)
+  within-with_own floor n w number own us h = every_with_own (λ u. (floor ≤ u.position) × (u.position ≤ n) × (n ≤ u.position + w)) number own (λ u k. k) us h
+
+  pub within-snoc : (floor n w : ℕ) (us : List (Subscriber T)) (v : Subscriber T) → AreWithin floor n w us → floor ≤ v.position → v.position ≤ n → n ≤ v.position + w → AreWithin floor n w (us ++ v ∷ [])
+  within-snoc floor n w us v h low high near = every_snoc (λ u. (floor ≤ u.position) × (u.position ≤ n) × (n ≤ u.position + w)) us v h (low, high, near)
+
+  -- where a subscriber stands
+  pub within_at : (floor n w number p : ℕ) (us : List (Subscriber T)) → AreWithin floor n w us → position_of number us ≡ Some p → (floor ≤ p) × (p ≤ n) × (n ≤ p + w)
+  within_at floor n w number p us h at =
+      let found = position_holds (λ u. (floor ≤ u.position) × (u.position ≤ n) × (n ≤ u.position + w)) number p us h at in
+      subst (λ q. (floor ≤ q) × (q ≤ n) × (n ≤ q + w)) found.2 found.3
+
+  -- where a value is offered, the first needed one is no later
+  pub offered_least : (floor n w b : ℕ) (us : List (Subscriber T)) → AreWithin floor n w us → w ≡ 1 → is_full w n us ≡ true → least_position b us ≤ n - 1
+  offered_least floor n w b us h one full = (least_position_offered b n us (sym (offered_full floor n w us h one) ∙ full)).0
+
+  pub least_at : (b number p : ℕ) (us : List (Subscriber T)) → position_of number us ≡ Some p → least_position b us ≤ p
+  least_at b number p us at = subst (λ o. IfSome o (λ q. least_position b us ≤ q)) at (least_position-position_of b number us)

@@ -1,0 +1,25 @@
+use Rattle.std.proofs.Common.{◌≡◌, ◌∙◌, ◌+◌, true, ap, arith}
+use Rattle.flow_law.specs.Covering.{kept_start}
+use Rattle.flow_law.proofs.CoveringLemmas.{least_position_bound}
+use Rattle.flow_core.specs.SharedCore.{window_of, fields_of, kept_full}
+use Rattle.flow_core.proofs.RingLemmas.{offered_least}
+use Rattle.flow_core.proofs.shared.SharedCore.entry.Goals as goal
+
+pub returns-then-is_offering-clause-within : goal.returns-then-is_offering-clause-within
+returns-then-is_offering-clause-within g c =
+    let i = c.self.inside in
+    let own = rw c.if-is_offering.true at c.is_offering.ensures.own in
+    let none = ap (λ core. core.config.replay + core.config.extra) c.self.view_is ∙ own.0 in
+    let full : kept_full (fields_of i) ≡ true = ap kept_full c.self.view_is ∙ own.1 in
+    let least = offered_least i.subscribers.floor i.subscribers.emitted (window_of i.config) (kept_start (fields_of i)) i.subscribers.list c.self.invariant.within (omega (arith, none)) full in
+    let need = ap (λ core. Rattle.flow_law.specs.Covering.kept_need core) c.self.view_is in
+    let count = ap (λ core. core.appended) c.self.view_is in (
+      omega (arith, c.saturating_sub.ensures, c.emitted.ensures, least, need),
+      omega (arith, c.saturating_sub.ensures, c.emitted.ensures, count),
+    )
+
+pub returns-else-is_offering-clause-within : goal.returns-else-is_offering-clause-within
+returns-else-is_offering-clause-within g c = (
+  omega (arith, c.cache_start.ensures.start, least_position_bound (kept_start c.args.self.now) c.args.self.now.subscribers),
+  c.cache_start.ensures.within.1,
+)

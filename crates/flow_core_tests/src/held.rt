@@ -1,0 +1,52 @@
+//! How many values a shared flow keeps, after each call: those that a new subscriber or an old one may still get.
+use crate::shared_calls::Call::{Emit, Held, Next, Reset, Subscribe, TryEmit};
+use crate::shared_calls::answers;
+use flow_law::Config;
+use flow_law::Emit::Queued;
+use flow_law::Next::Value;
+
+#[test]
+fn a_value_is_kept_for_the_cache_or_a_subscriber(rt: HostRuntime) {
+    answers(
+        &rt,
+        rt.alloc(),
+        Config::new().replay(1).extra(1),
+        &[
+            Held(0),
+            Subscribe(1),
+            Held(0),
+            TryEmit(1, true),
+            Held(1),
+            TryEmit(2, true),
+            Held(2),
+            Emit(3, Queued(4)),
+            Held(2),
+            Next(0, Value(1)),
+            Held(2),
+            Next(0, Value(2)),
+            Held(1),
+            Next(0, Value(3)),
+            Held(1),
+            Reset,
+            Held(0),
+        ],
+    );
+}
+
+#[test]
+fn without_a_buffer_only_an_offered_value_is_kept(rt: HostRuntime) {
+    answers(
+        &rt,
+        rt.alloc(),
+        Config::new(),
+        &[
+            TryEmit(5, true),
+            Held(0),
+            Subscribe(2),
+            Emit(7, Queued(3)),
+            Held(1),
+            Next(0, Value(7)),
+            Held(0),
+        ],
+    );
+}
