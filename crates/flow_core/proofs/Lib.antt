@@ -4,9 +4,9 @@ pub mod SubscribersLemmas
 pub mod PlaceLemmas
 pub mod QueueLemmas
 pub mod SlotLemmas
-pub mod SeatLemmas
+pub mod MemberLemmas
 pub mod FoundLemmas
-pub mod SeatingLemmas
+pub mod MembershipLemmas
 pub mod SubscriberLemmas
 pub mod RingLemmas
 pub mod SoundLemmas

@@ -6,20 +6,20 @@ use Rattle.flow_law.specs.declared.fault.FlowFault.{FlowFault}
 use Rattle.flow_law.specs.declared.fault.FlowFault.TheVariants.{OutOfMemory}
 use Rattle.flow_law.specs.declared.states.StateFlowState.{StateFlowState}
 use Rattle.flow_law.specs.StateFlow.{last_of, with_last, IsDue, Replies}
-use Rattle.flow_core.specs.declared.seats.Seat.{Seat}
-use Rattle.flow_core.specs.Seats.{row_of, with_row}
+use Rattle.flow_core.specs.declared.members.Member.{Member}
+use Rattle.flow_core.specs.Members.{row_of, with_row}
 use Rattle.flow_core.proofs.SubscriberLemmas.{last_of-row, with_last-row}
 use Rattle.std.proofs.lemmas.Iterator.Adapters.{option_map_id}
 use Rattle.flow_core.specs.StateCore.{subscriber_of}
 
 module _ {T : Type 0} where
   -- the last value that a subscriber got is what is kept of it
-  pub last_is : (number : ℕ) (seats : List (Seat (Option T))) → last_of number (map subscriber_of seats) ≡ row_of number seats
-  last_is number seats = last_of-row subscriber_of (λ seat. refl) number seats ∙ option_map_id (row_of number seats)
+  pub last_is : (number : ℕ) (members : List (Member (Option T))) → last_of number (map subscriber_of members) ≡ row_of number members
+  last_is number members = last_of-row subscriber_of (λ member. refl) number members ∙ option_map_id (row_of number members)
 
-  pub got : (number : ℕ) (value : T) (old : Option T) (seats : List (Seat (Option T))) → row_of number seats ≡ Some old
-      → map subscriber_of (with_row number (Some value) seats) ≡ with_last number value (map subscriber_of seats)
-  got number value old seats there = sym (with_last-row subscriber_of (λ seat. refl) number value old (Some value) refl seats there)
+  pub got : (number : ℕ) (value : T) (old : Option T) (members : List (Member (Option T))) → row_of number members ≡ Some old
+      → map subscriber_of (with_row number (Some value) members) ≡ with_last number value (map subscriber_of members)
+  got number value old members there = sym (with_last-row subscriber_of (λ member. refl) number value old (Some value) refl members there)
 
   -- who is there and has not got the value may be refused its copy
   pub copy_refused : (s : StateFlowState T) (number : ℕ) (last : Option T) (fault : FlowFault) → last_of number s.subscribers ≡ Some last → last ≢ Some s.value → fault ≡ OutOfMemory

@@ -6,15 +6,15 @@ use Rattle.std.proofs.lemmas.Nat.{mod_below}
 use Rattle.std.proofs.lemmas.List.{length-set}
 use Rattle.flow_law.specs.declared.states.Subscriber.{Subscriber}
 use Rattle.flow_law.specs.SharedFlow.{position_of, stand_at, move_to, raise_to, with_own, leave_own}
-use Rattle.flow_core.specs.declared.seats.Seat.{Seat}
-use Rattle.flow_core.specs.declared.seats.enroll.Row.{Row}
-use Rattle.flow_core.specs.Seats.{row_of, with_row}
-use Rattle.flow_core.specs.Seats as slab
+use Rattle.flow_core.specs.declared.members.Member.{Member}
+use Rattle.flow_core.specs.declared.members.enroll.Row.{Row}
+use Rattle.flow_core.specs.Members.{row_of, with_row}
+use Rattle.flow_core.specs.Members as slab
 use Rattle.flow_core.specs.Rows.{moved, left}
 use Rattle.flow_core.specs.PositionCounts.{AreWithin, count_of, Fits, take_out}
 use Rattle.flow_core.specs.Subscribers.{Standing, read, AreSound}
 use Rattle.flow_core.proofs.CountLemmas.{blocked_by_count, fits-append, fits-shift, apart, fits-enroll, fits-take_out, fits-move_to, found_within, found_counted, count_bound, counts_bound}
-use Rattle.flow_core.proofs.SeatLemmas.{length-with_row}
+use Rattle.flow_core.proofs.MemberLemmas.{length-with_row}
 use Rattle.flow_core.proofs.RaisedLemmas.{read_higher, length-read, raise_to_last, position_of-row, move_to-row, with_own-row, take_out-row, append-row}
 
 -- one row of counts after the value that was emitted, and after a shift
@@ -55,9 +55,9 @@ pub standing_same : {T : Type 0} (xs ys : List (Subscriber T)) (m n v w f g k l 
 standing_same xs ys m n v w f g k l a b c d e = cc (a, b, c, d, e)
 
 -- a row of another length list, for the window that is read off its length
-pub resized : {T A : Type 0} (row new : List ℕ) (emitted floor last : ℕ) (seats : List (Seat (Row T A))) → length new ≡ length row
-    → AreSound (length row - 1) new emitted floor seats last → AreSound (length new - 1) new emitted floor seats last
-resized row new emitted floor last seats same sound = subst (λ k. AreSound (k - 1) new emitted floor seats last) (sym same) sound
+pub resized : {T A : Type 0} (row new : List ℕ) (emitted floor last : ℕ) (members : List (Member (Row T A))) → length new ≡ length row
+    → AreSound (length row - 1) new emitted floor members last → AreSound (length new - 1) new emitted floor members last
+resized row new emitted floor last members same sound = subst (λ k. AreSound (k - 1) new emitted floor members last) (sym same) sound
 
 pub sound_at_first : {T A : Type 0} (window : ℕ) (row : List ℕ) → 0 < window → length row ≡ window + 1 → ((r : ℕ) → r < window + 1 → get_or row r 0 ≡ 0) → AreSound {T = T} {A = A} (length row - 1) row 0 0 [] 0
 sound_at_first {T} {A} window row some long zeros =
@@ -70,23 +70,23 @@ sound_at_first {T} {A} window row some long zeros =
       last = omega arith;
     })
 
-module _ {T A : Type 0} (row : List ℕ) (emitted floor last : ℕ) (seats : List (Seat (Row T A))) (sound : AreSound (length row - 1) row emitted floor seats last) where
+module _ {T A : Type 0} (row : List ℕ) (emitted floor last : ℕ) (members : List (Member (Row T A))) (sound : AreSound (length row - 1) row emitted floor members last) where
   abbrev w : ℕ
   w = length row - 1
 
   abbrev us : List (Subscriber T)
-  us = read floor seats
+  us = read floor members
 
   long : length row ≡ w + 1
   long = sound.fits.long
 
   bounded : length us < 2 ^ 64
-  bounded = omega (arith, length-read floor seats, sound.count, sound.last)
+  bounded = omega (arith, length-read floor members, sound.count, sound.last)
 
   pub blocked : nat_lt 0 (get_or row ((emitted + 1) % length row) 0) ≡ list_any (λ u. nat_le w (emitted - u.position)) us
   blocked = ap (λ k. nat_lt 0 (get_or row ((emitted + 1) % k) 0)) long ∙ blocked_by_count w emitted row us sound.fits
 
-  pub added : list_any (λ u. nat_le w (emitted - u.position)) us ≡ false → AreSound w row (emitted + 1) floor seats last
+  pub added : list_any (λ u. nat_le w (emitted - u.position)) us ≡ false → AreSound w row (emitted + 1) floor members last
   added none = record {
     some = sound.some;
     fits = fits-append w emitted row us sound.fits none;
@@ -103,18 +103,18 @@ module _ {T A : Type 0} (row : List ℕ) (emitted floor last : ℕ) (seats : Lis
   pub shift_room : (p : ℕ) → get_or row (p % length row) 0 + get_or row ((p + 1) % length row) 0 < 2 ^ 64
   shift_room p = omega (arith, count_at p, count_at (p + 1), counts_bound (w + 1) (p % (w + 1)) ((p + 1) % (w + 1)) us (apart w p sound.some), bounded)
 
-  shift_fits : (p : ℕ) → p + w ≡ emitted → Fits w (emitted + 1) (shifted row p) (read (p + 1) seats)
+  shift_fits : (p : ℕ) → p + w ≡ emitted → Fits w (emitted + 1) (shifted row p) (read (p + 1) members)
   shift_fits p at =
       let below : floor ≤ p + 1 = omega (arith, sound.floor, at) in
       let was : Fits w (p + w) row us = subst (λ k. Fits w k row us) (sym at) sound.fits in
       let now : Fits w (p + w + 1) (shifted row p) (raise_to (p + 1) us) =
       subst (λ k. Fits w (p + w + 1) (set (set row ((p + 1) % k) (get_or row (p % k) 0 + get_or row ((p + 1) % k) 0)) (p % k) 0) (raise_to (p + 1) us)) (sym long)
       (fits-shift w p sound.some row us was) in
-      let raised : Fits w (p + w + 1) (shifted row p) (read (p + 1) seats) = subst (Fits w (p + w + 1) (shifted row p)) (read_higher floor (p + 1) seats below) now in
-      subst (λ k. Fits w (k + 1) (shifted row p) (read (p + 1) seats)) at raised
+      let raised : Fits w (p + w + 1) (shifted row p) (read (p + 1) members) = subst (Fits w (p + w + 1) (shifted row p)) (read_higher floor (p + 1) members below) now in
+      subst (λ k. Fits w (k + 1) (shifted row p) (read (p + 1) members)) at raised
 
-  pub dropped : (p : ℕ) → p + w ≡ emitted → AreSound (length (shifted row p) - 1) (shifted row p) (emitted + 1) (p + 1) seats last
-  dropped p at = resized row (shifted row p) (emitted + 1) (p + 1) last seats (length-shifted row p) (record {
+  pub dropped : (p : ℕ) → p + w ≡ emitted → AreSound (length (shifted row p) - 1) (shifted row p) (emitted + 1) (p + 1) members last
+  dropped p at = resized row (shifted row p) (emitted + 1) (p + 1) last members (length-shifted row p) (record {
     some = sound.some;
     fits = shift_fits p at;
     floor = omega (arith, at, sound.some);
@@ -122,25 +122,25 @@ module _ {T A : Type 0} (row : List ℕ) (emitted floor last : ℕ) (seats : Lis
     last = sound.last;
   })
 
-  pub dropped_list : (p : ℕ) → p + w ≡ emitted → read (p + 1) seats ≡ raise_to (emitted + 1 - w) us
+  pub dropped_list : (p : ℕ) → p + w ≡ emitted → read (p + 1) members ≡ raise_to (emitted + 1 - w) us
   dropped_list p at =
       let same : p + 1 ≡ emitted + 1 - w = omega (arith, at) in
-      sym (read_higher floor (p + 1) seats (omega (arith, sound.floor, at))) ∙ ap (λ k. raise_to k us) same
+      sym (read_higher floor (p + 1) members (omega (arith, sound.floor, at))) ∙ ap (λ k. raise_to k us) same
 
   -- without a buffer all are brought to the last position
-  pub gathered_list : w ≡ 1 → read emitted seats ≡ map (stand_at emitted) us
+  pub gathered_list : w ≡ 1 → read emitted members ≡ map (stand_at emitted) us
   gathered_list one =
-      sym (read_higher floor emitted seats (omega (arith, sound.floor, one)))
+      sym (read_higher floor emitted members (omega (arith, sound.floor, one)))
       ∙ raise_to_last emitted us (subst (λ k. AreWithin k emitted us) one sound.fits.window)
 
-  pub gathered : (p : ℕ) → w ≡ 1 → p + 1 ≡ emitted → AreSound (length (shifted row p) - 1) (shifted row p) emitted emitted seats last
+  pub gathered : (p : ℕ) → w ≡ 1 → p + 1 ≡ emitted → AreSound (length (shifted row p) - 1) (shifted row p) emitted emitted members last
   gathered p one at =
-      let shift : Fits w (emitted + 1) (shifted row p) (read (p + 1) seats) = shift_fits p (omega (arith, one, at)) in
-      let there : Fits w (emitted + 1) (shifted row p) (read emitted seats) = subst (λ k. Fits w (emitted + 1) (shifted row p) (read k seats)) at shift in
-      let here : AreWithin 1 emitted (read emitted seats) = subst (AreWithin 1 emitted) (sym (gathered_list one)) (within_same emitted us) in
-      resized row (shifted row p) emitted emitted last seats (length-shifted row p) (record {
+      let shift : Fits w (emitted + 1) (shifted row p) (read (p + 1) members) = shift_fits p (omega (arith, one, at)) in
+      let there : Fits w (emitted + 1) (shifted row p) (read emitted members) = subst (λ k. Fits w (emitted + 1) (shifted row p) (read k members)) at shift in
+      let here : AreWithin 1 emitted (read emitted members) = subst (AreWithin 1 emitted) (sym (gathered_list one)) (within_same emitted us) in
+      resized row (shifted row p) emitted emitted last members (length-shifted row p) (record {
         some = sound.some;
-        fits = record { long = there.long; counts = there.counts; window = subst (λ k. AreWithin k emitted (read emitted seats)) (sym one) here };
+        fits = record { long = there.long; counts = there.counts; window = subst (λ k. AreWithin k emitted (read emitted members)) (sym one) here };
         floor = omega (arith, one);
         count = sound.count;
         last = sound.last;
@@ -149,17 +149,17 @@ module _ {T A : Type 0} (row : List ℕ) (emitted floor last : ℕ) (seats : Lis
   -- ---- one more
 
   pub enter_room : (p number : ℕ) → last < number → number < 2 ^ 64 → get_or row (p % length row) 0 + 1 < 2 ^ 64
-  enter_room p number above fits = omega (arith, count_at p, count_bound (w + 1) (p % (w + 1)) us, length-read floor seats, sound.count, above, fits)
+  enter_room p number above fits = omega (arith, count_at p, count_bound (w + 1) (p % (w + 1)) us, length-read floor members, sound.count, above, fits)
 
   pub enrolled : (number p : ℕ) (r : Row T A) → r.position ≡ p → p ≤ emitted → emitted ≤ p + w → floor ≤ p → last < number → number < 2 ^ 64
-      → AreSound (length (entered row p) - 1) (entered row p) emitted floor (seats ++ record { number = number; row = r } ∷ []) number
-  enrolled number p r at past near above more fits = resized row (entered row p) emitted floor number (seats ++ record { number = number; row = r } ∷ []) (length-set row _ _) (record {
+      → AreSound (length (entered row p) - 1) (entered row p) emitted floor (members ++ record { number = number; row = r } ∷ []) number
+  enrolled number p r at past near above more fits = resized row (entered row p) emitted floor number (members ++ record { number = number; row = r } ∷ []) (length-set row _ _) (record {
     some = sound.some;
-    fits = subst (Fits w emitted (entered row p)) (sym (append-row floor seats number p r at above))
+    fits = subst (Fits w emitted (entered row p)) (sym (append-row floor members number p r at above))
         (subst (λ k. Fits w emitted (set row (p % k) (get_or row (p % k) 0 + 1)) (us ++ record { number = number; own = r.own; position = p } ∷ [])) (sym long)
         (fits-enroll w emitted row us (record { number = number; own = r.own; position = p }) sound.fits past near));
     floor = sound.floor;
-    count = omega (arith, length-append seats (record { number = number; row = r } ∷ []), sound.count, more);
+    count = omega (arith, length-append members (record { number = number; row = r } ∷ []), sound.count, more);
     last = fits;
   })
 
@@ -175,20 +175,20 @@ module _ {T A : Type 0} (row : List ℕ) (emitted floor last : ℕ) (seats : Lis
     left_fits : Fits w emitted (left_at row p) (take_out number us)
     left_fits = subst (λ k. Fits w emitted (set row (p % k) (get_or row (p % k) 0 - 1)) (take_out number us)) (sym long) (fits-take_out w emitted number p row us sound.fits found)
 
-    pub removed : AreSound (length (left_at row p) - 1) (left_at row p) emitted floor (slab.take_out number seats) last
-    removed = resized row (left_at row p) emitted floor last (slab.take_out number seats) (length-set row _ _) (record {
+    pub removed : AreSound (length (left_at row p) - 1) (left_at row p) emitted floor (slab.take_out number members) last
+    removed = resized row (left_at row p) emitted floor last (slab.take_out number members) (length-set row _ _) (record {
       some = sound.some;
-      fits = subst (Fits w emitted (left_at row p)) (sym (take_out-row floor number seats)) left_fits;
+      fits = subst (Fits w emitted (left_at row p)) (sym (take_out-row floor number members)) left_fits;
       floor = sound.floor;
-      count = omega (arith, shorter number seats, sound.count);
+      count = omega (arith, shorter number members, sound.count);
       last = sound.last;
     })
       where
-        shorter : (number : ℕ) (seats : List (Seat (Row T A))) → length (slab.take_out number seats) ≤ length seats
+        shorter : (number : ℕ) (members : List (Member (Row T A))) → length (slab.take_out number members) ≤ length members
         shorter number [] = omega arith
-        shorter number (seat ∷ seats) = elim (seat.number == number) as (λ t. length (if t then seats else seat ∷ slab.take_out number seats) ≤ suc (length seats)) [
+        shorter number (member ∷ members) = elim (member.number == number) as (λ t. length (if t then members else member ∷ slab.take_out number members) ≤ suc (length members)) [
           | true ↦ omega arith
-          | false ↦ omega (arith, shorter number seats)
+          | false ↦ omega (arith, shorter number members)
         ]
 
     pub enter_again : get_or (left_at row p) ((p + 1) % length (left_at row p)) 0 + 1 < 2 ^ 64
@@ -206,14 +206,14 @@ module _ {T A : Type 0} (row : List ℕ) (emitted floor last : ℕ) (seats : Lis
               | false ↦ λ there. omega (arith, one_less number p us there)
             ] found
 
-    pub above_floor : (r : Row T A) → row_of number seats ≡ Some r → floor ≤ p
+    pub above_floor : (r : Row T A) → row_of number members ≡ Some r → floor ≤ p
     above_floor r at =
-        let same : Some (max r.position floor) ≡ Some p = ap (option_map (λ (r : Row T A). max r.position floor)) (sym at) ∙ sym (position_of-row floor number seats) ∙ found in
+        let same : Some (max r.position floor) ≡ Some p = ap (option_map (λ (r : Row T A). max r.position floor)) (sym at) ∙ sym (position_of-row floor number members) ∙ found in
         let is : max r.position floor ≡ p = cc in
         omega (arith, is)
 
-    pub advanced : (r : Row T A) → row_of number seats ≡ Some r → p < emitted
-        → AreSound (length (entered (left_at row p) (p + 1)) - 1) (entered (left_at row p) (p + 1)) emitted floor (with_row number (moved (p + 1) r) seats) last
+    pub advanced : (r : Row T A) → row_of number members ≡ Some r → p < emitted
+        → AreSound (length (entered (left_at row p) (p + 1)) - 1) (entered (left_at row p) (p + 1)) emitted floor (with_row number (moved (p + 1) r) members) last
     advanced r at more =
         let kept : length (entered (left_at row p) (p + 1)) ≡ length row = length-set (left_at row p) _ _ ∙ length-set row _ _ in
         let high : floor ≤ p + 1 = omega (arith, above_floor r at) in
@@ -223,23 +223,23 @@ module _ {T A : Type 0} (row : List ℕ) (emitted floor last : ℕ) (seats : Lis
         subst (λ k. Fits w emitted (set (left_at row p) ((p + 1) % k) (get_or (left_at row p) ((p + 1) % k) 0 + 1)) (move_to number (p + 1) us)) (sym same)
         (subst (λ k. Fits w emitted (set (set row (p % k) (get_or row (p % k) 0 - 1)) ((p + 1) % (w + 1)) (get_or (set row (p % k) (get_or row (p % k) 0 - 1)) ((p + 1) % (w + 1)) 0 + 1)) (move_to number (p + 1) us)) (sym long)
         (fits-move_to w emitted number p (p + 1) row us sound.fits found (omega (arith, more)) (omega (arith, within.1)))) in
-        resized row (entered (left_at row p) (p + 1)) emitted floor last (with_row number (moved (p + 1) r) seats) kept (record {
+        resized row (entered (left_at row p) (p + 1)) emitted floor last (with_row number (moved (p + 1) r) members) kept (record {
           some = sound.some;
-          fits = subst (Fits w emitted (entered (left_at row p) (p + 1))) (sym (move_to-row floor number (p + 1) r seats high at)) moves;
+          fits = subst (Fits w emitted (entered (left_at row p) (p + 1))) (sym (move_to-row floor number (p + 1) r members high at)) moves;
           floor = sound.floor;
-          count = omega (arith, length-with_row number (moved (p + 1) r) seats, sound.count);
+          count = omega (arith, length-with_row number (moved (p + 1) r) members, sound.count);
           last = sound.last;
         })
 
-  pub took_own : (number : ℕ) (own : List T) (r : Row T A) → row_of number seats ≡ Some r → AreSound w row emitted floor (with_row number (left own r) seats) last
+  pub took_own : (number : ℕ) (own : List T) (r : Row T A) → row_of number members ≡ Some r → AreSound w row emitted floor (with_row number (left own r) members) last
   took_own number own r at = record {
     some = sound.some;
-    fits = subst (Fits w emitted row) (sym (with_own-row floor number own r seats at)) (record {
+    fits = subst (Fits w emitted row) (sym (with_own-row floor number own r members at)) (record {
       long = sound.fits.long;
       counts = λ k below. sound.fits.counts k below ∙ sym (count-with_own (w + 1) k number own us);
       window = within-with_own w emitted number own us sound.fits.window;
     });
     floor = sound.floor;
-    count = omega (arith, length-with_row number (left own r) seats, sound.count);
+    count = omega (arith, length-with_row number (left own r) members, sound.count);
     last = sound.last;
   }

@@ -1,9 +1,9 @@
 pub mod SubId
 pub mod PositionCounts
 pub mod Queue
-pub mod Seats
+pub mod Members
 pub mod Rows
 pub mod Subscribers
-pub mod SeatsLends
+pub mod MembersLends
 pub mod SharedCore
 pub mod StateCore

@@ -1,6 +1,6 @@
 -- What a shared core keeps of a subscriber, and how that changes. No public clause cites this module.
 use Rattle.std.specs.Prelude.{ℕ, List}
-use Rattle.flow_core.specs.declared.seats.enroll.Row.{Row}
+use Rattle.flow_core.specs.declared.members.enroll.Row.{Row}
 
 module _ {T A : Type 0} where
   abbrev pub moved : ℕ → Row T A → Row T A

@@ -11,7 +11,7 @@ use Rattle.flow_law.specs.declared.states.StateSubscriber.{StateSubscriber}
 use Rattle.flow_law.specs.Standing.{StateConforms}
 use Rattle.flow_law.specs.StateFlow.{state_flow}
 use Rattle.flow_core.specs.declared.sub_id.SubId.{SubId}
-use Rattle.flow_core.specs.declared.seats.Seat.{Seat}
+use Rattle.flow_core.specs.declared.members.Member.{Member}
 use Rattle.flow_core.specs.declared.state.StateCore.TheInside.{Inside}
 use Rattle.flow_core.specs.SubId.{number_of}
 
@@ -36,13 +36,13 @@ module _ {T : Type 0} where
   abbrev pub reset_reply : Result (Unit {0}) FlowFault → StateReply T
   reset_reply = replied state_flow (λ none. reply.Done)
 
-  abbrev pub subscriber_of : Seat (Option T) → StateSubscriber T
-  subscriber_of seat = record { number = seat.number; last = seat.row }
+  abbrev pub subscriber_of : Member (Option T) → StateSubscriber T
+  subscriber_of member = record { number = member.number; last = member.row }
 
   abbrev pub fields_of : {A : Type 0} → Inside T A → StateFlowState T
   fields_of c = record {
     limit = c.limit;
     value = c.value;
-    subscribers = map subscriber_of c.subscribers.seats;
+    subscribers = map subscriber_of c.subscribers.members;
     issued = c.issued;
   }

@@ -3,8 +3,8 @@ use Rattle.std.specs.Prelude.{◌≡◌, ℕ, ◌+◌, ◌-◌, ◌<◌, ◌≤�
 use Rattle.std.specs.List.{list_any}
 use Rattle.flow_law.specs.declared.states.Subscriber.{Subscriber}
 use Rattle.flow_law.specs.SharedFlow.{own_of, with_own}
-use Rattle.flow_core.specs.declared.seats.Seat.{Seat}
-use Rattle.flow_core.specs.declared.seats.enroll.Row.{Row}
+use Rattle.flow_core.specs.declared.members.Member.{Member}
+use Rattle.flow_core.specs.declared.members.enroll.Row.{Row}
 use Rattle.flow_core.specs.declared.subscribers.Subscribers.TheInside.{Inside}
 use Rattle.flow_core.specs.PositionCounts.{Fits}
 
@@ -27,31 +27,31 @@ is_full window emitted us = list_any (λ u. nat_le window (emitted - u.position)
 
 module _ {T A : Type 0} where
   -- a position below the floor is read as the floor
-  abbrev pub subscriber_of : ℕ → Seat (Row T A) → Subscriber T
-  subscriber_of floor seat = record { number = seat.number; own = seat.row.own; position = max seat.row.position floor }
+  abbrev pub subscriber_of : ℕ → Member (Row T A) → Subscriber T
+  subscriber_of floor member = record { number = member.number; own = member.row.own; position = max member.row.position floor }
 
-  abbrev pub read : ℕ → List (Seat (Row T A)) → List (Subscriber T)
+  abbrev pub read : ℕ → List (Member (Row T A)) → List (Subscriber T)
   read floor = map (subscriber_of floor)
 
   abbrev pub standing_of : Inside T A → Standing T
   standing_of s = record {
-    list = read s.floor s.seats.seats;
+    list = read s.floor s.members.members;
     emitted = s.counts.emitted;
     window = length s.counts.row - 1;
     floor = s.floor;
-    last = s.seats.last;
+    last = s.members.last;
   }
 
-  pub record AreSound (window : ℕ) (row : List ℕ) (emitted lowest : ℕ) (seats : List (Seat (Row T A))) (greatest : ℕ) : Type 0 where
+  pub record AreSound (window : ℕ) (row : List ℕ) (emitted lowest : ℕ) (members : List (Member (Row T A))) (greatest : ℕ) : Type 0 where
     pub some : 0 < window
     -- the row counts the subscribers, and nobody is further behind than the window
-    pub fits : Fits window emitted row (read lowest seats)
+    pub fits : Fits window emitted row (read lowest members)
     pub floor : lowest ≤ emitted + 1 - window
-    pub count : length seats ≤ greatest
+    pub count : length members ≤ greatest
     pub last : greatest < 2 ^ 64
 
   abbrev pub IsSound : Inside T A → Type 0
-  IsSound s = AreSound (length s.counts.row - 1) s.counts.row s.counts.emitted s.floor s.seats.seats s.seats.last
+  IsSound s = AreSound (length s.counts.row - 1) s.counts.row s.counts.emitted s.floor s.members.members s.members.last
 
 -- the first of what was left of a subscriber's own values was taken, and nothing where nothing was left
 abbrev pub TakesOwn : {T : Type 0} → ℕ → Option T → List (Subscriber T) → List (Subscriber T) → Type 0

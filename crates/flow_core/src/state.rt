@@ -9,7 +9,7 @@ ghost use Rattle.flow_core.specs.StateCore.{value_reply, subscribe_reply, next_r
 
 mod kind;
 
-use crate::seats::Seats;
+use crate::members::Members;
 use crate::sub_id::SubId;
 use flow_law::{FlowFault, FlowValue, Next};
 use std::alloc::{Allocator, Global};
@@ -25,7 +25,7 @@ pub struct StateCore<T: FlowValue, A: Allocator + Copy = Global> {
     alloc: A,
     value: T,
     /// The last value that each subscriber got.
-    subscribers: Seats<Option<T>, A>,
+    subscribers: Members<Option<T>, A>,
     issued: u64,
     limit: u64,
 }
@@ -61,7 +61,7 @@ impl<T: FlowValue, A: Allocator + Copy> StateCore<T, A> {
         StateCore {
             alloc,
             value: initial,
-            subscribers: Seats::new(alloc),
+            subscribers: Members::new(alloc),
             issued: 0,
             limit,
         }

@@ -5,8 +5,8 @@ ghost use Rattle.flow_law.specs.Standing.{least_position};
 ghost use Rattle.flow_core.specs.SubId.{number_of};
 ghost use Rattle.flow_core.specs.Subscribers.{TakesOwn, is_full};
 
+use crate::members::{Members, Row};
 use crate::position_counts::PositionCounts;
-use crate::seats::{Row, Seats};
 use crate::sub_id::SubId;
 use std::alloc::{AllocError, Allocator};
 use std::marker::Model;
@@ -16,7 +16,7 @@ use std::marker::Model;
 /// A position below the floor is read as the floor, so that all who are behind are brought forward without a visit.
 #[derive(Drop)]
 pub(crate) struct Subscribers<T: Drop, A: Allocator> {
-    seats: Seats<Row<T, A>, A>,
+    members: Members<Row<T, A>, A>,
     counts: PositionCounts<A>,
     floor: u64,
 }
@@ -42,7 +42,7 @@ impl<T: Drop, A: Allocator> Subscribers<T, A> {
     {
         let counts = PositionCounts::new(alloc, window + 1)?;
         Ok(Subscribers {
-            seats: Seats::new(alloc),
+            members: Members::new(alloc),
             counts,
             floor: 0,
         })
@@ -51,7 +51,7 @@ impl<T: Drop, A: Allocator> Subscribers<T, A> {
     pub(crate) fn len(&self) -> usize
         ensures { result ≡ length self.now.list }
     {
-        self.seats.len()
+        self.members.len()
     }
 
     pub(crate) fn emitted(&self) -> u64
@@ -70,7 +70,7 @@ impl<T: Drop, A: Allocator> Subscribers<T, A> {
     pub(crate) fn position_of(&self, id: SubId) -> Option<u64>
         ensures { result ≡ flow.position_of (number_of id) self.now.list }
     {
-        match self.seats.get(id) {
+        match self.members.get(id) {
             Some(row) => Some(row.position.max(self.floor)),
             None => None,
         }
@@ -130,7 +130,7 @@ impl<T: Drop, A: Allocator> Subscribers<T, A> {
         ensures taken { TakesOwn (number_of id) result self.old.list self.new.list }
         ensures same { self.new ≡ record self.old { list = self.new.list } }
     {
-        let Some(row) = self.seats.get_mut(id) else {
+        let Some(row) = self.members.get_mut(id) else {
             return None;
         };
         row.own.pop_front()
@@ -153,7 +153,7 @@ impl<T: Drop, A: Allocator> Subscribers<T, A> {
             })
             (λ refused. (refused ≡ first) × self.new ≡ self.old) }
     {
-        match self.seats.enroll(number, first, position) {
+        match self.members.enroll(number, first, position) {
             Ok(id) => {
                 self.counts.enter(position);
                 Ok(id)
@@ -171,7 +171,7 @@ impl<T: Drop, A: Allocator> Subscribers<T, A> {
         let next = self.counts.following(position);
         self.counts.leave(position);
         self.counts.enter(next);
-        let Some(row) = self.seats.get_mut(id) else {
+        let Some(row) = self.members.get_mut(id) else {
             return;
         };
         row.position = next;
@@ -182,7 +182,7 @@ impl<T: Drop, A: Allocator> Subscribers<T, A> {
         ensures there { result ≡ is_some (flow.position_of (number_of id) self.old.list) }
         ensures removed { self.new ≡ record self.old { list = flow.without (number_of id) self.old.list } }
     {
-        match self.seats.remove(id) {
+        match self.members.remove(id) {
             Some(row) => {
                 self.counts.leave(row.position.max(self.floor));
                 true

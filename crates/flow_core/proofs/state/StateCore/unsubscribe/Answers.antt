@@ -13,10 +13,10 @@ returns g c = record {
   documented = (
     λ s same.
         let number = c.args.id.number in
-        let seats = c.self.inside.subscribers.seats in
+        let members = c.self.inside.subscribers.members in
         let now : fields_of c.self.inside ≡ s = c.self.view_is ∙ same in
-        let left = ap (map subscriber_of) c.remove.ensures.seats ∙ sym (without_subscriber-row subscriber_of (λ seat. refl) number seats) in (
-          ap reply.Answered (c.is_some.ensures ∙ ap is_some (c.remove.ensures.value ∙ sym (last_is number seats)) ∙ ap (λ (k : StateFlowState _). is_some (last_of number k.subscribers)) now),
+        let left = ap (map subscriber_of) c.remove.ensures.members ∙ sym (without_subscriber-row subscriber_of (λ member. refl) number members) in (
+          ap reply.Answered (c.is_some.ensures ∙ ap is_some (c.remove.ensures.value ∙ sym (last_is number members)) ∙ ap (λ (k : StateFlowState _). is_some (last_of number k.subscribers)) now),
           ap (λ us. record (fields_of c.self.inside) { subscribers = us }) left ∙ ap (λ (k : StateFlowState _). record k { subscribers = without_subscriber number k.subscribers }) now,
         ),
     tt,

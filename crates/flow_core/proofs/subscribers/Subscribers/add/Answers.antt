@@ -7,4 +7,4 @@ pub invariant_of-self : goal.invariant_of-self
 invariant_of-self g c =
     let s = c.self.inside in
     let free = subst (λ (v : Standing _). is_full v.window v.emitted v.list ≡ false) (sym c.self.view_is) c.requires.free in
-    rw (c.add.ensures.row, c.add.ensures.emitted) (added s.counts.row s.counts.emitted s.floor s.seats.last s.seats.seats c.self.invariant free)
+    rw (c.add.ensures.row, c.add.ensures.emitted) (added s.counts.row s.counts.emitted s.floor s.members.last s.members.members c.self.invariant free)

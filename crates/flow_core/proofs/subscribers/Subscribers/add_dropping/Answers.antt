@@ -7,7 +7,7 @@ use Rattle.flow_core.proofs.subscribers.Subscribers.add_dropping.Goals as goal
 pub shift-requires-clause-room : goal.shift-requires-clause-room
 shift-requires-clause-room g c =
     let s = c.self.inside in
-    shift_room s.counts.row s.counts.emitted s.floor s.seats.last s.seats.seats c.self.invariant (c.emitted.result - c.window.result)
+    shift_room s.counts.row s.counts.emitted s.floor s.members.last s.members.members c.self.invariant (c.emitted.result - c.window.result)
 
 pub invariant_of-self : goal.invariant_of-self
 invariant_of-self g c =
@@ -15,7 +15,7 @@ invariant_of-self g c =
     let past = subst (λ (v : Standing _). v.window ≤ v.emitted) (sym c.self.view_is) c.requires.full in
     let at : (c.emitted.result - c.window.result) + (length s.counts.row - 1) ≡ s.counts.emitted = omega (arith, c.emitted.ensures, c.window.ensures, past) in
     rw (c.add.ensures.row, c.shift.ensures.row, c.add.ensures.emitted, c.shift.ensures.emitted)
-    (dropped s.counts.row s.counts.emitted s.floor s.seats.last s.seats.seats c.self.invariant (c.emitted.result - c.window.result) at)
+    (dropped s.counts.row s.counts.emitted s.floor s.members.last s.members.members c.self.invariant (c.emitted.result - c.window.result) at)
 
 pub returns : goal.returns
 returns g c =
@@ -23,7 +23,7 @@ returns g c =
     let p = c.emitted.result - c.window.result in
     let past = subst (λ (v : Standing _). v.window ≤ v.emitted) (sym c.self.view_is) c.requires.full in
     let at : (c.emitted.result - c.window.result) + (length s.counts.row - 1) ≡ s.counts.emitted = omega (arith, c.emitted.ensures, c.window.ensures, past) in
-    let list = dropped_list s.counts.row s.counts.emitted s.floor s.seats.last s.seats.seats c.self.invariant p at in
+    let list = dropped_list s.counts.row s.counts.emitted s.floor s.members.last s.members.members c.self.invariant p at in
     let emitted : c.add.new.self.emitted ≡ s.counts.emitted + 1 = c.add.ensures.emitted ∙ ap (λ k. k + 1) c.shift.ensures.emitted in
     let window : length c.add.new.self.row - 1 ≡ length s.counts.row - 1 =
     ap (λ r. length r - 1) (c.add.ensures.row ∙ c.shift.ensures.row) ∙ ap (λ k. k - 1) (length-shifted s.counts.row p) in

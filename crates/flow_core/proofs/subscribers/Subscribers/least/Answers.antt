@@ -14,5 +14,5 @@ returns g c =
     let from = subst (λ (v : Standing _). c.args.start ≤ least_position c.args.first v.list) (sym c.self.view_is) c.requires.below in
     let to = subst (λ (v : Standing _). c.args.first ≤ v.emitted) (sym c.self.view_is) c.requires.within.0 in
     let near = subst (λ (v : Standing _). v.emitted ≤ c.args.start + v.window) (sym c.self.view_is) c.requires.within.1 in
-    sym (least_is (length s.counts.row - 1) s.counts.emitted c.args.start c.args.first c.least.result s.counts.row (read s.floor s.seats.seats) c.self.invariant.fits c.least.ensures from to near)
+    sym (least_is (length s.counts.row - 1) s.counts.emitted c.args.start c.args.first c.least.result s.counts.row (read s.floor s.members.members) c.self.invariant.fits c.least.ensures from to near)
     ∙ ap (λ (v : Standing _). least_position c.args.first v.list) c.self.view_is

@@ -8,7 +8,7 @@ enter-requires-clause-room g c =
     let s = c.self.inside in
     let above = subst (λ (v : Standing _). v.last < c.args.number) (sym c.self.view_is) c.requires.later in
     let fits : c.args.number < 2 ^ 64 = omega (arith, c.ranges.number) in
-    enter_room s.counts.row s.counts.emitted s.floor s.seats.last s.seats.seats c.self.invariant c.args.position c.args.number above fits
+    enter_room s.counts.row s.counts.emitted s.floor s.members.last s.members.members c.self.invariant c.args.position c.args.number above fits
 
 pub invariant_of-self : goal.invariant_of-self
 invariant_of-self g c =
@@ -19,5 +19,5 @@ invariant_of-self g c =
     let high = subst (λ (v : Standing _). v.floor ≤ c.args.position) (sym c.self.view_is) c.requires.above in
     let fits : c.args.number < 2 ^ 64 = omega (arith, c.ranges.number) in
     rw (c.enter.ensures.row, c.enter.ensures.emitted, c.in-Ok.ensures.1, c.in-Ok.ensures.2)
-    (enrolled s.counts.row s.counts.emitted s.floor s.seats.last s.seats.seats c.self.invariant c.args.number c.args.position
+    (enrolled s.counts.row s.counts.emitted s.floor s.members.last s.members.members c.self.invariant c.args.number c.args.position
     (record { own = c.args.first.items; position = c.args.position }) refl past near high above fits)

@@ -28,7 +28,7 @@ returns-in_ok-add_refusal-in-Err c =
     let config = c.in-Shared.config in
     let begins = Ok (shared (first_state config)) in
     let of_fault : config_fault config ≡ Some c.in-Err.fault → player_of (head_of_flow c.args.flow) ≡ Err (refusal_text c.in-Err.fault) = λ none.
-        ap (λ flow. player_of (head_of_flow flow)) c.in-Shared.is ∙ ap (λ o. option_map_or (λ fault. Err (refusal_text fault)) o begins) none in
+    ap (λ flow. player_of (head_of_flow flow)) c.in-Shared.is ∙ ap (λ o. option_map_or (λ fault. Err (refusal_text fault)) o begins) none in
     let told = c.in_ok-add_refusal-in-Err.ensures.told in
     let refused : player_of (head_of_flow c.args.flow) ≡ Err (refusal_text c.in-Err.fault) = elim c.in-Err.ensures [
       | inl none ↦ of_fault none

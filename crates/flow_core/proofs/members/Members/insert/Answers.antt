@@ -1,19 +1,19 @@
 use Rattle.std.proofs.Common.{◌<◌, ◌++◌, ◌∷◌, [], refl, sym, ap, subst, ◌∙◌}
-use Rattle.flow_core.specs.Seats.{Seating}
-use Rattle.flow_core.proofs.SeatingLemmas.{inserted, inserted_sound}
-use Rattle.flow_core.proofs.seats.Seats.insert.Goals as goal
+use Rattle.flow_core.specs.Members.{Membership}
+use Rattle.flow_core.proofs.MembershipLemmas.{inserted, inserted_sound}
+use Rattle.flow_core.proofs.members.Members.insert.Goals as goal
 
 pub returns-in-Ok : goal.returns-in-Ok
 returns-in-Ok g c =
-    let above : c.self.inside.last < c.args.number = subst (λ (v : Seating _). v.last < c.args.number) (sym c.self.view_is) c.requires in (
+    let above : c.self.inside.last < c.args.number = subst (λ (v : Membership _). v.last < c.args.number) (sym c.self.view_is) c.requires in (
       refl,
       inserted c.self.inside c.insert.new.self c.in-Ok.key c.args.number c.args.row c.self.invariant above c.in-Ok.ensures.was_vacant c.in-Ok.ensures.updates
-          ∙ ap (λ (v : Seating _). v.seats ++ record { number = c.args.number; row = c.args.row } ∷ []) c.self.view_is,
+          ∙ ap (λ (v : Membership _). v.members ++ record { number = c.args.number; row = c.args.row } ∷ []) c.self.view_is,
       refl,
     )
 
 pub invariant_of-self : goal.invariant_of-self
 invariant_of-self g c =
-    let above : c.self.inside.last < c.args.number = subst (λ (v : Seating _). v.last < c.args.number) (sym c.self.view_is) c.requires in
+    let above : c.self.inside.last < c.args.number = subst (λ (v : Membership _). v.last < c.args.number) (sym c.self.view_is) c.requires in
     inserted_sound c.self.inside c.insert.new.self c.in-Ok.key c.args.number c.args.row c.self.invariant above c.in-Ok.ensures.was_vacant c.in-Ok.ensures.updates
     c.in-Ok.ensures.len

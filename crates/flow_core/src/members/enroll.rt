@@ -2,7 +2,7 @@
 ghost use Rattle.std.specs.Prelude.{◌≡◌, ◌<◌, ◌++◌, ◌∷◌, [], MatchResult};
 ghost use Rattle.flow_core.specs.SubId.{number_of};
 
-use super::{Seat, Seats};
+use super::{Member, Members};
 use crate::own_values::OwnValues;
 use crate::sub_id::SubId;
 use std::alloc::Allocator;
@@ -14,7 +14,7 @@ pub(crate) struct Row<T: Drop, A: Allocator> {
     pub position: u64,
 }
 
-impl<T: Drop, A: Allocator> Seats<Row<T, A>, A> {
+impl<T: Drop, A: Allocator> Members<Row<T, A>, A> {
     /// Adds a subscriber with its own first values. A refusal for want of memory hands them back.
     pub(crate) fn enroll(
         &mut self,
@@ -25,7 +25,7 @@ impl<T: Drop, A: Allocator> Seats<Row<T, A>, A> {
         requires { self.old.last < number }
         ensures { MatchResult result
             (λ id. (number_of id ≡ number)
-            × (self.new.seats ≡ self.old.seats ++ record { number = number; row = record { own = first.items; position = position } } ∷ [])
+            × (self.new.members ≡ self.old.members ++ record { number = number; row = record { own = first.items; position = position } } ∷ [])
             × (self.new.last ≡ number))
             (λ refused. (refused ≡ first) × (self.new ≡ self.old)) }
     {
@@ -36,7 +36,7 @@ impl<T: Drop, A: Allocator> Seats<Row<T, A>, A> {
             own: OwnValues::new(first),
             position,
         };
-        let key = self.slab.insert_reserved(Seat { number, row });
+        let key = self.slab.insert_reserved(Member { number, row });
         self.last = number;
         Ok(SubId { number, key })
     }

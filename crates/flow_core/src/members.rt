@@ -8,7 +8,7 @@ ghost use Rattle.std.specs.Borrow.{sem};
 ghost use Rattle.slab.specs.Slab.{get};
 ghost use Rattle.flow_law.specs.Laws.{RisesTo};
 ghost use Rattle.flow_core.specs.SubId.{number_of};
-ghost use Rattle.flow_core.specs.Seats.{numbers, row_of, with_row, without_number, take_out};
+ghost use Rattle.flow_core.specs.Members.{numbers, row_of, with_row, without_number, take_out};
 
 mod enroll;
 
@@ -20,74 +20,74 @@ use std::marker::Model;
 
 /// What is kept of one subscriber.
 #[derive(Drop)]
-pub(crate) struct Seat<R> {
+pub(crate) struct Member<R> {
     pub number: u64,
     pub row: R,
 }
 
 /// The subscribers in the order of their numbers.
 #[derive(Drop)]
-pub(crate) struct Seats<R: Drop, A: Allocator> {
-    slab: Slab<Seat<R>, A>,
+pub(crate) struct Members<R: Drop, A: Allocator> {
+    slab: Slab<Member<R>, A>,
     last: u64,
 }
 
-impl<R: Drop, A: Allocator> Model for Seats<R, A> {
-    ghost use Rattle.flow_core.specs.Seats.{Seating, seating_of, IsSound};
+impl<R: Drop, A: Allocator> Model for Members<R, A> {
+    ghost use Rattle.flow_core.specs.Members.{Membership, membership_of, IsSound};
 
-    ghost Value = { Seating R };
+    ghost Value = { Membership R };
 
-    ghost view = { seating_of };
+    ghost view = { membership_of };
 
     ghost invariant = { IsSound };
 }
 
 /// The key of the subscriber of this number: at the hint, or else wherever it is found.
-fn key_of<R: Drop, A: Allocator>(slab: &Slab<Seat<R>, A>, id: SubId) -> Option<usize>
-    ensures found { IfSome result (λ key. IsSomeAnd (get slab.now key) (λ seat. seat.number ≡ number_of id)) }
-    ensures absent { IfNone result ((key : ℕ) (seat : Seat R) → get slab.now key ≡ Some seat → seat.number ≡ number_of id → ⊥) }
+fn key_of<R: Drop, A: Allocator>(slab: &Slab<Member<R>, A>, id: SubId) -> Option<usize>
+    ensures found { IfSome result (λ key. IsSomeAnd (get slab.now key) (λ member. member.number ≡ number_of id)) }
+    ensures absent { IfNone result ((key : ℕ) (member : Member R) → get slab.now key ≡ Some member → member.number ≡ number_of id → ⊥) }
 {
-    if let Some(seat) = slab.get(id.key)
-        && seat.number == id.number
+    if let Some(member) = slab.get(id.key)
+        && member.number == id.number
     {
         return Some(id.key);
     }
-    for (key, seat) in slab.iter() {
-        if seat.number == id.number {
+    for (key, member) in slab.iter() {
+        if member.number == id.number {
             return Some(key);
         }
     }
     None
 }
 
-impl<R: Drop, A: Allocator> Seats<R, A> {
-    ghost use Rattle.flow_core.specs.SeatsLends.{lends_row};
+impl<R: Drop, A: Allocator> Members<R, A> {
+    ghost use Rattle.flow_core.specs.MembersLends.{lends_row};
 
     pub(crate) fn new(alloc: A) -> Self
-        ensures empty { result.seats ≡ [] }
+        ensures empty { result.members ≡ [] }
         ensures last { result.last ≡ 0 }
     {
-        Seats {
+        Members {
             slab: Slab::new(alloc),
             last: 0,
         }
     }
 
     pub(crate) fn len(&self) -> usize
-        ensures value { result ≡ length self.now.seats }
+        ensures value { result ≡ length self.now.members }
         // In every state, so that a caller may take it from here: no two have one number.
-        ensures rising { RisesTo 0 (numbers self.now.seats) self.now.last }
+        ensures rising { RisesTo 0 (numbers self.now.members) self.now.last }
     {
         self.slab.len()
     }
 
     /// What is kept of a subscriber.
     pub(crate) fn get(&self, id: SubId) -> Option<&R>
-        ensures { option_copied result ≡ row_of (number_of id) self.now.seats }
+        ensures { option_copied result ≡ row_of (number_of id) self.now.members }
     {
         let key = key_of(&self.slab, id)?;
         match self.slab.get(key) {
-            Some(seat) => Some(&seat.row),
+            Some(member) => Some(&member.row),
             None => None,
         }
     }
@@ -97,11 +97,11 @@ impl<R: Drop, A: Allocator> Seats<R, A> {
         requires { self.old.last < number }
         ensures { MatchResult result
             (λ id. (number_of id ≡ number)
-            × (self.new.seats ≡ self.old.seats ++ record { number = number; row = row } ∷ [])
+            × (self.new.members ≡ self.old.members ++ record { number = number; row = row } ∷ [])
             × (self.new.last ≡ number))
             (λ refused. (refused ≡ row) × (self.new ≡ self.old)) }
     {
-        match self.slab.insert(Seat { number, row }) {
+        match self.slab.insert(Member { number, row }) {
             Ok(key) => {
                 self.last = number;
                 Ok(SubId { number, key })
@@ -113,11 +113,11 @@ impl<R: Drop, A: Allocator> Seats<R, A> {
     /// What is kept of a subscriber, for writing.
     pub(crate) fn get_mut(&mut self, id: SubId) -> Option<&mut R>
         ensures* writes_back { sem 𝓛 (lends_row R.row A.row A.Allocator self.entry (number_of id) result) }
-        ensures value { option_copied_mut result ≡ row_of (number_of id) self.old.seats }
+        ensures value { option_copied_mut result ≡ row_of (number_of id) self.old.members }
     {
         match key_of(&self.slab, id) {
             Some(key) => match self.slab.get_mut(key) {
-                Some(seat) => Some(&mut seat.row),
+                Some(member) => Some(&mut member.row),
                 None => None,
             },
             None => None,
@@ -126,7 +126,7 @@ impl<R: Drop, A: Allocator> Seats<R, A> {
 
     /// Keeps this row of a subscriber in place of the one before, if there is such a subscriber.
     pub(crate) fn set(&mut self, id: SubId, row: R)
-        ensures seats { self.new.seats ≡ with_row (number_of id) row self.old.seats }
+        ensures members { self.new.members ≡ with_row (number_of id) row self.old.members }
         ensures last { self.new.last ≡ self.old.last }
     {
         if let Some(kept) = self.get_mut(id) {
@@ -136,9 +136,9 @@ impl<R: Drop, A: Allocator> Seats<R, A> {
 
     /// Removes a subscriber, and gives what was kept of it.
     pub(crate) fn remove(&mut self, id: SubId) -> Option<R>
-        ensures value { result ≡ row_of (number_of id) self.old.seats }
-        ensures seats { self.new.seats ≡ without_number (number_of id) self.old.seats }
-        ensures one { self.new.seats ≡ take_out (number_of id) self.old.seats }
+        ensures value { result ≡ row_of (number_of id) self.old.members }
+        ensures members { self.new.members ≡ without_number (number_of id) self.old.members }
+        ensures one { self.new.members ≡ take_out (number_of id) self.old.members }
         ensures last { self.new.last ≡ self.old.last }
     {
         let key = key_of(&self.slab, id)?;

@@ -2,10 +2,10 @@
 use Rattle.std.specs.Prelude.{ℕ, Option}
 use Rattle.std.specs.Borrow.{LendsIf, Fml, RattleType, MutBor}
 use Rattle.std.specs.declared.alloc.Allocator.{Ghosts}
-use Rattle.flow_core.specs.contracts.seats.Seats.{the_row}
-use Rattle.flow_core.specs.Seats.{Seating, with_row}
+use Rattle.flow_core.specs.contracts.members.Members.{the_row}
+use Rattle.flow_core.specs.Members.{Membership, with_row}
 
 -- once the borrow r ends, the last row written through r is kept of the subscriber of this number, and at `None` all is as it was
-abbrev pub lends_row : (R A : RattleType) → Ghosts A.Denot → MutBor (Seating R.Denot) → ℕ → Option (MutBor R.Denot) → Fml
+abbrev pub lends_row : (R A : RattleType) → Ghosts A.Denot → MutBor (Membership R.Denot) → ℕ → Option (MutBor R.Denot) → Fml
 lends_row R A alloc s number r =
-    LendsIf (the_row R A alloc) R s r (λ row. record s.now { seats = with_row number row s.now.seats }) s.now
+    LendsIf (the_row R A alloc) R s r (λ row. record s.now { members = with_row number row s.now.members }) s.now
