@@ -51,21 +51,6 @@ place_round n last p end low_end at le near far =
     let rest : p + n ≡ last / n * n + (n - d) = omega (arith, here, near) in
     sym (mod-mul-add (last / n) n (n - d) low) ∙ ap (λ k. k % n) (sym rest) ∙ add-mod_right p n
 
--- the place behind a place
-pub place_next : (n place : ℕ) → place < n → place ≡ n - 1 → 0 ≡ (place + 1) % n
-place_next n place below end =
-    let whole : place + 1 ≡ 0 + n = omega (arith, below, end) in
-    sym (ap (λ k. k % n) whole ∙ add-mod_right 0 n ∙ mod-eq_of_lt (omega (arith, below)))
-
-pub place_within : (n place : ℕ) → place < n → (place ≡ n - 1 → ⊥) → place + 1 ≡ (place + 1) % n
-place_within n place below off = sym (mod-eq_of_lt less)
-  where
-    less : place + 1 < n
-    less = elim (leb_tells n (place + 1)) [
-      | inl over ↦ absurd (off (omega (arith, below, over.1)))
-      | inr under ↦ under.1
-    ]
-
 -- the place after the last one is that of the next position
 pub place_of_next : (n last end : ℕ) → end ≡ last % n → (end + 1) % n ≡ (last + 1) % n
 place_of_next n last end at = ap (λ k. (k + 1) % n) at ∙ mod-add-mod last n 1

@@ -59,17 +59,6 @@ pub resized : {T A : Type 0} (row new : List ℕ) (emitted floor last : ℕ) (me
     → AreSound (length row - 1) new emitted floor members last → AreSound (length new - 1) new emitted floor members last
 resized row new emitted floor last members same sound = subst (λ k. AreSound (k - 1) new emitted floor members last) (sym same) sound
 
-pub sound_at_first : {T A : Type 0} (window : ℕ) (row : List ℕ) → 0 < window → length row ≡ window + 1 → ((r : ℕ) → r < window + 1 → get_or row r 0 ≡ 0) → AreSound {T = T} {A = A} (length row - 1) row 0 0 [] 0
-sound_at_first {T} {A} window row some long zeros =
-    let same : length row - 1 ≡ window = omega (arith, long) in
-    subst (λ k. AreSound {T = T} {A = A} k row 0 0 [] 0) (sym same) (record {
-      some = some;
-      fits = record { long = long; counts = zeros; window = tt };
-      floor = omega arith;
-      count = omega arith;
-      last = omega arith;
-    })
-
 module _ {T A : Type 0} (row : List ℕ) (emitted floor last : ℕ) (members : List (Member (Row T A))) (sound : AreSound (length row - 1) row emitted floor members last) where
   abbrev w : ℕ
   w = length row - 1
