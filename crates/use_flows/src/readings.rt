@@ -1,6 +1,6 @@
-//! The last readings of a sensor.
+//! The last readings of a sensor: a type of one's own round a shared flow, and what is proved of it.
 ghost use Rattle.std.specs.Prelude.{◌≡◌, [], IfOk, OnOk, OnErr};
-ghost use Rattle.use_proved.specs.Readings.{with_reading};
+ghost use Rattle.use_flows.specs.Readings.{with_reading};
 
 use flow_core::SharedCore;
 use flow_law::{Config, FlowFault, FlowValue};
@@ -14,7 +14,7 @@ pub struct Readings<T: FlowValue> {
 }
 
 impl<T: FlowValue> Model for Readings<T> {
-    ghost use Rattle.use_proved.specs.Readings.{Latest, latest_of, KeepsReadings};
+    ghost use Rattle.use_flows.specs.Readings.{Latest, latest_of, KeepsReadings};
 
     ghost Value = { Latest T };
 

@@ -3,9 +3,9 @@ use Rattle.flow_law.specs.declared.call.SharedCall.TheVariants as call
 use Rattle.flow_law.specs.SharedHistory.{Replies, after}
 use Rattle.flow_law.specs.Standing.{StandsFor}
 use Rattle.flow_core.specs.SharedCore.{try_emit_reply}
-use Rattle.use_proved.specs.Readings.{with_reading}
-use Rattle.use_proved.proofs.ReadingsLemmas.{stands_after, added}
-use Rattle.use_proved.proofs.readings.Readings.add.Goals as goal
+use Rattle.use_flows.specs.Readings.{with_reading}
+use Rattle.use_flows.proofs.ReadingsLemmas.{stands_after, added}
+use Rattle.use_flows.proofs.readings.Readings.add.Goals as goal
 
 pub returns-clause-added : goal.returns-clause-added
 returns-clause-added g c =

@@ -1,7 +1,7 @@
 use Rattle.std.proofs.Common.{◌≡◌, subst}
 use Rattle.std.specs.Prelude.{IfOk}
-use Rattle.use_proved.proofs.ReadingsLemmas.{latest_is}
-use Rattle.use_proved.proofs.readings.Readings.latest.Goals as goal
+use Rattle.use_flows.proofs.ReadingsLemmas.{latest_is}
+use Rattle.use_flows.proofs.readings.Readings.latest.Goals as goal
 
 pub returns : goal.returns
 returns g c =

@@ -1,12 +1,8 @@
-//! The last readings of a sensor: a type of one's own round a shared flow, and what is proved of it.
-#![tactic(auto)]
-
-mod readings;
-
+//! The last readings of a sensor, in a type of one's own of which something is proved.
+use crate::readings::Readings;
 use anyhow::Result;
-use readings::Readings;
 
-fn main(rt: HostRuntime) -> Result<()> {
+pub fn show(rt: &HostRuntime) -> Result<()> {
     let mut readings = Readings::new(rt.alloc(), 3)?;
     for degrees in [18i64, 19, 21, 20] {
         readings.add(degrees)?;

@@ -13,7 +13,7 @@ use Rattle.flow_law.specs.SharedFlow.{Answer, answer, issuing, is_exhausted, cac
 use Rattle.flow_law.specs.EmitRule.{emit_case, appends, append, numbered, try_emit, try_emit_in}
 use Rattle.flow_law.specs.SharedHistory.{Replies, after, reply_by}
 use Rattle.flow_law.specs.Standing.{Core, StandsFor, least_position, first_needed}
-use Rattle.use_proved.specs.Readings.{IsUnread, last, latest_of, with_reading}
+use Rattle.use_flows.specs.Readings.{IsUnread, last, latest_of, with_reading}
 
 -- the last of the last values and of what follows them are the last of all
 last-append : {T : Type 0} (n : ℕ) (xs ys : List T) → last n (last n xs ++ ys) ≡ last n (xs ++ ys)

@@ -1,5 +1,5 @@
 //! A state flow of values of one's own.
-use crate::position::Position;
+use crate::one_thread::position::Position;
 use anyhow::Result;
 use flow_core::StateCore;
 use flow_law::Next;

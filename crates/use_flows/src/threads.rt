@@ -1,0 +1,23 @@
+//! A flow between two threads: one emits the numbers from 1 to 5, the other reads them and adds them up.
+mod reader;
+mod sender;
+
+use anyhow::Result;
+use flow_law::Config;
+use flow_shared::SharedFlow;
+use reader::Reader;
+use sender::Sender;
+use std::alloc::Global;
+use std::sync::Wait;
+use std::thread::{Threads, join};
+
+/// What the reading thread has added up.
+pub fn add_up<R: Wait + Threads + Sync>(rt: &R, alloc: Global) -> Result<i64> {
+    let (flow, mut seat) = SharedFlow::new(alloc, Config::new().extra(16))?;
+    let subscription = flow.subscribe(rt, &mut seat)?;
+    let mut sender = Sender::new(&flow, seat);
+    let mut reader = Reader::new(&flow, subscription);
+    let (sent, sum) = join(rt, || sender.send(rt, 1..6), || reader.add_up(rt, 5));
+    sent?;
+    Ok(sum?)
+}
