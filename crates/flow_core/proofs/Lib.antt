@@ -1,6 +1,7 @@
 pub mod CountLemmas
 pub mod RaisedLemmas
 pub mod SubscribersLemmas
+pub mod ReceivingLemmas
 pub mod PlaceLemmas
 pub mod QueueLemmas
 pub mod SlotLemmas

@@ -126,6 +126,18 @@ module _ {R : Type 0} where
         | false ↦ λ rest. ap (λ l. member ∷ l) (with_row_absent number row members rest)
       ] none
 
+  -- what is kept already is kept again
+  pub with_row_same : (number : ℕ) (row : R) (members : List (Member R)) → row_of number members ≡ Some row → with_row number row members ≡ members
+  with_row_same number row [] there = refl
+  with_row_same number row (member ∷ members) there =
+      elim (member.number == number) as (λ t. cond t (Some member.row) (row_of number members) ≡ Some row → (if t then member_with row member ∷ members else member ∷ with_row number row members) ≡ member ∷ members) [
+        | true ↦ λ here. ap (λ r. member_with r member ∷ members) (kept member.row row here)
+        | false ↦ λ rest. ap (λ l. member ∷ l) (with_row_same number row members rest)
+      ] there
+    where
+      kept : (x y : R) → Some x ≡ Some y → y ≡ x
+      kept x y e = cc
+
   pub without_number_absent : (number : ℕ) (members : List (Member R)) → row_of number members ≡ None → without_number number members ≡ members
   without_number_absent = without_absent
 

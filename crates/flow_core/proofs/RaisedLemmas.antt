@@ -1,6 +1,6 @@
 -- Subscribers whose positions are read with a floor: what a change of the rows is on the list.
 use Rattle.std.proofs.Common.{◌≡◌, ℕ, suc, ◌≤◌, ◌==◌, max, true, false, if◌then◌else◌, List, [], ◌∷◌, ◌++◌, length, map, Option, Some, None, refl, sym, ap, ◌∙◌, arith}
-use Rattle.std.specs.Option.{option_map, option_map_or, MatchOption}
+use Rattle.std.specs.Option.{option_map, option_map_or}
 use Rattle.flow_law.specs.declared.states.Subscriber.{Subscriber}
 use Rattle.flow_law.specs.SharedFlow.{position_of, stand_at, move_to, raise_to, without, own_of, leave_own, with_own}
 use Rattle.flow_core.specs.declared.members.Member.{Member}
@@ -9,7 +9,7 @@ use Rattle.flow_core.specs.Members.{row_of, with_row, without_number, take_out}
 use Rattle.flow_core.specs.Rows.{moved, left}
 use Rattle.flow_core.specs.PositionCounts as counts
 use Rattle.flow_core.specs.PositionCounts.{AreWithin}
-use Rattle.flow_core.specs.Subscribers.{subscriber_of, read, TakesOwn}
+use Rattle.flow_core.specs.Subscribers.{subscriber_of, read}
 use Rattle.flow_core.proofs.SubscriberLemmas as seen
 
 pub apart_options : {X : Type 0} {x : X} → None ≡ Some x → ⊥
@@ -81,21 +81,3 @@ module _ (floor : ℕ) where
   append-row members number position row at above =
       let same : max row.position floor ≡ position = omega (arith, at, above) in
       seen.insert-row (subscriber_of floor) number row members ∙ ap (λ p. read floor members ++ record { number = number; own = row.own; position = p } ∷ []) same
-
-  -- ---- own values
-
-  with_own_same : {T : Type 0} (number : ℕ) (us : List (Subscriber T)) → with_own number (own_of number us) us ≡ us
-  with_own_same number [] = refl
-  with_own_same number (u ∷ us) = elim (u.number == number) as (λ t. (if t then leave_own (if t then u.own else own_of number us) u ∷ us else u ∷ with_own number (if t then u.own else own_of number us) us) ≡ u ∷ us) [
-    | true ↦ refl
-    | false ↦ ap (λ l. u ∷ l) (with_own_same number us)
-  ]
-
-  -- after the first of a row's own values was taken, if there was one
-  pub takes-row : {T A : Type 0} (number : ℕ) (row : Row T A) (taken : Option T) (rest : List T) (members : List (Member (Row T A))) → row_of number members ≡ Some row
-      → MatchOption taken ((row.own ≡ []) × (rest ≡ [])) (λ first. row.own ≡ first ∷ rest)
-      → TakesOwn number taken (read floor members) (read floor (with_row number (left rest row) members))
-  takes-row number row None rest members found h =
-      let was = own_of-row number row members found in
-      (was ∙ h.0, with_own-row number rest row members found ∙ ap (λ o. with_own number o (read floor members)) (h.1 ∙ sym h.0 ∙ sym was) ∙ with_own_same number (read floor members))
-  takes-row number row (Some value) rest members found h = (rest, own_of-row number row members found ∙ h, with_own-row number rest row members found)

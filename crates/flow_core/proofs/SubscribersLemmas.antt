@@ -11,7 +11,7 @@ use Rattle.flow_core.specs.declared.members.enroll.Row.{Row}
 use Rattle.flow_core.specs.Members.{row_of, with_row}
 use Rattle.flow_core.specs.Members as slab
 use Rattle.flow_core.specs.Rows.{moved, left}
-use Rattle.flow_core.specs.PositionCounts.{AreWithin, count_of, Fits, take_out}
+use Rattle.flow_core.specs.PositionCounts.{AreWithin, count_of, Fits, take_out, entered, left_at}
 use Rattle.flow_core.specs.Subscribers.{Standing, read, AreSound}
 use Rattle.flow_core.proofs.CountLemmas.{blocked_by_count, fits-append, fits-shift, apart, fits-enroll, fits-take_out, fits-move_to, found_within, found_counted, count_bound, counts_bound}
 use Rattle.flow_core.proofs.MemberLemmas.{length-with_row}
@@ -20,12 +20,6 @@ use Rattle.flow_core.proofs.RaisedLemmas.{read_higher, length-read, raise_to_las
 -- one row of counts after the value that was emitted, and after a shift
 abbrev pub shifted : List ℕ → ℕ → List ℕ
 shifted row p = set (set row ((p + 1) % length row) (get_or row (p % length row) 0 + get_or row ((p + 1) % length row) 0)) (p % length row) 0
-
-abbrev pub entered : List ℕ → ℕ → List ℕ
-entered row p = set row (p % length row) (get_or row (p % length row) 0 + 1)
-
-abbrev pub left_at : List ℕ → ℕ → List ℕ
-left_at row p = set row (p % length row) (get_or row (p % length row) 0 - 1)
 
 pub length-shifted : (row : List ℕ) (p : ℕ) → length (shifted row p) ≡ length row
 length-shifted row p = length-set _ (p % length row) 0 ∙ length-set row _ _

@@ -4,6 +4,7 @@ pub mod Queue
 pub mod Members
 pub mod Rows
 pub mod Subscribers
+pub mod Receiving
 pub mod MembersLends
 pub mod SharedCore
 pub mod StateCore

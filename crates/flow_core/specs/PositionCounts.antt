@@ -1,5 +1,5 @@
 -- A row of counts: how many subscribers stand at each position. No public clause cites this module.
-use Rattle.std.specs.Prelude.{◌≡◌, ℕ, ◌+◌, ◌<◌, ◌≤◌, ◌%◌, ◌==◌, [], ◌∷◌, List, length, get_or, suc, if◌then◌else◌}
+use Rattle.std.specs.Prelude.{◌≡◌, ℕ, ◌+◌, ◌-◌, ◌<◌, ◌≤◌, ◌%◌, ◌==◌, [], ◌∷◌, List, length, get_or, set, suc, if◌then◌else◌}
 use Rattle.flow_law.specs.declared.states.Subscriber.{Subscriber}
 use Rattle.flow_core.specs.declared.position_counts.PositionCounts.TheInside.{Inside}
 
@@ -21,6 +21,14 @@ pub record IsLeast (row : List ℕ) (start first least : ℕ) : Type 0 where
   pub to : least ≤ first
   pub before : (p : ℕ) → start ≤ p → p < least → get_or row (p % length row) 0 ≡ 0
   pub here : least < first → 0 < get_or row (least % length row) 0
+
+-- one more stands at a position
+abbrev pub entered : List ℕ → ℕ → List ℕ
+entered row p = set row (p % length row) (get_or row (p % length row) 0 + 1)
+
+-- one less stands there
+abbrev pub left_at : List ℕ → ℕ → List ℕ
+left_at row p = set row (p % length row) (get_or row (p % length row) 0 - 1)
 
 module _ {T : Type 0} where
   -- every position is one of the last w + 1

@@ -2,7 +2,6 @@
 use Rattle.std.specs.Prelude.{◌≡◌, ℕ, ◌+◌, ◌-◌, ◌<◌, ◌≤◌, ◌^◌, max, Bool, nat_le, List, [], ◌∷◌, map, length, Option, Some, None}
 use Rattle.std.specs.List.{list_any}
 use Rattle.flow_law.specs.declared.states.Subscriber.{Subscriber}
-use Rattle.flow_law.specs.SharedFlow.{own_of, with_own}
 use Rattle.flow_core.specs.declared.members.Member.{Member}
 use Rattle.flow_core.specs.declared.members.enroll.Row.{Row}
 use Rattle.flow_core.specs.declared.subscribers.Subscribers.TheInside.{Inside}
@@ -52,8 +51,3 @@ module _ {T A : Type 0} where
 
   abbrev pub IsSound : Inside T A → Type 0
   IsSound s = AreSound (length s.counts.row - 1) s.counts.row s.counts.emitted s.floor s.members.members s.members.last
-
--- the first of what was left of a subscriber's own values was taken, and nothing where nothing was left
-abbrev pub TakesOwn : {T : Type 0} → ℕ → Option T → List (Subscriber T) → List (Subscriber T) → Type 0
-TakesOwn number None old new = (own_of number old ≡ []) × (new ≡ old)
-TakesOwn {T} number (Some value) old new = (own : List T) × (own_of number old ≡ value ∷ own) × (new ≡ with_own number own old)

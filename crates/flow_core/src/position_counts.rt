@@ -1,6 +1,6 @@
 //! How many subscribers stand at each position, so that one look tells whether somebody is a whole window behind.
 ghost use Rattle.std.specs.Prelude.{◌≡◌, ℕ, ◌+◌, ◌-◌, ◌<◌, ◌≤◌, ◌%◌, ◌^◌, length, get_or, set, replicate, IfOk};
-ghost use Rattle.flow_core.specs.PositionCounts.{IsLeast};
+ghost use Rattle.flow_core.specs.PositionCounts.{IsLeast, entered, left_at};
 
 use std::alloc::{AllocError, Allocator};
 use std::marker::Model;
@@ -61,15 +61,6 @@ impl<A: Allocator> PositionCounts<A> {
         ensures { result ≡ length self.now.row - 1 }
     {
         self.row.len() - 1
-    }
-
-    /// The position behind one that is not the last.
-    pub(crate) fn following(&self, position: u64) -> u64
-        requires { position < self.now.emitted }
-        ensures { result ≡ position + 1 }
-    {
-        let others = self.emitted - position - 1;
-        self.emitted - others
     }
 
     fn place_of(&self, position: u64) -> usize
@@ -143,8 +134,7 @@ impl<A: Allocator> PositionCounts<A> {
         requires past { position ≤ self.old.emitted }
         requires near { self.old.emitted < position + length self.old.row }
         requires room { get_or self.old.row (position % length self.old.row) 0 + 1 < 2 ^ 64 }
-        ensures row { self.new.row ≡ set self.old.row (position % length self.old.row)
-            (get_or self.old.row (position % length self.old.row) 0 + 1) }
+        ensures row { self.new.row ≡ entered self.old.row position }
         ensures emitted { self.new.emitted ≡ self.old.emitted }
     {
         let place = self.place_of(position);
@@ -156,12 +146,28 @@ impl<A: Allocator> PositionCounts<A> {
         requires past { position ≤ self.old.emitted }
         requires near { self.old.emitted < position + length self.old.row }
         requires some { 0 < get_or self.old.row (position % length self.old.row) 0 }
-        ensures row { self.new.row ≡ set self.old.row (position % length self.old.row)
-            (get_or self.old.row (position % length self.old.row) 0 - 1) }
+        ensures row { self.new.row ≡ left_at self.old.row position }
         ensures emitted { self.new.emitted ≡ self.old.emitted }
     {
         let place = self.place_of(position);
         self.set_count(place, self.count(place) - 1);
+    }
+
+    /// One who stands at a position, which is not the last one, goes one further. Gives where that is.
+    pub(crate) fn move_on(&mut self, position: u64) -> u64
+        requires past { position < self.old.emitted }
+        requires near { self.old.emitted < position + length self.old.row }
+        requires some { 0 < get_or self.old.row (position % length self.old.row) 0 }
+        requires room { get_or (left_at self.old.row position) ((position + 1) % length (left_at self.old.row position)) 0 + 1 < 2 ^ 64 }
+        ensures next { result ≡ position + 1 }
+        ensures row { self.new.row ≡ entered (left_at self.old.row position) (position + 1) }
+        ensures emitted { self.new.emitted ≡ self.old.emitted }
+    {
+        let others = self.emitted - position - 1;
+        let next = self.emitted - others;
+        self.leave(position);
+        self.enter(next);
+        next
     }
 
     /// All who stand at a position, which is not the last one, go one further.

@@ -18,7 +18,7 @@ mod subscribe;
 use crate::copies::copies;
 use crate::queue::Queue;
 use crate::sub_id::SubId;
-use crate::subscribers::Subscribers;
+use crate::subscribers::{Received, Subscribers};
 use circular_buffer::HeapCircularBuffer;
 use flow_law::{Config, FlowFault, FlowValue, Next, Overflow};
 use std::alloc::{Allocator, Global};
@@ -242,29 +242,14 @@ impl<T: FlowValue, A: Allocator + Copy> SharedCore<T, A> {
     pub fn next(&mut self, id: SubId) -> Result<Next<T>, FlowFault>
         ensures documented { Conforms self.old (call.TakeNext (number_of id)) (next_reply result) self.new }
     {
-        match self.subscribers.take_own(id) {
-            Some(value) => Ok(Next::Value(value)),
-            None => self.next_emitted(id),
-        }
-    }
-
-    /// The emitted value that a subscriber without own values receives next.
-    fn next_emitted(&mut self, id: SubId) -> Result<Next<T>, FlowFault>
-        requires { flow.own_of (number_of id) self.old.subscribers ≡ [] }
-        ensures documented { Conforms self.old (call.TakeNext (number_of id)) (next_reply result) self.new }
-    {
-        let Some(position) = self.subscribers.position_of(id) else {
-            return Ok(Next::Gone);
-        };
-        let Some(value) = self.values.get(self.place_of(position)) else {
-            return Ok(Next::Empty);
-        };
-        match value.try_copy() {
-            Ok(copy) => {
-                self.subscribers.advance(id, position);
+        match self.subscribers.receive(id, &self.values) {
+            Ok(Received::Own(value)) => Ok(Next::Value(value)),
+            Ok(Received::Emitted(value)) => {
                 self.settle();
-                Ok(Next::Value(copy))
+                Ok(Next::Value(value))
             }
+            Ok(Received::Empty) => Ok(Next::Empty),
+            Ok(Received::Gone) => Ok(Next::Gone),
             Err(fault) => Err(fault),
         }
     }

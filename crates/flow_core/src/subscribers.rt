@@ -3,11 +3,14 @@ ghost use Rattle.std.specs.Prelude.{◌≡◌, ◌+◌, ◌-◌, ◌<◌, ◌≤
 ghost use Rattle.flow_law.specs.SharedFlow as flow;
 ghost use Rattle.flow_law.specs.Standing.{least_position};
 ghost use Rattle.flow_core.specs.SubId.{number_of};
-ghost use Rattle.flow_core.specs.Subscribers.{TakesOwn, is_full};
+ghost use Rattle.flow_core.specs.Subscribers.{is_full};
+
+mod receive;
 
 use crate::members::{Members, Row};
 use crate::position_counts::PositionCounts;
 use crate::sub_id::SubId;
+pub(crate) use receive::Received;
 use std::alloc::{AllocError, Allocator};
 use std::marker::Model;
 
@@ -67,15 +70,6 @@ impl<T: Drop, A: Allocator> Subscribers<T, A> {
         self.counts.at_oldest() > 0
     }
 
-    pub(crate) fn position_of(&self, id: SubId) -> Option<u64>
-        ensures { result ≡ flow.position_of (number_of id) self.now.list }
-    {
-        match self.members.get(id) {
-            Some(row) => Some(row.position.max(self.floor)),
-            None => None,
-        }
-    }
-
     /// The least of `first` and all positions, which are at least `start`.
     pub(crate) fn least(&self, start: u64, first: u64) -> u64
         requires below { start ≤ least_position first self.now.list }
@@ -125,17 +119,6 @@ impl<T: Drop, A: Allocator> Subscribers<T, A> {
         }
     }
 
-    /// Takes the first of what is left of a subscriber's own values.
-    pub(crate) fn take_own(&mut self, id: SubId) -> Option<T>
-        ensures taken { TakesOwn (number_of id) result self.old.list self.new.list }
-        ensures same { self.new ≡ record self.old { list = self.new.list } }
-    {
-        let Some(row) = self.members.get_mut(id) else {
-            return None;
-        };
-        row.own.pop_front()
-    }
-
     /// Adds a subscriber with its own first values. A refusal hands them back.
     pub(crate) fn push(
         &mut self,
@@ -160,21 +143,6 @@ impl<T: Drop, A: Allocator> Subscribers<T, A> {
             }
             Err(first) => Err(first),
         }
-    }
-
-    /// A subscriber goes one further.
-    pub(crate) fn advance(&mut self, id: SubId, position: u64)
-        requires there { flow.position_of (number_of id) self.old.list ≡ Some position }
-        requires more { position < self.old.emitted }
-        ensures { self.new ≡ record self.old { list = flow.move_to (number_of id) (position + 1) self.old.list } }
-    {
-        let next = self.counts.following(position);
-        self.counts.leave(position);
-        self.counts.enter(next);
-        let Some(row) = self.members.get_mut(id) else {
-            return;
-        };
-        row.position = next;
     }
 
     /// Removes a subscriber, and answers whether it was there.

@@ -1,44 +1,141 @@
-use Rattle.std.proofs.Common.{◌≡◌, ◌∷◌, sym, ap, ◌∙◌, subst, arith}
+use Rattle.std.proofs.Common.{◌≡◌, ◌<◌, ◌≤◌, ◌-◌, ◌+◌, ◌∷◌, [], length, None, Some, sym, ap, ◌∙◌, subst, refl, arith}
+use Rattle.std.specs.List.{slice_get}
+use Rattle.std.specs.Option.{IfSome}
 use Rattle.flow_law.specs.declared.call.SharedReply.TheVariants as reply
-use Rattle.flow_law.specs.SharedFlow.{own_of, with_own}
-use Rattle.flow_law.specs.SharedStep.{keep_own}
+use Rattle.flow_law.specs.SharedFlow.{own_of, position_of, values, with_own, move_to, cache_start}
+use Rattle.flow_law.specs.SharedStep.{advance, keep_own, settle}
 use Rattle.flow_law.specs.SharedHistory.{reply_by}
 use Rattle.flow_law.specs.Standing.{StandsFor}
-use Rattle.flow_law.specs.Covering.{kept_start}
-use Rattle.flow_law.proofs.CoveringLemmas.{least_position-with_own}
-use Rattle.flow_law.proofs.HoldingLemmas.{stands-own}
+use Rattle.flow_law.specs.Covering.{Covers, kept_start}
+use Rattle.flow_law.proofs.CoveringLemmas.{covers-subscribers, least_position-move_to, least_position-with_own}
+use Rattle.flow_law.proofs.HoldingLemmas.{covers, same_value, stands-own}
+use Rattle.std.specs.Prelude.{Ok}
+use Rattle.flow_core.specs.Receiving.{Receives}
 use Rattle.flow_core.specs.SharedCore.{window_of, fields_of, IsSound}
-use Rattle.flow_core.proofs.CallLemmas.{next_own}
-use Rattle.flow_core.proofs.RingLemmas.{within-with_own}
+use Rattle.flow_core.proofs.CallLemmas.{next_own, next_value, next_empty, next_wants_memory}
+use Rattle.flow_core.proofs.RingLemmas.{found_below, least_at, within_at, within-moved, within-with_own}
 use Rattle.flow_core.proofs.SoundLemmas.{sound_subscribers}
 use Rattle.flow_core.proofs.shared.SharedCore.next.Goals as goal
+
+pub receive-requires-clause-kept : goal.receive-requires-clause-kept
+receive-requires-clause-kept g c =
+    let i = c.self.inside in
+    let number = c.args.id.number in
+    elim (position_of number i.subscribers.list) as (λ o. position_of number i.subscribers.list ≡ o → IfSome o (λ p. i.subscribers.emitted - length i.values.items ≤ p)) [
+      | None ↦ λ at. tt
+      | Some p ↦ λ at. omega (arith, least_at (kept_start (fields_of i)) number p i.subscribers.list at, c.self.invariant.enough)
+    ] refl
 
 pub invariant_of-self : goal.invariant_of-self
 invariant_of-self g c =
     let i = c.self.inside in
     let number = c.args.id.number in
-    let own = c.in-Some.ensures.taken.0 in
-    let standing = c.in-Some.ensures.same ∙ ap (λ l. record i.subscribers { list = l }) c.in-Some.ensures.taken.2 in
-    subst (λ u. IsSound (record i { subscribers = u })) (sym standing)
+    let given = subst (λ r. Receives number i.values.items i.subscribers (Ok r) c.receive.new.self) c.in-Ok-Own.field-0-is c.in-Ok-Own.ensures in
+    let own = given.0 in
+    subst (λ u. IsSound (record i { subscribers = u })) (sym given.2)
     (sound_subscribers i (with_own number own i.subscribers.list) i.subscribers.floor c.self.invariant
     (within-with_own i.subscribers.floor i.subscribers.emitted (window_of i.config) number own i.subscribers.list c.self.invariant.within) c.self.invariant.floor
     (omega (arith, least_position-with_own (kept_start (fields_of i)) number own i.subscribers.list)))
 
-pub returns-in-Some : goal.returns-in-Some
-returns-in-Some g c = record {
+pub returns-in-Ok-Own : goal.returns-in-Ok-Own
+returns-in-Ok-Own g c = record {
   documented = (
     λ s stands.
         let i = c.self.inside in
         let number = c.args.id.number in
-        let own = c.in-Some.ensures.taken.0 in
-        let standing = c.in-Some.ensures.same ∙ ap (λ l. record i.subscribers { list = l }) c.in-Some.ensures.taken.2 in
+        let given = subst (λ r. Receives number i.values.items i.subscribers (Ok r) c.receive.new.self) c.in-Ok-Own.field-0-is c.in-Ok-Own.ensures in
+        let own = given.0 in
         let within : StandsFor (fields_of i) s = subst (λ k. StandsFor k s) (sym c.self.view_is) stands in
-        let mine : own_of number s.subscribers ≡ c.in-Some.value ∷ own = ap (own_of number) (sym within.subscribers) ∙ c.in-Some.ensures.taken.1 in
-        let all = next_own number c.in-Some.value own s mine in (
+        let mine : own_of number s.subscribers ≡ c.in-Ok-Own.value ∷ own = ap (own_of number) (sym within.subscribers) ∙ given.1 in
+        let all = next_own number c.in-Ok-Own.value own s mine in (
           sym (ap (λ a. reply_by reply.Received a.reply) all),
-          subst (λ t. StandsFor (fields_of (record i { subscribers = c.take_own.new.self })) t) (sym (ap (λ a. a.after) all))
-              (subst (λ u. StandsFor (fields_of (record i { subscribers = u })) (keep_own number own s)) (sym standing) (stands-own (fields_of i) s number own within)),
+          subst (λ t. StandsFor (fields_of (record i { subscribers = c.receive.new.self })) t) (sym (ap (λ a. a.after) all))
+              (subst (λ u. StandsFor (fields_of (record i { subscribers = u })) (keep_own number own s)) (sym given.2) (stands-own (fields_of i) s number own within)),
         ),
     tt,
+  );
+}
+
+pub returns-in-Ok-Empty : goal.returns-in-Ok-Empty
+returns-in-Ok-Empty g c = record {
+  documented = (
+    λ s stands.
+        let i = c.self.inside in
+        let number = c.args.id.number in
+        let given = subst (λ r. Receives number i.values.items i.subscribers (Ok r) c.receive.new.self) c.in-Ok-Empty.field-0-is c.in-Ok-Empty.ensures in
+        let p = given.0 in
+        let at = given.1 in
+        let within : StandsFor (fields_of i) s = subst (λ k. StandsFor k s) (sym c.self.view_is) stands in
+        let here : position_of number s.subscribers ≡ Some p = ap (position_of number) (sym within.subscribers) ∙ at.1 in
+        let none : own_of number s.subscribers ≡ [] = ap (own_of number) (sym within.subscribers) ∙ at.0 in
+        let value : slice_get (values s) p ≡ None = same_value (fields_of i) s number p within c.self.invariant.reset_mark here ∙ at.2 in
+        let all = next_empty number p s none here value in (
+          sym (ap (λ a. reply_by reply.Received a.reply) all),
+          subst (λ t. StandsFor (fields_of (record i { subscribers = c.receive.new.self })) t) (sym (ap (λ a. a.after) all))
+              (subst (λ u. StandsFor (fields_of (record i { subscribers = u })) s) (sym given.2) within),
+        ),
+    tt,
+  );
+}
+
+pub invariant_of-self-in-Ok-Emitted : goal.invariant_of-self-in-Ok-Emitted
+invariant_of-self-in-Ok-Emitted g c =
+    let i = c.self.inside in
+    let number = c.args.id.number in
+    let given = subst (λ r. Receives number i.values.items i.subscribers (Ok r) c.receive.new.self) c.in-Ok-Emitted.field-0-is c.in-Ok-Emitted.ensures in
+    let p = given.0 in
+    let at = given.1 in
+    let below = found_below (p - (i.subscribers.emitted - length i.values.items)) i.values.items c.in-Ok-Emitted.value at.2 in
+    let held = c.self.invariant.held in
+    let more : p < i.subscribers.emitted = omega (arith, below, held) in
+    let stood = within_at i.subscribers.floor i.subscribers.emitted (window_of i.config) number p i.subscribers.list c.self.invariant.within at.1 in
+    let later : IfSome (position_of number i.subscribers.list) (λ q. q ≤ p + 1) = rw at.1 (omega arith) in
+    subst (λ u. IsSound (record i { subscribers = u })) (sym given.2)
+    (sound_subscribers i (move_to number (p + 1) i.subscribers.list) i.subscribers.floor c.self.invariant
+    (within-moved i.subscribers.floor i.subscribers.emitted (window_of i.config) number (p + 1) i.subscribers.list c.self.invariant.within (omega (arith, stood.0)) (omega (arith, more)) (omega (arith, stood.2)))
+    c.self.invariant.floor (least_position-move_to (kept_start (fields_of i)) number (p + 1) i.subscribers.list later))
+
+pub returns-in-Ok-Emitted : goal.returns-in-Ok-Emitted
+returns-in-Ok-Emitted g c = record {
+  documented = (
+    λ s stands.
+        let i = c.self.inside in
+        let number = c.args.id.number in
+        let given = subst (λ r. Receives number i.values.items i.subscribers (Ok r) c.receive.new.self) c.in-Ok-Emitted.field-0-is c.in-Ok-Emitted.ensures in
+        let p = given.0 in
+        let at = given.1 in
+        let within : StandsFor (fields_of i) s = subst (λ k. StandsFor k s) (sym c.self.view_is) stands in
+        let covered : Covers (fields_of i) s = covers (fields_of i) s within in
+        let here : position_of number s.subscribers ≡ Some p = ap (position_of number) (sym within.subscribers) ∙ at.1 in
+        let none : own_of number s.subscribers ≡ [] = ap (own_of number) (sym within.subscribers) ∙ at.0 in
+        let value : slice_get (values s) p ≡ Some c.in-Ok-Emitted.value = same_value (fields_of i) s number p within c.self.invariant.reset_mark here ∙ at.2 in
+        let all = next_value number p c.in-Ok-Emitted.value s none here value in
+        let later : IfSome (position_of number s.subscribers) (λ q. q ≤ p + 1) = rw here (omega arith) in
+        let moved = covers-subscribers (fields_of i) s (move_to number (p + 1) i.subscribers.list) (move_to number (p + 1) s.subscribers) i.issued s.issued covered
+        (ap (move_to number (p + 1)) within.subscribers) within.issued (least_position-move_to (cache_start s) number (p + 1) s.subscribers later) in
+        let settled = c.settle.ensures (advance number (p + 1) s) (subst (λ u. Covers (fields_of (record i { subscribers = u })) (advance number (p + 1) s)) (sym given.2) moved) in
+        (sym (ap (λ a. reply_by reply.Received a.reply) all), subst (λ t. StandsFor c.settle.new.self t) (sym (ap (λ a. a.after) all)) settled),
+    tt,
+  );
+}
+
+pub returns-in-Err : goal.returns-in-Err
+returns-in-Err g c = record {
+  documented = (
+    λ s stands.
+        let i = c.self.inside in
+        let number = c.args.id.number in
+        let p = c.in-Err.ensures.0 in
+        let x = c.in-Err.ensures.1 in
+        let at = c.in-Err.ensures.2 in
+        let within : StandsFor (fields_of i) s = subst (λ k. StandsFor k s) (sym c.self.view_is) stands in
+        let here : position_of number s.subscribers ≡ Some p = ap (position_of number) (sym within.subscribers) ∙ at.1 in
+        let none : own_of number s.subscribers ≡ [] = ap (own_of number) (sym within.subscribers) ∙ at.0 in
+        let value : slice_get (values s) p ≡ Some x = same_value (fields_of i) s number p within c.self.invariant.reset_mark here ∙ at.2 in
+        let all = next_value number p x s none here value in (
+          rw c.in-Err.ensures.3 (next_wants_memory number x s (settle (advance number (p + 1) s)) none all),
+          subst (λ u. StandsFor (fields_of (record i { subscribers = u })) s) (sym c.in-Err.ensures.4) within,
+        ),
+    ap (λ u. fields_of (record c.self.inside { subscribers = u })) c.in-Err.ensures.4 ∙ c.self.view_is,
   );
 }

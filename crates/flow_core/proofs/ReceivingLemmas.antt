@@ -1,0 +1,88 @@
+-- What `receive` shows of a subscriber whose row was found: where it stands, and what the rows are after each case.
+use Rattle.std.proofs.Common.{◌≡◌, ℕ, ◌+◌, ◌-◌, ◌<◌, ◌≤◌, max, List, [], length, Some, None, refl, sym, ap, subst, ◌∙◌, arith}
+use Rattle.std.specs.Option.{option_map, IfSome}
+use Rattle.flow_law.specs.SharedFlow.{position_of, own_of, with_own, move_to}
+use Rattle.flow_core.specs.declared.members.Member.{Member}
+use Rattle.flow_core.specs.declared.members.enroll.Row.{Row}
+use Rattle.flow_core.specs.declared.subscribers.Subscribers.TheInside.{Inside}
+use Rattle.flow_core.specs.Members.{row_of, with_row}
+use Rattle.flow_core.specs.Rows.{moved, left}
+use Rattle.flow_core.specs.PositionCounts.{entered, left_at}
+use Rattle.flow_core.specs.Subscribers.{Standing, standing_of, read, AreSound, IsSound}
+use Rattle.flow_core.proofs.MemberLemmas.{with_row_same}
+use Rattle.flow_core.proofs.RaisedLemmas.{position_of-row, own_of-row, own_of-none, with_own-row, move_to-row}
+use Rattle.flow_core.proofs.SubscribersLemmas.{took_own, above_floor, advanced}
+
+module _ {T A : Type 0} (s : Inside T A) (number : ℕ) where
+  abbrev pub position_in : Row T A → ℕ
+  position_in row = max row.position s.floor
+
+  -- the subscribers with this row of the one of this number
+  abbrev pub putting : Row T A → Inside T A
+  putting row = record s { members = record s.members { members = with_row number row s.members.members } }
+
+  pub nobody : row_of number s.members.members ≡ None → (own_of number (standing_of s).list ≡ []) × (position_of number (standing_of s).list ≡ None)
+  nobody none = (own_of-none s.floor number s.members.members none, position_of-row s.floor number s.members.members ∙ ap (option_map position_in) none)
+
+  module _ (row : Row T A) (found : row_of number s.members.members ≡ Some row) where
+    pub stands_at : position_of number (standing_of s).list ≡ Some (position_in row)
+    stands_at = position_of-row s.floor number s.members.members ∙ ap (option_map position_in) found
+
+    -- what is kept of all positions holds of this one
+    pub kept_here : (first : ℕ) → IfSome (position_of number (standing_of s).list) (λ position. first ≤ position) → first ≤ position_in row
+    kept_here first kept = subst (λ p. IfSome p (λ position. first ≤ position)) stands_at kept
+
+    pub own_left : own_of number (standing_of s).list ≡ row.own
+    own_left = own_of-row s.floor number row s.members.members found
+
+    pub takes : (own : List T) → standing_of (putting (left own row)) ≡ record (standing_of s) { list = with_own number own (standing_of s).list }
+    takes own = ap (λ l. record (standing_of s) { list = l }) (with_own-row s.floor number own row s.members.members found)
+
+    pub takes_sound : (own : List T) → IsSound s → IsSound (putting (left own row))
+    takes_sound own sound = took_own s.counts.row s.counts.emitted s.floor s.members.last s.members.members sound number own row found
+
+    -- nothing of one's own was left
+    module _ (own : List T) (taken : (row.own ≡ []) × (own ≡ [])) where
+      pub none_left : own_of number (standing_of s).list ≡ []
+      none_left = own_left ∙ taken.0
+
+      kept : own ≡ row.own
+      kept = taken.1 ∙ sym taken.0
+
+      same : putting (left own row) ≡ s
+      same = ap (λ o. putting (left o row)) kept ∙ ap (λ (members : List (Member (Row T A))). record s { members = record s.members { members = members } }) (with_row_same number row s.members.members found)
+
+      pub stays : standing_of (putting (left own row)) ≡ standing_of s
+      stays = ap standing_of same
+
+      pub stays_sound : IsSound s → IsSound (putting (left own row))
+      stays_sound sound = subst IsSound (sym same) sound
+
+      -- it stands one further
+      module _ (sound : IsSound s) (more : position_in row < s.counts.emitted) (next : ℕ) (is : next ≡ position_in row + 1) where
+        abbrev pub going : Row T A
+        going = record { own = own; position = next }
+
+        abbrev pub gone : List ℕ → Inside T A
+        gone counts = record s {
+          members = record s.members { members = with_row number (record { own = own; position = next }) s.members.members };
+          counts = record s.counts { row = counts };
+        }
+
+        moves : going ≡ moved (position_in row + 1) row
+        moves = ap (λ o. record { own = o; position = next }) kept ∙ ap (λ p. record { own = row.own; position = p }) is
+
+        pub goes : (counts : List ℕ) → length counts ≡ length s.counts.row
+            → standing_of (gone counts) ≡ record (standing_of s) { list = move_to number (position_in row + 1) (standing_of s).list }
+        goes counts long =
+            let above : s.floor ≤ position_in row + 1 = omega arith in
+            let list : read s.floor (with_row number going s.members.members) ≡ move_to number (position_in row + 1) (standing_of s).list =
+            ap (λ r. read s.floor (with_row number r s.members.members)) moves ∙ move_to-row s.floor number (position_in row + 1) row s.members.members above found in
+            ap (λ l. record (standing_of s) { list = l; window = length counts - 1 }) list
+            ∙ ap (λ k. record (standing_of s) { list = move_to number (position_in row + 1) (standing_of s).list; window = k - 1 }) long
+
+        pub goes_sound : IsSound (gone (entered (left_at s.counts.row (position_in row)) (position_in row + 1)))
+        goes_sound =
+            let row_after = entered (left_at s.counts.row (position_in row)) (position_in row + 1) in
+            subst (λ r. AreSound (length row_after - 1) row_after s.counts.emitted s.floor (with_row number r s.members.members) s.members.last) (sym moves)
+            (advanced s.counts.row s.counts.emitted s.floor s.members.last s.members.members sound number (position_in row) stands_at row found more)

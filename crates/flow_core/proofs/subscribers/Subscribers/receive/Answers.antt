@@ -1,0 +1,169 @@
+use Rattle.std.proofs.Common.{◌≡◌, ◌+◌, ◌-◌, ◌<◌, ◌≤◌, ◌%◌, ◌^◌, length, get_or, Some, None, refl, sym, ap, subst, ◌∙◌, arith}
+use Rattle.std.specs.List.{slice_get}
+use Rattle.std.specs.Option.{IfSome}
+use Rattle.std.specs.Prelude.{Ok, Err}
+use Rattle.std.proofs.lemmas.List.{length-set}
+use Rattle.flow_law.specs.SharedFlow.{position_of}
+use Rattle.flow_core.specs.declared.subscribers.receive.Received.TheVariants.{Gone, Own, Emitted, Empty}
+use Rattle.flow_core.specs.Members.{row_of, with_row}
+use Rattle.flow_core.specs.Rows.{left}
+use Rattle.flow_core.specs.PositionCounts.{entered, left_at}
+use Rattle.flow_core.specs.Subscribers.{Standing, standing_of, AreSound}
+use Rattle.flow_core.specs.Receiving.{Receives}
+use Rattle.flow_core.proofs.RingLemmas.{found_below}
+use Rattle.flow_core.proofs.SubscribersLemmas.{found_near, leave_some, enter_again}
+use Rattle.flow_core.proofs.ReceivingLemmas.{position_in, putting, gone, own_left, nobody, stands_at, kept_here, takes, takes_sound, none_left, stays, stays_sound, goes, goes_sound}
+use Rattle.flow_core.proofs.subscribers.Subscribers.receive.Goals as goal
+
+pub returns-in_default : goal.returns-in_default
+returns-in_default g c =
+    let s = c.self.inside in
+    let number = c.args.id.number in
+    let none : row_of number s.members.members ≡ None = sym c.in_default.ensures.value in
+    subst (λ (v : Standing _). Receives number c.args.values.now.items v (Ok Gone) (standing_of s)) c.self.view_is
+    ((nobody s number none).0, (nobody s number none).1, refl)
+
+pub invariant_of-self-in-Some-pop_front : goal.invariant_of-self-in-Some-pop_front
+invariant_of-self-in-Some-pop_front g c =
+    takes_sound c.self.inside c.args.id.number c.in-Some.row.now (sym c.in-Some.ensures.value) c.pop_front.new.self c.self.invariant
+
+pub returns-in-Some-pop_front : goal.returns-in-Some-pop_front
+returns-in-Some-pop_front g c =
+    let s = c.self.inside in
+    let number = c.args.id.number in
+    let row = c.in-Some.row.now in
+    let found : row_of number s.members.members ≡ Some row = sym c.in-Some.ensures.value in
+    let own = c.pop_front.new.self in
+    subst (λ (v : Standing _). Receives number c.args.values.now.items v (Ok (Own c.in-Some-pop_front.value)) (standing_of (putting s number (left own row)))) c.self.view_is
+    (own, own_left s number row found ∙ c.in-Some-pop_front.ensures, takes s number row found own)
+
+pub overflow_sub-position : goal.overflow_sub-position
+overflow_sub-position g c =
+    let s = c.self.inside in
+    let number = c.args.id.number in
+    let row = c.in-Some.row.now in
+    let found : row_of number s.members.members ≡ Some row = sym c.in-Some.ensures.value in
+    let items = c.args.values.now.items in
+    let held = subst (λ (v : Standing _). length items ≤ v.emitted) (sym c.self.view_is) c.requires.held in
+    let kept = kept_here s number row found (s.counts.emitted - length items)
+    (subst (λ (v : Standing _). IfSome (position_of number v.list) (λ position. v.emitted - length items ≤ position)) (sym c.self.view_is) c.requires.kept) in
+    omega (arith, kept, c.max-position.ensures, c.emitted.ensures, c.len.ensures.len)
+
+pub invariant_of-self-in_default-get : goal.invariant_of-self-in_default-get
+invariant_of-self-in_default-get g c =
+    stays_sound c.self.inside c.args.id.number c.in-Some.row.now (sym c.in-Some.ensures.value) c.pop_front.new.self c.in_default-pop_front.ensures c.self.invariant
+
+pub invariant_of-self-in-Err : goal.invariant_of-self-in-Err
+invariant_of-self-in-Err g c =
+    stays_sound c.self.inside c.args.id.number c.in-Some.row.now (sym c.in-Some.ensures.value) c.pop_front.new.self c.in_default-pop_front.ensures c.self.invariant
+
+pub returns-in_default-get : goal.returns-in_default-get
+returns-in_default-get g c =
+    let s = c.self.inside in
+    let number = c.args.id.number in
+    let row = c.in-Some.row.now in
+    let found : row_of number s.members.members ≡ Some row = sym c.in-Some.ensures.value in
+    let items = c.args.values.now.items in
+    let at : c.max-position.result - (c.emitted.result - c.len.result) ≡ position_in s number row - (s.counts.emitted - length items) =
+    cc (c.max-position.ensures, c.emitted.ensures, c.len.ensures.len) in
+    let own = c.pop_front.new.self in
+    subst (λ (v : Standing _). Receives number items v (Ok Empty) (standing_of (putting s number (left own row)))) c.self.view_is
+    (position_in s number row, (none_left s number row found own c.in_default-pop_front.ensures, stands_at s number row found, ap (slice_get items) (sym at) ∙ sym c.in_default-get.ensures), stays s number row found own c.in_default-pop_front.ensures)
+
+pub returns-in-Err : goal.returns-in-Err
+returns-in-Err g c =
+    let s = c.self.inside in
+    let number = c.args.id.number in
+    let row = c.in-Some.row.now in
+    let found : row_of number s.members.members ≡ Some row = sym c.in-Some.ensures.value in
+    let items = c.args.values.now.items in
+    let at : c.max-position.result - (c.emitted.result - c.len.result) ≡ position_in s number row - (s.counts.emitted - length items) =
+    cc (c.max-position.ensures, c.emitted.ensures, c.len.ensures.len) in
+    let own = c.pop_front.new.self in
+    subst (λ (v : Standing _). Receives number items v (Err c.in-Err.fault) (standing_of (putting s number (left own row)))) c.self.view_is
+    (position_in s number row, c.in-Some-get.value.now, (none_left s number row found own c.in_default-pop_front.ensures, stands_at s number row found, ap (slice_get items) (sym at) ∙ sym c.in-Some-get.ensures), c.in-Err.ensures.memory, stays s number row found own c.in_default-pop_front.ensures)
+
+pub move_on-row-requires-clause-past : goal.move_on-row-requires-clause-past
+move_on-row-requires-clause-past g c =
+    let s = c.self.inside in
+    let number = c.args.id.number in
+    let row = c.in-Some.row.now in
+    let found : row_of number s.members.members ≡ Some row = sym c.in-Some.ensures.value in
+    let items = c.args.values.now.items in
+    let held = subst (λ (v : Standing _). length items ≤ v.emitted) (sym c.self.view_is) c.requires.held in
+    let kept = kept_here s number row found (s.counts.emitted - length items)
+    (subst (λ (v : Standing _). IfSome (position_of number v.list) (λ position. v.emitted - length items ≤ position)) (sym c.self.view_is) c.requires.kept) in
+    let below = found_below _ items c.in-Some-get.value.now (sym c.in-Some-get.ensures) in
+    omega (arith, below, kept, held, c.max-position.ensures, c.emitted.ensures, c.len.ensures.len)
+
+pub move_on-row-requires-clause-near : goal.move_on-row-requires-clause-near
+move_on-row-requires-clause-near g c =
+    let s = c.self.inside in
+    let number = c.args.id.number in
+    let row = c.in-Some.row.now in
+    let found : row_of number s.members.members ≡ Some row = sym c.in-Some.ensures.value in
+    let near = found_near s.counts.row s.counts.emitted s.floor s.members.last s.members.members c.self.invariant number (position_in s number row) (stands_at s number row found) in
+    omega (arith, near.1, c.max-position.ensures)
+
+pub move_on-row-requires-clause-some : goal.move_on-row-requires-clause-some
+move_on-row-requires-clause-some g c =
+    let s = c.self.inside in
+    let number = c.args.id.number in
+    let row = c.in-Some.row.now in
+    let found : row_of number s.members.members ≡ Some row = sym c.in-Some.ensures.value in
+    subst (λ p. 0 < get_or s.counts.row (p % length s.counts.row) 0) (sym c.max-position.ensures)
+    (leave_some s.counts.row s.counts.emitted s.floor s.members.last s.members.members c.self.invariant number (position_in s number row) (stands_at s number row found))
+
+pub move_on-row-requires-clause-room : goal.move_on-row-requires-clause-room
+move_on-row-requires-clause-room g c =
+    let s = c.self.inside in
+    let number = c.args.id.number in
+    let row = c.in-Some.row.now in
+    let found : row_of number s.members.members ≡ Some row = sym c.in-Some.ensures.value in
+    subst (λ p. get_or (left_at s.counts.row p) ((p + 1) % length (left_at s.counts.row p)) 0 + 1 < 2 ^ 64) (sym c.max-position.ensures)
+    (enter_again s.counts.row s.counts.emitted s.floor s.members.last s.members.members c.self.invariant number (position_in s number row) (stands_at s number row found))
+
+pub invariant_of-self-in-Ok : goal.invariant_of-self-in-Ok
+invariant_of-self-in-Ok g c =
+    let s = c.self.inside in
+    let number = c.args.id.number in
+    let row = c.in-Some.row.now in
+    let found : row_of number s.members.members ≡ Some row = sym c.in-Some.ensures.value in
+    let items = c.args.values.now.items in
+    let held = subst (λ (v : Standing _). length items ≤ v.emitted) (sym c.self.view_is) c.requires.held in
+    let kept = kept_here s number row found (s.counts.emitted - length items)
+    (subst (λ (v : Standing _). IfSome (position_of number v.list) (λ position. v.emitted - length items ≤ position)) (sym c.self.view_is) c.requires.kept) in
+    let below = found_below _ items c.in-Some-get.value.now (sym c.in-Some-get.ensures) in
+    let more : position_in s number row < s.counts.emitted = omega (arith, below, kept, held, c.max-position.ensures, c.emitted.ensures, c.len.ensures.len) in
+    let own = c.pop_front.new.self in
+    let next = c.move_on-row.result in
+    let counts = c.move_on-row.ensures.row ∙ ap (λ p. entered (left_at s.counts.row p) (p + 1)) c.max-position.ensures in
+    subst (λ e. AreSound (length c.move_on-row.new.self.row - 1) c.move_on-row.new.self.row e s.floor (with_row number (record { own = own; position = next }) s.members.members) s.members.last) (sym c.move_on-row.ensures.emitted)
+    (subst (λ r. AreSound (length r - 1) r s.counts.emitted s.floor (with_row number (record { own = own; position = next }) s.members.members) s.members.last) (sym counts)
+    (goes_sound s number row found own c.in_default-pop_front.ensures c.self.invariant more next (c.move_on-row.ensures.next ∙ ap (λ p. p + 1) c.max-position.ensures)))
+
+pub returns-in-Ok : goal.returns-in-Ok
+returns-in-Ok g c =
+    let s = c.self.inside in
+    let number = c.args.id.number in
+    let row = c.in-Some.row.now in
+    let found : row_of number s.members.members ≡ Some row = sym c.in-Some.ensures.value in
+    let items = c.args.values.now.items in
+    let held = subst (λ (v : Standing _). length items ≤ v.emitted) (sym c.self.view_is) c.requires.held in
+    let kept = kept_here s number row found (s.counts.emitted - length items)
+    (subst (λ (v : Standing _). IfSome (position_of number v.list) (λ position. v.emitted - length items ≤ position)) (sym c.self.view_is) c.requires.kept) in
+    let below = found_below _ items c.in-Some-get.value.now (sym c.in-Some-get.ensures) in
+    let more : position_in s number row < s.counts.emitted = omega (arith, below, kept, held, c.max-position.ensures, c.emitted.ensures, c.len.ensures.len) in
+    let at : c.max-position.result - (c.emitted.result - c.len.result) ≡ position_in s number row - (s.counts.emitted - length items) =
+    cc (c.max-position.ensures, c.emitted.ensures, c.len.ensures.len) in
+    let own = c.pop_front.new.self in
+    let next = c.move_on-row.result in
+    let is = c.move_on-row.ensures.next ∙ ap (λ p. p + 1) c.max-position.ensures in
+    let counts = c.move_on-row.new.self.row in
+    let long : length counts ≡ length s.counts.row = ap length c.move_on-row.ensures.row ∙ length-set (left_at s.counts.row c.max-position.result) _ _ ∙ length-set s.counts.row _ _ in
+    let after = gone s number row found own c.in_default-pop_front.ensures c.self.invariant more next is counts in
+    subst (λ (v : Standing _). Receives number items v (Ok (Emitted c.in-Ok.copy)) (record (standing_of after) { emitted = c.move_on-row.new.self.emitted })) c.self.view_is (
+      position_in s number row,
+      (none_left s number row found own c.in_default-pop_front.ensures, stands_at s number row found, ap (slice_get items) (sym at) ∙ sym c.in-Some-get.ensures ∙ ap Some (sym c.in-Ok.ensures.copy)),
+      ap (λ e. record (standing_of after) { emitted = e }) c.move_on-row.ensures.emitted ∙ goes s number row found own c.in_default-pop_front.ensures c.self.invariant more next is counts long,
+    )

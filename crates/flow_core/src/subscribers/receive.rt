@@ -1,0 +1,57 @@
+//! What a subscriber receives next. Who it is, is looked up once.
+ghost use Rattle.std.specs.Prelude.{◌≡◌, ◌-◌, ◌≤◌, length, IfSome};
+ghost use Rattle.flow_law.specs.SharedFlow as flow;
+ghost use Rattle.flow_core.specs.SubId.{number_of};
+ghost use Rattle.flow_core.specs.Receiving.{Receives};
+
+use crate::sub_id::SubId;
+use crate::subscribers::Subscribers;
+use circular_buffer::HeapCircularBuffer;
+use flow_law::{FlowFault, FlowValue};
+use std::alloc::Allocator;
+
+/// What one subscriber receives.
+#[derive(Drop)]
+pub(crate) enum Received<T> {
+    /// There is no such subscriber.
+    Gone,
+    /// The first of its own values.
+    Own(T),
+    /// A copy of an emitted value, and the subscriber stands behind it now.
+    Emitted(T),
+    /// Nothing yet.
+    Empty,
+}
+
+impl<T: FlowValue, A: Allocator> Subscribers<T, A> {
+    /// Gives a subscriber what it is to receive next. The values are the last that were emitted.
+    pub(crate) fn receive(
+        &mut self,
+        id: SubId,
+        values: &HeapCircularBuffer<T, A>,
+    ) -> Result<Received<T>, FlowFault>
+        requires held { length values.now.items ≤ self.old.emitted }
+        requires kept { IfSome (flow.position_of (number_of id) self.old.list)
+            (λ position. self.old.emitted - length values.now.items ≤ position) }
+        ensures { Receives (number_of id) values.now.items self.old result self.new }
+    {
+        let Some(row) = self.members.get_mut(id) else {
+            return Ok(Received::Gone);
+        };
+        if let Some(value) = row.own.pop_front() {
+            return Ok(Received::Own(value));
+        }
+        let position = row.position.max(self.floor);
+        let first = self.counts.emitted() - values.len() as u64;
+        let Some(value) = values.get((position - first) as usize) else {
+            return Ok(Received::Empty);
+        };
+        match value.try_copy() {
+            Ok(copy) => {
+                row.position = self.counts.move_on(position);
+                Ok(Received::Emitted(copy))
+            }
+            Err(fault) => Err(fault),
+        }
+    }
+}
