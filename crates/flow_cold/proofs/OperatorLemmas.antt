@@ -1,17 +1,19 @@
--- An operator that is ready passes a pending turn and the end on, and so does its stage.
-use Rattle.std.proofs.Common.{◌≡◌, ◌≢◌, ◌⊎◌, inl, inr, false, ℕ, zero, suc, ℤ, refl}
-use Rattle.flow_law.specs.declared.chain.ChainFault.{ChainFault}
-use Rattle.flow_law.specs.declared.chain.ChainFault.TheVariants.{OutOfMemory}
+-- An operator that is ready passes on what is no item: a turn that pends, the end, a fault.
+use Rattle.std.proofs.Common.{◌≡◌, ◌≢◌, inl, inr, ℕ, zero, suc, ℤ, refl, sym, ap}
 use Rattle.flow_law.specs.declared.chain.End.{End}
 use Rattle.flow_law.specs.declared.chain.End.TheVariants.{Completed, Failed}
 use Rattle.flow_law.specs.ChainRun.{ChainRun, pends, ends}
 use Rattle.flow_law.specs.OperatorRuns.{take_run}
 use Rattle.flow_cold.specs.declared.script_chain.operator.Operator.{Operator}
 use Rattle.flow_cold.specs.declared.script_chain.operator.Operator.TheVariants.{Map, Filter, TakeWhile, Transform, Take, DropFirst, Scan, FlatMapRange, FlatMapRepeat, Distinct}
-use Rattle.flow_cold.specs.declared.script_chain.node.Stage.{Stage}
-use Rattle.flow_operators.specs.Behind.{after_take}
+use Rattle.flow_operators.specs.declared.cold.Asked.{Asked}
+use Rattle.flow_operators.specs.declared.cold.Asked.TheVariants as asked
+use Rattle.flow_operators.specs.Asking.{AskGives, IsItem}
+use Rattle.flow_operators.specs.Behind.{after_take, Leaves}
+use Rattle.flow_operators.specs.Kept.{unless_ended}
+use Rattle.flow_cold.specs.Answers.{is_final}
 use Rattle.flow_cold.specs.OperatorAsks.{after_operator}
-use Rattle.flow_cold.specs.Operators.{IsReady, operator_rest, stage_rest}
+use Rattle.flow_cold.specs.Operators.{IsReady, operator_rest}
 
 take-pends : (n : ℕ) (r : ChainRun ℤ) → n ≢ 0 → take_run n (pends r) ≡ pends (take_run n r)
 take-pends zero r h = absurd (h refl)
@@ -53,16 +55,14 @@ ready-ends (FlatMapRange s) e h = rw h refl
 ready-ends (FlatMapRepeat s) e h = rw h refl
 ready-ends (Distinct s) e h = refl
 
-pub stage-pends : (s : Stage) (before after : ChainRun ℤ) → s.ended ≡ false → IsReady s.operator → before ≡ pends after → stage_rest s before ≡ pends (stage_rest s after)
-stage-pends s before after runs ready is = rw (runs, is) (ready-pends s.operator after ready)
-
-pub stage-ends : (s : Stage) (before : ChainRun ℤ) (e : End) → s.ended ≡ false → IsReady s.operator → before ≡ ends e → stage_rest s before ≡ ends e
-stage-ends s before e runs ready is = rw (runs, is) (ready-ends s.operator e ready)
-
-pub stage-fails : (s : Stage) (before : ChainRun ℤ) (fault : ChainFault) → s.ended ≡ false → IsReady s.operator → (before ≡ ends (Failed fault)) ⊎ (fault ≡ OutOfMemory)
-    → (stage_rest s before ≡ ends (Failed fault)) ⊎ (fault ≡ OutOfMemory)
-stage-fails s before fault runs ready (inl is) = inl (stage-ends s before (Failed fault) runs ready is)
-stage-fails s before fault runs ready (inr is) = inr is
+-- an answer that is no item passes, and the operator has ended where it is final
+pub passes-on : (o : Operator) (a : Asked ℤ) (before after : ChainRun ℤ) → IsReady o → ¬ IsItem a → AskGives before a after
+    → AskGives (operator_rest o before) a (unless_ended (is_final a) (operator_rest o after))
+passes-on o (asked.Item x) before after ready none given = absurd (none tt)
+passes-on o asked.Pending before after ready none given = rw given (ready-pends o after ready)
+passes-on o asked.End before after ready none given = (rw given.0 (ready-ends o Completed ready), refl)
+passes-on o (asked.Fault fault) before after ready none (inl is, done) = (inl (rw is (ready-ends o (Failed fault) ready)), refl)
+passes-on o (asked.Fault fault) before after ready none (inr is, done) = (inr is, refl)
 
 -- an operator that is ready asks once for a turn that pends, and for the end
 pub ready-asks-pending : (o : Operator) (r : ChainRun ℤ) → IsReady o → after_operator o (pends r) ≡ r
@@ -88,3 +88,11 @@ ready-asks-end (Scan s) e h = rw h refl
 ready-asks-end (FlatMapRange s) e h = rw h refl
 ready-asks-end (FlatMapRepeat s) e h = rw h refl
 ready-asks-end (Distinct s) e h = refl
+
+pub passes-behind : (o : Operator) (a : Asked ℤ) (before after : ChainRun ℤ) → IsReady o → ¬ IsItem a → AskGives before a after
+    → Leaves (after_operator o before) a after
+passes-behind o (asked.Item x) before after ready none given = absurd (none tt)
+passes-behind o asked.Pending before after ready none given = inl (rw given (sym (ready-asks-pending o after ready)))
+passes-behind o asked.End before after ready none given = inl (rw (given.0, given.1) (sym (ready-asks-end o Completed ready)))
+passes-behind o (asked.Fault fault) before after ready none (inl is, done) = inl (rw (is, done) (sym (ready-asks-end o (Failed fault) ready)))
+passes-behind o (asked.Fault fault) before after ready none (inr is, done) = inr (ap asked.Fault is)

@@ -1,3 +1,4 @@
+pub mod Answers
 pub mod Build
 pub mod Numbers
 pub mod OperatorAsks

@@ -2,12 +2,14 @@
 ghost use Rattle.std.specs.Prelude.{◌≡◌, ◌≤◌};
 ghost use Rattle.flow_cold.specs.ScriptChain.{node_depth};
 
+mod answer;
 mod build;
 mod node;
 mod numbers;
 mod op;
 mod operator;
 mod pairing;
+mod source_number;
 mod stage;
 mod state;
 

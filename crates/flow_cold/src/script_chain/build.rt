@@ -151,7 +151,7 @@ impl Cold for ScriptChain {
     ghost AsksBehind = { λ old result new. NodeAsksBehind old.node result new.node };
 
     fn ask(&mut self) -> Asked<i64> {
-        ask_node(&mut self.node)
+        ask_node(&mut self.node).asked()
     }
 
     fn rewind(&mut self) {

@@ -4,13 +4,15 @@ ghost use Rattle.flow_law.specs.ChainRun.{ChainRun};
 ghost use Rattle.flow_cold.specs.declared.script_chain.node.Node.{size-Node};
 ghost use Rattle.flow_operators.specs.Asking.{AskGives, IsFinal};
 ghost use Rattle.flow_operators.specs.Behind.{Leaves};
+ghost use Rattle.flow_cold.specs.Answers.{asked_of};
 ghost use Rattle.flow_cold.specs.OperatorAsks.{after_operator};
 ghost use Rattle.flow_cold.specs.Operators.{is_over, operator_whole, stage_rest};
 ghost use Rattle.flow_cold.specs.ScriptChain.{IsNodeOver, NodeAsksBehind, node_depth, node_rest, node_whole};
 
+use crate::script_chain::answer::Answer;
 use crate::script_chain::operator::Operator;
 use crate::script_chain::pairing::Pairing;
-use flow_operators::{Asked, Cold, OfList, OfRange, Scripted};
+use flow_operators::{Cold, OfList, OfRange, Scripted};
 
 /// An operator in a chain, and whether it has ended.
 #[derive(Drop)]
@@ -31,35 +33,35 @@ pub enum Node {
 
 /// Gives the chain's next answer.
 #[cycle(asking)]
-pub fn ask_node(node: &mut Node) -> Asked<i64>
+pub fn ask_node(node: &mut Node) -> Answer
     ensures whole { node_whole node.new ≡ node_whole node.old }
-    ensures gives { AskGives (node_rest node.old) result (node_rest node.new) }
-    ensures over { IsFinal result → IsNodeOver node.new }
-    ensures behind { (¬ IsNodeOver node.old) → NodeAsksBehind node.old result node.new }
+    ensures gives { AskGives (node_rest node.old) (asked_of result) (node_rest node.new) }
+    ensures over { IsFinal (asked_of result) → IsNodeOver node.new }
+    ensures behind { (¬ IsNodeOver node.old) → NodeAsksBehind node.old (asked_of result) node.new }
     // So a take that has given its last item leaves all that stands behind it as it is.
-    ensures end { IsNodeOver node.old → (result ≡ Asked.End) × node.new ≡ node.old }
+    ensures end { IsNodeOver node.old → (result ≡ Answer.End) × node.new ≡ node.old }
     ensures depth { node_depth node.new ≡ node_depth node.old }
     ensures size { size-Node node.new ≤ size-Node node.old }
 {
     match node {
-        Node::List(list) => list.ask(),
-        Node::Range(range) => range.ask(),
-        Node::Script(script) => script.ask(),
+        Node::List(list) => Answer::of(list.ask()),
+        Node::Range(range) => Answer::of(range.ask()),
+        Node::Script(script) => Answer::of(script.ask()),
         Node::On(upstream, stage) => {
             if stage.is_over() {
-                return Asked::End;
+                return Answer::End;
             }
             ask_stage(upstream, stage)
         }
         Node::Zip(left, right, pairing) => {
             if pairing.ended {
-                return Asked::End;
+                return Answer::End;
             }
             let first = match pairing.kept {
                 Some(item) => item,
                 None => match ask_node(left) {
-                    Asked::Item(item) => item,
-                    asked => return pairing.without_item(asked),
+                    Answer::Item(item) => item,
+                    answer => return pairing.without_item(answer),
                 },
             };
             let asked = ask_node(right);
@@ -70,15 +72,15 @@ pub fn ask_node(node: &mut Node) -> Asked<i64>
 
 /// Gives the next answer of an operator that is not over: its upstream is asked until there is one.
 #[cycle(asking)]
-fn ask_stage(upstream: &mut Node, stage: &mut Stage) -> Asked<i64>
+fn ask_stage(upstream: &mut Node, stage: &mut Stage) -> Answer
     requires { is_over stage.old ≡ false }
     ensures whole { node_whole upstream.new ≡ node_whole upstream.old }
     ensures operator { (r : ChainRun ℤ)
         → operator_whole stage.new.operator r ≡ operator_whole stage.old.operator r }
-    ensures gives { AskGives (stage_rest stage.old (node_rest upstream.old)) result
+    ensures gives { AskGives (stage_rest stage.old (node_rest upstream.old)) (asked_of result)
         (stage_rest stage.new (node_rest upstream.new)) }
-    ensures over { IsFinal result → stage.new.ended ≡ true }
-    ensures behind { Leaves (after_operator stage.old.operator (node_rest upstream.old)) result
+    ensures over { IsFinal (asked_of result) → stage.new.ended ≡ true }
+    ensures behind { Leaves (after_operator stage.old.operator (node_rest upstream.old)) (asked_of result)
         (node_rest upstream.new) }
     ensures depth { node_depth upstream.new ≡ node_depth upstream.old }
     ensures size { size-Node upstream.new ≤ size-Node upstream.old }

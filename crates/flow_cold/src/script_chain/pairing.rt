@@ -4,11 +4,12 @@ ghost use Rattle.flow_law.specs.ChainRun.{ChainRun, gives};
 ghost use Rattle.flow_law.specs.OperatorRuns.{zip_run};
 ghost use Rattle.flow_operators.specs.Asking.{AskGives, IsFinal, IsItem};
 ghost use Rattle.flow_operators.specs.Behind.{AsksOnce, AsksRight};
+ghost use Rattle.flow_cold.specs.Answers.{asked_of};
 ghost use Rattle.flow_cold.specs.Numbers.{joined};
 ghost use Rattle.flow_cold.specs.Pairing.{pairing_rest};
 
+use crate::script_chain::answer::Answer;
 use crate::script_chain::op::Joining;
-use flow_operators::Asked;
 
 /// `kept` is a left item whose right one is still to come.
 #[derive(Drop)]
@@ -31,58 +32,50 @@ impl Pairing {
     }
 
     /// What is made of a left side that gave no item. The right side is not asked.
-    pub fn without_item(&mut self, asked: Asked<i64>) -> Asked<i64>
+    pub fn without_item(&mut self, answer: Answer) -> Answer
         requires runs { self.old.ended ≡ false }
         requires none { self.old.kept ≡ None }
-        requires no_item { ¬ IsItem asked }
+        requires no_item { ¬ IsItem (asked_of answer) }
         ensures by { self.new.by ≡ self.old.by }
-        ensures gives { (before after right : ChainRun ℤ) → AskGives before asked after
-            → AskGives (pairing_rest self.old before right) result (pairing_rest self.new after right) }
+        ensures gives { (before after right : ChainRun ℤ) → AskGives before (asked_of answer) after
+            → AskGives (pairing_rest self.old before right) (asked_of result)
+            (pairing_rest self.new after right) }
         ensures behind { (before after right : ChainRun ℤ)
-            → AskGives before asked after → AsksOnce before result after
-            × AsksRight before right result right }
-        ensures over { IsFinal result → self.new.ended ≡ true }
+            → AskGives before (asked_of answer) after → AsksOnce before (asked_of result) after
+            × AsksRight before right (asked_of result) right }
+        ensures over { IsFinal (asked_of result) → self.new.ended ≡ true }
     {
-        match &asked {
-            Asked::Item(_) => {}
-            Asked::Pending => {}
-            Asked::End => self.ended = true,
-            Asked::Fault(_) => self.ended = true,
-        }
-        asked
+        self.ended = answer.is_final();
+        answer
     }
 
     /// What is made of a left item and the right side's answer.
-    pub fn on_right(&mut self, first: i64, asked: Asked<i64>) -> Asked<i64>
+    pub fn on_right(&mut self, first: i64, answer: Answer) -> Answer
         requires { self.old.ended ≡ false }
         ensures by { self.new.by ≡ self.old.by }
-        ensures gives { (left before after : ChainRun ℤ) → AskGives before asked after
-            → AskGives (zip_run (joined self.old.by) (gives first left) before) result
+        ensures gives { (left before after : ChainRun ℤ) → AskGives before (asked_of answer) after
+            → AskGives (zip_run (joined self.old.by) (gives first left) before) (asked_of result)
             (pairing_rest self.new left after) }
         ensures behind { (before after : ChainRun ℤ)
-            → AskGives before asked after → AsksOnce before result after }
-        ensures over { IsFinal result → self.new.ended ≡ true }
+            → AskGives before (asked_of answer) after → AsksOnce before (asked_of result) after }
+        ensures over { IsFinal (asked_of result) → self.new.ended ≡ true }
     {
         self.kept = None;
-        match asked {
-            Asked::Item(second) => match self.by.join(first, second) {
-                Ok(item) => Asked::Item(item),
+        match answer {
+            Answer::Item(second) => match self.by.join(first, second) {
+                Ok(item) => Answer::Item(item),
                 Err(fault) => {
                     self.ended = true;
-                    Asked::Fault(fault)
+                    Answer::failed(fault)
                 }
             },
-            Asked::Pending => {
+            Answer::Pending => {
                 self.kept = Some(first);
-                Asked::Pending
+                Answer::Pending
             }
-            Asked::End => {
+            answer => {
                 self.ended = true;
-                Asked::End
-            }
-            Asked::Fault(fault) => {
-                self.ended = true;
-                Asked::Fault(fault)
+                answer
             }
         }
     }
