@@ -14,8 +14,8 @@ use Rattle.flow_law.specs.SharingFlows.{HadMemory, flow_turn}
 use Rattle.flow_law.specs.SharingTurn.{Turned, turn_steps, at_rest}
 use Rattle.flow_law.specs.Steps.{After, Takes}
 use Rattle.flow_cold.specs.declared.script_chain.ScriptChain.{ScriptChain}
-use Rattle.flow_sharing.specs.declared.sharing.Sharing.{Sharing}
-use Rattle.flow_sharing.specs.SharingViews.{state_of, HasObserved}
+use Rattle.flow_turns.specs.declared.sharing.Sharing.{Sharing}
+use Rattle.flow_turns.specs.SharingViews.{state_of, HasObserved}
 use Rattle.flow_lines.specs.Lines.{turn_text}
 use Rattle.flow_lines.specs.Memory.{IsToldFault}
 use Rattle.flow_lines.specs.Numbers.{Numbers}

@@ -7,8 +7,8 @@ use Rattle.flow_law.specs.declared.report.ShareFault.{ShareFault}
 use Rattle.flow_law.specs.declared.report.ShareFault.TheVariants.{Chain, Flow}
 use Rattle.flow_law.specs.declared.fault.FlowFault.TheVariants.{OutOfMemory}
 use Rattle.flow_law.specs.declared.chain.ChainFault.{ChainFault}
-use Rattle.flow_sharing.specs.OverCores.{Emits}
-use Rattle.flow_sharing.specs.StateHub.{state_core_of}
+use Rattle.flow_turns.specs.OverCores.{Emits}
+use Rattle.flow_turns.specs.StateHub.{state_core_of}
 use Rattle.flow_lines.specs.declared.player.Player.{Player}
 use Rattle.flow_lines.specs.declared.player.Player.TheVariants.{Idle, Shared, State, Share, StateIn}
 use Rattle.flow_format.specs.ChainFormat.{BuiltChain}

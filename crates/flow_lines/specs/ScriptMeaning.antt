@@ -10,7 +10,7 @@ use Rattle.flow_format.specs.Actions.{Action, on_flow, collect}
 use Rattle.flow_format.specs.Checks.{result_map, read_script}
 use Rattle.flow_lines.specs.Lines.{lined, refusal_text, share_fault_text, collection_text}
 use Rattle.flow_law.specs.declared.report.ShareFault.TheVariants.{Chain, Flow}
-use Rattle.flow_sharing.specs.ShareIn.{share_config}
+use Rattle.flow_turns.specs.ShareIn.{share_config}
 use Rattle.flow_law.specs.declared.states.EmittingFlow.{EmittingFlow}
 use Rattle.flow_law.specs.declared.states.SharedFlowState.{SharedFlowState}
 use Rattle.flow_law.specs.declared.states.StateFlowState.{StateFlowState}

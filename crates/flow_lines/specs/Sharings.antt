@@ -8,8 +8,8 @@ use Rattle.flow_law.specs.SharingTurn.{SharingState, Turned, turn_steps}
 use Rattle.flow_law.specs.Steps.{After, Takes}
 use Rattle.flow_cold.specs.declared.script_chain.ScriptChain.{ScriptChain}
 use Rattle.flow_cold.specs.ScriptChain.{node_whole, node_rest}
-use Rattle.flow_sharing.specs.declared.sharing.Sharing.{Sharing}
-use Rattle.flow_sharing.specs.SharingViews.{state_of, chain_and_hub, HasObserved}
+use Rattle.flow_turns.specs.declared.sharing.Sharing.{Sharing}
+use Rattle.flow_turns.specs.SharingViews.{state_of, chain_and_hub, HasObserved}
 use Rattle.flow_lines.specs.SharingMeaning.{SharingPlay}
 
 -- what contracts see of the chain and the hub of a sharing of a script's chain

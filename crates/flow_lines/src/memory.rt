@@ -3,7 +3,7 @@ ghost use Rattle.std.specs.Prelude.{◌≡◌, ◌↔◌, false, true};
 ghost use Rattle.flow_lines.specs.Memory.{IsToldFlowFault, IsToldChainFault, IsToldFault, IsToldEnd};
 
 use flow_law::{ChainFault, End, FlowFault};
-use flow_sharing::ShareFault;
+use flow_turns::ShareFault;
 
 pub fn is_flow_memory(fault: FlowFault) -> bool
     ensures { (result ≡ false) ↔ IsToldFlowFault fault }

@@ -17,7 +17,7 @@ use flow_cold::{Cold, ScriptChain};
 use flow_core::{SharedCore, StateCore};
 use flow_format::{Build, FlowStep, Script, ScriptFault, ScriptFlow, Step};
 use flow_law::Started;
-use flow_sharing::{CoreHub, ShareFault, Sharing, StateHub, share_in, state_in};
+use flow_turns::{CoreHub, ShareFault, Sharing, StateHub, share_in, state_in};
 use std::alloc::Global;
 
 /// What the steps of a script are played on.

@@ -12,7 +12,7 @@ use crate::flow_steps::flow_step;
 use crate::numbers::Numbers;
 use flow_format::{FlowStep, ScriptFault};
 use flow_law::{EmittingFlow, StateFlowState};
-use flow_sharing::{CoreHub, Hub, StateHub, law_turn_over_core, law_turn_over_state_core};
+use flow_turns::{CoreHub, Hub, StateHub, law_turn_over_core, law_turn_over_state_core};
 use std::alloc::Global;
 
 /// The flow of a sharing that scripts play on.
@@ -50,7 +50,7 @@ impl ScriptHub for CoreHub<i64> {
 
     ghost use Rattle.flow_law.specs.SharedHistory.{shared_flow};
     ghost use Rattle.flow_law.specs.SharingFlows.{shared_reply};
-    ghost use Rattle.flow_sharing.specs.OverCores.{Emits};
+    ghost use Rattle.flow_turns.specs.OverCores.{Emits};
     ghost use Rattle.flow_lines.specs.FlowMeaning.{flow_turn};
     ghost use Rattle.flow_lines.specs.SharedMeaning.{plays_shared};
     ghost use Rattle.flow_lines.specs.SharingMeaning.{beside_emission};
@@ -80,7 +80,7 @@ impl ScriptHub for StateHub<i64> {
 
     ghost use Rattle.flow_law.specs.SharingFlows.{state_reply};
     ghost use Rattle.flow_law.specs.StateFlow.{state_flow};
-    ghost use Rattle.flow_sharing.specs.StateHub.{state_core_of};
+    ghost use Rattle.flow_turns.specs.StateHub.{state_core_of};
     ghost use Rattle.flow_lines.specs.FlowMeaning.{flow_turn};
     ghost use Rattle.flow_lines.specs.StateMeaning.{plays_state};
 

@@ -8,7 +8,7 @@ use crate::lines::add_flow_fault;
 use crate::memory::is_memory;
 use flow_format::ScriptFault;
 use flow_law::Command;
-use flow_sharing::{Event, Report, ShareFault};
+use flow_turns::{Event, Report, ShareFault};
 use std::alloc::AllocError;
 
 fn add_command(text: &mut String, command: Command) -> Result<(), AllocError>

@@ -11,7 +11,7 @@ use crate::script_hub::ScriptHub;
 use crate::share_lines::{add_report, add_share_fault};
 use flow_cold::ScriptChain;
 use flow_format::{FlowStep, ScriptFault};
-use flow_sharing::Sharing;
+use flow_turns::Sharing;
 
 fn turn<H: ScriptHub>(
     sharing: &mut Sharing<ScriptChain, H>,

@@ -1,2 +1,3 @@
-pub mod StepLemmas
-pub mod OverCoresLemmas
+mod SeatLemmas
+mod TurnBySeatsLemmas
+mod HubLemmas

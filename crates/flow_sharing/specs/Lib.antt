@@ -1,11 +1,5 @@
-pub mod CoreHub
-pub mod CoreLending
-pub mod Hub
-pub mod Lending
-pub mod OverCores
-pub mod Policy
-pub mod ShareIn
-pub mod SharingViews
-pub mod StateHub
-pub mod StateLending
-pub mod TurnClauses
+pub mod SeatedHub
+pub mod Sender
+pub mod SharedFlowHub
+pub mod StateFlowHub
+pub mod OverThreads

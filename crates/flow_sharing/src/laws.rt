@@ -1,13 +1,13 @@
-//! What a turn over a flow for one thread means for that flow.
-ghost use Rattle.flow_sharing.specs.OverCores.{LawTurnOverCore, LawTurnOverStateCore};
+//! What a turn over a flow for several threads means for the history of that flow.
+ghost use Rattle.flow_sharing.specs.OverThreads.{LawTurnOverSharedFlow, LawTurnOverStateFlow};
 
-/// A turn over a `SharedCore` is the turn over the documented flow that the core stands for. It is never busy.
-pub fn law_turn_over_core<T, A>()
-    ensures { LawTurnOverCore T A }
+/// A turn over a `SharedFlow`: it is Busy exactly where a seat of the hub lost an exchange in it; the count that it
+/// observed and the item that it put are events of the hub's seats.
+pub fn law_turn_over_shared_flow<T>()
+    ensures { LawTurnOverSharedFlow T }
 {}
 
-/// A turn over a `StateCore` is the turn over the documented state flow. Nothing waits, the flow refuses nothing, and it is
-/// never busy.
-pub fn law_turn_over_state_core<T, A>()
-    ensures { LawTurnOverStateCore T A }
+/// The same of a turn over a `StateFlow`, where a put is a `set`.
+pub fn law_turn_over_state_flow<T>()
+    ensures { LawTurnOverStateFlow T }
 {}

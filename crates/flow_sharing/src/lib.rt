@@ -1,44 +1,33 @@
 //! Cold flows shared by the subscribers of a hot flow (`shareIn`, `stateIn`).
 //!
 //! A `Sharing` has a chain, a policy that says when the chain is collected (`SharingStarted`), and a hub: the hot flow
-//! that the chain's items go into. `share_in` and `state_in` make one with a flow of its own. Nothing runs by itself: the
-//! caller drives it by `turn`, and hands in the moment.
+//! that the chain's items go into. Nothing runs by itself: the caller drives it by `turn`, and hands in the moment. The
+//! page of crate `flow_turns` tells what a turn does, when the chain starts and stops, and how a sharing ends.
 //!
-//! # A turn
-//! The subscribers are counted and the count is observed. While the sharing runs, one item at most is emitted: an emission
-//! that still waits for subscribers is polled first, and the next item follows in the turn that finds it done.
+//! # Which hub
+//! `share_in` and `state_in` make a sharing with a flow for one thread of its own (`CoreHub`, `StateHub`). A
+//! `SharedFlowHub` or `StateFlowHub` stands for a flow for several threads that is lent: others subscribe to it, and emit
+//! into it, while the sharing runs.
 //!
-//! # Start and stop
-//! A start collects the chain from its beginning. A stop drops an item that the flow has not accepted, and cancels an
-//! emission that waits. The subscribers keep what they have.
+//! # A flow that others use
+//! A hub of a lent flow has two seats of it: one counts the subscribers, the other emits. No call of it waits. Where
+//! another caller is inside the flow, the turn reports `Busy`, and the next turn goes on there.
 //!
-//! # How it ends
-//! A chain that ends normally is asked again only after a stop and a start. A chain that fails ends the sharing: one turn
-//! answers the fault, and every later one `Ended`. Subscribers notice neither.
-//!
-//! # Refusals
-//! Where the flow refuses an item, or is busy, the turn says so, and the next one goes on there. The observation stands.
+//! # What is lost
+//! Who drops a sharing drops its hub: the hub's seats are lost, and an emission that waits stays queued or offered. So
+//! take a turn that stops the sharing first, or `cancel` through `hub_mut`.
 #![tactic(auto)]
 
-mod core_hub;
-mod core_lend;
-mod hub;
 mod laws;
-mod lend;
-mod policy;
-mod share;
-mod sharing;
-mod state_hub;
-mod state_lend;
-mod turn;
+mod sender;
+mod shared_flow_hub;
+mod state_flow_hub;
 
-pub use core_hub::CoreHub;
-pub use flow_cold::{Asked, Cold};
-pub use flow_law::report::{Event, Report, ShareFault};
-pub use flow_law::{ChainFault, Command, End, SharingObservation, Started};
-pub use hub::Hub;
-pub use laws::{law_turn_over_core, law_turn_over_state_core};
-pub use policy::{Backwards, Policy};
-pub use share::{share_in, state_in};
-pub use sharing::Sharing;
-pub use state_hub::StateHub;
+pub use flow_turns::{
+    Asked, Backwards, ChainFault, Cold, Command, CoreHub, End, Event, Hub, Policy, Report,
+    ShareFault, Sharing, SharingObservation, Started, StateHub, law_turn_over_core,
+    law_turn_over_state_core, share_in, state_in,
+};
+pub use laws::{law_turn_over_shared_flow, law_turn_over_state_flow};
+pub use shared_flow_hub::SharedFlowHub;
+pub use state_flow_hub::StateFlowHub;

@@ -7,6 +7,10 @@
 #[cfg(test)]
 mod compare;
 #[cfg(test)]
+mod core_subscribers;
+#[cfg(test)]
+mod flow_subscribers;
+#[cfg(test)]
 mod hubs;
 #[cfg(test)]
 mod refusal_steps;
@@ -18,3 +22,5 @@ mod sharing_steps;
 mod sharings;
 #[cfg(test)]
 mod test_hub;
+#[cfg(test)]
+mod two_chains;

@@ -2,7 +2,7 @@
 //! thread some of it cannot come: without subscribers nothing waits there, and it is never busy.
 use crate::refusal_steps::Step::{Accepted, Asked, Behave, Refused, Subscribers, Turn, Waits};
 use crate::refusal_steps::answers;
-use crate::test_hub::Behaviour::{Accepts, Queues, Refuses};
+use crate::test_hub::Behaviour::{Accepts, KeepsEmissions, Queues, Refuses};
 use flow_law::Command::{Keep, Start, Stop};
 use flow_law::FlowFault::{Busy, OutOfMemory};
 use flow_law::report::Event::{self, Completed, Idle, Put, Queued, Waiting};
@@ -49,6 +49,30 @@ fn cancels_the_waiting_emission_at_a_stop(rt: HostRuntime) {
             Turn(2, Keep, Waiting),
             Subscribers(0),
             Turn(3, Stop, Idle),
+            Waits(false),
+            Accepted(&[1]),
+        ],
+    );
+}
+
+/// A cancel that a busy flow did not make is made in the next turn.
+#[test]
+fn cancels_once_the_flow_is_free(rt: HostRuntime) {
+    answers(
+        &rt,
+        rt.alloc(),
+        &[1, 2],
+        &[
+            Turn(0, Start, Put),
+            Behave(Queues),
+            Turn(1, Keep, Queued),
+            Subscribers(0),
+            Behave(KeepsEmissions),
+            Turn(2, Stop, Event::Busy),
+            Waits(true),
+            Turn(3, Keep, Event::Busy),
+            Behave(Accepts),
+            Turn(4, Keep, Idle),
             Waits(false),
             Accepted(&[1]),
         ],

@@ -1,13 +1,13 @@
 //! Steps of a sharing and of its flow's subscribers, each with what it is to answer.
 use crate::compare::compare;
-use flow_cold::{OfList, ScriptChain, Source};
-use flow_core::SubId;
+use flow_cold::{OfList, OfRange, ScriptChain, Source};
 use flow_law::report::{Event, Report, ShareFault};
-use flow_law::{Command, FlowFault, Next, Started};
-use flow_sharing::{CoreHub, Hub, Sharing, StateHub, share_in};
+use flow_law::{Command, FlowFault, Next};
+use flow_sharing::{Hub, Sharing};
 use std::alloc::Global;
 use std::ops::RangeInclusive;
 use std::process::Abort;
+use std::sync::Wait;
 
 /// A step, and what it answers. Subscribers are named by the order in which they came, from 0.
 pub enum Step {
@@ -22,54 +22,24 @@ pub enum Step {
     /// The subscription was there.
     Unsubscribe(usize),
     Cache(&'static [i64]),
+    Count(u64),
 }
 
-/// A flow of one thread that a sharing has, as its subscribers use it. Its calls have no clauses: a test compares what
-/// they answer.
-pub trait Flow: Hub<Item = i64> {
-    fn subscribe(&mut self) -> Result<SubId, FlowFault>;
+/// The subscribers of a sharing's flow, which may be in its hub. Its calls have no clauses: a test compares what they
+/// answer.
+pub trait Subscribers<H>: Drop {
+    fn subscribe<R: Wait + Abort>(&mut self, rt: &R, hub: &mut H);
 
-    fn next(&mut self, id: SubId) -> Result<Next<i64>, FlowFault>;
+    fn next<R: Wait + Abort>(
+        &mut self,
+        rt: &R,
+        hub: &mut H,
+        index: usize,
+    ) -> Result<Next<i64>, FlowFault>;
 
-    fn unsubscribe(&mut self, id: SubId) -> bool;
+    fn unsubscribe<R: Wait + Abort>(&mut self, rt: &R, hub: &mut H, index: usize) -> bool;
 
-    fn cache(&mut self) -> Result<Vec<i64>, FlowFault>;
-}
-
-impl Flow for CoreHub<i64> {
-    fn subscribe(&mut self) -> Result<SubId, FlowFault> {
-        self.core_mut().subscribe()
-    }
-
-    fn next(&mut self, id: SubId) -> Result<Next<i64>, FlowFault> {
-        self.core_mut().next(id)
-    }
-
-    fn unsubscribe(&mut self, id: SubId) -> bool {
-        self.core_mut().unsubscribe(id)
-    }
-
-    fn cache(&mut self) -> Result<Vec<i64>, FlowFault> {
-        self.core_mut().replay_cache()
-    }
-}
-
-impl Flow for StateHub<i64> {
-    fn subscribe(&mut self) -> Result<SubId, FlowFault> {
-        self.core_mut().subscribe()
-    }
-
-    fn next(&mut self, id: SubId) -> Result<Next<i64>, FlowFault> {
-        self.core_mut().next(id)
-    }
-
-    fn unsubscribe(&mut self, id: SubId) -> bool {
-        self.core_mut().unsubscribe(id)
-    }
-
-    fn cache(&mut self) -> Result<Vec<i64>, FlowFault> {
-        self.core_mut().replay_cache()
-    }
+    fn cache<R: Wait + Abort>(&mut self, rt: &R, hub: &mut H) -> Result<Vec<i64>, FlowFault>;
 }
 
 /// The chain of a list.
@@ -78,48 +48,44 @@ pub fn list(rt: &impl Abort, alloc: Global, items: &[i64]) -> ScriptChain {
     ScriptChain::source(Source::List(OfList::new(items)))
 }
 
-/// A sharing and its flow's subscribers.
-#[derive(Drop)]
-struct Shared<H: Flow> {
-    sharing: Sharing<ScriptChain, H>,
-    subscribers: Vec<SubId>,
+/// The chain of the numbers from 1 to 66.
+pub fn sixty_six() -> ScriptChain {
+    ScriptChain::source(Source::Range(OfRange::new(1, 66)))
 }
 
-impl<H: Flow> Shared<H> {
-    /// A sharing that nobody has subscribed to.
-    fn new(alloc: Global, sharing: Sharing<ScriptChain, H>) -> Self {
-        Shared {
-            sharing,
-            subscribers: Vec::new(alloc),
-        }
-    }
+/// A sharing and its flow's subscribers.
+#[derive(Drop)]
+struct Shared<H: Hub<Item = i64>, S: Subscribers<H>> {
+    sharing: Sharing<ScriptChain, H>,
+    subscribers: S,
+}
 
+impl<H: Hub<Item = i64>, S: Subscribers<H>> Shared<H, S> {
     fn turn(&mut self, now: u64) -> Result<Report, ShareFault> {
         self.sharing.turn(now)
     }
 
-    fn subscribe(&mut self, rt: &impl Abort) {
-        let subscribed = self.sharing.hub_mut().subscribe();
-        let id = subscribed.expect(rt, "a subscription");
-        self.subscribers.push(id).expect(rt, "memory");
+    fn subscribe<R: Wait + Abort>(&mut self, rt: &R) {
+        self.subscribers.subscribe(rt, self.sharing.hub_mut());
     }
 
-    fn subscriber(&self, rt: &impl Abort, index: usize) -> SubId {
-        *self.subscribers.get(index).expect(rt, "a subscriber")
+    fn next<R: Wait + Abort>(&mut self, rt: &R, index: usize) -> Result<Next<i64>, FlowFault> {
+        self.subscribers.next(rt, self.sharing.hub_mut(), index)
     }
 
-    fn next(&mut self, rt: &impl Abort, index: usize) -> Result<Next<i64>, FlowFault> {
-        let id = self.subscriber(rt, index);
-        self.sharing.hub_mut().next(id)
+    fn unsubscribe<R: Wait + Abort>(&mut self, rt: &R, index: usize) -> bool {
+        self.subscribers
+            .unsubscribe(rt, self.sharing.hub_mut(), index)
     }
 
-    fn unsubscribe(&mut self, rt: &impl Abort, index: usize) -> bool {
-        let id = self.subscriber(rt, index);
-        self.sharing.hub_mut().unsubscribe(id)
+    fn cache<R: Wait + Abort>(&mut self, rt: &R) -> Vec<i64> {
+        self.subscribers
+            .cache(rt, self.sharing.hub_mut())
+            .expect(rt, "memory")
     }
 
-    fn cache(&mut self, rt: &impl Abort) -> Vec<i64> {
-        self.sharing.hub_mut().cache().expect(rt, "memory")
+    fn count(&mut self) -> Result<u64, FlowFault> {
+        self.sharing.hub_mut().count()
     }
 
     /// Takes a turn, and compares what it reports.
@@ -142,7 +108,7 @@ impl<H: Flow> Shared<H> {
     }
 
     /// Takes a step, and compares what it answers.
-    fn take(&mut self, rt: &impl Abort, place: usize, step: &Step) {
+    fn take<R: Wait + Abort>(&mut self, rt: &R, place: usize, step: &Step) {
         match step {
             Step::Turn(now, command, event) => self.report(rt, place, *now, *command, *event),
             Step::Turns(first, last, command, event) => {
@@ -153,35 +119,24 @@ impl<H: Flow> Shared<H> {
             Step::Next(index, next) => compare(rt, place, self.next(rt, *index).as_ref(), Ok(next)),
             Step::Unsubscribe(index) => compare(rt, place, self.unsubscribe(rt, *index), true),
             Step::Cache(values) => compare(rt, place, self.cache(rt).as_slice(), *values),
+            Step::Count(count) => compare(rt, place, self.count(), Ok(*count)),
         }
     }
 }
 
 /// Takes the steps of a new sharing, and compares what they answer. A wrong answer is told by the place of its step,
 /// from 0.
-pub fn answers<H: Flow>(
-    rt: &impl Abort,
-    alloc: Global,
+pub fn answers<R: Wait + Abort, H: Hub<Item = i64>, S: Subscribers<H>>(
+    rt: &R,
     sharing: Sharing<ScriptChain, H>,
+    subscribers: S,
     steps: &[Step],
 ) {
-    let mut shared = Shared::new(alloc, sharing);
+    let mut shared = Shared {
+        sharing,
+        subscribers,
+    };
     for place in 0..steps.len() {
         shared.take(rt, place, &steps[place]);
-    }
-}
-
-/// Takes the steps of a chain that is shared by a shared flow (`shareIn`).
-pub fn share_answers(
-    rt: &impl Abort,
-    alloc: Global,
-    chain: ScriptChain,
-    started: Started,
-    replay: u32,
-    steps: &[Step],
-) {
-    match share_in(alloc, chain, started, replay, u64::MAX) {
-        Ok(sharing) => answers(rt, alloc, sharing, steps),
-        Err(fault) => panic!(rt; "{fault}"),
     }
 }

@@ -10,6 +10,8 @@ pub enum Behaviour {
     Accepts,
     Queues,
     Refuses(FlowFault),
+    /// It is busy whenever an emission is to be cancelled.
+    KeepsEmissions,
 }
 
 /// A flow that does as it is told, and keeps what it accepted.
@@ -55,6 +57,9 @@ impl Hub for TestHub {
     }
 
     fn cancel(&mut self) -> Result<bool, FlowFault> {
+        if self.behaviour == Behaviour::KeepsEmissions {
+            return Err(FlowFault::Busy);
+        }
         let waited = self.waits;
         if waited {
             let _last = self.accepted.pop();

@@ -5,9 +5,9 @@ use Rattle.flow_law.specs.SharingTurn.{SharingState}
 use Rattle.flow_law.specs.declared.states.EmittingFlow.{EmittingFlow}
 use Rattle.flow_cold.specs.ScriptChain.{node_rest}
 use Rattle.flow_law.specs.declared.report.ShareFault.TheVariants.{Flow}
-use Rattle.flow_sharing.specs.ShareIn.{share_config}
-use Rattle.flow_sharing.specs.CoreHub.{emission_of}
-use Rattle.flow_sharing.specs.OverCores.{Emits}
+use Rattle.flow_turns.specs.ShareIn.{share_config}
+use Rattle.flow_turns.specs.CoreHub.{emission_of}
+use Rattle.flow_turns.specs.OverCores.{Emits}
 use Rattle.flow_format.specs.Heads.{shared_chain}
 use Rattle.flow_lines.specs.Lines.{share_fault_text}
 use Rattle.flow_lines.specs.ScriptMeaning.{player_of, share}

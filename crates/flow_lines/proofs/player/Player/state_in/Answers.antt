@@ -2,7 +2,7 @@ use Rattle.std.proofs.Common.{◌≡◌, ap, subst, ◌∙◌}
 use Rattle.std.proofs.Math.Facts.{to_z-of_z}
 use Rattle.flow_law.specs.StateFlow.{first_state_flow}
 use Rattle.flow_cold.specs.ScriptChain.{node_rest}
-use Rattle.flow_sharing.specs.StateHub.{state_core_of}
+use Rattle.flow_turns.specs.StateHub.{state_core_of}
 use Rattle.flow_format.specs.Heads.{state_chain}
 use Rattle.flow_lines.specs.ScriptMeaning.{player_of, state_in}
 use Rattle.flow_lines.specs.SharingMeaning.{first_sharing}

@@ -1,7 +1,7 @@
 use Rattle.std.proofs.Common.{refl, sym, ap, ◌∙◌}
 use Rattle.flow_law.specs.SharingCalls.{with_hub}
 use Rattle.flow_law.specs.SharingFlows.{flow_turn, state_reply}
-use Rattle.flow_sharing.specs.StateHub.{state_core_of}
+use Rattle.flow_turns.specs.StateHub.{state_core_of}
 use Rattle.flow_lines.proofs.script_hub.StateHubI64ScriptHub.law_turn.Goals as goal
 
 pub returns : goal.returns

@@ -1,0 +1,149 @@
+-- What each call does to the two seats of a hub, of a shared flow and of a state flow. Begin with `shared-by-seats` and `state-by-seats`.
+use Rattle.std.proofs.Common.{◌≡◌, ◌≢◌, ℕ, ◌+◌, Bool, true, false, Option, Some, None, Result, Ok, Err, subst, sym, refl, ap, ◌∙◌}
+use Rattle.std.proofs.Math.Nat.{add-zero, add_assoc, add_comm}
+use Rattle.flow_law.specs.declared.fault.FlowFault.{FlowFault}
+use Rattle.flow_law.specs.declared.fault.FlowFault.TheVariants.{OutOfMemory, TooLarge, NeedsBuffer, Exhausted, Unsupported, Busy}
+use Rattle.flow_law.specs.declared.history.Said.{Said}
+use Rattle.flow_law.specs.declared.states.SharedFlowState.{SharedFlowState}
+use Rattle.flow_law.specs.SharedHistory.{shared_flow}
+use Rattle.flow_law.specs.StateFlow.{state_flow}
+use Rattle.flow_law.specs.History.{Kind}
+use Rattle.flow_law.specs.SharingCalls.{HubCall, HubAnswer, HubStep, counts, puts, polls, cancels}
+use Rattle.flow_law.specs.Tokens.{Token, IsBusy, CallsAtOnceIn}
+use Rattle.flow_shared.specs.SharedReplies.{SharedToken}
+use Rattle.flow_sharing.specs.SeatedHub.{SeatedHub, has_emission, OnlySends, CountDoes}
+use Rattle.flow_sharing.specs.SharedFlowHub.{SharedSeats, PutBy, PollBy, CancelBy, SharedFlowHubDoes}
+use Rattle.flow_sharing.specs.StateFlowHub.{StateSeats, nothing_waits, StateFlowHubDoes}
+use Rattle.flow_sharing.specs.OverThreads.{exchanges_lost, HasSeenMore, Follows}
+use Rattle.flow_sharing.proofs.SeatLemmas.{seen-here, seen-busy, seen-called}
+use Rattle.flow_sharing.proofs.TurnBySeatsLemmas.{BySeats, lost_for, lost_by}
+
+-- ---- one call of a token, which lost so many exchanges
+
+abbrev Moves : {Id E : Type 0} → Token Id E → ℕ → Token Id E → Type 0
+Moves before n after = (after.knows.lost ≡ before.knows.lost + n) × HasSeenMore before after
+
+module _ {Id E : Type 0} where
+  stays : (before after : Token Id E) → after ≡ before → Moves before 0 after
+  stays before after is = subst (Moves before 0) (sym is) (sym (add-zero before.knows.lost), seen-here before)
+
+  busy : (before after : Token Id E) → IsBusy before after → Moves before 1 after
+  busy before after is = (ap (λ (t : Token Id E). t.knows.lost) is, seen-busy before after is)
+
+module _ {Id T S C R : Type 0} (kind : Kind T S C R) (first : S) where
+  called : (before after : Token Id (Said C R)) (call : C) (reply : R) → CallsAtOnceIn kind first before call reply after → Moves before 0 after
+  called before after call reply h = (h.1 ∙ sym (add-zero before.knows.lost), seen-called kind first before after call reply h)
+
+-- ---- the hub, where one of its seats has made the call
+
+module _ {Id S E : Type 0} where
+  abbrev Steps : SeatedHub Id S E → ℕ → SeatedHub Id S E → Type 0
+  Steps h n k = (exchanges_lost k ≡ exchanges_lost h + n) × Follows h k
+
+  sending-steps : (h k : SeatedHub Id S E) (n : ℕ) → OnlySends h k → Moves h.sending n k.sending → Steps h n k
+  sending-steps h k n only (lost, more) = (
+    ap (λ (t : Token Id E). t.knows.lost + k.sending.knows.lost) (ap (λ (x : SeatedHub Id S E). x.watching) only)
+        ∙ ap (λ m. h.watching.knows.lost + m) lost ∙ sym (add_assoc h.watching.knows.lost h.sending.knows.lost n),
+    (
+      ap (λ (x : SeatedHub Id S E). x.flow) only,
+      subst (HasSeenMore h.watching) (sym (ap (λ (x : SeatedHub Id S E). x.watching) only)) (seen-here h.watching),
+      more,
+    ),
+  )
+
+  watching-steps : (h k : SeatedHub Id S E) (n : ℕ) → k ≡ record h { watching = k.watching } → Moves h.watching n k.watching → Steps h n k
+  watching-steps h k n only (lost, more) = (
+    ap (λ (t : Token Id E). k.watching.knows.lost + t.knows.lost) (ap (λ (x : SeatedHub Id S E). x.sending) only)
+        ∙ ap (λ m. m + h.sending.knows.lost) lost
+        ∙ add_assoc h.watching.knows.lost n h.sending.knows.lost ∙ ap (λ m. h.watching.knows.lost + m) (add_comm n h.sending.knows.lost)
+        ∙ sym (add_assoc h.watching.knows.lost h.sending.knows.lost n),
+    (
+      ap (λ (x : SeatedHub Id S E). x.flow) only,
+      more,
+      subst (HasSeenMore h.sending) (sym (ap (λ (x : SeatedHub Id S E). x.sending) only)) (seen-here h.sending),
+    ),
+  )
+
+  nothing-steps : (h k : SeatedHub Id S E) → k ≡ h → Steps h 0 k
+  nothing-steps h k is = sending-steps h k 0 (is ∙ ap (λ (x : SeatedHub Id S E). record h { sending = x.sending; emission = x.emission }) (sym is)) (stays h.sending k.sending (ap (λ (x : SeatedHub Id S E). x.sending) is))
+
+module _ {Id T S C R : Type 0} (kind : Kind T S C R) where
+  count-steps : (h k : SeatedHub Id S (Said C R)) (a : Result ℕ FlowFault) → CountDoes kind h a k → Steps h (lost_by a) k
+  count-steps h k (Ok count) (does, only) = watching-steps h k 0 only (called kind h.flow.first h.watching k.watching kind.count (kind.counted count) does)
+  count-steps h k (Err fault) ((is, lost), only) =
+      subst (λ (f : FlowFault). Steps h (lost_for f) k) (sym is) (watching-steps h k 1 only (busy h.watching k.watching lost))
+
+-- ---- a shared flow
+
+module _ {T : Type 0} (first : SharedFlowState T) where
+  put-moves : (x : T) (before after : SharedToken T) (a : Result Bool FlowFault) (emission : Option ℕ) → PutBy first x before a after emission → Moves before (lost_by a) after
+  put-moves x before after (Ok false) emission does = called shared_flow first before after _ _ does.0
+  put-moves x before after (Ok true) emission (number, does, is) = called shared_flow first before after _ _ does
+  put-moves x before after (Err OutOfMemory) emission does = called shared_flow first before after _ _ does.0
+  put-moves x before after (Err TooLarge) emission does = called shared_flow first before after _ _ does.0
+  put-moves x before after (Err NeedsBuffer) emission does = called shared_flow first before after _ _ does.0
+  put-moves x before after (Err Exhausted) emission does = called shared_flow first before after _ _ does.0
+  put-moves x before after (Err Unsupported) emission does = called shared_flow first before after _ _ does.0
+  put-moves x before after (Err Busy) emission does = busy before after does.0
+
+  -- where nothing waits the answer is false
+  idle-moves : (before after : SharedToken T) (a : Result Bool FlowFault) → a ≡ Ok false → after ≡ before → Moves before (lost_by a) after
+  idle-moves before after a none is = subst (λ (b : Result Bool FlowFault). Moves before (lost_by b) after) (sym none) (stays before after is)
+
+  busy-moves : (before after : SharedToken T) (fault : FlowFault) → fault ≡ Busy → IsBusy before after → Moves before (lost_for fault) after
+  busy-moves before after fault is lost = subst (λ (f : FlowFault). Moves before (lost_for f) after) (sym is) (busy before after lost)
+
+  poll-moves : (waiting : Option ℕ) (before after : SharedToken T) (a : Result Bool FlowFault) (emission : Option ℕ) → PollBy first waiting before a after emission → Moves before (lost_by a) after
+  poll-moves None before after a emission does = idle-moves before after a does.0 does.1
+  poll-moves (Some number) before after (Ok waits) emission does = called shared_flow first before after _ _ does.0
+  poll-moves (Some number) before after (Err fault) emission does = busy-moves before after fault does.0 does.1
+
+  cancel-moves : (waiting : Option ℕ) (before after : SharedToken T) (a : Result Bool FlowFault) (emission : Option ℕ) → CancelBy first waiting before a after emission → Moves before (lost_by a) after
+  cancel-moves None before after a emission does = idle-moves before after a does.0 does.1
+  cancel-moves (Some number) before after (Ok waited) emission does = called shared_flow first before after _ _ does.0
+  cancel-moves (Some number) before after (Err fault) emission does = busy-moves before after fault does.0 does.1
+
+shared-steps : {T : Type 0} (c : HubCall T) (h k : SharedSeats T) (a : HubAnswer c) → SharedFlowHubDoes c h a k → Steps h (lost_by a) k
+shared-steps counts h k a does = count-steps shared_flow h k a does
+shared-steps (puts x) h k a does = sending-steps h k (lost_by a) does.1 (put-moves h.flow.first x h.sending k.sending a k.emission does.0)
+shared-steps polls h k a does = sending-steps h k (lost_by a) does.1 (poll-moves h.flow.first h.emission h.sending k.sending a k.emission does.0)
+shared-steps cancels h k a does = sending-steps h k (lost_by a) does.1 (cancel-moves h.flow.first h.emission h.sending k.sending a k.emission does.0)
+
+shared-watches : {T : Type 0} (c : HubCall T) (h k : SharedSeats T) (a : HubAnswer c) → c ≢ counts → SharedFlowHubDoes c h a k → k.watching ≡ h.watching
+shared-watches counts h k a other does = absurd (other refl)
+shared-watches (puts x) h k a other does = ap (λ (s : SharedSeats _). s.watching) does.1
+shared-watches polls h k a other does = ap (λ (s : SharedSeats _). s.watching) does.1
+shared-watches cancels h k a other does = ap (λ (s : SharedSeats _). s.watching) does.1
+
+pub shared-by-seats : (T : Type 0) → BySeats (shared_flow {T = T}) (HubStep SharedFlowHubDoes has_emission)
+shared-by-seats T = record {
+  loses = λ c h k a told. (shared-steps c h k a told.0).0;
+  counted = λ h k a told. told.0.0;
+  watches = λ c h k a other told. shared-watches c h k a other told.0;
+  follows = λ c h k a told. (shared-steps c h k a told.0).1;
+}
+
+-- ---- a state flow
+
+state-steps : {Id T : Type 0} (c : HubCall T) (h k : StateSeats Id T) (a : HubAnswer c) → StateFlowHubDoes c h a k → Steps h (lost_by a) k
+state-steps counts h k a does = count-steps state_flow h k a does
+state-steps (puts x) h k (Ok waits) (none, does, only) = sending-steps h k 0 only (called state_flow h.flow.first h.sending k.sending _ _ does)
+state-steps (puts x) h k (Err fault) (is, lost, only) =
+    subst (λ (f : FlowFault). Steps h (lost_for f) k) (sym is) (sending-steps h k 1 only (busy h.sending k.sending lost))
+state-steps polls h k a (none, is) = subst (λ (b : Result Bool FlowFault). Steps h (lost_by b) k) (sym none) (nothing-steps h k is)
+state-steps cancels h k a (none, is) = subst (λ (b : Result Bool FlowFault). Steps h (lost_by b) k) (sym none) (nothing-steps h k is)
+
+state-watches : {Id T : Type 0} (c : HubCall T) (h k : StateSeats Id T) (a : HubAnswer c) → c ≢ counts → StateFlowHubDoes c h a k → k.watching ≡ h.watching
+state-watches counts h k a other does = absurd (other refl)
+state-watches (puts x) h k (Ok waits) other does = ap (λ (s : StateSeats _ _). s.watching) does.2
+state-watches (puts x) h k (Err fault) other does = ap (λ (s : StateSeats _ _). s.watching) does.2
+state-watches polls h k a other does = ap (λ (s : StateSeats _ _). s.watching) does.1
+state-watches cancels h k a other does = ap (λ (s : StateSeats _ _). s.watching) does.1
+
+pub state-by-seats : (Id T : Type 0) → BySeats (state_flow {T = T}) (HubStep (StateFlowHubDoes {Id = Id}) nothing_waits)
+state-by-seats Id T = record {
+  loses = λ c h k a told. (state-steps c h k a told.0).0;
+  counted = λ h k a told. told.0.0;
+  watches = λ c h k a other told. state-watches c h k a other told.0;
+  follows = λ c h k a told. (state-steps c h k a told.0).1;
+}

@@ -1,5 +1,0 @@
-use Rattle.flow_sharing.proofs.OverCoresLemmas.{turn-over_core}
-use Rattle.flow_sharing.proofs.laws.law_turn_over_core.Goals as goal
-
-pub returns : goal.returns
-returns g c = turn-over_core g.row.T.Denot g.row.A.Denot

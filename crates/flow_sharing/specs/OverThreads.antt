@@ -1,0 +1,87 @@
+-- What a turn over a flow for several threads is for that flow's history. Begin with `TurnBySeats`.
+use Rattle.std.specs.Prelude.{◌≡◌, ◌⊎◌, ℕ, ◌+◌, List, ◌∷◌, ◌++◌, Result, Ok, Err}
+use Rattle.atomic_table.specs.Seated.{TableId}
+use Rattle.flow_law.specs.declared.sharing.Started.{Started}
+use Rattle.flow_law.specs.declared.sharing.SharingObservation.{SharingObservation}
+use Rattle.flow_law.specs.declared.history.Event.{Event as HistoryEvent}
+use Rattle.flow_law.specs.declared.history.Said.{Said}
+use Rattle.flow_law.specs.declared.report.Event.{Event}
+use Rattle.flow_law.specs.declared.report.Event.TheVariants.{Busy}
+use Rattle.flow_law.specs.declared.report.Report.{Report}
+use Rattle.flow_law.specs.declared.report.ShareFault.{ShareFault}
+use Rattle.flow_law.specs.History.{Kind}
+use Rattle.flow_law.specs.Sharing.{is_running}
+use Rattle.flow_law.specs.SharedHistory.{shared_flow}
+use Rattle.flow_law.specs.SharingCalls.{HubCall, HubAnswer, ChainAndHub, CallDoes, HubStep}
+use Rattle.flow_law.specs.SharingTurn.{SharingState, Turned, turn_steps}
+use Rattle.flow_law.specs.StateFlow.{state_flow}
+use Rattle.flow_law.specs.Steps.{Takes}
+use Rattle.flow_law.specs.Tokens.{Token, CallsAtOnceIn}
+use Rattle.flow_law.specs.TurnMeaning.{HasAccount, BetweenTurns, TurnMeans}
+use Rattle.flow_sharing.specs.SeatedHub.{SeatedHub, has_emission}
+use Rattle.flow_sharing.specs.SharedFlowHub.{SharedSeats, SharedFlowHubDoes}
+use Rattle.flow_sharing.specs.StateFlowHub.{StateSeats, StateFlowHubDoes, nothing_waits}
+
+-- ---- lost exchanges
+
+-- how many exchanges the seats of a hub have lost
+abbrev pub exchanges_lost : {Id S E : Type 0} → SeatedHub Id S E → ℕ
+exchanges_lost hub = hub.watching.knows.lost + hub.sending.knows.lost
+
+abbrev pub lost_at : Event → ℕ
+lost_at Busy = 1
+lost_at event = 0
+
+-- how many a turn loses that answers so
+abbrev pub lost_in : Result Report ShareFault → ℕ
+lost_in (Ok report) = lost_at report.event
+lost_in (Err fault) = 0
+
+-- ---- within a turn
+
+-- the same token, which has seen all that it had seen before, and maybe more
+abbrev pub HasSeenMore : {Id E : Type 0} → Token Id E → Token Id E → Type 0
+HasSeenMore {Id} {E} before after =
+    (after.table_id ≡ before.table_id) × (after.knows.name ≡ before.knows.name)
+    × ((more : List (HistoryEvent E)) × (after.knows.seen ≡ before.knows.seen ++ more))
+
+module _ {Id S E : Type 0} where
+  -- a turn that began with the first hub may come to the second
+  abbrev pub Follows : SeatedHub Id S E → SeatedHub Id S E → Type 0
+  Follows before after =
+      (after.flow ≡ before.flow) × HasSeenMore before.watching after.watching × HasSeenMore before.sending after.sending
+
+  -- a call of the hub in a turn that began with this one
+  abbrev pub InTurn : {T : Type 0} → ((c : HubCall T) → SeatedHub Id S E → HubAnswer c → SeatedHub Id S E → Type 0) → SeatedHub Id S E
+      → (c : HubCall T) → SeatedHub Id S E → HubAnswer c → SeatedHub Id S E → Type 0
+  InTurn does began call old answer new = does call old answer new × Follows began old
+
+-- ---- the turn
+
+-- `step` says what a call of the hub does.
+pub record TurnBySeats {Id T S C R : Type 0} (kind : Kind T S C R) (step : (c : HubCall T) → SeatedHub Id S (Said C R) → HubAnswer c → SeatedHub Id S (Said C R) → Type 0)
+    (started : Started) (now : ℕ) (seen : List SharingObservation) (s : SharingState T)
+    (old : ChainAndHub T (SeatedHub Id S (Said C R))) (turned : Turned T) (new : ChainAndHub T (SeatedHub Id S (Said C R))) : Type 0 where
+  -- one exchange was lost where the turn reports Busy, and else none
+  pub lost : exchanges_lost new.hub ≡ exchanges_lost old.hub + lost_in turned.answer
+  -- Where an observation was accepted, its count is the reply of a `subscription_count`, the one event that the watching seat has added.
+  pub observed : (turned.seen ≡ seen) ⊎ ((count : ℕ) × (turned.seen ≡ record { moment = now; count = count } ∷ seen)
+      × CallsAtOnceIn kind old.hub.flow.first old.hub.watching kind.count (kind.counted count) new.hub.watching)
+  -- The answer means what it says, by calls of this turn: an item that was accepted is the last event of the sending seat, and so is a poll
+  -- at Waiting.
+  pub means : s.runs ≡ is_running started seen → BetweenTurns s old → (accepted : List T) → HasAccount accepted s old
+      → TurnMeans (InTurn step old.hub) accepted s old turned.answer turned.state new
+
+-- A turn over a shared flow for several threads.
+abbrev pub LawTurnOverSharedFlow : Type 0 → Type 0
+LawTurnOverSharedFlow T =
+    (started : Started) (now : ℕ) (seen : List SharingObservation) (s : SharingState T) (old new : ChainAndHub T (SharedSeats T)) (turned : Turned T) →
+    Takes (CallDoes (HubStep SharedFlowHubDoes has_emission)) (turn_steps started now seen s) old turned new →
+    TurnBySeats shared_flow (HubStep SharedFlowHubDoes has_emission) started now seen s old turned new
+
+-- A turn over a state flow for several threads.
+abbrev pub LawTurnOverStateFlow : Type 0 → Type 0
+LawTurnOverStateFlow T =
+    (started : Started) (now : ℕ) (seen : List SharingObservation) (s : SharingState T) (old new : ChainAndHub T (StateSeats TableId T)) (turned : Turned T) →
+    Takes (CallDoes (HubStep StateFlowHubDoes nothing_waits)) (turn_steps started now seen s) old turned new →
+    TurnBySeats state_flow (HubStep StateFlowHubDoes nothing_waits) started now seen s old turned new

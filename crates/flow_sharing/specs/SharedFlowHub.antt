@@ -1,0 +1,65 @@
+-- What each call of a sharing does to a shared flow for several threads. Begin with `SharedFlowHubDoes`.
+use Rattle.std.specs.Prelude.{◌≡◌, ℕ, Bool, true, false, if◌then◌else◌, Option, Some, None, Result, Ok, Err}
+use Rattle.flow_law.specs.declared.fault.FlowFault.{FlowFault}
+use Rattle.flow_law.specs.declared.fault.FlowFault.TheVariants.{Busy}
+use Rattle.flow_law.specs.declared.history.Said.{Said}
+use Rattle.flow_law.specs.declared.call.SharedCall.{SharedCall}
+use Rattle.flow_law.specs.declared.call.SharedCall.TheVariants as call
+use Rattle.flow_law.specs.declared.call.SharedReply.{SharedReply}
+use Rattle.flow_law.specs.declared.call.SharedReply.TheVariants as reply
+use Rattle.flow_law.specs.declared.outcome.Emit.TheVariants.{Done, Queued}
+use Rattle.flow_law.specs.declared.states.SharedFlowState.{SharedFlowState}
+use Rattle.flow_law.specs.SharedHistory.{shared_flow}
+use Rattle.flow_law.specs.SharingCalls.{HubCall, HubAnswer, counts, puts, polls, cancels}
+use Rattle.flow_law.specs.Tokens.{IsBusy, CallsAtOnceIn}
+use Rattle.flow_shared.specs.SharedReplies.{SharedToken}
+use Rattle.atomic_table.specs.Seated.{TableId}
+use Rattle.flow_sharing.specs.SeatedHub.{SeatedHub, OnlySends, CountDoes}
+
+-- a hub of a shared flow
+abbrev pub SharedSeats : Type 0 → Type 0
+SharedSeats T = SeatedHub TableId (SharedFlowState T) (Said (SharedCall T) (SharedReply T))
+
+-- an emission that waits no more is forgotten
+abbrev pub still : Bool → ℕ → Option ℕ
+still waits number = if waits then Some number else None
+
+-- ---- what the sending seat does: what its flow began with, the token before, what is answered, and the token and the emission after
+
+module _ {T : Type 0} (first : SharedFlowState T) where
+  -- the token made this call and had this reply, at once
+  abbrev Called : SharedToken T → SharedCall T → SharedReply T → SharedToken T → Type 0
+  Called = CallsAtOnceIn shared_flow first
+
+  -- one `emit`, or Busy where the token lost an exchange
+  abbrev pub PutBy : T → SharedToken T → Result Bool FlowFault → SharedToken T → Option ℕ → Type 0
+  PutBy x before (Ok false) after emission = Called before (call.Emit x) (reply.Emitted Done) after × (emission ≡ None)
+  PutBy x before (Ok true) after emission =
+      (number : ℕ) × Called before (call.Emit x) (reply.Emitted (Queued number)) after × (emission ≡ Some number)
+  PutBy x before (Err Busy) after emission = IsBusy before after × (emission ≡ None)
+  PutBy x before (Err fault) after emission = Called before (call.Emit x) (reply.Refused fault) after × (emission ≡ None)
+
+  -- one `poll` of the emission, if there is one, or Busy where the token lost an exchange
+  abbrev pub PollBy : Option ℕ → SharedToken T → Result Bool FlowFault → SharedToken T → Option ℕ → Type 0
+  PollBy None before answer after emission = (answer ≡ Ok false) × (after ≡ before) × (emission ≡ None)
+  PollBy (Some number) before (Ok waits) after emission =
+      Called before (call.Poll number) (reply.Tested waits) after × (emission ≡ still waits number)
+  PollBy (Some number) before (Err fault) after emission = (fault ≡ Busy) × IsBusy before after × (emission ≡ Some number)
+
+  -- one `cancel` of the emission, if there is one, or Busy where the token lost an exchange
+  abbrev pub CancelBy : Option ℕ → SharedToken T → Result Bool FlowFault → SharedToken T → Option ℕ → Type 0
+  CancelBy None before answer after emission = (answer ≡ Ok false) × (after ≡ before) × (emission ≡ None)
+  CancelBy (Some number) before (Ok waited) after emission =
+      Called before (call.Cancel number) (reply.Tested waited) after × (emission ≡ None)
+  CancelBy (Some number) before (Err fault) after emission = (fault ≡ Busy) × IsBusy before after × (emission ≡ Some number)
+
+-- ---- the hub
+
+-- A count is one event under the watching seat. A put is one `emit` under the sending seat; where it queues, its number is kept, and
+-- polls and cancels are events of that number, under the same seat. Without such an emission they do nothing. Busy comes exactly
+-- where the seat lost an exchange, and is no event. The other seat stays as it is.
+abbrev pub SharedFlowHubDoes : {T : Type 0} → (c : HubCall T) → SharedSeats T → HubAnswer c → SharedSeats T → Type 0
+SharedFlowHubDoes counts old answer new = CountDoes shared_flow old answer new
+SharedFlowHubDoes (puts x) old answer new = PutBy old.flow.first x old.sending answer new.sending new.emission × OnlySends old new
+SharedFlowHubDoes polls old answer new = PollBy old.flow.first old.emission old.sending answer new.sending new.emission × OnlySends old new
+SharedFlowHubDoes cancels old answer new = CancelBy old.flow.first old.emission old.sending answer new.sending new.emission × OnlySends old new

@@ -1,0 +1,38 @@
+-- What each call of a sharing does to a state flow for several threads. Begin with `StateFlowHubDoes`.
+use Rattle.std.specs.Prelude.{◌≡◌, Bool, false, Result, Ok, Err}
+use Rattle.flow_law.specs.declared.fault.FlowFault.{FlowFault}
+use Rattle.flow_law.specs.declared.fault.FlowFault.TheVariants.{Busy}
+use Rattle.flow_law.specs.declared.history.Said.{Said}
+use Rattle.flow_law.specs.declared.call.StateCall.{StateCall}
+use Rattle.flow_law.specs.declared.call.StateCall.TheVariants as call
+use Rattle.flow_law.specs.declared.call.StateReply.{StateReply}
+use Rattle.flow_law.specs.declared.call.StateReply.TheVariants as reply
+use Rattle.flow_law.specs.declared.states.StateFlowState.{StateFlowState}
+use Rattle.flow_law.specs.SharingCalls.{HubCall, HubAnswer, counts, puts, polls, cancels}
+use Rattle.flow_law.specs.StateFlow.{state_flow}
+use Rattle.flow_law.specs.Tokens.{IsBusy, CallsAtOnceIn}
+use Rattle.flow_sharing.specs.SeatedHub.{SeatedHub, OnlySends, CountDoes}
+
+-- nothing waits in a state flow
+abbrev pub nothing_waits : {Id S E : Type 0} → SeatedHub Id S E → Bool
+nothing_waits hub = false
+
+-- a hub of a state flow; `Id` is what tells one flow from another
+abbrev pub StateSeats : Type 0 → Type 0 → Type 0
+StateSeats Id T = SeatedHub Id (StateFlowState T) (Said (StateCall T) (StateReply T))
+
+module _ {Id T : Type 0} where
+  -- a put is a `set` under the sending seat; or another caller was inside, and the seat has lost one exchange
+  abbrev pub SetDoes : T → StateSeats Id T → Result Bool FlowFault → StateSeats Id T → Type 0
+  SetDoes x old (Ok waits) new =
+      (waits ≡ false) × CallsAtOnceIn state_flow old.flow.first old.sending (call.Set x) reply.Done new.sending × OnlySends old new
+  SetDoes x old (Err fault) new =
+      (fault ≡ Busy) × IsBusy old.sending new.sending × OnlySends old new
+
+  -- A count is one event under the watching seat. Nothing waits: polls and cancels do nothing. Busy comes exactly where the seat lost
+  -- an exchange, and is no event.
+  abbrev pub StateFlowHubDoes : (c : HubCall T) → StateSeats Id T → HubAnswer c → StateSeats Id T → Type 0
+  StateFlowHubDoes counts old answer new = CountDoes state_flow old answer new
+  StateFlowHubDoes (puts x) old answer new = SetDoes x old answer new
+  StateFlowHubDoes polls old answer new = (answer ≡ Ok false) × (new ≡ old)
+  StateFlowHubDoes cancels old answer new = (answer ≡ Ok false) × (new ≡ old)

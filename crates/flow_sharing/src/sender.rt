@@ -1,0 +1,81 @@
+//! The token by which a hub emits into a shared flow.
+ghost use Rattle.std.specs.Prelude.{◌≡◌, false, None, is_some, IfErr};
+ghost use Rattle.flow_law.specs.SharingCalls as calls;
+ghost use Rattle.flow_law.specs.SharingCalls.{waits_after};
+ghost use Rattle.flow_turns.specs.Hub.{put_answer};
+ghost use Rattle.flow_sharing.specs.Sender.{token_of, emission_of};
+ghost use Rattle.flow_sharing.specs.SharedFlowHub.{PutBy, PollBy, CancelBy};
+
+use flow_law::{FlowFault, FlowValue, Refused};
+use flow_shared::{Emission, Emitted, PolledNow, Seat, SharedFlow};
+use std::alloc::Allocator;
+
+/// A seat, or an emission that waits and has the seat.
+#[derive(Drop)]
+pub(crate) enum Sender<T: FlowValue, A: Allocator + Copy> {
+    Idle(Seat<T, A>),
+    Waiting(Emission<T, A>),
+}
+
+impl<T: FlowValue, A: Allocator + Copy> Sender<T, A> {
+    /// Emits a value. True where the emission waits.
+    pub(crate) fn put(self, call: (&SharedFlow<T, A>, T)) -> (Self, Result<bool, Refused<T>>)
+        requires flow { (token_of self).table_id ≡ call.0.now.table_id }
+        requires idle { emission_of self ≡ None }
+        ensures puts { PutBy call.entry.0.now.first call.entry.1 (token_of self) (put_answer result.1)
+            (token_of result.0) (emission_of result.0) }
+        ensures waits { is_some (emission_of result.0) ≡ waits_after (calls.puts call.entry.1) (put_answer result.1) false }
+        ensures handed_back { IfErr result.1 (λ refused. refused.value ≡ call.entry.1) }
+        ensures flow { (token_of result.0).table_id ≡ (token_of self).table_id }
+    {
+        let (flow, value) = call;
+        let Sender::Idle(seat) = self else {
+            unreachable!()
+        };
+        match flow.emit_now(seat, value) {
+            Emitted::Done(seat) => (Sender::Idle(seat), Ok(false)),
+            Emitted::Queued(emission) => (Sender::Waiting(emission), Ok(true)),
+            Emitted::Refused(seat, value, fault) => (
+                Sender::Idle(seat),
+                Err(Refused { value, fault }),
+            ),
+        }
+    }
+
+    /// Whether the emission, if there is one, still waits.
+    pub(crate) fn poll(self, flow: &SharedFlow<T, A>) -> (Self, Result<bool, FlowFault>)
+        requires { (token_of self).table_id ≡ flow.now.table_id }
+        ensures polls { PollBy flow.now.first (emission_of self) (token_of self) result.1
+            (token_of result.0) (emission_of result.0) }
+        ensures waits { is_some (emission_of result.0) ≡ waits_after {T = T} calls.polls result.1 (is_some (emission_of self)) }
+        ensures busy { IfErr result.1 (λ fault. fault ≡ FlowFault.Busy) }
+        ensures flow { (token_of result.0).table_id ≡ (token_of self).table_id }
+    {
+        match self {
+            Sender::Idle(seat) => (Sender::Idle(seat), Ok(false)),
+            Sender::Waiting(emission) => match flow.poll_now(emission) {
+                PolledNow::Done(seat) => (Sender::Idle(seat), Ok(false)),
+                PolledNow::Waiting(emission) => (Sender::Waiting(emission), Ok(true)),
+                PolledNow::Busy(emission) => (Sender::Waiting(emission), Err(FlowFault::Busy)),
+            },
+        }
+    }
+
+    /// Takes the emission back, if there is one. True where it waited.
+    pub(crate) fn cancel(self, flow: &SharedFlow<T, A>) -> (Self, Result<bool, FlowFault>)
+        requires { (token_of self).table_id ≡ flow.now.table_id }
+        ensures cancels { CancelBy flow.now.first (emission_of self) (token_of self) result.1
+            (token_of result.0) (emission_of result.0) }
+        ensures waits { is_some (emission_of result.0) ≡ waits_after {T = T} calls.cancels result.1 (is_some (emission_of self)) }
+        ensures busy { IfErr result.1 (λ fault. fault ≡ FlowFault.Busy) }
+        ensures flow { (token_of result.0).table_id ≡ (token_of self).table_id }
+    {
+        match self {
+            Sender::Idle(seat) => (Sender::Idle(seat), Ok(false)),
+            Sender::Waiting(emission) => match flow.cancel_now(emission) {
+                Ok((seat, was_waiting)) => (Sender::Idle(seat), Ok(was_waiting)),
+                Err(emission) => (Sender::Waiting(emission), Err(FlowFault::Busy)),
+            },
+        }
+    }
+}

@@ -1,0 +1,86 @@
+//! A state flow for several threads as the flow of a sharing.
+ghost use Rattle.std.specs.Prelude.{◌≡◌, false};
+ghost use Rattle.flow_law.specs.Growth.{makes};
+ghost use Rattle.flow_law.specs.Tokens.{knowing};
+ghost use Rattle.flow_sharing.specs.SeatedHub.{seated};
+
+use flow_law::{FlowFault, FlowValue, Refused};
+use flow_shared::{StateFlow, StateSeat};
+use flow_turns::Hub;
+use std::alloc::{Allocator, Global};
+use std::marker::Model;
+
+/// A `StateFlow` that is lent, whose value a sharing sets beside other callers. Subscribers use the flow itself.
+///
+/// No item ever waits, and the only refusal is `Busy`, where another caller is inside the flow. The item is kept then,
+/// and the next turn sets it. A hub that is dropped loses its two seats.
+#[derive(Drop)]
+pub struct StateFlowHub<'a, T: FlowValue, A: Allocator + Copy = Global> {
+    flow: &'a StateFlow<T, A>,
+    watching: StateSeat<T, A>,
+    sending: StateSeat<T, A>,
+}
+
+impl<'a, T: FlowValue, A: Allocator + Copy> Model for StateFlowHub<'a, T, A> {
+    ghost use Rattle.std.specs.Prelude.{None};
+    ghost use Rattle.atomic_table.specs.Seated.{TableId};
+    ghost use Rattle.flow_sharing.specs.StateFlowHub.{StateSeats};
+
+    ghost Value = { StateSeats TableId T };
+
+    ghost use Rattle.flow_sharing.specs.SeatedHub.{IsOf};
+
+    ghost view = { λ h. record {
+      flow = h.flow.now;
+      watching = h.watching;
+      sending = h.sending;
+      emission = None;
+    } };
+
+    ghost invariant = { λ h. IsOf h.watching h.flow.now × IsOf h.sending h.flow.now };
+}
+
+impl<'a, T: FlowValue, A: Allocator + Copy> StateFlowHub<'a, T, A> {
+    /// A hub that has set nothing yet. Its two seats are made through this one, which stays the caller's.
+    pub fn new(flow: &'a StateFlow<T, A>, seat: &mut StateSeat<T, A>) -> StateFlowHub<'a, T, A>
+        requires { seat.old.table_id ≡ flow.now.table_id }
+        ensures hub { result ≡ seated flow.entry.now seat.old }
+        ensures seat { seat.new ≡ knowing seat.old (makes (makes seat.old.knows)) }
+        ensures waits { ⟦<StateFlowHub<'a, T, A> as Hub>⟧.waits result ≡ false }
+    {
+        let watching = flow.seat(seat);
+        let sending = flow.seat(seat);
+        StateFlowHub {
+            flow,
+            watching,
+            sending,
+        }
+    }
+}
+
+impl<'a, T: FlowValue, A: Allocator + Copy> Hub for StateFlowHub<'a, T, A> {
+    type Item = T;
+
+    ghost use Rattle.flow_sharing.specs.StateFlowHub.{nothing_waits, StateFlowHubDoes};
+
+    ghost waits = { nothing_waits };
+
+    ghost does = { StateFlowHubDoes };
+
+    fn count(&mut self) -> Result<u64, FlowFault> {
+        self.flow.count_now(&mut self.watching)
+    }
+
+    fn put(&mut self, value: T) -> Result<bool, Refused<T>> {
+        self.flow.set_now(&mut self.sending, value)?;
+        Ok(false)
+    }
+
+    fn poll(&mut self) -> Result<bool, FlowFault> {
+        Ok(false)
+    }
+
+    fn cancel(&mut self) -> Result<bool, FlowFault> {
+        Ok(false)
+    }
+}

@@ -1,0 +1,43 @@
+use Rattle.std.proofs.Common.{Bool, true, false, None, sym, subst}
+use Rattle.flow_law.specs.declared.sharing.Command.{Command}
+use Rattle.flow_law.specs.declared.sharing.Command.TheVariants.{Start, Stop, Keep}
+use Rattle.flow_law.specs.Steps.{Takes}
+use Rattle.flow_law.specs.SharingCalls.{CallDoes, HubStep}
+use Rattle.flow_law.specs.SharingTurn.{reported, work}
+use Rattle.flow_turns.specs.SharingViews.{state_of, chain_and_hub}
+use Rattle.flow_turns.specs.TurnClauses.{Begins}
+use Rattle.flow_turns.proofs.StepLemmas.{same-parts}
+use Rattle.flow_turns.proofs.sharing.Sharing.begin.Goals as goal
+
+pub returns-in-Start-clause-steps : goal.returns-in-Start-clause-steps
+returns-in-Start-clause-steps g c =
+    let mid = record c.args.self.now { chain = c.rewind.new.self; completed = false } in
+    let G : Command → Type 0 = λ command. Begins g.C.Cold.whole g.C.Cold.rest g.H.Hub.does g.H.Hub.waits command c.args.self.now c.work.result c.work.new.self in
+    let begun : G Start = λ all ran is.
+    let P : Bool → Type 0 = λ runs.
+    Takes (CallDoes (HubStep g.H.Hub.does g.H.Hub.waits)) (work Start all (record (state_of mid) { runs = runs })) (chain_and_hub g.C.Cold.whole g.C.Cold.rest mid)
+    (record { answer = reported Start c.work.result; seen = all; state = state_of c.work.new.self }) (chain_and_hub g.C.Cold.whole g.C.Cold.rest c.work.new.self) in
+    (tt, chain_and_hub g.C.Cold.whole g.C.Cold.rest mid, same-parts _ _ _ _ _ c.rewind.ensures.whole c.rewind.ensures.rest, subst P is (c.work.ensures.steps Start all)) in
+    subst G (sym c.in-Start.is) begun
+
+pub returns-in-Stop-clause-steps : goal.returns-in-Stop-clause-steps
+returns-in-Stop-clause-steps g c =
+    let mid = record c.args.self.now { kept = None; cancel_due = true } in
+    let G : Command → Type 0 = λ command. Begins g.C.Cold.whole g.C.Cold.rest g.H.Hub.does g.H.Hub.waits command c.args.self.now c.work-in-Stop.result c.work-in-Stop.new.self in
+    let begun : G Stop = λ all ran is.
+    let P : Bool → Type 0 = λ runs.
+    Takes (CallDoes (HubStep g.H.Hub.does g.H.Hub.waits)) (work Stop all (record (state_of mid) { runs = runs })) (chain_and_hub g.C.Cold.whole g.C.Cold.rest mid)
+    (record { answer = reported Stop c.work-in-Stop.result; seen = all; state = state_of c.work-in-Stop.new.self }) (chain_and_hub g.C.Cold.whole g.C.Cold.rest c.work-in-Stop.new.self) in
+    subst P is (c.work-in-Stop.ensures.steps Stop all) in
+    subst G (sym c.in-Stop.is) begun
+
+pub returns-in-Keep-clause-steps : goal.returns-in-Keep-clause-steps
+returns-in-Keep-clause-steps g c =
+    let mid = c.args.self.now in
+    let G : Command → Type 0 = λ command. Begins g.C.Cold.whole g.C.Cold.rest g.H.Hub.does g.H.Hub.waits command c.args.self.now c.work-in-Keep.result c.work-in-Keep.new.self in
+    let begun : G Keep = λ all ran is.
+    let P : Bool → Type 0 = λ runs.
+    Takes (CallDoes (HubStep g.H.Hub.does g.H.Hub.waits)) (work Keep all (record (state_of mid) { runs = runs })) (chain_and_hub g.C.Cold.whole g.C.Cold.rest mid)
+    (record { answer = reported Keep c.work-in-Keep.result; seen = all; state = state_of c.work-in-Keep.new.self }) (chain_and_hub g.C.Cold.whole g.C.Cold.rest c.work-in-Keep.new.self) in
+    subst P is (c.work-in-Keep.ensures.steps Keep all) in
+    subst G (sym c.in-Keep.is) begun

@@ -1,0 +1,41 @@
+use Rattle.std.proofs.Common.{◌≡◌, None, refl, sym, ◌∙◌}
+use Rattle.flow_law.specs.declared.chain.End.TheVariants.{Completed as AtEnd, Failed}
+use Rattle.flow_law.specs.SharingCalls.{item, pending, end}
+use Rattle.flow_turns.specs.SharingViews.{state_of, chain_and_hub}
+use Rattle.flow_turns.proofs.StepLemmas.{same-parts, puts-kept, asks-chain}
+use Rattle.flow_turns.proofs.sharing.Sharing.send.Goals as goal
+
+pub returns-in-Some-clause-steps : goal.returns-in-Some-clause-steps
+returns-in-Some-clause-steps g c = λ command seen.
+    puts-kept _ _ _ _ command seen (state_of c.args.self.now) c.in-Some.item (sym c.take.ensures.value ∙ c.in-Some.is) (c.put.ensures.steps command seen)
+
+pub returns-in-Item-clause-steps : goal.returns-in-Item-clause-steps
+returns-in-Item-clause-steps g c = λ command seen.
+    asks-chain _ _ _ _ command seen (state_of c.args.self.now) (chain_and_hub g.C.Cold.whole g.C.Cold.rest (record c.args.self.now { chain = c.ask.new.self })) (item c.in-Item.item)
+    (sym c.take.ensures.value ∙ c.in_default.is)
+    (c.in-Item.ensures.gives, same-parts _ _ _ _ _ c.in-Item.ensures.whole refl)
+    (c.put-in-Item.ensures.steps command seen)
+
+pub returns-in-Pending-clause-steps : goal.returns-in-Pending-clause-steps
+returns-in-Pending-clause-steps g c = λ command seen.
+    let none : c.args.self.now.kept ≡ None = sym c.take.ensures.value ∙ c.in_default.is in
+    asks-chain _ _ _ _ command seen (state_of c.args.self.now) (chain_and_hub g.C.Cold.whole g.C.Cold.rest (record c.args.self.now { chain = c.ask.new.self })) pending
+    none
+    (c.in-Pending.ensures.gives, same-parts _ _ _ _ _ c.in-Pending.ensures.whole refl)
+    (rw (c.take.ensures.after, none) refl, refl)
+
+pub returns-in-End-clause-steps : goal.returns-in-End-clause-steps
+returns-in-End-clause-steps g c = λ command seen.
+    let none : c.args.self.now.kept ≡ None = sym c.take.ensures.value ∙ c.in_default.is in
+    asks-chain _ _ _ _ command seen (state_of c.args.self.now) (chain_and_hub g.C.Cold.whole g.C.Cold.rest (record c.args.self.now { chain = c.ask.new.self })) (end AtEnd)
+    none
+    (c.in-End.ensures.gives, same-parts _ _ _ _ _ c.in-End.ensures.whole refl)
+    (rw (c.take.ensures.after, none) refl, refl)
+
+pub returns-in-Fault-clause-steps : goal.returns-in-Fault-clause-steps
+returns-in-Fault-clause-steps g c = λ command seen.
+    let none : c.args.self.now.kept ≡ None = sym c.take.ensures.value ∙ c.in_default.is in
+    asks-chain _ _ _ _ command seen (state_of c.args.self.now) (chain_and_hub g.C.Cold.whole g.C.Cold.rest (record c.args.self.now { chain = c.ask.new.self })) (end (Failed c.in-Fault.fault))
+    none
+    (c.in-Fault.ensures.gives, same-parts _ _ _ _ _ c.in-Fault.ensures.whole refl)
+    (rw (c.take.ensures.after, none) refl, refl)

@@ -1,0 +1,73 @@
+use Rattle.std.proofs.Common.{[], ◌∷◌, List, Ok, Err, refl, sym, ap, ◌∙◌, subst}
+use Rattle.flow_law.specs.declared.sharing.Command.{Command}
+use Rattle.flow_law.specs.declared.sharing.Command.TheVariants.{Keep}
+use Rattle.flow_law.specs.declared.sharing.SharingObservation.{SharingObservation}
+use Rattle.flow_law.specs.declared.report.ShareFault.TheVariants.{Backwards}
+use Rattle.flow_law.specs.Sharing.{newest_command}
+use Rattle.flow_law.specs.Steps.{Takes}
+use Rattle.flow_law.specs.SharingCalls.{CallDoes, HubStep}
+use Rattle.flow_law.specs.SharingTurn.{SharingState, Turned, reported, begin}
+use Rattle.flow_law.proofs.TurnMeaningLemmas.{turn-means}
+use Rattle.flow_law.proofs.TurnQuietLemmas.{turn-quiet}
+use Rattle.flow_turns.specs.Policy.{HasSeen}
+use Rattle.flow_turns.specs.SharingViews.{state_of, chain_and_hub}
+use Rattle.flow_turns.proofs.StepLemmas.{same-end, counts-hub, observes-count, goes-back}
+use Rattle.flow_turns.proofs.sharing.Sharing.turn.Goals as goal
+
+pub returns-in-Err-clause-turn : goal.returns-in-Err-clause-turn
+returns-in-Err-clause-turn g c = λ started seen stands. (
+  seen,
+  rw c.counted.ensures.policy stands,
+  counts-hub _ _ _ _ started c.args.now seen (state_of c.args.self.now) (chain_and_hub g.C.Cold.whole g.C.Cold.rest c.counted.new.self) (Err c.in-Err.fault)
+      c.if-self.false c.in-Err.ensures.counts
+      (same-end seen _ _ _ _ (c.report_of.ensures ∙ ap (reported Keep) c.refusal_of.ensures) c.in-Err.ensures.state, refl),
+)
+
+pub returns-in-Err-observe-clause-turn : goal.returns-in-Err-observe-clause-turn
+returns-in-Err-observe-clause-turn g c = λ started seen stands.
+    let held : HasSeen started c.counted.new.self.policy seen = rw c.counted.ensures.policy stands in
+    let told = c.in-Err-observe.ensures.observes started seen held in
+    let mid = chain_and_hub g.C.Cold.whole g.C.Cold.rest c.counted.new.self in (
+      seen,
+      rw c.in-Err-observe.ensures.unchanged held,
+      counts-hub _ _ _ _ started c.args.now seen (state_of c.args.self.now) mid (Ok c.in-Ok.count)
+          c.if-self.false c.in-Ok.ensures.counts
+          (goes-back _ mid mid _ started c.args.now seen (state_of c.args.self.now) c.in-Ok.count told.0
+          (same-end seen _ _ _ _ (ap (λ last. Err (Backwards last)) told.1) (rw c.in-Err-observe.ensures.unchanged c.in-Ok.ensures.state)) refl),
+    )
+
+pub returns-clause-turn : goal.returns-clause-turn
+returns-clause-turn g c = λ started seen stands.
+    let held : HasSeen started c.counted.new.self.policy seen = rw c.counted.ensures.policy stands in
+    let told = c.in-Ok-observe.ensures.observes started seen held in
+    let all : List SharingObservation = record { moment = c.args.now; count = c.in-Ok.count } ∷ seen in
+    let mid = chain_and_hub g.C.Cold.whole g.C.Cold.rest c.counted.new.self in
+    let last = chain_and_hub g.C.Cold.whole g.C.Cold.rest c.begin-outcome.new.self in
+    let D = CallDoes (HubStep g.H.Hub.does g.H.Hub.waits) in
+    let P : SharingState g.row.C-Item.Denot → Type 0 = λ s.
+    Takes D (begin all c.in-Ok-observe.command s) mid (record { answer = reported c.in-Ok-observe.command c.begin-outcome.result; seen = all; state = state_of c.begin-outcome.new.self }) last in
+    let Q : Command → Type 0 = λ command.
+    Takes D (begin all command (state_of c.args.self.now)) mid (record { answer = reported c.in-Ok-observe.command c.begin-outcome.result; seen = all; state = state_of c.begin-outcome.new.self }) last in
+    let R : Turned g.row.C-Item.Denot → Type 0 = λ r. Takes D (begin all (newest_command started all) (state_of c.args.self.now)) mid r last in
+    let begun : P (state_of c.counted.new.self) = c.begin-outcome.ensures.steps all c.counted.new.self.policy.running c.in-Ok-observe.ensures.runs in (
+      all,
+      rw c.begin-outcome.ensures.policy told.2,
+      counts-hub _ _ _ _ started c.args.now seen (state_of c.args.self.now) mid (Ok c.in-Ok.count)
+          c.if-self.false c.in-Ok.ensures.counts
+          (observes-count D mid last _ started c.args.now seen (state_of c.args.self.now) c.in-Ok.count told.0
+          (subst R (sym (same-end all _ _ _ _ c.report_of-2.ensures refl)) (subst Q told.1 (subst P c.in-Ok.ensures.state begun)))),
+    )
+
+pub returns-clause-means : goal.returns-clause-means
+returns-clause-means g c = λ started seen accepted stands between held.
+    let turn = returns-clause-turn g c started seen stands in
+    (turn-means _ started c.args.now seen _ _ _ _ accepted stands.running between turn.2).0 held
+
+pub returns-clause-between : goal.returns-clause-between
+returns-clause-between g c = λ started seen stands between.
+    let turn = returns-clause-turn g c started seen stands in
+    (turn-means _ started c.args.now seen _ _ _ _ [] stands.running between turn.2).1
+
+pub returns-clause-quiet : goal.returns-clause-quiet
+returns-clause-quiet g c = λ started seen stands quiet.
+    let turn = returns-clause-turn g c started seen stands in turn-quiet g.H.Hub.does g.H.Hub.waits started c.args.now seen _ _ _ _ quiet turn.2

@@ -1,0 +1,11 @@
+pub mod CoreHub
+pub mod CoreLending
+pub mod Hub
+pub mod Lending
+pub mod OverCores
+pub mod Policy
+pub mod ShareIn
+pub mod SharingViews
+pub mod StateHub
+pub mod StateLending
+pub mod TurnClauses

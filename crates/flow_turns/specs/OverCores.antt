@@ -1,0 +1,38 @@
+-- What a turn over a core is for the documented flow that the core stands for. Begin with `LawTurnOverCore`.
+use Rattle.std.specs.Prelude.{◌≡◌, ℕ, List}
+use Rattle.flow_law.specs.declared.sharing.Started.{Started}
+use Rattle.flow_law.specs.declared.sharing.SharingObservation.{SharingObservation}
+use Rattle.flow_law.specs.Standing.{StandsFor}
+use Rattle.flow_law.specs.Steps.{Takes}
+use Rattle.flow_law.specs.SharingCalls.{ChainAndHub, with_hub, CallDoes, HubStep}
+use Rattle.flow_law.specs.SharingTurn.{SharingState, Turned, turn_steps}
+use Rattle.flow_law.specs.declared.states.EmittingFlow.{EmittingFlow}
+use Rattle.flow_law.specs.SharingFlows.{shared_reply, SharedDoes, state_reply, StateDoes, IsNotBusy, IsAtOnce, DocumentedTurn}
+use Rattle.flow_turns.specs.declared.core_hub.CoreHub.{CoreHub}
+use Rattle.flow_turns.specs.declared.state_hub.StateHub.{StateHub}
+use Rattle.flow_turns.specs.CoreHub.{CoreHubDoes, is_waiting, emission_of, core_of}
+use Rattle.flow_turns.specs.StateHub.{StateHubDoes, never_waits, state_core_of}
+
+module _ {T A : Type 0} where
+  -- the hub's core stands for the flow, and its emission is the one that waits there
+  abbrev pub Emits : CoreHub T A → EmittingFlow T → Type 0
+  Emits hub f = StandsFor (core_of hub) f.flow × (emission_of hub ≡ f.waiting)
+
+-- A turn over a core is a turn over the documented flow, in each state that the core stands for, and the core stands for the state after it.
+-- It is never busy.
+abbrev pub LawTurnOverCore : Type 0 → Type 0 → Type 0
+LawTurnOverCore T A =
+    (started : Started) (now : ℕ) (seen : List SharingObservation) (s : SharingState T) (f : EmittingFlow T)
+    (old new : ChainAndHub T (CoreHub T A)) (turned : Turned T) →
+    Emits old.hub f → Takes (CallDoes (HubStep CoreHubDoes is_waiting)) (turn_steps started now seen s) old turned new →
+    (g : EmittingFlow T) × Emits new.hub g
+    × DocumentedTurn SharedDoes shared_reply IsNotBusy started now seen s (with_hub old f) turned (with_hub new g)
+
+-- A turn over a state core is a turn over the documented state flow that it is. Nothing waits, and nothing is refused.
+abbrev pub LawTurnOverStateCore : Type 0 → Type 0 → Type 0
+LawTurnOverStateCore T A =
+    (started : Started) (now : ℕ) (seen : List SharingObservation) (s : SharingState T)
+    (old new : ChainAndHub T (StateHub T A)) (turned : Turned T) →
+    Takes (CallDoes (HubStep StateHubDoes never_waits)) (turn_steps started now seen s) old turned new →
+    DocumentedTurn StateDoes state_reply IsAtOnce started now seen s
+    (with_hub old (state_core_of old.hub)) turned (with_hub new (state_core_of new.hub))

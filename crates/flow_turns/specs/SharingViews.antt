@@ -1,0 +1,43 @@
+-- What contracts see of a sharing: what it keeps, as flow_law's `SharingState`, and its chain and hub. Begin with `state_of`.
+use Rattle.std.specs.Prelude.{Bool, List}
+use Rattle.flow_law.specs.declared.sharing.Started.{Started}
+use Rattle.flow_law.specs.declared.sharing.SharingObservation.{SharingObservation}
+use Rattle.flow_law.specs.ChainRun.{ChainRun}
+use Rattle.flow_law.specs.SharingCalls.{ChainAndHub}
+use Rattle.flow_law.specs.SharingTurn.{SharingState}
+use Rattle.flow_turns.specs.declared.sharing.Sharing.{Sharing}
+use Rattle.flow_turns.specs.Policy.{HasSeen}
+
+module _ {C H T : Type 0} where
+  abbrev pub state_of : Sharing C H T → SharingState T
+  state_of sharing = record {
+    kept = sharing.kept;
+    runs = sharing.policy.running;
+    cancel_due = sharing.cancel_due;
+    completed = sharing.completed;
+    ended = sharing.ended;
+  }
+
+  -- `whole` and `rest` are the runs of the chain
+  abbrev pub chain_and_hub : (whole rest : C → ChainRun T) → Sharing C H T → ChainAndHub T H
+  chain_and_hub whole rest sharing = record {
+    whole = whole sharing.chain;
+    rest = rest sharing.chain;
+    hub = sharing.hub;
+  }
+
+  -- the chain's closures may be called, and answer what their meanings say
+  abbrev pub IsSound : (C → Type 0) → Sharing C H T → Type 0
+  IsSound sound sharing = sound sharing.chain
+
+  -- the sharing has this policy, and these observations, the newest one first, were accepted
+  abbrev pub HasObserved : Started → Sharing C H T → List SharingObservation → Type 0
+  HasObserved started sharing seen = HasSeen started sharing.policy seen
+
+  -- the chain has failed
+  abbrev pub has_ended : Sharing C H T → Bool
+  has_ended sharing = sharing.ended
+
+  -- the flow into which the sharing emits
+  abbrev pub hub_of : Sharing C H T → H
+  hub_of sharing = sharing.hub

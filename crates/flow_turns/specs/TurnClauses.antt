@@ -1,0 +1,74 @@
+-- What is promised of each turn of a sharing: its steps, what its answer means, and what stays true between turns.
+-- Each is said for every list of observations that leads to what the sharing's policy keeps. The turn itself is `turn_steps` of flow_law.
+use Rattle.std.specs.Prelude.{◌≡◌, ℕ, Bool, true, false, List, Result, Ok, Err}
+use Rattle.flow_law.specs.declared.sharing.Started.{Started}
+use Rattle.flow_law.specs.declared.sharing.Command.{Command}
+use Rattle.flow_law.specs.declared.sharing.SharingObservation.{SharingObservation}
+use Rattle.flow_law.specs.declared.report.Event.{Event}
+use Rattle.flow_law.specs.declared.report.Event.TheVariants.{Idle}
+use Rattle.flow_law.specs.declared.report.Report.{Report}
+use Rattle.flow_law.specs.declared.report.ShareFault.{ShareFault}
+use Rattle.flow_law.specs.declared.report.ShareFault.TheVariants.{Chain}
+use Rattle.flow_law.specs.ChainRun.{ChainRun}
+use Rattle.flow_law.specs.Sharing.{runs_after}
+use Rattle.flow_law.specs.Steps.{Takes}
+use Rattle.flow_law.specs.SharingCalls.{HubCall, HubAnswer, to_hub, CallDoes, HubStep}
+use Rattle.flow_law.specs.SharingTurn.{SharingState, TurnSteps, reported, begin, turn_steps}
+use Rattle.flow_law.specs.TurnMeaning.{HasAccount, BetweenTurns, IsQuiet, TurnMeans}
+use Rattle.flow_turns.specs.declared.sharing.Sharing.{Sharing}
+use Rattle.flow_turns.specs.SharingViews.{state_of, chain_and_hub, hub_of, HasObserved}
+
+-- `whole` and `rest` are the runs of the chain; `does` and `waits` are what the hub says of itself
+module _ {C H T : Type 0} (whole rest : C → ChainRun T) (does : (c : HubCall T) → H → HubAnswer c → H → Type 0) (waits : H → Bool) where
+  -- the sharing takes the steps of a turn, and has then observed what the turn says
+  abbrev pub TakesTurn : ℕ → Sharing C H T → Result Report ShareFault → Sharing C H T → Type 0
+  TakesTurn now old result new =
+      (started : Started) (seen : List SharingObservation) → HasObserved started old seen →
+      (all : List SharingObservation) × HasObserved started new all
+      × Takes (CallDoes (HubStep does waits)) (turn_steps started now seen (state_of old)) (chain_and_hub whole rest old)
+      (record { answer = result; seen = all; state = state_of new }) (chain_and_hub whole rest new)
+
+  -- the answer means what it says of the items that the hub has accepted since the last start
+  abbrev pub MeansAnswer : Sharing C H T → Result Report ShareFault → Sharing C H T → Type 0
+  MeansAnswer old result new =
+      (started : Started) (seen : List SharingObservation) (accepted : List T) → HasObserved started old seen →
+      BetweenTurns (state_of old) (chain_and_hub whole rest old) → HasAccount accepted (state_of old) (chain_and_hub whole rest old) →
+      TurnMeans (HubStep does waits) accepted (state_of old) (chain_and_hub whole rest old) result (state_of new) (chain_and_hub whole rest new)
+
+  -- a call of the hub answers so, and nothing else changes
+  abbrev pub CallsHub : (c : HubCall T) → Sharing C H T → HubAnswer c → Sharing C H T → Type 0
+  CallsHub call old answer new =
+      CallDoes (HubStep does waits) (to_hub call) (chain_and_hub whole rest old) answer (chain_and_hub whole rest new)
+
+  -- these steps of a turn, what follows its command, come to this outcome, whatever the command and the observations
+  abbrev pub ComesTo : (Command → List SharingObservation → SharingState T → TurnSteps T) → Sharing C H T → Result Event ShareFault → Sharing C H T → Type 0
+  ComesTo steps old outcome new =
+      (command : Command) (seen : List SharingObservation) →
+      Takes (CallDoes (HubStep does waits)) (steps command seen (state_of old)) (chain_and_hub whole rest old)
+      (record { answer = reported command outcome; seen = seen; state = state_of new }) (chain_and_hub whole rest new)
+
+  -- a command and what follows it come to this outcome, whatever the observations, where the policy runs as the command says
+  abbrev pub Begins : Command → Sharing C H T → Result Event ShareFault → Sharing C H T → Type 0
+  Begins command old outcome new =
+      (all : List SharingObservation) (ran : Bool) → (state_of old).runs ≡ runs_after command ran →
+      Takes (CallDoes (HubStep does waits)) (begin all command (record (state_of old) { runs = ran })) (chain_and_hub whole rest old)
+      (record { answer = reported command outcome; seen = all; state = state_of new }) (chain_and_hub whole rest new)
+
+module _ {C H T : Type 0} (whole rest : C → ChainRun T) where
+  -- what is true between turns is true again after the turn
+  abbrev pub StaysBetween : Sharing C H T → Sharing C H T → Type 0
+  StaysBetween old new =
+      (started : Started) (seen : List SharingObservation) → HasObserved started old seen →
+      BetweenTurns (state_of old) (chain_and_hub whole rest old) → BetweenTurns (state_of new) (chain_and_hub whole rest new)
+
+  -- where no emission of anybody else waited while the sharing did not run, none does after the turn; so none waits after a turn that answers `Idle`
+  abbrev pub StaysQuiet : (H → Bool) → Sharing C H T → Result Report ShareFault → Sharing C H T → Type 0
+  StaysQuiet waits old result new =
+      (started : Started) (seen : List SharingObservation) → HasObserved started old seen → IsQuiet waits (state_of old) (chain_and_hub whole rest old) →
+      IsQuiet waits (state_of new) (chain_and_hub whole rest new)
+      × ((command : Command) → result ≡ reported command (Ok Idle) → waits (hub_of new) ≡ false)
+
+-- the sharing has ended once a turn answered a fault of the chain
+abbrev pub ended_after : {R : Type 0} → Result R ShareFault → Bool → Bool
+ended_after (Err (Chain fault)) ended = true
+ended_after result ended = ended

@@ -1,0 +1,20 @@
+//! The core of a shared flow's hub, lent to the caller.
+ghost use Rattle.std.specs.Prelude.{◌≡◌};
+ghost use Rattle.std.specs.Borrow.{sem};
+ghost use Rattle.flow_turns.specs.CoreHub.{core_of};
+ghost use Rattle.flow_turns.specs.CoreLending.{LendsCore};
+
+use crate::core_hub::CoreHub;
+use flow_core::SharedCore;
+use flow_law::FlowValue;
+use std::alloc::Allocator;
+
+impl<T: FlowValue, A: Allocator + Copy> CoreHub<T, A> {
+    /// The core, to subscribe and to receive.
+    pub fn core_mut(&mut self) -> &mut SharedCore<T, A>
+        ensures* writes_back { sem 𝓛 (LendsCore T.row A.row T.FlowValue A.Allocator self.entry result) }
+        ensures core { result.now ≡ core_of self.old }
+    {
+        &mut self.core
+    }
+}

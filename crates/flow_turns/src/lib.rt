@@ -1,0 +1,46 @@
+//! The turns of a sharing: a cold flow is collected into a hot one while a policy says so (`shareIn`, `stateIn`).
+//!
+//! Programs take these names from crate `flow_sharing`, which adds the hubs of flows for several threads.
+//!
+//! A `Sharing` has a chain, a policy that says when the chain is collected (`SharingStarted`), and a hub: the hot flow
+//! that the chain's items go into. `share_in` and `state_in` make one with a flow of its own. Nothing runs by itself: the
+//! caller drives it by `turn`, and hands in the moment.
+//!
+//! # A turn
+//! The subscribers are counted and the count is observed. While the sharing runs, one item at most is emitted: an emission
+//! that still waits for subscribers is polled first, and the next item follows in the turn that finds it done.
+//!
+//! # Start and stop
+//! A start collects the chain from its beginning. A stop drops an item that the flow has not accepted, and cancels an
+//! emission that waits. The subscribers keep what they have.
+//!
+//! # How it ends
+//! A chain that ends normally is asked again only after a stop and a start. A chain that fails ends the sharing: one turn
+//! answers the fault, and every later one `Ended`. Subscribers notice neither.
+//!
+//! # Refusals
+//! Where the flow refuses an item, or is busy, the turn says so, and the next one goes on there. The observation stands.
+#![tactic(auto)]
+
+mod core_hub;
+mod core_lend;
+mod hub;
+mod laws;
+mod lend;
+mod policy;
+mod share;
+mod sharing;
+mod state_hub;
+mod state_lend;
+mod turn;
+
+pub use core_hub::CoreHub;
+pub use flow_cold::{Asked, Cold};
+pub use flow_law::report::{Event, Report, ShareFault};
+pub use flow_law::{ChainFault, Command, End, SharingObservation, Started};
+pub use hub::Hub;
+pub use laws::{law_turn_over_core, law_turn_over_state_core};
+pub use policy::{Backwards, Policy};
+pub use share::{share_in, state_in};
+pub use sharing::Sharing;
+pub use state_hub::StateHub;

@@ -1,0 +1,122 @@
+//! When a sharing runs, told from the numbers of subscribers (`SharingStarted`).
+//!
+//! A policy keeps no list of observations: the last moment, the first moment of the zero counts at the end, and whether
+//! it runs are enough. Its clauses speak of every list of observations that leads to what it keeps.
+ghost use Rattle.std.specs.Prelude.{◌≡◌, ◌≤◌, ◌<◌, [], true, IfOk, OnErr};
+ghost use Rattle.std.specs.Option.{ForSome};
+ghost use Rattle.flow_law.specs.Sharing.{command_of, runs_after};
+
+use flow_law::{Command, Started};
+use thiserror::Error;
+
+/// An observation is refused whose moment is before the last one.
+#[derive(Clone, Copy, Debug, PartialEq, Eq, Error)]
+#[error("the moment is before the last one, {last}")]
+pub struct Backwards {
+    /// The last moment that was accepted.
+    pub last: u64,
+}
+
+/// Says at each observation whether the sharing is to start or to stop.
+#[derive(Drop)]
+pub struct Policy {
+    started: Started,
+    /// The last moment, at first 0.
+    last: u64,
+    /// The first moment of the zero counts at the end, where they follow a positive count. Only a policy that stops
+    /// keeps it.
+    since: Option<u64>,
+    running: bool,
+    ghost in_order: { ForSome since (λ moment. moment ≤ last) },
+}
+
+fn change(ran: bool, runs: bool) -> Command
+    ensures command { result ≡ command_of ran runs }
+    ensures runs { runs ≡ runs_after result ran }
+{
+    match (ran, runs) {
+        (false, true) => Command::Start,
+        (true, false) => Command::Stop,
+        _ => Command::Keep,
+    }
+}
+
+impl Policy {
+    ghost use Rattle.flow_turns.specs.Policy.{HasSeen, runs, GivesSince, GivesRunning, Observes};
+
+    /// A policy that has observed nothing, and does not run.
+    pub fn new(started: Started) -> Self
+        ensures nothing { HasSeen started result [] }
+    {
+        Policy {
+            started,
+            last: 0,
+            since: None,
+            running: false,
+        }
+    }
+
+    /// Whether it runs since the last observation.
+    pub(crate) fn is_running(&self) -> bool
+        ensures { result ≡ runs self.now }
+    {
+        self.running
+    }
+
+    /// The first moment of the zero counts at the end, after one more observation.
+    fn since_after(&self, now: u64, count: u64) -> Option<u64>
+        requires { self.now.last ≤ now }
+        ensures since { GivesSince self.now (record { moment = now; count = count }) result }
+        ensures in_order { ForSome result (λ moment. moment ≤ now) }
+    {
+        match self.started {
+            Started::Eagerly | Started::Lazily => None,
+            Started::WhileSubscribed { stop: _ } => {
+                if count > 0 {
+                    None
+                } else if self.running && self.since.is_none() {
+                    Some(now)
+                } else {
+                    self.since
+                }
+            }
+        }
+    }
+
+    /// Whether it runs, after one more observation.
+    fn runs_after(&self, since: Option<u64>, now: u64, count: u64) -> bool
+        requires { ForSome since (λ moment. moment ≤ now) }
+        ensures { GivesRunning self.now (record { moment = now; count = count }) since result }
+    {
+        match self.started {
+            Started::Eagerly => true,
+            Started::Lazily => count > 0 || self.running,
+            Started::WhileSubscribed { stop } => {
+                count > 0
+                    || match since {
+                        None => false,
+                        Some(since) => stop == u64::MAX || now - since < stop,
+                    }
+            }
+        }
+    }
+
+    /// Accepts the number of subscribers at a moment, in milliseconds, and says what it asks for.
+    pub fn observe(&mut self, now: u64, count: u64) -> Result<Command, Backwards>
+        // Whatever was observed before, the command is the one of those observations and the new one.
+        ensures observes { Observes self.old (record { moment = now; count = count }) result self.new }
+        ensures runs { IfOk result (λ command. runs self.new ≡ runs_after command (runs self.old)) }
+        ensures unchanged { OnErr result (self.new ≡ self.old) }
+    {
+        if now < self.last {
+            return Err(Backwards { last: self.last });
+        }
+        let since = self.since_after(now, count);
+        let runs = self.runs_after(since, now, count);
+        let command = change(self.running, runs);
+        self.since = since;
+        self.running = runs;
+        self.last = now;
+        Ok(command)
+    }
+}

@@ -1,0 +1,88 @@
+//! Sharings over flows for one thread (`shareIn`, `stateIn`).
+ghost use Rattle.std.specs.Prelude.{◌≡◌, [], None, IfOk, IsOk, MatchResult};
+ghost use Rattle.flow_law.specs.declared.fault.FlowFault.{FlowFault};
+ghost use Rattle.flow_law.specs.SharedFlow.{NoFlow, config_fault, first_state};
+ghost use Rattle.flow_law.specs.Standing.{StandsFor};
+ghost use Rattle.flow_law.specs.StateFlow.{first_state_flow};
+ghost use Rattle.flow_law.specs.SharingTurn.{at_rest};
+ghost use Rattle.flow_law.specs.TurnMeaning.{BetweenTurns, IsQuiet};
+ghost use Rattle.flow_turns.specs.CoreHub.{core_of, is_waiting};
+ghost use Rattle.flow_turns.specs.ShareIn.{share_config};
+ghost use Rattle.flow_turns.specs.StateHub.{state_core_of, never_waits};
+ghost use Rattle.flow_turns.specs.SharingViews.{state_of, chain_and_hub, hub_of, IsSound, HasObserved};
+
+use crate::core_hub::CoreHub;
+use crate::sharing::Sharing;
+use crate::state_hub::StateHub;
+use flow_cold::Cold;
+use flow_core::{SharedCore, StateCore};
+use flow_law::report::ShareFault;
+use flow_law::{Config, Overflow, Started};
+use std::alloc::Allocator;
+
+/// The least number of values that a shared chain keeps for its subscribers.
+const LEAST_BUFFER: u32 = 64;
+
+/// Shares a chain by a shared flow of its own (`shareIn`). The flow keeps `replay` values for new subscribers, and at
+/// least 64 for slow ones; where a subscriber is further behind, the chain waits. `limit` is the most numbers that the
+/// flow issues.
+pub fn share_in<C: Cold, A: Allocator + Copy>(
+    alloc: A,
+    chain: C,
+    started: Started,
+    replay: u32,
+    limit: u64,
+) -> Result<Sharing<C, CoreHub<C::Item, A>>, ShareFault>
+    requires { C.sound chain }
+    ensures flow { MatchResult result
+        (λ sharing. (config_fault (share_config replay limit) ≡ None)
+        × StandsFor (core_of (hub_of sharing)) (first_state (share_config replay limit)))
+        (λ fault. (refusal : FlowFault) × NoFlow (share_config replay limit) refusal
+        × (fault ≡ ShareFault.Flow refusal)) }
+    ensures nothing { IfOk result (λ sharing. HasObserved started sharing []) }
+    ensures sound { IfOk result (λ sharing. IsSound C.sound sharing) }
+    ensures state { IfOk result (λ sharing. state_of sharing ≡ at_rest) }
+    ensures chain { IfOk result (λ sharing. chain_and_hub C.whole C.rest sharing
+        ≡ record { whole = C.whole chain; rest = C.rest chain; hub = hub_of sharing }) }
+    ensures between { IfOk result (λ sharing.
+        BetweenTurns (state_of sharing) (chain_and_hub C.whole C.rest sharing)) }
+    ensures quiet { IfOk result (λ sharing.
+        IsQuiet is_waiting (state_of sharing) (chain_and_hub C.whole C.rest sharing)) }
+{
+    let config = Config {
+        replay,
+        extra: replay.max(LEAST_BUFFER) - replay,
+        overflow: Overflow::Suspend,
+        limit,
+    };
+    match SharedCore::new(alloc, config) {
+        Ok(core) => Ok(Sharing::new(chain, started, CoreHub::new(core))),
+        Err(fault) => Err(ShareFault::Flow(fault)),
+    }
+}
+
+/// Shares a chain by a state flow of its own (`stateIn`), which has the value `initial` until the chain gives an item.
+/// `limit` is the most numbers that the flow issues. It is never refused today.
+pub fn state_in<C: Cold, A: Allocator + Copy>(
+    alloc: A,
+    chain: C,
+    started: Started,
+    initial: C::Item,
+    limit: u64,
+) -> Result<Sharing<C, StateHub<C::Item, A>>, ShareFault>
+    requires { C.sound chain }
+    ensures made { IsOk result }
+    ensures flow { IfOk result (λ sharing. state_core_of (hub_of sharing) ≡ first_state_flow limit initial) }
+    ensures nothing { IfOk result (λ sharing. HasObserved started sharing []) }
+    ensures sound { IfOk result (λ sharing. IsSound C.sound sharing) }
+    ensures state { IfOk result (λ sharing. state_of sharing ≡ at_rest) }
+    ensures chain { IfOk result (λ sharing. chain_and_hub C.whole C.rest sharing
+        ≡ record { whole = C.whole chain; rest = C.rest chain; hub = hub_of sharing }) }
+    ensures between { IfOk result (λ sharing.
+        BetweenTurns (state_of sharing) (chain_and_hub C.whole C.rest sharing)) }
+    ensures quiet { IfOk result (λ sharing.
+        IsQuiet never_waits (state_of sharing) (chain_and_hub C.whole C.rest sharing)) }
+{
+    let core = StateCore::new(alloc, initial, limit);
+    Ok(Sharing::new(chain, started, StateHub::new(core)))
+}

@@ -1,0 +1,51 @@
+//! A state flow for one thread as the flow of a sharing.
+ghost use Rattle.std.specs.Prelude.{◌≡◌, false};
+ghost use Rattle.flow_turns.specs.StateHub.{state_core_of};
+
+use crate::hub::Hub;
+use flow_core::StateCore;
+use flow_law::{FlowFault, FlowValue, Refused};
+use std::alloc::{Allocator, Global};
+
+/// A `StateCore` whose value a sharing sets. No item ever waits, none is refused, and it is never busy.
+#[derive(Drop)]
+pub struct StateHub<T: FlowValue, A: Allocator + Copy = Global> {
+    pub(crate) core: StateCore<T, A>,
+}
+
+impl<T: FlowValue, A: Allocator + Copy> StateHub<T, A> {
+    /// A hub that has set nothing yet.
+    pub fn new(core: StateCore<T, A>) -> Self
+        ensures core { state_core_of result ≡ core }
+        ensures waits { ⟦<StateHub<T, A> as Hub>⟧.waits result ≡ false }
+    {
+        StateHub { core }
+    }
+}
+
+impl<T: FlowValue, A: Allocator + Copy> Hub for StateHub<T, A> {
+    type Item = T;
+
+    ghost use Rattle.flow_turns.specs.StateHub.{never_waits, StateHubDoes};
+
+    ghost waits = { never_waits };
+
+    ghost does = { StateHubDoes };
+
+    fn count(&mut self) -> Result<u64, FlowFault> {
+        Ok(self.core.subscription_count())
+    }
+
+    fn put(&mut self, value: T) -> Result<bool, Refused<T>> {
+        self.core.set(value);
+        Ok(false)
+    }
+
+    fn poll(&mut self) -> Result<bool, FlowFault> {
+        Ok(false)
+    }
+
+    fn cancel(&mut self) -> Result<bool, FlowFault> {
+        Ok(false)
+    }
+}

@@ -1,0 +1,259 @@
+//! Turns of a sharing: the caller drives them, and hands in the moment. Each method here is one part of `turn_steps` of
+//! flow_law, in its order.
+ghost use Rattle.std.specs.Prelude.{◌≡◌, ◌≢◌, [], None, MatchResult, false, IsTrue, ◌↔◌, Err};
+ghost use Rattle.flow_law.specs.SharingCalls.{counts, polls, cancels};
+ghost use Rattle.flow_law.specs.SharingTurn as steps;
+ghost use Rattle.flow_law.specs.SharingTurn.{at_rest, refusal, reported};
+ghost use Rattle.flow_law.specs.TurnMeaning.{BetweenTurns, IsQuiet};
+ghost use Rattle.flow_turns.specs.SharingViews.{state_of, chain_and_hub, IsSound, HasObserved, has_ended};
+ghost use Rattle.flow_turns.specs.TurnClauses.{CallsHub, ComesTo, Begins, TakesTurn, MeansAnswer, StaysBetween, StaysQuiet, ended_after};
+
+use crate::hub::Hub;
+use crate::policy::Policy;
+use crate::sharing::Sharing;
+use flow_cold::{Asked, Cold};
+use flow_law::report::{Event, Report, ShareFault};
+use flow_law::{Command, FlowFault, Refused, Started};
+
+/// A call of the hub was refused: busy is an event, each other refusal a fault.
+fn refusal_of(fault: FlowFault) -> Result<Event, ShareFault>
+    ensures { result ≡ refusal fault }
+{
+    match fault {
+        FlowFault::Busy => Ok(Event::Busy),
+        other => Err(ShareFault::Flow(other)),
+    }
+}
+
+/// What a turn answers that had this command.
+fn report_of(command: Command, outcome: Result<Event, ShareFault>) -> Result<Report, ShareFault>
+    ensures { result ≡ reported command outcome }
+{
+    let event = outcome?;
+    Ok(Report { command, event })
+}
+
+impl<C: Cold, H: Hub<Item = C::Item>> Sharing<C, H> {
+    /// A sharing that has not observed anything. The hub has no emission that waits.
+    pub fn new(chain: C, started: Started, hub: H) -> Self
+        requires sound { C.sound chain }
+        requires free { H.waits hub ≡ false }
+        ensures sound { IsSound C.sound result }
+        ensures nothing { HasObserved started result [] }
+        ensures state { state_of result ≡ at_rest }
+        ensures chain { chain_and_hub C.whole C.rest result
+            ≡ record { whole = C.whole chain; rest = C.rest chain; hub = hub } }
+        ensures between { BetweenTurns (state_of result) (chain_and_hub C.whole C.rest result) }
+        ensures quiet { IsQuiet H.waits (state_of result) (chain_and_hub C.whole C.rest result) }
+    {
+        Sharing {
+            chain,
+            hub,
+            policy: Policy::new(started),
+            kept: None,
+            cancel_due: false,
+            completed: false,
+            ended: false,
+        }
+    }
+
+    /// Puts an item, which is kept where the hub refuses it.
+    fn put(&mut self, item: C::Item) -> Result<Event, ShareFault>
+        requires sound { IsSound C.sound self.old }
+        requires free { H.waits self.old.hub ≡ false }
+        requires empty { self.old.kept ≡ None }
+        ensures sound { IsSound C.sound self.new }
+        ensures policy { self.new.policy ≡ self.old.policy }
+        ensures ended { has_ended self.new ≡ ended_after result (has_ended self.old) }
+        ensures not_ended { result ≢ Err ShareFault.Ended }
+        ensures steps { ComesTo C.whole C.rest H.does H.waits
+            (λ command seen. steps.put command seen item) self.old result self.new }
+    {
+        match self.hub.put(item) {
+            Ok(waits) => {
+                if waits {
+                    Ok(Event::Queued)
+                } else {
+                    Ok(Event::Put)
+                }
+            }
+            Err(refused) => {
+                let Refused { value, fault } = refused;
+                self.kept = Some(value);
+                refusal_of(fault)
+            }
+        }
+    }
+
+    /// Puts the kept item, or the chain's next one.
+    fn send(&mut self) -> Result<Event, ShareFault>
+        requires sound { IsSound C.sound self.old }
+        requires free { H.waits self.old.hub ≡ false }
+        ensures sound { IsSound C.sound self.new }
+        ensures policy { self.new.policy ≡ self.old.policy }
+        ensures ended { has_ended self.new ≡ ended_after result (has_ended self.old) }
+        ensures not_ended { result ≢ Err ShareFault.Ended }
+        ensures steps { ComesTo C.whole C.rest H.does H.waits
+            (λ command seen s. steps.send command seen s.kept s) self.old result self.new }
+    {
+        if let Some(item) = self.kept.take() {
+            return self.put(item);
+        }
+        match self.chain.ask() {
+            Asked::Item(item) => self.put(item),
+            Asked::Pending => Ok(Event::Pending),
+            Asked::End => {
+                self.completed = true;
+                Ok(Event::Completed)
+            }
+            Asked::Fault(fault) => {
+                self.ended = true;
+                Err(ShareFault::Chain(fault))
+            }
+        }
+    }
+
+    /// Whether an emission waits.
+    fn is_waiting(&mut self) -> Result<bool, FlowFault>
+        requires { IsSound C.sound self.old }
+        ensures sound { IsSound C.sound self.new }
+        ensures policy { self.new.policy ≡ self.old.policy }
+        ensures state { state_of self.new ≡ state_of self.old }
+        ensures polls { CallsHub C.whole C.rest H.does H.waits polls self.old result self.new }
+        ensures waits { MatchResult result
+            (λ waits. H.waits self.new.hub ≡ waits)
+            (λ _. H.waits self.new.hub ≡ H.waits self.old.hub) }
+    {
+        self.hub.poll()
+    }
+
+    /// While it runs, polls an emission that waits, and else sends the next item.
+    fn collect(&mut self) -> Result<Event, ShareFault>
+        requires { IsSound C.sound self.old }
+        ensures sound { IsSound C.sound self.new }
+        ensures policy { self.new.policy ≡ self.old.policy }
+        ensures ended { has_ended self.new ≡ ended_after result (has_ended self.old) }
+        ensures not_ended { result ≢ Err ShareFault.Ended }
+        ensures steps { ComesTo C.whole C.rest H.does H.waits
+            steps.collect_while_running self.old result self.new }
+    {
+        if !self.policy.is_running() {
+            return Ok(Event::Idle);
+        }
+        if self.completed {
+            return Ok(Event::Completed);
+        }
+        let waiting = match self.is_waiting() {
+            Ok(waiting) => waiting,
+            Err(fault) => return refusal_of(fault),
+        };
+        if waiting {
+            return Ok(Event::Waiting);
+        }
+        self.send()
+    }
+
+    /// Takes the hub's emission back. The cancel stays due where the hub refuses it.
+    fn cancel(&mut self) -> Result<bool, FlowFault>
+        requires { IsSound C.sound self.old }
+        ensures sound { IsSound C.sound self.new }
+        ensures policy { self.new.policy ≡ self.old.policy }
+        ensures state { MatchResult result
+            (λ _. state_of self.new ≡ record (state_of self.old) { cancel_due = false })
+            (λ _. state_of self.new ≡ state_of self.old) }
+        ensures cancels { CallsHub C.whole C.rest H.does H.waits cancels self.old result self.new }
+    {
+        let waited = self.hub.cancel()?;
+        self.cancel_due = false;
+        Ok(waited)
+    }
+
+    /// What a turn does after its command: the cancel first, where it is due.
+    fn work(&mut self) -> Result<Event, ShareFault>
+        requires { IsSound C.sound self.old }
+        ensures sound { IsSound C.sound self.new }
+        ensures policy { self.new.policy ≡ self.old.policy }
+        ensures ended { has_ended self.new ≡ ended_after result (has_ended self.old) }
+        ensures not_ended { result ≢ Err ShareFault.Ended }
+        ensures steps { ComesTo C.whole C.rest H.does H.waits steps.work self.old result self.new }
+    {
+        if !self.cancel_due {
+            return self.collect();
+        }
+        match self.cancel() {
+            Ok(_) => self.collect(),
+            Err(fault) => refusal_of(fault),
+        }
+    }
+
+    /// Does what the command asks of the chain, and what follows it.
+    fn begin(&mut self, command: Command) -> Result<Event, ShareFault>
+        requires { IsSound C.sound self.old }
+        ensures sound { IsSound C.sound self.new }
+        ensures policy { self.new.policy ≡ self.old.policy }
+        ensures ended { has_ended self.new ≡ ended_after result (has_ended self.old) }
+        ensures not_ended { result ≢ Err ShareFault.Ended }
+        ensures steps { Begins C.whole C.rest H.does H.waits command self.old result self.new }
+    {
+        match command {
+            Command::Start => {
+                self.chain.rewind();
+                self.completed = false;
+                self.work()
+            }
+            Command::Stop => {
+                self.kept = None;
+                self.cancel_due = true;
+                self.work()
+            }
+            Command::Keep => self.work(),
+        }
+    }
+
+    /// How many subscribers there are.
+    fn counted(&mut self) -> Result<u64, FlowFault>
+        requires { IsSound C.sound self.old }
+        ensures sound { IsSound C.sound self.new }
+        ensures policy { self.new.policy ≡ self.old.policy }
+        ensures state { state_of self.new ≡ state_of self.old }
+        ensures counts { CallsHub C.whole C.rest H.does H.waits counts self.old result self.new }
+    {
+        self.hub.count()
+    }
+
+    /// One turn at the moment `now`, in milliseconds: the subscribers are counted, the chain is started or stopped as the
+    /// policy says, and while it runs one item at most goes into the flow.
+    ///
+    /// An emission that waits is polled first, and only once it is done the next item follows, in the same turn. What a
+    /// refusal leaves undone (an item in hand, a cancel) is where the next turn goes on.
+    pub fn turn(&mut self, now: u64) -> Result<Report, ShareFault>
+        requires { IsSound C.sound self.old }
+        ensures sound { IsSound C.sound self.new }
+
+        // The steps of the turn, and what has been observed after it.
+        ensures turn { TakesTurn C.whole C.rest H.does H.waits now self.old result self.new }
+
+        // The sharing has ended once a turn has answered a fault of the chain, and every later turn says so.
+        ensures ended { has_ended self.new ≡ ended_after result (has_ended self.old) }
+        ensures refused_after_end { IsTrue (has_ended self.old) ↔ (result ≡ Err ShareFault.Ended) }
+
+        // What the answer means for the items that the flow has accepted since the last start.
+        ensures means { MeansAnswer C.whole C.rest H.does H.waits self.old result self.new }
+        ensures between { StaysBetween C.whole C.rest self.old self.new }
+        ensures quiet { StaysQuiet C.whole C.rest H.waits self.old result self.new }
+    {
+        if self.ended {
+            return Err(ShareFault::Ended);
+        }
+        let count = match self.counted() {
+            Ok(count) => count,
+            Err(fault) => return report_of(Command::Keep, refusal_of(fault)),
+        };
+        let command = match self.policy.observe(now, count) {
+            Ok(command) => command,
+            Err(backwards) => return Err(ShareFault::Backwards(backwards.last)),
+        };
+        let outcome = self.begin(command);
+        report_of(command, outcome)
+    }
+}
