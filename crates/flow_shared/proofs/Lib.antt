@@ -1,2 +1,6 @@
 pub mod Inside
 pub mod Emissions
+pub mod EmitCountLemmas
+pub mod EmitRuns
+pub mod NextRuns
+pub mod Refusals

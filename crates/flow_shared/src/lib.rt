@@ -26,14 +26,18 @@
 mod answers;
 mod core_call;
 mod drain;
+mod emit_future;
 mod flow;
+mod next_future;
 mod shared;
 mod state;
 mod subscriber;
 mod token;
 
 pub use answers::{Emission, Emitted, Polled, PolledNow};
+pub use emit_future::{EmitFuture, EmitStage, Sent};
 pub use flow::Flow;
+pub use next_future::{NextFuture, Received};
 pub use shared::{Seat, SharedFlow, Subscription};
 pub use state::{StateFlow, StateSeat, StateSubscription};
 pub use token::{FlowSeat, FlowSubscription};

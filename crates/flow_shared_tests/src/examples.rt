@@ -3,6 +3,8 @@
 
 mod drains;
 mod emissions;
+mod futures_awaited;
+mod futures_by_hand;
 mod gate;
 mod never_copied;
 mod own_values;

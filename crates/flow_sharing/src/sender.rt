@@ -24,7 +24,8 @@ impl<T: FlowValue, A: Allocator + Copy> Sender<T, A> {
         requires idle { emission_of self ≡ None }
         ensures puts { PutBy call.entry.0.now.first call.entry.1 (token_of self) (put_answer result.1)
             (token_of result.0) (emission_of result.0) }
-        ensures waits { is_some (emission_of result.0) ≡ waits_after (calls.puts call.entry.1) (put_answer result.1) false }
+        ensures waits { is_some (emission_of result.0)
+            ≡ waits_after (calls.puts call.entry.1) (put_answer result.1) false }
         ensures handed_back { IfErr result.1 (λ refused. refused.value ≡ call.entry.1) }
         ensures flow { (token_of result.0).table_id ≡ (token_of self).table_id }
     {
@@ -47,7 +48,8 @@ impl<T: FlowValue, A: Allocator + Copy> Sender<T, A> {
         requires { (token_of self).table_id ≡ flow.now.table_id }
         ensures polls { PollBy flow.now.first (emission_of self) (token_of self) result.1
             (token_of result.0) (emission_of result.0) }
-        ensures waits { is_some (emission_of result.0) ≡ waits_after {T = T} calls.polls result.1 (is_some (emission_of self)) }
+        ensures waits { is_some (emission_of result.0)
+            ≡ waits_after {T = T} calls.polls result.1 (is_some (emission_of self)) }
         ensures busy { IfErr result.1 (λ fault. fault ≡ FlowFault.Busy) }
         ensures flow { (token_of result.0).table_id ≡ (token_of self).table_id }
     {
@@ -66,7 +68,8 @@ impl<T: FlowValue, A: Allocator + Copy> Sender<T, A> {
         requires { (token_of self).table_id ≡ flow.now.table_id }
         ensures cancels { CancelBy flow.now.first (emission_of self) (token_of self) result.1
             (token_of result.0) (emission_of result.0) }
-        ensures waits { is_some (emission_of result.0) ≡ waits_after {T = T} calls.cancels result.1 (is_some (emission_of self)) }
+        ensures waits { is_some (emission_of result.0)
+            ≡ waits_after {T = T} calls.cancels result.1 (is_some (emission_of self)) }
         ensures busy { IfErr result.1 (λ fault. fault ≡ FlowFault.Busy) }
         ensures flow { (token_of result.0).table_id ≡ (token_of self).table_id }
     {

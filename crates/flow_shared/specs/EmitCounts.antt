@@ -1,0 +1,26 @@
+-- How many events of a name are an `emit`.
+use Rattle.std.specs.Prelude.{ℕ, ◌+◌, nat_eq, Bool, true, List, [], ◌∷◌, Option, Some, None}
+use Rattle.flow_law.specs.declared.history.Event.{Event}
+use Rattle.flow_law.specs.declared.history.Said.{Said}
+use Rattle.flow_law.specs.declared.call.SharedCall.{SharedCall}
+use Rattle.flow_law.specs.declared.call.SharedCall.TheVariants.{Emit}
+use Rattle.flow_law.specs.declared.call.SharedReply.{SharedReply}
+use Rattle.flow_law.specs.Values.{is_same_list}
+use Rattle.flow_shared.specs.SharedReplies.{SharedToken}
+
+abbrev pub is_same_name : List ℕ → List ℕ → Bool
+is_same_name = is_same_list nat_eq
+
+module _ {T : Type 0} where
+  abbrev pub emit_of : Bool → SharedCall T → ℕ
+  emit_of true (Emit v) = 1
+  emit_of _ _ = 0
+
+  abbrev pub emits : List ℕ → List (Event (Said (SharedCall T) (SharedReply T))) → ℕ
+  emits name [] = 0
+  emits name (e ∷ es) = emit_of (is_same_name name e.name) e.what.call + emits name es
+
+  -- the `emit`s that the token has made
+  abbrev pub emitted : Option (SharedToken T) → ℕ
+  emitted (Some t) = emits t.knows.name t.knows.seen
+  emitted None = 0

@@ -1,0 +1,137 @@
+-- What an emit future does. Begin with `EmitPolls`: one poll, by its answer. `flow` is the flow: which one, and its configuration.
+use Rattle.std.specs.Prelude.{◌≡◌, ◌≢◌, ℕ, ◌+◌, ⊤, ◌⊎◌, Bool, true, false, List, [], ◌∷◌, Option, Some, None}
+use Rattle.atomic_table.specs.Seated.{TableId}
+use Rattle.futures.specs.declared.task.Poll.{Poll as Polled}
+use Rattle.futures.specs.declared.task.Poll.TheVariants.{Ready, Pending}
+use Rattle.flow_law.specs.declared.fault.FlowFault.{FlowFault}
+use Rattle.flow_law.specs.declared.fault.FlowFault.TheVariants.{OutOfMemory, Exhausted, Busy}
+use Rattle.flow_law.specs.declared.outcome.Emit.TheVariants.{Done, Queued}
+use Rattle.flow_law.specs.declared.call.SharedCall.{SharedCall}
+use Rattle.flow_law.specs.declared.call.SharedCall.TheVariants as call
+use Rattle.flow_law.specs.declared.call.SharedReply.{SharedReply}
+use Rattle.flow_law.specs.declared.call.SharedReply.TheVariants as reply
+use Rattle.flow_law.specs.declared.states.SharedFlowState.{SharedFlowState}
+use Rattle.flow_law.specs.Tokens.{IsBusy}
+use Rattle.flow_gate.specs.Tokens.{Origin}
+use Rattle.flow_shared.specs.declared.emit_future.EmitStage.{EmitStage}
+use Rattle.flow_shared.specs.declared.emit_future.EmitStage.TheVariants.{Fresh, Waiting, Ended}
+use Rattle.flow_shared.specs.declared.emit_future.Sent.{Sent}
+use Rattle.flow_shared.specs.declared.emit_future.Sent.TheVariants as sent
+use Rattle.flow_shared.specs.EmitCounts.{emitted}
+use Rattle.flow_shared.specs.SharedReplies.{SharedToken, Calls, CallsAtOnce}
+
+-- why an `emit` is refused
+abbrev pub IsEmitFault : FlowFault → Type 0
+IsEmitFault fault = (fault ≡ OutOfMemory) ⊎ (fault ≡ Exhausted)
+
+-- an emit future: its flow, and how far it is
+pub record Emitting (T A : Type 0) : Type 0 where
+  pub flow : Origin (SharedFlowState T)
+  pub stage : EmitStage T A
+
+module _ {T : Type 0} (flow : Origin (SharedFlowState T)) where
+  -- polls of the emission that found it waiting, by the tokens after each, and then one that did not
+  abbrev pub EndsAfter : List (SharedToken T) → ℕ → SharedToken T → SharedToken T → Type 0
+  EndsAfter [] e t after = Calls flow t (call.Poll e) (reply.Tested false) after
+  EndsAfter (u ∷ us) e t after = Calls flow t (call.Poll e) (reply.Tested true) u × EndsAfter us e u after
+
+  abbrev pub Ends : ℕ → SharedToken T → SharedToken T → Type 0
+  Ends e t after = (us : List (SharedToken T)) × EndsAfter us e t after
+
+  -- one `emit` of the value, and where that is queued polls of this one emission
+  abbrev pub EmitsOnce : T → SharedToken T → SharedToken T → Type 0
+  EmitsOnce v t after = Calls flow t (call.Emit v) (reply.Emitted Done) after
+      ⊎ ((e : ℕ) × (u : SharedToken T) × Calls flow t (call.Emit v) (reply.Emitted (Queued e)) u × Ends e u after)
+
+module _ {T A : Type 0} where
+  abbrev pub emitting : Origin (SharedFlowState T) → EmitStage T A → Emitting T A
+  emitting flow stage = record { flow = flow; stage = stage }
+
+  -- what the future holds is of this flow
+  abbrev pub HoldsOf : TableId → EmitStage T A → Type 0
+  HoldsOf id (Fresh t v) = t.table_id ≡ id
+  HoldsOf id (Waiting e) = e.token.table_id ≡ id
+  HoldsOf id Ended = ⊤
+
+  -- the token that the caller has at the end
+  abbrev pub sent_token : Sent T A → SharedToken T
+  sent_token (sent.Done t) = t
+  sent_token (sent.Refused t v fault) = t
+
+  -- the reply that ends the emission
+  abbrev pub Says : Sent T A → SharedReply T → Type 0
+  Says (sent.Done t) (reply.Emitted Done) = ⊤
+  Says (sent.Done t) (reply.Tested false) = ⊤
+  Says (sent.Refused t v fault) r = r ≡ reply.Refused fault
+  Says _ _ = ⊥
+
+  -- where the value was refused, it was for one of those
+  abbrev pub IsRefusedIfDue : Sent T A → Type 0
+  IsRefusedIfDue (sent.Done t) = ⊤
+  IsRefusedIfDue (sent.Refused t v fault) = IsEmitFault fault
+
+  -- the token that the future holds, and the call that it makes through it
+  abbrev pub held : EmitStage T A → Option (SharedToken T × SharedCall T)
+  held (Fresh t v) = Some (t, call.Emit v)
+  held (Waiting e) = Some (e.token, call.Poll e.number)
+  held Ended = None
+
+  abbrev pub token_in : EmitStage T A → Option (SharedToken T)
+  token_in (Fresh t v) = Some t
+  token_in (Waiting e) = Some e.token
+  token_in Ended = None
+
+  -- the token after a poll: the answer has it, or still the future
+  abbrev pub token_after : Polled (Sent T A) → EmitStage T A → Option (SharedToken T)
+  token_after (Ready s) stage = Some (sent_token s)
+  token_after Pending stage = token_in stage
+
+  -- ---- at most one `emit`
+
+  -- those that the future has still to make
+  abbrev pub to_emit : EmitStage T A → ℕ
+  to_emit (Fresh t v) = 1
+  to_emit (Waiting e) = 0
+  to_emit Ended = 0
+
+  -- what was made and what is still to be made come to the same after the poll: in all its polls a future makes one `emit` at most
+  abbrev pub KeepsCount : EmitStage T A → Polled (Sent T A) → EmitStage T A → Type 0
+  KeepsCount old polled new = emitted (token_after polled new) + to_emit new ≡ emitted (token_in old) + to_emit old
+
+  -- the seat has made one `emit` more
+  abbrev pub EmitsOne : SharedToken T → Sent T A → Type 0
+  EmitsOne before s = emitted (Some (sent_token s)) ≡ emitted (Some before) + 1
+
+  module _ (flow : Origin (SharedFlowState T)) where
+    -- One poll, by the stage before it, its answer and the stage after it. A busy one has lost one exchange, and the stage is
+    -- as it was; after the end a poll does nothing; any other makes one call, and is ready where the reply is no wait.
+    abbrev pub EmitPolls : EmitStage T A → Polled (Sent T A) → EmitStage T A → Type 0
+    EmitPolls (Fresh t v) Pending (Fresh u w) = (w ≡ v) × IsBusy t u
+    EmitPolls (Fresh t v) Pending (Waiting e) = CallsAtOnce flow t (call.Emit v) (reply.Emitted (Queued e.number)) e.token
+    EmitPolls (Fresh t v) (Ready (sent.Done u)) Ended = CallsAtOnce flow t (call.Emit v) (reply.Emitted Done) u
+    EmitPolls (Fresh t v) (Ready (sent.Refused u w fault)) Ended = (w ≡ v) × (fault ≢ Busy) × CallsAtOnce flow t (call.Emit v) (reply.Refused fault) u
+    EmitPolls (Waiting e) Pending (Waiting f) = (f.number ≡ e.number) × (IsBusy e.token f.token ⊎ CallsAtOnce flow e.token (call.Poll e.number) (reply.Tested true) f.token)
+    EmitPolls (Waiting e) (Ready (sent.Done u)) Ended = CallsAtOnce flow e.token (call.Poll e.number) (reply.Tested false) u
+    EmitPolls Ended Pending Ended = ⊤
+    EmitPolls _ _ _ = ⊥
+
+    -- what the future may give
+    abbrev pub Sends : EmitStage T A → Sent T A → Type 0
+    Sends (Fresh t v) (sent.Done u) = EmitsOnce flow v t u
+    Sends (Fresh t v) (sent.Refused u w fault) = (w ≡ v) × IsEmitFault fault × Calls flow t (call.Emit v) (reply.Refused fault) u
+    Sends (Waiting e) (sent.Done u) = Ends flow e.number e.token u
+    Sends _ _ = ⊥
+
+  -- what the future may give, and that the token which comes back is of its flow
+  abbrev pub GivesSent : Emitting T A → Sent T A → Type 0
+  GivesSent f s = ((sent_token s).table_id ≡ f.flow.table_id) × Sends f.flow f.stage s
+
+  -- what the caller has who walks away: nothing after the end, the seat where nothing was emitted yet, and else what a cancel gives
+  abbrev pub CancelsAt : Origin (SharedFlowState T) → EmitStage T A → Option (SharedToken T × Bool) → Type 0
+  CancelsAt flow (Fresh t v) back = back ≡ Some (t, true)
+  CancelsAt flow (Waiting e) (Some back) = Calls flow e.token (call.Cancel e.number) (reply.Tested back.1) back.0
+  CancelsAt flow (Waiting e) None = ⊥
+  CancelsAt flow Ended back = back ≡ None
+
+  abbrev pub Cancels : Emitting T A → Option (SharedToken T × Bool) → Type 0
+  Cancels f back = CancelsAt f.flow f.stage back

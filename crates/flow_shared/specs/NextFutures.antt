@@ -1,0 +1,84 @@
+-- What a next future does. Begin with `NextPolls`: one poll, by its answer. `flow` is the flow: which one, and its configuration.
+use Rattle.std.specs.Prelude.{◌≡◌, ◌≢◌, ⊤, ◌⊎◌, List, [], ◌∷◌, Option, Some, None, IfSome, Result, Ok, Err, IfErr}
+use Rattle.atomic_table.specs.Seated.{TableId}
+use Rattle.futures.specs.declared.task.Poll.{Poll as Polled}
+use Rattle.futures.specs.declared.task.Poll.TheVariants.{Ready, Pending}
+use Rattle.flow_law.specs.declared.fault.FlowFault.{FlowFault}
+use Rattle.flow_law.specs.declared.fault.FlowFault.TheVariants.{OutOfMemory, Busy}
+use Rattle.flow_law.specs.declared.outcome.Next.TheVariants.{Value, Empty}
+use Rattle.flow_law.specs.declared.call.SharedCall.{SharedCall}
+use Rattle.flow_law.specs.declared.call.SharedCall.TheVariants as call
+use Rattle.flow_law.specs.declared.call.SharedReply.{SharedReply}
+use Rattle.flow_law.specs.declared.call.SharedReply.TheVariants as reply
+use Rattle.flow_law.specs.declared.states.SharedFlowState.{SharedFlowState}
+use Rattle.flow_law.specs.Tokens.{IsBusy}
+use Rattle.flow_gate.specs.Tokens.{Origin}
+use Rattle.flow_shared.specs.Futures.{SharedNumbered}
+use Rattle.flow_shared.specs.SharedReplies.{SharedToken, Calls, CallsAtOnce}
+
+-- a next future: its flow, and its subscription until it was ready
+pub record Receiving (T : Type 0) : Type 0 where
+  pub flow : Origin (SharedFlowState T)
+  pub subscription : Option (SharedNumbered T)
+
+-- what a next future gives: its subscription, and a value or a refusal
+abbrev pub Received : Type 0 → Type 0
+Received T = SharedNumbered T × Result T FlowFault
+
+module _ {T : Type 0} where
+  abbrev pub receiving : Origin (SharedFlowState T) → Option (SharedNumbered T) → Receiving T
+  receiving flow subscription = record { flow = flow; subscription = subscription }
+
+  -- the subscription is to this flow
+  abbrev pub IsTo : TableId → Option (SharedNumbered T) → Type 0
+  IsTo id subscription = IfSome subscription (λ s. s.token.table_id ≡ id)
+
+  -- the reply that ends the wait
+  abbrev pub Says : Received T → SharedReply T → Type 0
+  Says (s, Ok v) r = r ≡ reply.Received (Value v)
+  Says (s, Err fault) r = r ≡ reply.Refused fault
+
+  -- where nothing was received, it was for want of memory
+  abbrev pub IsRefusedIfDue : Received T → Type 0
+  IsRefusedIfDue r = IfErr r.1 (λ fault. fault ≡ OutOfMemory)
+
+  -- the token that the future holds, and the call that it makes through it
+  abbrev pub held : Option (SharedNumbered T) → Option (SharedToken T × SharedCall T)
+  held (Some s) = Some (s.token, call.TakeNext s.number)
+  held None = None
+
+  -- the token after a poll: the answer has it, or still the future
+  abbrev pub token_after : Polled (Received T) → Option (SharedNumbered T) → Option (SharedToken T)
+  token_after (Ready r) new = Some r.0.token
+  token_after Pending (Some s) = Some s.token
+  token_after Pending None = None
+
+  module _ (flow : Origin (SharedFlowState T)) where
+    -- One poll, by the subscription before it, its answer and the subscription after it. A busy one has lost one exchange; after
+    -- the end a poll does nothing; any other makes one call, and is ready where there is a value or a refusal.
+    abbrev pub NextPolls : Option (SharedNumbered T) → Polled (Received T) → Option (SharedNumbered T) → Type 0
+    NextPolls (Some s) Pending (Some u) = (u.number ≡ s.number) × (IsBusy s.token u.token ⊎ CallsAtOnce flow s.token (call.TakeNext s.number) (reply.Received Empty) u.token)
+    NextPolls (Some s) (Ready (u, Ok v)) None = (u.number ≡ s.number) × CallsAtOnce flow s.token (call.TakeNext s.number) (reply.Received (Value v)) u.token
+    NextPolls (Some s) (Ready (u, Err fault)) None = (u.number ≡ s.number) × (fault ≢ Busy) × CallsAtOnce flow s.token (call.TakeNext s.number) (reply.Refused fault) u.token
+    NextPolls None Pending None = ⊤
+    NextPolls _ _ _ = ⊥
+
+    -- ---- a whole run
+
+    -- calls of `next` that found nothing, by the tokens after each, and then one with this reply
+    abbrev pub FindsAfter : List (SharedToken T) → SharedCall T → SharedReply T → SharedToken T → SharedToken T → Type 0
+    FindsAfter [] next r t after = Calls flow t next r after
+    FindsAfter (u ∷ us) next r t after = Calls flow t next (reply.Received Empty) u × FindsAfter us next r u after
+
+    abbrev pub Finds : SharedCall T → SharedReply T → SharedToken T → SharedToken T → Type 0
+    Finds next r t after = (us : List (SharedToken T)) × FindsAfter us next r t after
+
+    -- what the future may give: of so many calls of `next` the last one's value, or its refusal
+    abbrev pub Receives : Option (SharedNumbered T) → Received T → Type 0
+    Receives (Some s) (u, Ok v) = (u.number ≡ s.number) × Finds (call.TakeNext s.number) (reply.Received (Value v)) s.token u.token
+    Receives (Some s) (u, Err fault) = (u.number ≡ s.number) × (fault ≡ OutOfMemory) × Finds (call.TakeNext s.number) (reply.Refused fault) s.token u.token
+    Receives None r = ⊥
+
+  -- what the future may give, and that the subscription which comes back is to its flow
+  abbrev pub GivesReceived : Receiving T → Received T → Type 0
+  GivesReceived f r = (r.0.token.table_id ≡ f.flow.table_id) × Receives f.flow f.subscription r

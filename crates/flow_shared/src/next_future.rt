@@ -1,0 +1,122 @@
+//! The next value of a subscription to a shared flow, as a future.
+ghost use Rattle.std.specs.Prelude.{◌≡◌, ⊤, true, Some, None};
+ghost use Rattle.futures.specs.Task.{Covers, Keeps};
+ghost use Rattle.futures.specs.Poll.{IfReady, OnPending};
+ghost use Rattle.flow_shared.specs.Futures.{OneEach};
+ghost use Rattle.flow_shared.specs.NextFutures.{Receiving, receiving, IsTo, NextPolls, Says, held, token_after, IsRefusedIfDue, GivesReceived};
+
+use crate::shared::{SharedFlow, Subscription};
+use flow_law::{FlowFault, FlowValue, Next};
+use futures::Future;
+use futures::task::{Context, Poll};
+use std::alloc::{Allocator, Global};
+use std::marker::Model;
+
+/// What a `NextFuture` gives: its subscription, with a value or why there is none.
+pub type Received<T, A = Global> = (Subscription<T, A>, Result<T, FlowFault>);
+
+/// Waits for what a subscriber receives next (a collector of a `SharedFlow` suspends until there is a value), and
+/// gives it with the subscription.
+///
+/// A poll makes one call of the flow that does not wait, `next_now`. Each pending poll (there is no value yet, or
+/// another caller was inside) asks to be polled again, since no call of a flow wakes anybody. After Ready a poll is
+/// pending and calls nothing. The answer is a value, or `OutOfMemory`: the value is then still in the flow.
+///
+/// # What is lost
+/// A future that is dropped loses no value, but its subscription: that stays in the flow, as one that is dropped
+/// does. To walk away, call `into_subscription`.
+#[derive(Drop)]
+pub struct NextFuture<'a, T: FlowValue, A: Allocator + Copy = Global> {
+    flow: &'a SharedFlow<T, A>,
+    subscription: Option<Subscription<T, A>>,
+}
+
+impl<'a, T: FlowValue, A: Allocator + Copy> Model for NextFuture<'a, T, A> {
+    ghost Value = { Receiving T };
+
+    ghost view = { λ f. receiving f.flow.now f.subscription };
+
+    ghost invariant = { λ f. IsTo f.flow.now.table_id f.subscription };
+}
+
+impl<'a, T: FlowValue, A: Allocator + Copy> NextFuture<'a, T, A> {
+    /// A future that waits for the subscription's next value. Nothing is received before it is polled.
+    pub fn new(flow: &'a SharedFlow<T, A>, subscription: Subscription<T, A>) -> NextFuture<'a, T, A>
+        requires { subscription.token.table_id ≡ flow.now.table_id }
+        ensures { result ≡ receiving flow.now (Some subscription) }
+    {
+        NextFuture {
+            flow,
+            subscription: Some(subscription),
+        }
+    }
+
+    /// Ends the future, and gives the subscription back. None after Ready, where the answer had it.
+    pub fn into_subscription(self) -> Option<Subscription<T, A>>
+        ensures { result ≡ self.entry.subscription }
+    {
+        let NextFuture {
+            flow: _,
+            subscription,
+        } = self;
+        subscription
+    }
+
+    /// One call of the flow.
+    fn ask(&mut self, subscription: Subscription<T, A>) -> Poll<Received<T, A>>
+        requires { (self.old.subscription ≡ None)
+            × (subscription.token.table_id ≡ self.old.flow.table_id) }
+        ensures flow { self.new.flow ≡ self.old.flow }
+        ensures polls { NextPolls self.old.flow (Some subscription) result self.new.subscription }
+        ensures at { IfReady result (λ r. r.0.token.table_id ≡ self.old.flow.table_id) }
+    {
+        let mut subscription = subscription;
+        match self.flow.next_now(&mut subscription) {
+            Ok(Next::Value(value)) => Poll::Ready((subscription, Ok(value))),
+            Ok(Next::Empty) | Err(FlowFault::Busy) => {
+                self.subscription = Some(subscription);
+                Poll::Pending
+            }
+            Ok(Next::Gone) => unreachable!(),
+            Err(fault) => Poll::Ready((subscription, Err(fault))),
+        }
+    }
+
+    /// One poll, but for what it asks of the task.
+    fn advance(&mut self) -> Poll<Received<T, A>>
+        ensures flow { self.new.flow ≡ self.old.flow }
+        ensures polls { NextPolls self.old.flow self.old.subscription result self.new.subscription }
+        ensures at { IfReady result (λ r. r.0.token.table_id ≡ self.old.flow.table_id) }
+    {
+        match self.subscription.take() {
+            Some(subscription) => self.ask(subscription),
+            None => Poll::Pending,
+        }
+    }
+}
+
+impl<'a, T: FlowValue, A: Allocator + Copy> Future for NextFuture<'a, T, A> {
+    type Output = Received<T, A>;
+
+    ghost gives = { λ f received. GivesReceived f received };
+
+    #[tactic(auto, using(crate::proofs::NextRuns::gives_value, crate::proofs::NextRuns::gives_same, crate::proofs::NextRuns::is_due, crate::proofs::NextRuns::one_each))]
+    fn poll(&mut self, cx: &mut Context<'_>) -> Poll<Received<T, A>>
+        ensures flow { self.new.flow ≡ self.old.flow }
+        ensures polls { NextPolls self.old.flow self.old.subscription result self.new.subscription }
+        ensures one { OneEach Says self.old.flow (held self.old.subscription) result (token_after result self.new.subscription) }
+        ensures refused { IfReady result IsRefusedIfDue }
+        ensures asked { OnPending result (cx.new.is_woken ≡ true) }
+        // The trait's own clauses.
+        ensures value { IfReady result (GivesReceived self.old) }
+        ensures again { OnPending result ⊤ }
+        ensures same { OnPending result ((x : _) → GivesReceived self.new x → GivesReceived self.old x) }
+        ensures registered { OnPending result (Covers cx.new (λ _. ⊥)) }
+        ensures kept { Keeps cx.old cx.new }
+    {
+        match self.advance() {
+            Poll::Ready(received) => Poll::Ready(received),
+            Poll::Pending => cx.yield_now(),
+        }
+    }
+}

@@ -1,0 +1,120 @@
+//! Futures over a flow without a buffer, polled by hand.
+ghost use Rattle.std.specs.Prelude.{◌≡◌};
+
+use crate::compare::compare;
+use flow_law::Config;
+use flow_shared::{EmitFuture, NextFuture, Seat, Sent, SharedFlow, Subscription};
+use futures::Future;
+use futures::task::Poll;
+use futures::test::MockTask;
+use std::alloc::Global;
+use std::process::Abort;
+use std::sync::Wait;
+
+/// A flow without a buffer, a seat, and two subscribers, where 7 cannot be emitted without waiting for them.
+fn unbuffered<R: Wait + Abort>(
+    rt: &R,
+    alloc: Global,
+) -> (
+    SharedFlow<i64>,
+    Seat<i64>,
+    Subscription<i64>,
+    Subscription<i64>,
+)
+    ensures { (result.1.table_id ≡ result.0.table_id) × (result.2.token.table_id ≡ result.0.table_id)
+        × (result.3.token.table_id ≡ result.0.table_id) }
+{
+    let (flow, mut seat) = SharedFlow::new(alloc, Config::new()).expect(rt, "a flow");
+    let first = flow.subscribe(rt, &mut seat).expect(rt, "a subscription");
+    let second = flow.subscribe(rt, &mut seat).expect(rt, "a subscription");
+    compare(rt, 0, flow.try_emit(rt, &mut seat, 7), Ok(false));
+    (flow, seat, first, second)
+}
+
+/// A poll that is pending, and has asked for another.
+fn pends<F>(rt: &impl Abort, task: &MockTask, future: &mut F)
+where
+    F: Future<Output: Drop>,
+    requires { F.can_poll future.old }
+    ensures { F.can_poll future.new }
+{
+    assert!(rt; task.poll(future).is_pending() && task.is_woken());
+}
+
+/// The value comes with the first poll. Then a poll is pending, and there is no subscription to be had from the future.
+fn receives(
+    rt: &impl Abort,
+    task: &MockTask,
+    flow: &SharedFlow<i64>,
+    subscription: Subscription<i64>,
+    value: i64,
+)
+    requires { subscription.token.table_id ≡ flow.now.table_id }
+{
+    let mut next = NextFuture::new(flow, subscription);
+    let Poll::Ready((_subscription, received)) = task.poll(&mut next) else {
+        panic!(rt; "there is a value")
+    };
+    compare(rt, 1, received, Ok(value));
+    pends(rt, task, &mut next);
+    assert!(rt; next.into_subscription().is_none());
+}
+
+/// The emission is done with this poll. Then a poll is pending, and there is nothing to cancel.
+fn is_done<R: Wait + Abort>(rt: &R, task: &MockTask, emit: EmitFuture<'_, i64>) {
+    let mut emit = emit;
+    assert!(rt; matches!(task.poll(&mut emit), Poll::Ready(Sent::Done(_))));
+    pends(rt, task, &mut emit);
+    assert!(rt; emit.cancel(rt).is_none());
+}
+
+#[test]
+fn an_emission_is_pending_until_each_subscriber_has_it(rt: HostRuntime) {
+    let (flow, seat, first, second) = unbuffered(&rt, rt.alloc());
+    let task = MockTask::new(&rt).expect(&rt, "a task");
+    let mut emit = EmitFuture::new(&flow, seat, 7);
+    pends(&rt, &task, &mut emit);
+    receives(&rt, &task, &flow, first, 7);
+    pends(&rt, &task, &mut emit);
+    receives(&rt, &task, &flow, second, 7);
+    is_done(&rt, &task, emit);
+}
+
+/// There is nothing to receive, and the subscription comes back.
+fn receives_nothing(
+    rt: &impl Abort,
+    task: &MockTask,
+    flow: &SharedFlow<i64>,
+    subscription: Subscription<i64>,
+)
+    requires { subscription.token.table_id ≡ flow.now.table_id }
+{
+    let mut next = NextFuture::new(flow, subscription);
+    pends(rt, task, &mut next);
+    assert!(rt; next.into_subscription().is_some());
+}
+
+/// The value was still on its way.
+fn is_cancelled<R: Wait + Abort>(rt: &R, emit: EmitFuture<'_, i64>) {
+    let (_seat, was_waiting) = emit.cancel(rt).expect(rt, "a seat");
+    assert!(rt; was_waiting);
+}
+
+#[test]
+fn a_cancelled_emission_is_not_received(rt: HostRuntime) {
+    let (flow, seat, first, second) = unbuffered(&rt, rt.alloc());
+    let task = MockTask::new(&rt).expect(&rt, "a task");
+    let mut emit = EmitFuture::new(&flow, seat, 7);
+    pends(&rt, &task, &mut emit);
+    receives(&rt, &task, &flow, first, 7);
+    is_cancelled(&rt, emit);
+    receives_nothing(&rt, &task, &flow, second);
+}
+
+#[test]
+fn an_emission_that_is_cancelled_before_a_poll_was_never_made(rt: HostRuntime) {
+    let (flow, seat, first, _second) = unbuffered(&rt, rt.alloc());
+    let task = MockTask::new(&rt).expect(&rt, "a task");
+    is_cancelled(&rt, EmitFuture::new(&flow, seat, 7));
+    receives_nothing(&rt, &task, &flow, first);
+}
