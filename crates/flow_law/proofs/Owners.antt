@@ -134,17 +134,24 @@ module _ {T S C R : Type 0} (kind : Kind T S C R) (law : Lawful kind) where
         same_name : (a b : List ℕ) → Some a ≡ Some b → a ≡ b
         same_name a b p = cc
 
-    pub kept_by_others : (s : S) (owners : List Owner) (h : List (Event (Said C R))) (name : List ℕ) → UpTo (law.issued s) owners → IsLegal kind s h → IsOwned kind owners h
-        → IsSilent name h → owner_of (subscriber u) owners ≡ Some name → kind.HasSubscriber u s → kind.HasSubscriber u (after_all kind s h)
-    kept_by_others s owners [] name i l o silent is has = has
-    kept_by_others s owners (e ∷ es) name i l o silent is has =
-        kept_by_others (kind.after s e.what.call e.what.reply) (owners_after kind owners e) es name (step_up_to s owners e l.0 i) l.1 o.1 silent.1 (step_owner s owners e (subscriber u) name l.0 i is)
-        (law.others_keep u s e.what.call e.what.reply (others_speak e.what.call owners name e.name is silent.0 o.0) has)
+    -- what holds of a state and stays so whoever calls, unless the call speaks of the number, stays so in silence
+    module _ (Holds : S → Type 0) (stays : (s : S) (c : C) (r : R) → kind.speaks_of c ≢ Some (subscriber u) → Holds s → Holds (kind.after s c r)) where
+      fact_kept : (s : S) (owners : List Owner) (h : List (Event (Said C R))) (name : List ℕ) → UpTo (law.issued s) owners → IsLegal kind s h → IsOwned kind owners h
+          → IsSilent name h → owner_of (subscriber u) owners ≡ Some name → Holds s → Holds (after_all kind s h)
+      fact_kept s owners [] name i l o silent is has = has
+      fact_kept s owners (e ∷ es) name i l o silent is has =
+          fact_kept (kind.after s e.what.call e.what.reply) (owners_after kind owners e) es name (step_up_to s owners e l.0 i) l.1 o.1 silent.1 (step_owner s owners e (subscriber u) name l.0 i is)
+          (stays s e.what.call e.what.reply (others_speak e.what.call owners name e.name is silent.0 o.0) has)
 
-    -- after the history h, in which the number was given to a token, come events of others
+      -- after the history h, in which the number was given to a token, come events of others
+      pub kept_while_silent : (s : S) (h between : List (Event (Said C R))) (name : List ℕ) → IsLegal kind s (h ++ between) → IsOwned kind [] (h ++ between)
+          → IsSilent name between → IsGiven kind name (subscriber u) h → Holds (after_all kind s h) → Holds (after_all kind s (h ++ between))
+      kept_while_silent s h between name l o silent is has =
+          subst Holds (sym (after_all-append kind s h between))
+          (fact_kept (after_all kind s h) (owners_all kind [] h) between name
+          (owners_up_to s [] h tt (legal_left kind s h between l)) (legal_right kind s h between l) (owned_right kind [] h between o) silent is has)
+
+    -- so a subscriber stays
     pub kept_in_silence : (s : S) (h between : List (Event (Said C R))) (name : List ℕ) → IsLegal kind s (h ++ between) → IsOwned kind [] (h ++ between)
         → IsSilent name between → IsGiven kind name (subscriber u) h → kind.HasSubscriber u (after_all kind s h) → kind.HasSubscriber u (after_all kind s (h ++ between))
-    kept_in_silence s h between name l o silent is has =
-        subst (kind.HasSubscriber u) (sym (after_all-append kind s h between))
-        (kept_by_others (after_all kind s h) (owners_all kind [] h) between name
-        (owners_up_to s [] h tt (legal_left kind s h between l)) (legal_right kind s h between l) (owned_right kind [] h between o) silent is has)
+    kept_in_silence = kept_while_silent (kind.HasSubscriber u) (law.others_keep u)

@@ -17,7 +17,7 @@ use Rattle.flow_law.proofs.StateSubscriberLemmas.{last-without_other}
 module _ {T : Type 0} where
   -- ---- whether there is a subscriber of this number
 
-  some-with_last : (number other : ℕ) (v : T) (us : List (StateSubscriber T)) → is_some (last_of number (with_last other v us)) ≡ is_some (last_of number us)
+  pub some-with_last : (number other : ℕ) (v : T) (us : List (StateSubscriber T)) → is_some (last_of number (with_last other v us)) ≡ is_some (last_of number us)
   some-with_last number other v [] = refl
   some-with_last number other v (u ∷ us) = cond_both (u.number == other) (record u { last = Some v } ∷ us) (u ∷ with_last other v us) (λ vs. is_some (last_of number vs) ≡ is_some (last_of number (u ∷ us)))
       (λ _. split (u.number == number) (λ t. is_some (cond t (Some (Some v)) (last_of number us)) ≡ is_some (cond t (Some u.last) (last_of number us))) (λ _. refl) (λ _. refl))
@@ -37,7 +37,7 @@ module _ {T : Type 0} where
   -- ---- numbers
 
   -- who subscribes has the next number
-  enrolls : (s : StateFlowState T) (given : List ℕ) (u : ℕ) → Replies s (call.Subscribe given) (reply.Subscribed u) → u ≡ s.issued + 1
+  pub enrolls : (s : StateFlowState T) (given : List ℕ) (u : ℕ) → Replies s (call.Subscribe given) (reply.Subscribed u) → u ≡ s.issued + 1
   enrolls s given u l = cond_both (is_exhausted s) (reply.Refused Exhausted) (reply.Subscribed (s.issued + 1)) (λ (r : StateReply T). ◌≡◌ {A = StateReply T} (reply.Subscribed u) r → u ≡ s.issued + 1)
       (λ _ e. absurd (cc)) (λ _ e. cc) l
 

@@ -22,6 +22,9 @@ pub mod TurnMeaning
 pub mod SharingFlows
 pub mod TurnAccount
 pub mod Values
+pub mod Packs
+pub mod Seats
+pub mod Updates
 pub mod ChainRun
 pub mod OperatorRuns
 pub mod Chain

@@ -30,4 +30,4 @@ pub use sharing::{Command, SharingObservation, Started};
 pub use states::{
     EmittingFlow, Numbered, SharedFlowState, StateFlowState, StateSubscriber, Subscriber,
 };
-pub use value::{Boxed, FlowValue, Items, Text};
+pub use value::{Boxed, FlowValue, Half, Items, Packed, Text};

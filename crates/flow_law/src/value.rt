@@ -6,12 +6,14 @@ mod compound;
 mod items;
 mod numbers;
 mod owned;
+mod packed;
 mod truth;
 
 use crate::fault::FlowFault;
 pub use boxed::Boxed;
 pub use items::Items;
 pub use owned::Text;
+pub use packed::{Half, Packed};
 
 /// A value that a flow can keep, and give to several subscribers.
 ///

@@ -1,0 +1,34 @@
+-- An update of a state flow by a function of its value (`update`, `getAndUpdate`, `updateAndGet`): rounds of two events, a read
+-- of the value and an exchange of it for what the function answers to it. All rounds but the last are lost. Begin with `Updates`.
+use Rattle.std.specs.Prelude.{Bool, true, false}
+use Rattle.flow_law.specs.declared.history.Said.{Said}
+use Rattle.flow_law.specs.declared.call.StateCall.{StateCall}
+use Rattle.flow_law.specs.declared.call.StateCall.TheVariants.{GetValue, CompareAndSet}
+use Rattle.flow_law.specs.declared.call.StateReply.{StateReply}
+use Rattle.flow_law.specs.declared.call.StateReply.TheVariants.{Got, Answered}
+use Rattle.flow_law.specs.declared.states.StateFlowState.{StateFlowState}
+use Rattle.flow_law.specs.StateFlow.{state_flow}
+use Rattle.flow_law.specs.Tokens.{Token, CallsIn}
+
+abbrev pub StateToken : Type 0 → Type 0 → Type 0
+StateToken Id T = Token Id (Said (StateCall T) (StateReply T))
+
+-- `Gives x y`: the function may answer y to x
+module _ {Id T : Type 0} (first : StateFlowState T) (Gives : T → T → Type 0) where
+  -- the token read x, the function answered y to it, and the exchange of x for y was won or not
+  pub record IsRound (won : Bool) (before : StateToken Id T) (x y : T) (after : StateToken Id T) : Type 0 where
+    pub between : StateToken Id T
+    pub read : CallsIn state_flow first before GetValue (Got x) between
+    pub answered : Gives x y
+    pub exchanged : CallsIn state_flow first between (CompareAndSet x y) (Answered won) after
+
+  -- rounds that were lost
+  pub data LosesRounds : StateToken Id T → StateToken Id T → Type 0 where
+    none_lost : {t : StateToken Id T} → LosesRounds t t
+    one_lost : {s t u : StateToken Id T} {x y : T} → LosesRounds s t → IsRound false t x y u → LosesRounds s u
+
+  -- the token lost some rounds, and then won one, with the value x that it read and the answer y to it
+  pub record Updates (before : StateToken Id T) (x y : T) (after : StateToken Id T) : Type 0 where
+    pub between : StateToken Id T
+    pub lost : LosesRounds before between
+    pub won : IsRound true between x y after

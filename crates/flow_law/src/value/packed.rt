@@ -1,0 +1,315 @@
+//! Values that fit a word of 64 bits, for flows that keep their value in one.
+ghost use Rattle.std.specs.Char.{IsScalar};
+ghost use Rattle.std.specs.Int.{cast_signed};
+ghost use Rattle.std.specs.Prelude.{◌≡◌, ℕ, ◌^◌, ◌<◌, ◌==◌};
+ghost use Rattle.std.proofs.Common.{sym, ◌∙◌};
+ghost use Rattle.flow_law.specs.Packs.{packs_option, option_of, packs_pair, pair_of, below_word, short_below, byte_below, bit_below, scalar_below, none_below, bit_once, signed_once, option_fits, option_once, pair_fits, pair_once};
+ghost use mir.Syntax.{w8, w16, w32, w64};
+
+/// A type whose values are packed into a word: a value has one pack, and two values never share one.
+///
+/// So words are compared in place of values.
+pub trait Packed {
+    /// Which words are packs.
+    ghost packs: { ℕ → Type 0 };
+
+    /// The value of a pack.
+    ghost value_of: { ℕ → Self };
+
+    /// The pack of the value.
+    fn pack(self) -> u64
+        ensures packs { packs result }
+        ensures value { value_of result ≡ self };
+
+    /// The value of a pack.
+    fn unpack(word: u64) -> Self
+        requires { packs word }
+        ensures { result ≡ value_of word };
+
+    /// A pack fits a word.
+    ghost packs_fit: { (w : ℕ) → packs w → w < 2 ^ 64 };
+
+    /// A value has one pack.
+    ghost one_pack: { (v w : ℕ) → packs v → packs w → value_of v ≡ value_of w → v ≡ w };
+}
+
+/// A type whose packs fit half a word, so that two of them, or one and a mark, fit a whole one.
+pub trait Half: Packed {
+    ghost packs_half: { (w : ℕ) → Self.Packed.packs w → w < 2 ^ 32 };
+}
+
+impl Packed for u64 {
+    ghost packs = { λ w. w < 2 ^ 64 };
+
+    ghost value_of = { λ w. w };
+
+    fn pack(self) -> u64 {
+        self
+    }
+
+    fn unpack(word: u64) -> u64 {
+        word
+    }
+
+    ghost packs_fit = { λ w h. h };
+
+    ghost one_pack = { λ v w p q e. e };
+}
+
+impl Packed for u32 {
+    ghost packs = { λ w. w < 2 ^ 32 };
+
+    ghost value_of = { λ w. w };
+
+    fn pack(self) -> u64 {
+        u64::from(self)
+    }
+
+    fn unpack(word: u64) -> u32 {
+        word as u32
+    }
+
+    ghost packs_fit = { below_word };
+
+    ghost one_pack = { λ v w p q e. e };
+}
+
+impl Half for u32 {
+    ghost packs_half = { λ w h. h };
+}
+
+impl Packed for u16 {
+    ghost packs = { λ w. w < 2 ^ 16 };
+
+    ghost value_of = { λ w. w };
+
+    fn pack(self) -> u64 {
+        u64::from(self)
+    }
+
+    fn unpack(word: u64) -> u16 {
+        word as u16
+    }
+
+    ghost packs_fit = { λ w h. below_word w (short_below w h) };
+
+    ghost one_pack = { λ v w p q e. e };
+}
+
+impl Half for u16 {
+    ghost packs_half = { short_below };
+}
+
+impl Packed for u8 {
+    ghost packs = { λ w. w < 2 ^ 8 };
+
+    ghost value_of = { λ w. w };
+
+    fn pack(self) -> u64 {
+        u64::from(self)
+    }
+
+    fn unpack(word: u64) -> u8 {
+        word as u8
+    }
+
+    ghost packs_fit = { λ w h. below_word w (byte_below w h) };
+
+    ghost one_pack = { λ v w p q e. e };
+}
+
+impl Half for u8 {
+    ghost packs_half = { byte_below };
+}
+
+impl Packed for i64 {
+    ghost packs = { λ w. w < 2 ^ 64 };
+
+    ghost value_of = { cast_signed w64 };
+
+    fn pack(self) -> u64 {
+        self.cast_unsigned()
+    }
+
+    fn unpack(word: u64) -> i64 {
+        word.cast_signed()
+    }
+
+    ghost packs_fit = { λ w h. h };
+
+    ghost one_pack = { signed_once w64 };
+}
+
+impl Packed for i32 {
+    ghost packs = { λ w. w < 2 ^ 32 };
+
+    ghost value_of = { cast_signed w32 };
+
+    fn pack(self) -> u64 {
+        u64::from(self.cast_unsigned())
+    }
+
+    fn unpack(word: u64) -> i32 {
+        (word as u32).cast_signed()
+    }
+
+    ghost packs_fit = { below_word };
+
+    ghost one_pack = { signed_once w32 };
+}
+
+impl Half for i32 {
+    ghost packs_half = { λ w h. h };
+}
+
+impl Packed for i16 {
+    ghost packs = { λ w. w < 2 ^ 16 };
+
+    ghost value_of = { cast_signed w16 };
+
+    fn pack(self) -> u64 {
+        u64::from(self.cast_unsigned())
+    }
+
+    fn unpack(word: u64) -> i16 {
+        (word as u16).cast_signed()
+    }
+
+    ghost packs_fit = { λ w h. below_word w (short_below w h) };
+
+    ghost one_pack = { signed_once w16 };
+}
+
+impl Half for i16 {
+    ghost packs_half = { short_below };
+}
+
+impl Packed for i8 {
+    ghost packs = { λ w. w < 2 ^ 8 };
+
+    ghost value_of = { cast_signed w8 };
+
+    fn pack(self) -> u64 {
+        u64::from(self.cast_unsigned())
+    }
+
+    fn unpack(word: u64) -> i8 {
+        (word as u8).cast_signed()
+    }
+
+    ghost packs_fit = { λ w h. below_word w (byte_below w h) };
+
+    ghost one_pack = { signed_once w8 };
+}
+
+impl Half for i8 {
+    ghost packs_half = { byte_below };
+}
+
+impl Packed for bool {
+    ghost packs = { λ w. w < 2 };
+
+    ghost value_of = { λ w. w == 1 };
+
+    fn pack(self) -> u64 {
+        u64::from(self)
+    }
+
+    fn unpack(word: u64) -> bool {
+        word == 1
+    }
+
+    ghost packs_fit = { λ w h. below_word w (bit_below w h) };
+
+    ghost one_pack = { bit_once };
+}
+
+impl Half for bool {
+    ghost packs_half = { bit_below };
+}
+
+impl Packed for char {
+    ghost packs = { IsScalar };
+
+    ghost value_of = { λ w. w };
+
+    fn pack(self) -> u64 {
+        u64::from(self)
+    }
+
+    fn unpack(word: u64) -> char {
+        char::from_u32(word as u32).unwrap()
+    }
+
+    ghost packs_fit = { λ w h. below_word w (scalar_below w h) };
+
+    ghost one_pack = { λ v w p q e. e };
+}
+
+impl Half for char {
+    ghost packs_half = { scalar_below };
+}
+
+impl Packed for () {
+    ghost packs = { λ w. w ≡ 0 };
+
+    ghost value_of = { λ w. tt };
+
+    fn pack(self) -> u64 {
+        0
+    }
+
+    fn unpack(_word: u64) {}
+
+    ghost packs_fit = { λ w h. below_word w (none_below w h) };
+
+    ghost one_pack = { λ v w p q e. p ∙ sym q };
+}
+
+impl Half for () {
+    ghost packs_half = { none_below };
+}
+
+impl<T: Half> Packed for Option<T> {
+    ghost packs = { packs_option T.packs };
+
+    ghost value_of = { option_of T.value_of };
+
+    fn pack(self) -> u64 {
+        match self {
+            None => 0,
+            Some(value) => value.pack() + 1,
+        }
+    }
+
+    fn unpack(word: u64) -> Option<T> {
+        if word == 0 {
+            None
+        } else {
+            Some(T::unpack(word - 1))
+        }
+    }
+
+    ghost packs_fit = { option_fits T.packs T.value_of T.packs_half };
+
+    ghost one_pack = { option_once T.packs T.value_of T.one_pack };
+}
+
+impl<A: Half, B: Half> Packed for (A, B) {
+    ghost packs = { packs_pair A.packs B.packs };
+
+    ghost value_of = { pair_of A.value_of B.value_of };
+
+    fn pack(self) -> u64 {
+        let (first, second) = self;
+        first.pack() * (1 << 32) + second.pack()
+    }
+
+    fn unpack(word: u64) -> (A, B) {
+        (A::unpack(word / (1 << 32)), B::unpack(word % (1 << 32)))
+    }
+
+    ghost packs_fit = { pair_fits A.packs B.packs A.value_of B.value_of A.packs_half };
+
+    ghost one_pack = { pair_once A.packs B.packs A.value_of B.value_of A.one_pack B.one_pack };
+}

@@ -1,0 +1,86 @@
+-- What each step tells its caller. Begin with `Makes`: a step that is the one event of a call.
+use Rattle.std.specs.Prelude.{◌≡◌, ◌≢◌, ℕ, ◌+◌, ◌/◌, ◌%◌, ◌<◌, ◌≤◌, ◌==◌, true, if◌then◌else◌, List, [], ◌∷◌, map, Option, Some, None}
+use Rattle.std.specs.List.{AllByRecursion}
+use Rattle.atomic_table.specs.Table.{Me, Step}
+use Rattle.flow_law.specs.declared.call.StateCall.{StateCall}
+use Rattle.flow_law.specs.declared.call.StateCall.TheVariants.{GetValue, Set, CompareAndSet, Subscribe, TakeNext, Unsubscribe, SubscriptionCount}
+use Rattle.flow_law.specs.declared.call.StateReply.{StateReply}
+use Rattle.flow_law.specs.declared.call.StateReply.TheVariants.{Done, Got, Answered, Subscribed, Received, Counted, Refused}
+use Rattle.flow_law.specs.declared.fault.FlowFault.TheVariants.{Exhausted}
+use Rattle.flow_law.specs.declared.outcome.Next.{Next}
+use Rattle.flow_law.specs.declared.outcome.Next.TheVariants.{Value, Empty}
+use Rattle.flow_law.specs.declared.states.StateFlowState.{StateFlowState}
+use Rattle.flow_law.specs.Growth.{Fits, sees, child}
+use Rattle.flow_law.specs.History.{subscriber, IsGiven}
+use Rattle.flow_law.specs.OneHistory.{AddsOne}
+use Rattle.flow_law.specs.StateFlow.{StateHistory, last_of, state_flow, state_after_all, IsStateHistory}
+use Rattle.flow_law.specs.Tokens.{subscription_name}
+use Rattle.flow_word.specs.declared.view.Known.{Known}
+use Rattle.flow_word.specs.declared.view.LastGot.{LastGot}
+use Rattle.flow_word.specs.View.{StateKnowledge, begun, last_got, with_knows, only}
+
+-- what a subscriber gets where the word is found, by the pack of the last value that it got
+abbrev pub received : {T : Type 0} → (ℕ → T) → Option ℕ → ℕ → Next T
+received value_of None found = Value (value_of found)
+received value_of (Some last) found = if last == found then Empty else Value (value_of found)
+
+-- the value of a pack, if there is one
+abbrev pub value_in : {T : Type 0} → (ℕ → T) → Option ℕ → Option T
+value_in value_of None = None
+value_in value_of (Some w) = Some (value_of w)
+
+abbrev pub IsPack : (ℕ → Type 0) → Option ℕ → Type 0
+IsPack packs None = Unit {0}
+IsPack packs (Some w) = packs w
+
+-- the token was given the number, and after what it has seen the subscriber is there and got last the value of this pack
+pub record HasGot {T : Type 0} (packs : ℕ → Type 0) (value_of : ℕ → T) (first : StateFlowState T) (k : StateKnowledge T) (number : ℕ) (last : Option ℕ) : Type 0 where
+  pub given : IsGiven state_flow k.name (subscriber number) k.seen
+  pub got : last_of number (state_after_all first k.seen).subscribers ≡ Some (value_in value_of last)
+  pub packed : IsPack packs last
+
+module _ {T : Type 0} (value_of : ℕ → T) where
+  -- the step was the event of this call with this reply, and the seat has one token still
+  abbrev pub Makes : Me Unit (List (Known T)) → StateCall T → StateReply T → Me Unit (List (Known T)) → Type 0
+  Makes before call reply after =
+      AddsOne (IsStateHistory (begun value_of (only before.0).start)) (only before.0).knows call reply (only after.0).knows × ((only after.0).start ≡ (only before.0).start) × (after ≡ (only after.0 ∷ [], before.1))
+
+  abbrev pub sets : Step Unit → Me Unit (List (Known T)) → ℕ → Me Unit (List (Known T)) → Type 0
+  sets step before found after = Makes before (Set (value_of step.first)) Done after
+
+  -- won or lost, by whether the word found was the one expected
+  abbrev pub exchanges : Step Unit → Me Unit (List (Known T)) → ℕ → Me Unit (List (Known T)) → Type 0
+  exchanges step before found after = Makes before (CompareAndSet (value_of step.first) (value_of step.second)) (Answered (found == step.first)) after
+
+  abbrev pub counts_live : Step Unit → Me Unit (List (Known T)) → ℕ → Me Unit (List (Known T)) → Type 0
+  counts_live step before found after = Makes before SubscriptionCount (Counted (found % 4294967296)) after
+
+  abbrev pub leaves : Step Unit → Me Unit (List (Known T)) → ℕ → Me Unit (List (Known T)) → Type 0
+  leaves step before found after = (x : LastGot) → (only before.0).subscriber ≡ Some x → Makes before (Unsubscribe x.number) (Answered true) after
+
+  -- a refusal where no number is left. Else no event, and one more fits
+  abbrev pub finds_room : Step Unit → Me Unit (List (Known T)) → ℕ → Me Unit (List (Known T)) → Type 0
+  finds_room step before found after =
+      ((only before.0).start.limit ≤ found / 4294967296 → Makes before (Subscribe (subscription_name (only before.0).knows)) (Refused Exhausted) after)
+      × (found / 4294967296 < (only before.0).start.limit → (after ≡ before) × (found + 4294967297 < 18446744073709551616))
+
+  -- the whole history so far was seen by each token of the view
+  abbrev pub observes : Step Unit → Me Unit (List (Known T)) → ℕ → Me Unit (List (Known T)) → Type 0
+  observes step before found after =
+      (history : StateHistory T) × IsStateHistory (begun value_of (only before.0).start) history × AllByRecursion (λ x. Fits history x.knows) before.0 × (after ≡ (map (with_knows (sees history)) before.0, before.1))
+
+module _ {T : Type 0} (packs : ℕ → Type 0) (value_of : ℕ → T) where
+  abbrev pub reads : Step Unit → Me Unit (List (Known T)) → ℕ → Me Unit (List (Known T)) → Type 0
+  reads step before found after = packs found × Makes value_of before GetValue (Got (value_of found)) after
+
+  abbrev pub receives : Step Unit → Me Unit (List (Known T)) → ℕ → Me Unit (List (Known T)) → Type 0
+  receives step before found after = (x : LastGot) → (only before.0).subscriber ≡ Some x
+      → packs found × Makes value_of before (TakeNext x.number) (Received (received value_of x.last found)) after
+      × ((only after.0).subscriber ≡ Some (last_got x.number (Some found))) × HasGot packs value_of (begun value_of (only before.0).start) (only after.0).knows x.number (Some found)
+
+  -- won, the next number is issued for the token that is made next. Lost, it is no event
+  abbrev pub enters : Step Unit → Me Unit (List (Known T)) → ℕ → Me Unit (List (Known T)) → Type 0
+  enters step before found after =
+      (found ≡ step.first → Makes value_of before (Subscribe (subscription_name (only before.0).knows)) (Subscribed (step.first / 4294967296 + 1)) after
+      × ((only after.0).subscriber ≡ Some (last_got (step.first / 4294967296 + 1) None)) × HasGot packs value_of (begun value_of (only before.0).start) (child (only after.0).knows) (step.first / 4294967296 + 1) None)
+      × (found ≢ step.first → after ≡ before)

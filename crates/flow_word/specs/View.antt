@@ -1,0 +1,52 @@
+-- The view of a seat at the table: what the tokens in it know.
+use Rattle.std.specs.Prelude.{ℕ, List, [], ◌∷◌, Option, None}
+use Rattle.flow_law.specs.declared.history.Knowledge.{Knowledge}
+use Rattle.flow_law.specs.declared.history.Said.{Said}
+use Rattle.flow_law.specs.declared.call.StateCall.{StateCall}
+use Rattle.flow_law.specs.declared.call.StateReply.{StateReply}
+use Rattle.flow_law.specs.declared.states.StateFlowState.{StateFlowState}
+use Rattle.flow_law.specs.Growth.{first_knowledge}
+use Rattle.flow_law.specs.StateFlow.{first_state_flow}
+use Rattle.flow_word.specs.declared.view.Known.{Known}
+use Rattle.flow_word.specs.declared.view.LastGot.{LastGot}
+use Rattle.flow_word.specs.declared.view.Start.{Start}
+
+-- what a token of a state flow knows
+abbrev pub StateKnowledge : Type 0 → Type 0
+StateKnowledge T = Knowledge (Said (StateCall T) (StateReply T))
+
+-- no flow
+abbrev pub no_start : Start
+no_start = record { word = 0; limit = 0 }
+
+abbrev pub last_got : ℕ → Option ℕ → LastGot
+last_got number last = record { number = number; last = last }
+
+module _ {T : Type 0} where
+  -- the state that a flow began with
+  abbrev pub begun : (ℕ → T) → Start → StateFlowState T
+  begun value_of start = first_state_flow start.limit (value_of start.word)
+
+  abbrev pub known : StateKnowledge T → Start → Option LastGot → Known T
+  known knows start subscriber = record { knows = knows; start = start; subscriber = subscriber }
+
+  abbrev pub with_knows : (StateKnowledge T → StateKnowledge T) → Known T → Known T
+  with_knows f x = known (f x.knows) x.start x.subscriber
+
+  -- of the first seat
+  abbrev pub first_view : Start → List (Known T)
+  first_view start = known first_knowledge start None ∷ []
+
+  -- the token of a view that has one
+  abbrev pub only : List (Known T) → Known T
+  only [] = known first_knowledge no_start None
+  only (x ∷ xs) = x
+
+  -- a joined view has two tokens. Its two parts
+  abbrev pub first_of : List (Known T) → List (Known T)
+  first_of [] = []
+  first_of (x ∷ xs) = x ∷ []
+
+  abbrev pub others_of : List (Known T) → List (Known T)
+  others_of [] = []
+  others_of (x ∷ xs) = xs

@@ -1,0 +1,116 @@
+//! The value, and seats.
+ghost use Rattle.std.specs.Prelude.{◌≡◌, IfOk, IfErr};
+ghost use Rattle.flow_law.specs.declared.call.StateCall.TheVariants as call;
+ghost use Rattle.flow_law.specs.declared.call.StateReply.TheVariants as reply;
+ghost use Rattle.flow_law.specs.Growth.{makes, child};
+ghost use Rattle.flow_law.specs.StateFlow.{first_state_flow, state_flow};
+ghost use Rattle.flow_law.specs.Tokens.{Begins, CallsIn, knowing};
+
+use crate::plays::{Exchange, Make, Put, Read};
+use crate::token::{WordSeat, WordState};
+use crate::view::Start;
+use atomic_table::Table;
+use flow_law::{FlowFault, Packed};
+use std::alloc::Global;
+
+impl<T: Packed> WordState<T> {
+    /// A state flow with this value, which nobody subscribed to, and its first seat. It issues at most `limit` numbers to
+    /// subscribers. `Err` is want of memory: no other call needs any.
+    ///
+    /// Every other seat is made through this one, or through one that was made so. Once all seats and all subscriptions
+    /// are dropped nobody can call the flow any more.
+    pub fn new(
+        alloc: Global,
+        initial: T,
+        limit: u32,
+    ) -> Result<(WordState<T>, WordSeat<T>), FlowFault>
+        ensures made { IfOk result (Begins (first_state_flow limit initial)) }
+        ensures memory { IfErr result (λ fault. fault ≡ FlowFault.OutOfMemory) }
+    {
+        let start = Start {
+            word: initial.pack(),
+            limit: u64::from(limit),
+        };
+        match Table::of_words(alloc, &[start.word, 0], &start) {
+            Ok((table, seat)) => Ok((WordState { table, limit }, WordSeat { seat })),
+            Err(_) => Err(FlowFault::OutOfMemory),
+        }
+    }
+
+    /// Makes a seat through another. Call it for each thread that is to call the flow, before the thread starts.
+    ///
+    /// The new seat has seen what its maker had seen, and has a name of its own. A seat that is dropped is lost: nobody
+    /// calls under its name any more, and the flow goes on.
+    pub fn seat(&self, seat: &mut WordSeat<T>) -> WordSeat<T>
+        requires { seat.old.table_id ≡ self.now.table_id }
+        ensures maker { seat.new ≡ knowing seat.old (makes seat.old.knows) }
+        ensures made { result ≡ knowing seat.old (child seat.old.knows) }
+    {
+        WordSeat {
+            seat: self.table.shared.split_seat::<Make>(&mut seat.seat),
+        }
+    }
+
+    /// The pack of the current value, by a call of `value`.
+    pub(crate) fn word(&self, seat: &mut WordSeat<T>) -> u64
+        requires { seat.old.table_id ≡ self.now.table_id }
+        ensures packs { T.packs result }
+        ensures called { CallsIn state_flow self.now.first seat.old call.GetValue
+            (reply.Got (T.value_of result)) seat.new }
+    {
+        self.table.shared.load::<Read>(&mut seat.seat, 0)
+    }
+
+    /// `compare_and_set`, by packs.
+    pub(crate) fn exchange(&self, seat: &mut WordSeat<T>, expect: u64, update: u64) -> bool
+        requires flow { seat.old.table_id ≡ self.now.table_id }
+        requires packs { T.packs expect × T.packs update }
+        ensures { CallsIn state_flow self.now.first seat.old
+            (call.CompareAndSet (T.value_of expect) (T.value_of update)) (reply.Answered result) seat.new }
+    {
+        let found = self
+            .table
+            .shared
+            .compare_exchange::<Exchange>(&mut seat.seat, 0, expect, update);
+        found == expect
+    }
+
+    /// The current value.
+    ///
+    /// Call it to read the state at any time, without a subscription. Another caller may set the value right after; to
+    /// set what depends on the value that was read, `update` or `compare_and_set`.
+    pub fn value(&self, seat: &mut WordSeat<T>) -> T
+        requires { seat.old.table_id ≡ self.now.table_id }
+        ensures { CallsIn state_flow self.now.first seat.old call.GetValue (reply.Got result) seat.new }
+    {
+        T::unpack(self.word(seat))
+    }
+
+    /// Makes this the current value. Setting a value that is equal to the current one does nothing: no subscriber gets
+    /// it again.
+    ///
+    /// Updates are conflated: a slow subscriber skips values that were set fast, and gets the most recent one. Call it
+    /// where the new value does not depend on the current one.
+    pub fn set(&self, seat: &mut WordSeat<T>, value: T)
+        requires { seat.old.table_id ≡ self.now.table_id }
+        ensures { CallsIn state_flow self.now.first seat.old (call.Set value) reply.Done seat.new }
+    {
+        self.table
+            .shared
+            .swap::<Put>(&mut seat.seat, 0, value.pack());
+    }
+
+    /// Atomically compares the current value with `expect` and sets it to `update` if it is equal to `expect`. The
+    /// result is `true` if the value was set to `update`, and `false` otherwise.
+    ///
+    /// If both `expect` and `update` are equal to the current value, the result is `true`, and subscribers get nothing
+    /// new. Call it where the new value depends on the one that was read: at `false` another caller was faster, so read
+    /// the value and try again, which is what `update` does.
+    pub fn compare_and_set(&self, seat: &mut WordSeat<T>, expect: T, update: T) -> bool
+        requires { seat.old.table_id ≡ self.now.table_id }
+        ensures { CallsIn state_flow self.now.first seat.old (call.CompareAndSet expect update)
+            (reply.Answered result) seat.new }
+    {
+        self.exchange(seat, expect.pack(), update.pack())
+    }
+}

@@ -1,0 +1,109 @@
+//! What each step on a word tells. Nothing here runs.
+ghost use Rattle.std.specs.Prelude.{[], ◌++◌, map};
+ghost use Rattle.flow_law.specs.Growth.{makes, child};
+ghost use Rattle.flow_word.specs.View.{with_knows, first_of, others_of};
+ghost use Rattle.flow_word.specs.Steps.{reads, sets, exchanges, counts_live, receives, leaves, finds_room, enters, observes};
+
+use crate::view::Known;
+use atomic_table::{Join, Play, Split};
+use flow_law::Packed;
+use std::collections::LinkedList;
+
+/// A load of the value's word, for `value`.
+pub(crate) struct Read;
+
+impl<T: Packed> Play<(), LinkedList<Known<T>>> for Read {
+    ghost then = { reads T.packs T.value_of };
+}
+
+/// A swap of the value's word.
+pub(crate) struct Put;
+
+impl<T: Packed> Play<(), LinkedList<Known<T>>> for Put {
+    ghost then = { sets T.value_of };
+}
+
+/// An exchange of the value's word.
+pub(crate) struct Exchange;
+
+impl<T: Packed> Play<(), LinkedList<Known<T>>> for Exchange {
+    ghost then = { exchanges T.value_of };
+}
+
+/// A load of the counts, for `subscription_count`.
+pub(crate) struct Count;
+
+impl<T: Packed> Play<(), LinkedList<Known<T>>> for Count {
+    ghost then = { counts_live T.value_of };
+}
+
+/// A load of the value's word, for `next`.
+pub(crate) struct Receive;
+
+impl<T: Packed> Play<(), LinkedList<Known<T>>> for Receive {
+    ghost then = { receives T.packs T.value_of };
+}
+
+/// One subscriber fewer.
+pub(crate) struct Leave;
+
+impl<T: Packed> Play<(), LinkedList<Known<T>>> for Leave {
+    ghost then = { leaves T.value_of };
+}
+
+/// A load of the counts, before a subscription.
+pub(crate) struct FindRoom;
+
+impl<T: Packed> Play<(), LinkedList<Known<T>>> for FindRoom {
+    ghost then = { finds_room T.value_of };
+}
+
+/// An exchange of the counts for those with one subscription more.
+pub(crate) struct Enter;
+
+impl<T: Packed> Play<(), LinkedList<Known<T>>> for Enter {
+    ghost then = { enters T.packs T.value_of };
+}
+
+/// A token is made through another.
+pub(crate) struct Make;
+
+impl<T> Split<LinkedList<Known<T>>> for Make {
+    ghost left = { map (with_knows makes) };
+
+    ghost right = { map (with_knows child) };
+}
+
+/// A view of no token, to stand in for one that is taken out of its place.
+pub(crate) struct Blank;
+
+impl<T> Split<LinkedList<Known<T>>> for Blank {
+    ghost left = { λ v. v };
+
+    ghost right = { λ v. [] };
+}
+
+/// Two tokens meet in one view.
+pub(crate) struct Meet;
+
+impl<T> Join<LinkedList<Known<T>>> for Meet {
+    ghost both = { λ v w. v ++ w };
+
+    ghost spent = { [] };
+}
+
+/// A load, by which both see the whole history so far.
+pub(crate) struct Observe;
+
+impl<T: Packed> Play<(), LinkedList<Known<T>>> for Observe {
+    ghost then = { observes T.value_of };
+}
+
+/// They part again.
+pub(crate) struct Part;
+
+impl<T> Split<LinkedList<Known<T>>> for Part {
+    ghost left = { first_of };
+
+    ghost right = { others_of };
+}

@@ -1,0 +1,116 @@
+//! The calls of subscribers.
+ghost use Rattle.std.specs.Prelude.{◌≡◌, ◌≢◌, None, Ok, IfSome, IfErr};
+ghost use Rattle.flow_law.specs.declared.call.StateCall.TheVariants as call;
+ghost use Rattle.flow_law.specs.declared.fault.FlowFault.TheVariants.{Exhausted};
+ghost use Rattle.flow_law.specs.declared.outcome.Next.TheVariants.{Gone};
+ghost use Rattle.flow_law.specs.StateFlow.{state_flow};
+ghost use Rattle.flow_law.specs.Tokens.{SubscribesIn, NextsIn, UnsubscribesIn, CountsIn};
+
+use crate::plays::{Count, Enter, FindRoom, Leave, Make, Receive};
+use crate::token::{WordSeat, WordState, WordSubscription};
+use flow_law::{FlowFault, Next, Packed};
+use std::sync::Wait;
+use std::thread;
+
+/// How often a call tries before it lets other threads go first.
+pub(crate) const TRIES: u32 = 16;
+
+/// What the counts grow by at a subscription: one number, and one subscriber.
+const ENTRY: u64 = (1 << 32) + 1;
+
+impl<T: Packed> WordState<T> {
+    /// One try: `None` where another caller changed the counts in between.
+    fn try_subscribe(
+        &self,
+        seat: &mut WordSeat<T>,
+    ) -> Option<Result<WordSubscription<T>, FlowFault>>
+        requires { seat.old.table_id ≡ self.now.table_id }
+        ensures subscribed { IfSome result (λ r.
+            SubscribesIn state_flow self.now.first call.Subscribe seat.old r seat.new) }
+        ensures refused { IfSome result (λ r. IfErr r (λ fault. fault ≡ Exhausted)) }
+        ensures lost { result ≡ None → seat.new ≡ seat.old }
+    {
+        let word = self.table.shared.load::<FindRoom>(&mut seat.seat, 1);
+        let issued = word / (1 << 32);
+        if issued >= u64::from(self.limit) {
+            return Some(Err(FlowFault::Exhausted));
+        }
+        let found = self
+            .table
+            .shared
+            .compare_exchange::<Enter>(&mut seat.seat, 1, word, word + ENTRY);
+        if found != word {
+            return None;
+        }
+        Some(Ok(WordSubscription {
+            seat: self.table.shared.split_seat::<Make>(&mut seat.seat),
+            number: issued + 1,
+            last: None,
+        }))
+    }
+
+    /// A new subscriber, which gets the current value first. `Err` is `Exhausted`, where the flow has issued as many numbers
+    /// as its limit allows.
+    ///
+    /// The subscription has a seat of its own, which is made through this one. Where another caller subscribes or unsubscribes at
+    /// the same moment it tries again, and after some tries lets other threads go first.
+    pub fn subscribe<R: Wait>(
+        &self,
+        rt: &R,
+        seat: &mut WordSeat<T>,
+    ) -> Result<WordSubscription<T>, FlowFault>
+        requires { seat.old.table_id ≡ self.now.table_id }
+        ensures subscribed { SubscribesIn state_flow self.now.first call.Subscribe seat.old result seat.new }
+        ensures refused { IfErr result (λ fault. fault ≡ Exhausted) }
+    {
+        let mut tries: u32 = 0;
+        for _ in rt.forever() {
+            if let Some(answer) = self.try_subscribe(seat) {
+                return answer;
+            }
+            tries += 1;
+            if tries >= TRIES {
+                tries = 0;
+                thread::yield_now();
+            }
+        }
+        unreachable!()
+    }
+
+    /// The current value, where it is not the last that the subscriber got; `Empty` where it is.
+    ///
+    /// A slow subscriber skips values that were set fast, and gets the most recent one.
+    pub fn next(&self, subscription: &mut WordSubscription<T>) -> Next<T>
+        requires { subscription.old.token.table_id ≡ self.now.table_id }
+        ensures called { NextsIn state_flow self.now.first subscription.old (Ok result) subscription.new }
+        ensures number { subscription.new.number ≡ subscription.old.number }
+        ensures live { result ≢ Gone }
+    {
+        let word = self.table.shared.load::<Receive>(&mut subscription.seat, 0);
+        let last = subscription.last.replace(word);
+        if last == Some(word) {
+            Next::Empty
+        } else {
+            Next::Value(T::unpack(word))
+        }
+    }
+
+    /// Ends the subscription. Its seat comes back, for other calls.
+    pub fn unsubscribe(&self, subscription: WordSubscription<T>) -> WordSeat<T>
+        requires { subscription.token.table_id ≡ self.now.table_id }
+        ensures { UnsubscribesIn state_flow self.now.first subscription result }
+    {
+        let WordSubscription { mut seat, .. } = subscription;
+        self.table.shared.fetch_sub::<Leave>(&mut seat, 1, 1);
+        WordSeat { seat }
+    }
+
+    /// How many subscribers there are. A subscription that was dropped is counted: only `unsubscribe` ends one.
+    pub fn subscription_count(&self, seat: &mut WordSeat<T>) -> u64
+        requires { seat.old.table_id ≡ self.now.table_id }
+        ensures { CountsIn state_flow self.now.first seat.old result seat.new }
+    {
+        let word = self.table.shared.load::<Count>(&mut seat.seat, 1);
+        word % (1 << 32)
+    }
+}

@@ -1,0 +1,65 @@
+//! The flow, and the tokens of its callers.
+ghost use Rattle.std.specs.Prelude.{◌≡◌};
+ghost use Rattle.flow_law.specs.Tokens.{origin, numbered};
+ghost use Rattle.flow_word.specs.View.{begun};
+ghost use Rattle.flow_word.specs.Tokens.{Token, Origin, NumberedToken, word_id, token_of, IsIdle, IsSubscribed};
+
+use crate::rule::WordRule;
+use crate::view::{Known, Start};
+use atomic_table::{Seat, Table};
+use flow_law::Packed;
+use std::alloc::Global;
+use std::collections::LinkedList;
+use std::marker::Model;
+
+/// A state flow (`MutableStateFlow`) of a value that fits a word, for callers on several threads, none of whom waits for another.
+#[derive(Drop)]
+pub struct WordState<T: Packed> {
+    /// Word 0 is the pack of the current value; word 1 is how many numbers were issued, times 2^32, and how many subscribers
+    /// there are.
+    pub(crate) table: Table<(), LinkedList<Known<T>>, Start, WordRule, Global>,
+    pub(crate) limit: u32,
+}
+
+impl<T: Packed> Model for WordState<T> {
+    ghost Value = { Origin T };
+
+    ghost view = { λ w. origin (word_id w.table.shared.table_id w.table.shared.key)
+        (begun T.value_of w.table.shared.key) };
+
+    ghost invariant = { λ w. (w.table.shared.table_id.words ≡ 2) × (w.table.shared.key.limit ≡ w.limit) };
+}
+
+/// A seat at a word state: who has it may call the flow. Contracts see the history that it has seen.
+///
+/// A seat that is dropped is lost; the flow goes on without it.
+#[derive(Drop)]
+pub struct WordSeat<T> {
+    pub(crate) seat: Seat<(), LinkedList<Known<T>>>,
+}
+
+impl<T> Model for WordSeat<T> {
+    ghost Value = { Token T };
+
+    ghost view = { λ s. token_of s.seat };
+
+    ghost invariant = { λ s. IsIdle s.seat };
+}
+
+/// A subscription to a word state: a seat of its own, its number, and the pack of the last value that it got.
+///
+/// A subscription that is dropped stays and is counted. Its seat is lost. To end it, `unsubscribe`.
+#[derive(Drop)]
+pub struct WordSubscription<T: Packed> {
+    pub(crate) seat: Seat<(), LinkedList<Known<T>>>,
+    pub(crate) number: u64,
+    pub(crate) last: Option<u64>,
+}
+
+impl<T: Packed> Model for WordSubscription<T> {
+    ghost Value = { NumberedToken T };
+
+    ghost view = { λ s. numbered (token_of s.seat) s.number };
+
+    ghost invariant = { λ s. IsSubscribed T.packs T.value_of s.seat s.number s.last };
+}

@@ -1,0 +1,24 @@
+//! What the table of a word state knows of its seats. But for `Start`, no value of these types is made.
+ghost use Rattle.std.specs.Prelude.{◌≡◌};
+
+use flow_law::{Knowledge, Said, StateCall, StateReply};
+
+/// How a flow began: the pack of its first value, and how many numbers it issues at most.
+#[derive(Clone, Copy)]
+pub struct Start {
+    pub word: u64,
+    pub limit: u64,
+}
+
+/// A subscriber's number, and the pack of the last value that it got.
+pub struct LastGot {
+    pub number: u64,
+    pub last: Option<u64>,
+}
+
+/// What one token knows, the start of its flow, and what it got last as a subscriber.
+pub struct Known<T> {
+    pub knows: Knowledge<Said<StateCall<T>, StateReply<T>>>,
+    pub start: Start,
+    pub subscriber: Option<LastGot>,
+}
