@@ -6,12 +6,13 @@
 //!
 //! # Which hub
 //! `share_in` and `state_in` make a sharing with a flow for one thread of its own (`CoreHub`, `StateHub`). A
-//! `SharedFlowHub` or `StateFlowHub` stands for a flow for several threads that is lent: others subscribe to it, and emit
-//! into it, while the sharing runs.
+//! `SharedFlowHub`, `StateFlowHub` or `WordHub` stands for a flow for several threads that is lent: others subscribe to it,
+//! and emit into it, while the sharing runs.
 //!
 //! # A flow that others use
 //! A hub of a lent flow has two seats of it: one counts the subscribers, the other emits. No call of it waits. Where
-//! another caller is inside the flow, the turn reports `Busy`, and the next turn goes on there.
+//! another caller is inside the flow, the turn reports `Busy`, and the next turn goes on there; over a `WordHub` no turn is
+//! busy.
 //!
 //! # What is lost
 //! Who drops a sharing drops its hub: the hub's seats are lost, and an emission that waits stays queued or offered. So
@@ -22,6 +23,7 @@ mod laws;
 mod sender;
 mod shared_flow_hub;
 mod state_flow_hub;
+mod word_hub;
 
 pub use flow_turns::{
     Asked, Backwards, ChainFault, Cold, Command, CoreHub, End, Event, Hub, Policy, Report,
@@ -31,3 +33,4 @@ pub use flow_turns::{
 pub use laws::{law_turn_over_shared_flow, law_turn_over_state_flow};
 pub use shared_flow_hub::SharedFlowHub;
 pub use state_flow_hub::StateFlowHub;
+pub use word_hub::WordHub;

@@ -24,3 +24,5 @@ mod sharings;
 mod test_hub;
 #[cfg(test)]
 mod two_chains;
+#[cfg(test)]
+mod word_hubs;

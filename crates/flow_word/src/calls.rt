@@ -95,9 +95,8 @@ impl<T: Packed> WordState<T> {
         requires { seat.old.table_id ≡ self.now.table_id }
         ensures { CallsIn state_flow self.now.first seat.old (call.Set value) reply.Done seat.new }
     {
-        self.table
-            .shared
-            .swap::<Put>(&mut seat.seat, 0, value.pack());
+        let word = value.pack();
+        self.table.shared.swap::<Put>(&mut seat.seat, 0, word);
     }
 
     /// Atomically compares the current value with `expect` and sets it to `update` if it is equal to `expect`. The

@@ -3,4 +3,4 @@ use Rattle.flow_word.proofs.Keeps.{setting}
 use Rattle.flow_word.proofs.token.WordState.set.Goals as goal
 
 pub swap-requires : goal.swap-requires
-swap-requires g c = (search rules, search rules, setting _ _ _ _ _ _ _ _ (ap (λ m. m.0) c.seat.invariant) c.pack.ensures.packs)
+swap-requires g c = (search rules, search rules, setting _ _ _ _ _ _ _ _ (ap (λ m. m.0) c.seat.invariant) c.pack-word.ensures.packs)

@@ -1,0 +1,86 @@
+//! A state flow without a lock as the flow of a sharing.
+ghost use Rattle.std.specs.Prelude.{◌≡◌, false};
+ghost use Rattle.flow_law.specs.Growth.{makes};
+ghost use Rattle.flow_law.specs.Tokens.{knowing};
+ghost use Rattle.flow_sharing.specs.SeatedHub.{seated};
+
+use flow_law::{FlowFault, Packed, Refused};
+use flow_turns::Hub;
+use flow_word::{WordSeat, WordState};
+use std::marker::Model;
+
+/// A `WordState` that is lent, whose value a sharing sets beside other callers. Subscribers use the flow itself.
+///
+/// No item ever waits and no call is refused: each is one atomic step, so a turn is never Busy. A hub that is dropped
+/// loses its two seats.
+#[derive(Drop)]
+pub struct WordHub<'a, T: Packed> {
+    flow: &'a WordState<T>,
+    watching: WordSeat<T>,
+    sending: WordSeat<T>,
+}
+
+impl<'a, T: Packed> Model for WordHub<'a, T> {
+    ghost use Rattle.std.specs.Prelude.{None};
+    ghost use Rattle.flow_word.specs.Tokens.{WordId};
+    ghost use Rattle.flow_sharing.specs.StateFlowHub.{StateSeats};
+
+    ghost Value = { StateSeats WordId T };
+
+    ghost use Rattle.flow_sharing.specs.SeatedHub.{IsOf};
+
+    ghost view = { λ h. record {
+      flow = h.flow.now;
+      watching = h.watching;
+      sending = h.sending;
+      emission = None;
+    } };
+
+    ghost invariant = { λ h. IsOf h.watching h.flow.now × IsOf h.sending h.flow.now };
+}
+
+impl<'a, T: Packed> WordHub<'a, T> {
+    /// A hub that has set nothing yet. Its two seats are made through this one, which stays the caller's.
+    pub fn new(flow: &'a WordState<T>, seat: &mut WordSeat<T>) -> WordHub<'a, T>
+        requires { seat.old.table_id ≡ flow.now.table_id }
+        ensures hub { result ≡ seated flow.entry.now seat.old }
+        ensures seat { seat.new ≡ knowing seat.old (makes (makes seat.old.knows)) }
+        ensures waits { ⟦<WordHub<'a, T> as Hub>⟧.waits result ≡ false }
+    {
+        let watching = flow.seat(seat);
+        let sending = flow.seat(seat);
+        WordHub {
+            flow,
+            watching,
+            sending,
+        }
+    }
+}
+
+impl<'a, T: Packed> Hub for WordHub<'a, T> {
+    type Item = T;
+
+    ghost use Rattle.flow_sharing.specs.StateFlowHub.{nothing_waits};
+    ghost use Rattle.flow_sharing.specs.WordHub.{WordHubDoes};
+
+    ghost waits = { nothing_waits };
+
+    ghost does = { WordHubDoes };
+
+    fn count(&mut self) -> Result<u64, FlowFault> {
+        Ok(self.flow.subscription_count(&mut self.watching))
+    }
+
+    fn put(&mut self, value: T) -> Result<bool, Refused<T>> {
+        self.flow.set(&mut self.sending, value);
+        Ok(false)
+    }
+
+    fn poll(&mut self) -> Result<bool, FlowFault> {
+        Ok(false)
+    }
+
+    fn cancel(&mut self) -> Result<bool, FlowFault> {
+        Ok(false)
+    }
+}
