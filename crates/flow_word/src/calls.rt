@@ -14,11 +14,11 @@ use flow_law::{FlowFault, Packed};
 use std::alloc::Global;
 
 impl<T: Packed> WordState<T> {
-    /// A state flow with this value, which nobody subscribed to, and its first seat. It issues at most `limit` numbers to
-    /// subscribers. `Err` is want of memory: no other call needs any.
+    /// A state flow with this value, which nobody subscribed to, and its first seat. It issues at most
+    /// `limit` numbers to subscribers. `Err` is want of memory: no other call needs any.
     ///
-    /// Every other seat is made through this one, or through one that was made so. Once all seats and all subscriptions
-    /// are dropped nobody can call the flow any more.
+    /// Every other seat is made through this one, or through one that was made so. Once all seats and all
+    /// subscriptions are dropped nobody can call the flow any more.
     pub fn new(
         alloc: Global,
         initial: T,
@@ -37,10 +37,11 @@ impl<T: Packed> WordState<T> {
         }
     }
 
-    /// Makes a seat through another. Call it for each thread that is to call the flow, before the thread starts.
+    /// Makes a seat through another. Call it for each thread that is to call the flow, before the thread
+    /// starts.
     ///
-    /// The new seat has seen what its maker had seen, and has a name of its own. A seat that is dropped is lost: nobody
-    /// calls under its name any more, and the flow goes on.
+    /// The new seat has seen what its maker had seen, and has a name of its own. A seat that is dropped is
+    /// lost: nobody calls under its name any more, and the flow goes on.
     pub fn seat(&self, seat: &mut WordSeat<T>) -> WordSeat<T>
         requires { seat.old.table_id ≡ self.now.table_id }
         ensures maker { seat.new ≡ knowing seat.old (makes seat.old.knows) }
@@ -77,8 +78,8 @@ impl<T: Packed> WordState<T> {
 
     /// The current value.
     ///
-    /// Call it to read the state at any time, without a subscription. Another caller may set the value right after; to
-    /// set what depends on the value that was read, `update` or `compare_and_set`.
+    /// Call it to read the state at any time, without a subscription. Another caller may set the value
+    /// right after; to set what depends on the value that was read, `update` or `compare_and_set`.
     pub fn value(&self, seat: &mut WordSeat<T>) -> T
         requires { seat.old.table_id ≡ self.now.table_id }
         ensures { CallsIn state_flow self.now.first seat.old call.GetValue (reply.Got result) seat.new }
@@ -86,11 +87,11 @@ impl<T: Packed> WordState<T> {
         T::unpack(self.word(seat))
     }
 
-    /// Makes this the current value. Setting a value that is equal to the current one does nothing: no subscriber gets
-    /// it again.
+    /// Makes this the current value. Setting a value that is equal to the current one does nothing: no
+    /// subscriber gets it again.
     ///
-    /// Updates are conflated: a slow subscriber skips values that were set fast, and gets the most recent one. Call it
-    /// where the new value does not depend on the current one.
+    /// Updates are conflated: a slow subscriber skips values that were set fast, and gets the most recent
+    /// one. Call it where the new value does not depend on the current one.
     pub fn set(&self, seat: &mut WordSeat<T>, value: T)
         requires { seat.old.table_id ≡ self.now.table_id }
         ensures { CallsIn state_flow self.now.first seat.old (call.Set value) reply.Done seat.new }
@@ -99,12 +100,12 @@ impl<T: Packed> WordState<T> {
         self.table.shared.swap::<Put>(&mut seat.seat, 0, word);
     }
 
-    /// Atomically compares the current value with `expect` and sets it to `update` if it is equal to `expect`. The
-    /// result is `true` if the value was set to `update`, and `false` otherwise.
+    /// Atomically compares the current value with `expect` and sets it to `update` if it is equal to
+    /// `expect`. The result is `true` if the value was set to `update`, and `false` otherwise.
     ///
-    /// If both `expect` and `update` are equal to the current value, the result is `true`, and subscribers get nothing
-    /// new. Call it where the new value depends on the one that was read: at `false` another caller was faster, so read
-    /// the value and try again, which is what `update` does.
+    /// If both `expect` and `update` are equal to the current value, the result is `true`, and subscribers
+    /// get nothing new. Call it where the new value depends on the one that was read: at `false` another
+    /// caller was faster, so read the value and try again, which is what `update` does.
     pub fn compare_and_set(&self, seat: &mut WordSeat<T>, expect: T, update: T) -> bool
         requires { seat.old.table_id ≡ self.now.table_id }
         ensures { CallsIn state_flow self.now.first seat.old (call.CompareAndSet expect update)

@@ -19,9 +19,11 @@ impl<T: Packed> WordState<T> {
         one: &mut Seat<(), LinkedList<Known<T>>>,
         other: &mut Seat<(), LinkedList<Known<T>>>,
     )
-        requires flow { ((token_of one.old).table_id ≡ self.now.table_id) × ((token_of other.old).table_id ≡ self.now.table_id) }
+        requires flow { ((token_of one.old).table_id ≡ self.now.table_id)
+            × ((token_of other.old).table_id ≡ self.now.table_id) }
         requires idle { IsIdle one.old × IsIdle other.old }
-        ensures met { MeetsIn state_flow self.now.first (token_of one.old) (token_of other.old) (token_of one.new) (token_of other.new) }
+        ensures met { MeetsIn state_flow self.now.first (token_of one.old) (token_of other.old)
+            (token_of one.new) (token_of other.new) }
         ensures idle { IsIdle one.new × IsIdle other.new }
         ensures began { begun T.value_of (only one.old.me.0).start ≡ self.now.first }
         ensures subscriber { (only one.new.me.0).subscriber ≡ (only one.old.me.0).subscriber }
@@ -34,9 +36,11 @@ impl<T: Packed> WordState<T> {
         *other = shared.split_seat::<Part>(one);
     }
 
-    /// Makes what two seats have seen one history: both have then seen all that was done so far. Nothing is called.
+    /// Makes what two seats have seen one history: both have then seen all that was done so far. Nothing is
+    /// called.
     ///
-    /// Call it where what one caller did is to count for another, as after a thread has ended and its seat came back.
+    /// Call it where what one caller did is to count for another, as after a thread has ended and its seat
+    /// came back.
     pub fn meet(&self, one: &mut WordSeat<T>, other: &mut WordSeat<T>)
         requires { (one.old.table_id ≡ self.now.table_id) × (other.old.table_id ≡ self.now.table_id) }
         ensures { MeetsIn state_flow self.now.first one.old other.old one.new other.new }
@@ -48,7 +52,8 @@ impl<T: Packed> WordState<T> {
     pub fn meet_subscription(&self, subscription: &mut WordSubscription<T>, seat: &mut WordSeat<T>)
         requires { (subscription.old.token.table_id ≡ self.now.table_id)
             × (seat.old.table_id ≡ self.now.table_id) }
-        ensures met { MeetsIn state_flow self.now.first subscription.old.token seat.old subscription.new.token seat.new }
+        ensures met { MeetsIn state_flow self.now.first subscription.old.token seat.old
+            subscription.new.token seat.new }
         ensures number { subscription.new.number ≡ subscription.old.number }
     {
         self.meet_by(&mut subscription.seat, &mut seat.seat);

@@ -49,11 +49,12 @@ impl<T: Packed> WordState<T> {
         }))
     }
 
-    /// A new subscriber, which gets the current value first. `Err` is `Exhausted`, where the flow has issued as many numbers
-    /// as its limit allows.
+    /// A new subscriber, which gets the current value first. `Err` is `Exhausted`, where the flow has
+    /// issued as many numbers as its limit allows.
     ///
-    /// The subscription has a seat of its own, which is made through this one. Where another caller subscribes or unsubscribes at
-    /// the same moment it tries again, and after some tries lets other threads go first.
+    /// The subscription has a seat of its own, which is made through this one. Where another caller
+    /// subscribes or unsubscribes at the same moment it tries again, and after some tries lets other
+    /// threads go first.
     pub fn subscribe<R: Wait>(
         &self,
         rt: &R,
@@ -105,7 +106,8 @@ impl<T: Packed> WordState<T> {
         WordSeat { seat }
     }
 
-    /// How many subscribers there are. A subscription that was dropped is counted: only `unsubscribe` ends one.
+    /// How many subscribers there are. A subscription that was dropped is counted: only `unsubscribe` ends
+    /// one.
     pub fn subscription_count(&self, seat: &mut WordSeat<T>) -> u64
         requires { seat.old.table_id ≡ self.now.table_id }
         ensures { CountsIn state_flow self.now.first seat.old result seat.new }

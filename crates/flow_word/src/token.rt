@@ -12,11 +12,12 @@ use std::alloc::Global;
 use std::collections::LinkedList;
 use std::marker::Model;
 
-/// A state flow (`MutableStateFlow`) of a value that fits a word, for callers on several threads, none of whom waits for another.
+/// A state flow (`MutableStateFlow`) of a value that fits a word, for callers on several threads, none of
+/// whom waits for another.
 #[derive(Drop)]
 pub struct WordState<T: Packed> {
-    /// Word 0 is the pack of the current value; word 1 is how many numbers were issued, times 2^32, and how many subscribers
-    /// there are.
+    /// Word 0 is the pack of the current value; word 1 is how many numbers were issued, times 2^32, and how
+    /// many subscribers there are.
     pub(crate) table: Table<(), LinkedList<Known<T>>, Start, WordRule, Global>,
     pub(crate) limit: u32,
 }
@@ -46,7 +47,8 @@ impl<T> Model for WordSeat<T> {
     ghost invariant = { λ s. IsIdle s.seat };
 }
 
-/// A subscription to a word state: a seat of its own, its number, and the pack of the last value that it got.
+/// A subscription to a word state: a seat of its own, its number, and the pack of the last value that it
+/// got.
 ///
 /// A subscription that is dropped stays and is counted. Its seat is lost. To end it, `unsubscribe`.
 #[derive(Drop)]

@@ -15,7 +15,8 @@ impl<T: Packed> WordState<T> {
         requires callable { F.IsAlwaysCallable f }
         ensures flow { seat.new.table_id ≡ seat.old.table_id }
         ensures packs { T.packs result.0 × T.packs result.1 }
-        ensures rounds { Updates self.now.first (F.post f) seat.old (T.value_of result.0) (T.value_of result.1) seat.new }
+        ensures rounds { Updates self.now.first (F.post f) seat.old
+            (T.value_of result.0) (T.value_of result.1) seat.new }
     {
         let mut tries: u32 = 0;
         for _ in rt.forever() {
@@ -35,13 +36,15 @@ impl<T: Packed> WordState<T> {
 
     /// Updates the value atomically by a function of its value.
     ///
-    /// The function may be called several times: once in each round, of which all but the last were lost because another caller set
-    /// the value in between. Nobody waits while it runs. After some lost rounds other threads go first.
+    /// The function may be called several times: once in each round, of which all but the last were lost
+    /// because another caller set the value in between. Nobody waits while it runs. After some lost rounds
+    /// other threads go first.
     pub fn update<R: Wait, F: Fn(T) -> T>(&self, rt: &R, seat: &mut WordSeat<T>, f: F)
         requires flow { seat.old.table_id ≡ self.now.table_id }
         requires callable { F.IsAlwaysCallable f }
         ensures flow { seat.new.table_id ≡ seat.old.table_id }
-        ensures updates { (read : _) × (set : _) × Updates self.now.first (F.post f) seat.old read set seat.new }
+        ensures updates { (read : _) × (set : _)
+            × Updates self.now.first (F.post f) seat.old read set seat.new }
     {
         self.rounds(rt, seat, f);
     }

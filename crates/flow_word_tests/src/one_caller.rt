@@ -1,4 +1,5 @@
-//! Worked examples by one caller. The values come from kotlinx.coroutines' documentation of `MutableStateFlow`.
+//! Worked examples by one caller. The values come from kotlinx.coroutines' documentation of
+//! `MutableStateFlow`.
 use crate::caller::{Caller, new_flow};
 use crate::compare::compare;
 use flow_law::{FlowFault, Next};

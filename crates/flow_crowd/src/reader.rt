@@ -1,0 +1,108 @@
+//! The threads that read.
+ghost use Rattle.std.specs.Prelude.{◌≡◌};
+
+use crate::order::Order;
+use crate::size::CrowdSize;
+use crossbeam_utils::atomic::AtomicCell;
+use flow_law::Next;
+use flow_shared::{SharedFlow, Subscription};
+use std::sync::Wait;
+use std::thread;
+
+/// What a subscriber of a crowd got.
+#[derive(Clone, Copy, Debug, PartialEq, Eq)]
+pub struct Received {
+    /// How many values.
+    pub count: u64,
+    /// Whether the values of each emitter came in order.
+    pub is_in_order: bool,
+}
+
+/// A flow, a subscription to it, the flag that makes all stop, and what is kept of each emitter.
+#[derive(Drop)]
+pub struct Reader<'a> {
+    flow: &'a SharedFlow<i64>,
+    subscription: Subscription<i64>,
+    stop: &'a AtomicCell<bool>,
+    orders: Vec<Order>,
+    ghost of_flow: { subscription.token.table_id ≡ flow.now.table_id },
+}
+
+impl<'a> Reader<'a> {
+    pub fn new(
+        flow: &'a SharedFlow<i64>,
+        subscription: Subscription<i64>,
+        stop: &'a AtomicCell<bool>,
+        orders: Vec<Order>,
+    ) -> Reader<'a>
+        requires { subscription.token.table_id ≡ flow.now.table_id }
+    {
+        Reader {
+            flow,
+            subscription,
+            stop,
+            orders,
+        }
+    }
+
+    /// The next value, once there is one. `None` where all are to stop.
+    fn next<R: Wait>(&mut self, rt: &R) -> Option<i64> {
+        for _ in rt.forever() {
+            match self.flow.next(rt, &mut self.subscription) {
+                Ok(Next::Value(value)) => return Some(value),
+                Ok(Next::Empty) | Ok(Next::Gone) => {}
+                Err(_fault) => self.stop.store(true),
+            }
+            if self.stop.load() {
+                return None;
+            }
+            thread::yield_now();
+        }
+        unreachable!()
+    }
+
+    /// Takes the next value, and answers whether its emitter's values are in order. `None` where all are to stop.
+    fn take<R: Wait>(&mut self, rt: &R, size: CrowdSize) -> Option<bool> {
+        let value = self.next(rt)?;
+        Some(add(&mut self.orders, size, value))
+    }
+
+    /// Reads until all values of the crowd came, or all are to stop.
+    pub fn read_all<R: Wait>(self, rt: &R, size: CrowdSize) -> Received {
+        let mut reader = self;
+        let mut is_in_order = true;
+        for count in 0..size.emitted() {
+            match reader.take(rt, size) {
+                Some(is_kept) => is_in_order = is_kept && is_in_order,
+                None => return Received { count, is_in_order },
+            }
+        }
+        Received {
+            count: size.emitted(),
+            is_in_order,
+        }
+    }
+}
+
+/// Adds a value to what came of its emitter, and answers whether all of that is in order.
+fn add(orders: &mut [Order], size: CrowdSize, value: i64) -> bool {
+    let Some((emitter, place)) = place_of(size, value) else {
+        return false;
+    };
+    let Some(order) = orders.get_mut(emitter) else {
+        return false;
+    };
+    order.add(place);
+    order.is_kept()
+}
+
+/// Which emitter emits the value, and at which place among its values.
+fn place_of(size: CrowdSize, value: i64) -> Option<(usize, u64)> {
+    let value = u64::try_from(value).ok()?;
+    let count = u64::from(size.values);
+    if count == 0 {
+        return None;
+    }
+    let emitter = usize::try_from(value / count).ok()?;
+    Some((emitter, value % count))
+}
