@@ -1,1 +1,2 @@
+pub mod ArgumentsLemmas
 pub mod ProgramLemmas

@@ -1,6 +1,8 @@
-//! Plays a flow script from standard input to standard output.
+//! Plays a flow script from standard input to standard output, or runs a crowd: `flow_play [crowd E S N]`.
 #![tactic(auto)]
 
+mod crowd_arguments;
+mod crowd_lines;
 mod program;
 #[cfg(test)]
 mod tests;
@@ -21,7 +23,7 @@ fn main(rt: HostRuntime) -> ExitCode {
     let mut input = Watched::new(rt.stdin());
     let mut output = Watched::new(rt.stdout());
     let status = match arguments(&rt) {
-        Ok(words) => run(rt.alloc(), words.as_slice(), &mut input, &mut output),
+        Ok(words) => run(&rt, words.as_slice(), &mut input, &mut output),
         Err(error) => refuse_arguments(&mut output, error.kind()),
     };
     ExitCode::from(status)

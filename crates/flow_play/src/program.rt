@@ -1,12 +1,19 @@
 //! The program over any reader and writer: what it prints beside a script's lines, and its status.
-ghost use Rattle.std.specs.Prelude.{◌≡◌, ◌≢◌, ◌⊎◌, ◌++◌, false, OnOk, IfOk, length, string_bytes};
+ghost use Rattle.std.specs.Prelude.{◌≡◌, ◌≢◌, ◌⊎◌, ◌++◌, false, OnOk, IfOk, IfSome, None, length, string_bytes};
 ghost use Rattle.flow_script.specs.Playing.{write_failed};
 ghost use Rattle.flow_script.specs.Watching.{inner_of, has_failed};
+ghost use Rattle.flow_play.specs.Arguments.{crowd_of};
+ghost use Rattle.flow_play.specs.CrowdLines.{IsCrowdText, RunsCrowd};
 ghost use Rattle.flow_play.specs.Program.{RunsScript, Tells, TellsFault, fault_line, memory_line, usage_line, IsRefusal};
 
+use crate::crowd_arguments::crowd_of;
+use crate::crowd_lines::crowd_text;
+use flow_crowd::{CrowdSize, run_crowd};
 use flow_script::{ScriptFault, Watched, play, write_all};
-use std::alloc::{AllocError, Global};
+use std::alloc::{AllocError, AllocGlobal, Global};
 use std::io::{ErrorKind, Read, Write};
+use std::sync::Wait;
+use std::thread::Threads;
 
 /// The script was played.
 const PLAYED: u8 = 0;
@@ -34,7 +41,7 @@ fn tell_usage<W: Write>(output: &mut Watched<W>) -> u8
     ensures { Tells (has_failed output.new)
         (W.contents (inner_of output.old)) (W.contents (inner_of output.new)) usage_line 2 result }
 {
-    tell(output, "usage: flow_play\n", REFUSED)
+    tell(output, "usage: flow_play [crowd E S N]\n", REFUSED)
 }
 
 fn tell_memory<W: Write>(output: &mut Watched<W>) -> u8
@@ -118,30 +125,76 @@ fn tell_fault<W: Write>(alloc: Global, output: &mut Watched<W>, fault: ScriptFau
     }
 }
 
-/// Plays the script that is read, and answers the program's status. The arguments are looked at before anything is read.
-///
-/// 0: the script was played; 2: the script or the arguments were refused; 3: a read or a write failed; 4: want of memory.
-/// Every line goes to `output`. After a write that failed no line is printed.
-pub fn run<R: Read, W: Write>(
+/// The lines of a crowd that has run. `None` for want of memory or of a thread.
+fn crowd_lines<H: Threads + Wait + Sync>(rt: &H, alloc: Global, size: CrowdSize) -> Option<String>
+    ensures { IfSome result (IsCrowdText size) }
+{
+    let received = run_crowd(rt, alloc, size).ok()?;
+    crowd_text(alloc, received.as_slice(), size).ok()
+}
+
+/// Runs a crowd, and prints what its subscribers got.
+fn tell_crowd<H: Threads + Wait + Sync, W: Write>(
+    rt: &H,
     alloc: Global,
+    output: &mut Watched<W>,
+    size: CrowdSize,
+) -> u8
+    requires { has_failed output.old ≡ false }
+    ensures { RunsCrowd size (has_failed output.new)
+        (W.contents (inner_of output.old)) (W.contents (inner_of output.new)) result }
+{
+    match crowd_lines(rt, alloc, size) {
+        Some(lines) => tell(output, lines.as_str(), PLAYED),
+        None => tell_memory(output),
+    }
+}
+
+/// Plays the script that is read, and answers the program's status.
+fn play_script<R: Read, W: Write>(
+    alloc: Global,
+    input: &mut Watched<R>,
+    output: &mut Watched<W>,
+) -> u8
+    requires reads { has_failed input.old ≡ false }
+    requires writes { has_failed output.old ≡ false }
+    ensures { RunsScript
+        (R.remaining (inner_of input.old)) (has_failed input.new) (has_failed output.new)
+        (W.contents (inner_of output.old)) (W.contents (inner_of output.new)) result }
+{
+    match play(alloc, input, output) {
+        Ok(()) => PLAYED,
+        Err(fault) => tell_fault(alloc, output, fault),
+    }
+}
+
+/// Plays the script that is read, or runs the crowd that the arguments name, and answers the program's status. The
+/// arguments, without the program's name, are looked at before anything is read.
+///
+/// 0: the script was played, or the crowd ran; 2: the script or the arguments were refused; 3: a read or a write failed;
+/// 4: want of memory, or of a thread. Every line goes to `output`. After a write that failed no line is printed.
+pub fn run<H: Threads + Wait + Sync + AllocGlobal, R: Read, W: Write>(
+    rt: &H,
     args: &[String],
     input: &mut Watched<R>,
     output: &mut Watched<W>,
 ) -> u8
     requires reads { has_failed input.old ≡ false }
     requires writes { has_failed output.old ≡ false }
-    ensures usage { length args.now ≢ 0 → Tells (has_failed output.new)
+    ensures usage { length args.now ≢ 0 → crowd_of args.now ≡ None → Tells (has_failed output.new)
         (W.contents (inner_of output.old)) (W.contents (inner_of output.new)) usage_line 2 result }
+    ensures crowd { IfSome (crowd_of args.now) (λ size. RunsCrowd size (has_failed output.new)
+        (W.contents (inner_of output.old)) (W.contents (inner_of output.new)) result) }
     ensures unread { length args.now ≢ 0 → input.new ≡ input.old }
     ensures plays { length args.now ≡ 0 → RunsScript
         (R.remaining (inner_of input.old)) (has_failed input.new) (has_failed output.new)
         (W.contents (inner_of output.old)) (W.contents (inner_of output.new)) result }
 {
-    if !args.is_empty() {
-        return tell_usage(output);
+    if args.is_empty() {
+        return play_script(rt.alloc(), input, output);
     }
-    match play(alloc, input, output) {
-        Ok(()) => PLAYED,
-        Err(fault) => tell_fault(alloc, output, fault),
+    match crowd_of(args) {
+        Some(size) => tell_crowd(rt, rt.alloc(), output, size),
+        None => tell_usage(output),
     }
 }

@@ -2,10 +2,13 @@
 //! give or take little.
 use crate::program::run;
 use flow_script::Watched;
-use std::alloc::{AllocError, Global};
+use std::alloc::{AllocError, AllocGlobal, Global};
 use std::process::Abort;
+use std::sync::Wait;
+use std::thread::Threads;
 
 mod chains;
+mod crowd;
 mod refused;
 mod share;
 mod shared;
@@ -13,11 +16,27 @@ mod state;
 mod streams;
 
 /// Plays a text, and compares the status and what was printed.
-pub fn expect(rt: &impl Abort, alloc: Global, script: &[u8], status: u8, lines: &str) {
-    let mut printed = Vec::new(alloc);
+pub fn expect<H: Abort + Threads + Wait + Sync + AllocGlobal>(
+    rt: &H,
+    script: &[u8],
+    status: u8,
+    lines: &str,
+) {
+    expect_of(rt, &[], script, status, lines);
+}
+
+/// Runs the program with these arguments on a text, and compares the status and what was printed.
+pub fn expect_of<H: Abort + Threads + Wait + Sync + AllocGlobal>(
+    rt: &H,
+    args: &[String],
+    script: &[u8],
+    status: u8,
+    lines: &str,
+) {
+    let mut printed = Vec::new(rt.alloc());
     let mut input = Watched::new(script);
     let mut output = Watched::new(&mut printed);
-    let answered = run(alloc, &[], &mut input, &mut output);
+    let answered = run(rt, args, &mut input, &mut output);
     assert_eq!(rt; printed.as_slice(), lines.as_bytes(), "of {lines:?}");
     assert_eq!(rt; answered, status, "of {lines:?}");
 }
@@ -45,8 +64,12 @@ fn lines_of(alloc: Global, steps: &[(&str, &str)]) -> Result<String, AllocError>
 }
 
 /// Plays steps over a flow, each with the line that it is to print.
-pub fn plays(rt: &impl Abort, alloc: Global, flow: &str, steps: &[(&str, &str)]) {
-    let script = script_of(alloc, flow, steps).expect(rt, "memory");
-    let lines = lines_of(alloc, steps).expect(rt, "memory");
-    expect(rt, alloc, script.as_bytes(), 0, lines.as_str());
+pub fn plays<H: Abort + Threads + Wait + Sync + AllocGlobal>(
+    rt: &H,
+    flow: &str,
+    steps: &[(&str, &str)],
+) {
+    let script = script_of(rt.alloc(), flow, steps).expect(rt, "memory");
+    let lines = lines_of(rt.alloc(), steps).expect(rt, "memory");
+    expect(rt, script.as_bytes(), 0, lines.as_str());
 }

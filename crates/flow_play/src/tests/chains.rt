@@ -1,18 +1,19 @@
 //! Worked examples of collected chains, and the limits of their texts.
 use crate::tests::{expect, plays};
-use std::alloc::{AllocError, Global};
+use std::alloc::{AllocError, AllocGlobal, Global};
 use std::process::Abort;
+use std::sync::Wait;
+use std::thread::Threads;
 
 #[test]
 fn a_script_without_a_flow_may_have_no_step(rt: HostRuntime) {
-    plays(&rt, rt.alloc(), r#""kind":"none""#, &[]);
+    plays(&rt, r#""kind":"none""#, &[]);
 }
 
 #[test]
 fn operators_give_what_is_documented(rt: HostRuntime) {
     plays(
         &rt,
-        rt.alloc(),
         r#""kind":"none""#,
         &[
             (
@@ -63,7 +64,6 @@ fn operators_give_what_is_documented(rt: HostRuntime) {
 fn a_collection_may_stand_beside_a_flow(rt: HostRuntime) {
     plays(
         &rt,
-        rt.alloc(),
         r#""kind":"shared","replay":1,"extra":0,"overflow":"suspend""#,
         &[
             (r#""do":"try_emit","value":1"#, "true"),
@@ -95,9 +95,9 @@ fn tower(alloc: Global, count: usize) -> Result<String, AllocError> {
 #[test]
 fn a_chain_may_be_sixty_four_deep(rt: HostRuntime) {
     let deepest = tower(rt.alloc(), 63).expect(&rt, "memory");
-    expect(&rt, rt.alloc(), deepest.as_bytes(), 0, "[63] completed\n");
+    expect(&rt, deepest.as_bytes(), 0, "[63] completed\n");
     let deeper = tower(rt.alloc(), 64).expect(&rt, "memory");
-    expect(&rt, rt.alloc(), deeper.as_bytes(), 0, "refused 5 TooDeep\n");
+    expect(&rt, deeper.as_bytes(), 0, "refused 5 TooDeep\n");
 }
 
 /// A script that collects a list of `count` zeros, of which it takes the first.
@@ -116,11 +116,10 @@ fn list(alloc: Global, count: usize) -> Result<String, AllocError> {
 #[test]
 fn a_list_may_have_ten_thousand_items(rt: HostRuntime) {
     let longest = list(rt.alloc(), 10_000).expect(&rt, "memory");
-    expect(&rt, rt.alloc(), longest.as_bytes(), 0, "[0] completed\n");
+    expect(&rt, longest.as_bytes(), 0, "[0] completed\n");
     let longer = list(rt.alloc(), 10_001).expect(&rt, "memory");
     expect(
         &rt,
-        rt.alloc(),
         longer.as_bytes(),
         2,
         "script refused 8 TooLarge at step 1\n",
@@ -138,9 +137,9 @@ fn collection(alloc: Global, chain: &str) -> Result<String, AllocError> {
 }
 
 /// A script that collects the chain is refused with this line.
-fn is_refused(rt: &impl Abort, alloc: Global, chain: &str, line: &str) {
-    let script = collection(alloc, chain).expect(rt, "memory");
-    expect(rt, alloc, script.as_bytes(), 2, line);
+fn is_refused<H: Abort + Threads + Wait + Sync + AllocGlobal>(rt: &H, chain: &str, line: &str) {
+    let script = collection(rt.alloc(), chain).expect(rt, "memory");
+    expect(rt, script.as_bytes(), 2, line);
 }
 
 const REFUSED: [(&str, &str); 6] = [
@@ -175,6 +174,6 @@ const REFUSED: [(&str, &str); 6] = [
 fn limits_and_forms_of_chains_are_told_by_step(rt: HostRuntime) {
     for place in 0..REFUSED.len() {
         let (chain, line) = REFUSED[place];
-        is_refused(&rt, rt.alloc(), chain, line);
+        is_refused(&rt, chain, line);
     }
 }

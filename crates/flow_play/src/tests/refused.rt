@@ -1,9 +1,9 @@
-//! Refused scripts and arguments, each with its line and its status.
-use crate::program::run;
+//! Refused scripts, each with its line and its status.
 use crate::tests::expect;
-use flow_script::Watched;
-use std::alloc::{AllocError, Global};
+use std::alloc::AllocGlobal;
 use std::process::Abort;
+use std::sync::Wait;
+use std::thread::Threads;
 
 const REFUSED: [(&str, &str); 7] = [
     ("", "script refused 3 NotJson\n"),
@@ -34,41 +34,28 @@ const REFUSED: [(&str, &str); 7] = [
 fn a_refused_script_prints_why_and_where(rt: HostRuntime) {
     for place in 0..REFUSED.len() {
         let (script, line) = REFUSED[place];
-        expect(&rt, rt.alloc(), script.as_bytes(), 2, line);
+        expect(&rt, script.as_bytes(), 2, line);
     }
 }
 
 /// So many spaces are refused with this line.
-fn spaces_are_refused(rt: &impl Abort, alloc: Global, count: usize, line: &str) {
-    let spaces = vec![in alloc; b' '; count].expect(rt, "memory");
-    expect(rt, alloc, spaces.as_slice(), 2, line);
+fn spaces_are_refused<H: Abort + Threads + Wait + Sync + AllocGlobal>(
+    rt: &H,
+    count: usize,
+    line: &str,
+) {
+    let spaces = vec![in rt.alloc(); b' '; count].expect(rt, "memory");
+    expect(rt, spaces.as_slice(), 2, line);
 }
 
 #[test]
 fn a_script_of_too_many_bytes_is_refused(rt: HostRuntime) {
     let line = "script refused 8 TooLarge at step 0\n";
-    spaces_are_refused(&rt, rt.alloc(), 1_048_577, line);
+    spaces_are_refused(&rt, 1_048_577, line);
 }
 
 #[test]
 fn a_long_text_that_is_no_script_is_refused(rt: HostRuntime) {
     let line = "script refused 3 NotJson\n";
-    spaces_are_refused(&rt, rt.alloc(), 100_000, line);
-}
-
-fn one_word(alloc: Global, word: &str) -> Result<Vec<String>, AllocError> {
-    let mut words = Vec::new(alloc);
-    words.push(String::from_str(alloc, word)?)?;
-    Ok(words)
-}
-
-#[test]
-fn an_argument_prints_the_usage(rt: HostRuntime) {
-    let words = one_word(rt.alloc(), "crowd").expect(&rt, "memory");
-    let mut printed = Vec::new(rt.alloc());
-    let mut input = Watched::new(b"".as_slice());
-    let mut output = Watched::new(&mut printed);
-    let status = run(rt.alloc(), words.as_slice(), &mut input, &mut output);
-    assert_eq!(rt; status, 2);
-    assert_eq!(rt; printed.as_slice(), b"usage: flow_play\n".as_slice());
+    spaces_are_refused(&rt, 100_000, line);
 }

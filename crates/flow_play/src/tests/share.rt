@@ -6,7 +6,6 @@ use std::alloc::{AllocError, Global};
 fn a_chain_runs_while_it_has_subscribers(rt: HostRuntime) {
     plays(
         &rt,
-        rt.alloc(),
         r#""kind":"share","chain":{"from":{"of":[10,20,30,40]},"ops":[]},"started":{"stop":100},"replay":0"#,
         &[
             (r#""do":"subscribe","name":"a""#, "subscribed"),
@@ -56,14 +55,13 @@ fn slow_lines(alloc: Global) -> Result<String, AllocError> {
 fn a_slow_subscriber_holds_the_chain(rt: HostRuntime) {
     let script = slow_script(rt.alloc()).expect(&rt, "memory");
     let lines = slow_lines(rt.alloc()).expect(&rt, "memory");
-    expect(&rt, rt.alloc(), script.as_bytes(), 0, lines.as_str());
+    expect(&rt, script.as_bytes(), 0, lines.as_str());
 }
 
 #[test]
 fn a_failed_chain_ends_its_sharing(rt: HostRuntime) {
     plays(
         &rt,
-        rt.alloc(),
         r#""kind":"share","chain":{"from":{"script":["pending",1,{"fault":7}]},"ops":[]},"started":"lazily","replay":1"#,
         &[
             (r#""do":"turn","at":5"#, "keep idle"),
@@ -82,7 +80,6 @@ fn a_failed_chain_ends_its_sharing(rt: HostRuntime) {
 fn a_stop_may_never_come(rt: HostRuntime) {
     plays(
         &rt,
-        rt.alloc(),
         r#""kind":"share","chain":{"from":{"of":[1,2,3]},"ops":[]},"started":{"stop":18446744073709551615},"replay":0"#,
         &[
             (r#""do":"subscribe","name":"a""#, "subscribed"),
@@ -98,7 +95,6 @@ fn a_stop_may_never_come(rt: HostRuntime) {
 fn a_lazy_sharing_waits_for_a_subscriber(rt: HostRuntime) {
     plays(
         &rt,
-        rt.alloc(),
         r#""kind":"share","chain":{"from":{"of":[5,6]},"ops":[]},"started":"lazily","replay":1"#,
         &[
             (r#""do":"turn","at":0"#, "keep idle"),
@@ -117,7 +113,6 @@ fn a_lazy_sharing_waits_for_a_subscriber(rt: HostRuntime) {
 fn a_state_flow_has_the_newest_item(rt: HostRuntime) {
     plays(
         &rt,
-        rt.alloc(),
         r#""kind":"state_in","chain":{"from":{"of":[3,3,4]},"ops":[]},"started":"eagerly","initial":0"#,
         &[
             (r#""do":"turn","at":0"#, "start put"),
@@ -163,6 +158,6 @@ fn a_sharing_may_be_refused(rt: HostRuntime) {
             "script refused 5 BadShape at step 1\n",
         ),
     ] {
-        expect(&rt, rt.alloc(), script.as_bytes(), status, line);
+        expect(&rt, script.as_bytes(), status, line);
     }
 }

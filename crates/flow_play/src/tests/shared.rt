@@ -5,7 +5,6 @@ use crate::tests::{expect, plays};
 fn a_value_without_a_subscriber_is_gone(rt: HostRuntime) {
     plays(
         &rt,
-        rt.alloc(),
         r#""kind":"shared","replay":0,"extra":0,"overflow":"suspend""#,
         &[
             (r#""do":"try_emit","value":5"#, "true"),
@@ -21,7 +20,6 @@ fn a_value_without_a_subscriber_is_gone(rt: HostRuntime) {
 fn a_new_subscriber_gets_the_replay_cache(rt: HostRuntime) {
     plays(
         &rt,
-        rt.alloc(),
         r#""kind":"shared","replay":2,"extra":0,"overflow":"suspend""#,
         &[
             (r#""do":"try_emit","value":1"#, "true"),
@@ -40,7 +38,6 @@ fn a_new_subscriber_gets_the_replay_cache(rt: HostRuntime) {
 fn a_slow_subscriber_suspends_the_emitter(rt: HostRuntime) {
     plays(
         &rt,
-        rt.alloc(),
         r#""kind":"shared","replay":1,"extra":1,"overflow":"suspend""#,
         &[
             (r#""do":"subscribe","name":"a""#, "subscribed"),
@@ -63,7 +60,6 @@ fn a_slow_subscriber_suspends_the_emitter(rt: HostRuntime) {
 fn the_oldest_values_are_dropped(rt: HostRuntime) {
     plays(
         &rt,
-        rt.alloc(),
         r#""kind":"shared","replay":0,"extra":2,"overflow":"drop_oldest""#,
         &[
             (r#""do":"subscribe","name":"a""#, "subscribed"),
@@ -84,7 +80,6 @@ fn the_oldest_values_are_dropped(rt: HostRuntime) {
 fn the_latest_values_are_dropped(rt: HostRuntime) {
     plays(
         &rt,
-        rt.alloc(),
         r#""kind":"shared","replay":1,"extra":1,"overflow":"drop_latest""#,
         &[
             (r#""do":"subscribe","name":"a""#, "subscribed"),
@@ -105,7 +100,6 @@ fn the_latest_values_are_dropped(rt: HostRuntime) {
 fn a_fast_subscriber_loses_nothing(rt: HostRuntime) {
     plays(
         &rt,
-        rt.alloc(),
         r#""kind":"shared","replay":0,"extra":1,"overflow":"drop_oldest""#,
         &[
             (r#""do":"subscribe","name":"a""#, "subscribed"),
@@ -127,7 +121,6 @@ fn a_fast_subscriber_loses_nothing(rt: HostRuntime) {
 fn an_offered_value_waits_for_every_subscriber(rt: HostRuntime) {
     plays(
         &rt,
-        rt.alloc(),
         r#""kind":"shared","replay":0,"extra":0,"overflow":"suspend""#,
         &[
             (r#""do":"subscribe","name":"a""#, "subscribed"),
@@ -146,7 +139,6 @@ fn an_offered_value_waits_for_every_subscriber(rt: HostRuntime) {
 fn a_cancelled_offer_reaches_nobody_else(rt: HostRuntime) {
     plays(
         &rt,
-        rt.alloc(),
         r#""kind":"shared","replay":0,"extra":0,"overflow":"suspend""#,
         &[
             (r#""do":"subscribe","name":"a""#, "subscribed"),
@@ -167,7 +159,6 @@ fn a_cancelled_offer_reaches_nobody_else(rt: HostRuntime) {
 fn a_late_subscriber_is_offered_the_value(rt: HostRuntime) {
     plays(
         &rt,
-        rt.alloc(),
         r#""kind":"shared","replay":0,"extra":0,"overflow":"suspend""#,
         &[
             (r#""do":"subscribe","name":"a""#, "subscribed"),
@@ -187,7 +178,6 @@ fn a_late_subscriber_is_offered_the_value(rt: HostRuntime) {
 fn the_last_unsubscribe_admits_the_queue(rt: HostRuntime) {
     plays(
         &rt,
-        rt.alloc(),
         r#""kind":"shared","replay":1,"extra":0,"overflow":"suspend""#,
         &[
             (r#""do":"subscribe","name":"a""#, "subscribed"),
@@ -210,7 +200,6 @@ fn the_last_unsubscribe_admits_the_queue(rt: HostRuntime) {
 fn a_cancelled_emission_is_never_emitted(rt: HostRuntime) {
     plays(
         &rt,
-        rt.alloc(),
         r#""kind":"shared","replay":1,"extra":0,"overflow":"suspend""#,
         &[
             (r#""do":"subscribe","name":"a""#, "subscribed"),
@@ -234,7 +223,6 @@ fn a_cancelled_emission_is_never_emitted(rt: HostRuntime) {
 fn a_reset_empties_the_cache_for_new_subscribers(rt: HostRuntime) {
     plays(
         &rt,
-        rt.alloc(),
         r#""kind":"shared","replay":2,"extra":1,"overflow":"suspend""#,
         &[
             (r#""do":"subscribe","name":"a""#, "subscribed"),
@@ -259,7 +247,6 @@ fn a_reset_empties_the_cache_for_new_subscribers(rt: HostRuntime) {
 fn a_flow_issues_no_more_numbers_than_its_limit(rt: HostRuntime) {
     plays(
         &rt,
-        rt.alloc(),
         r#""kind":"shared","replay":1,"extra":1,"overflow":"suspend","limit":3"#,
         &[
             (r#""do":"subscribe","name":"a""#, "subscribed"),
@@ -289,6 +276,6 @@ fn a_refused_flow_plays_no_step(rt: HostRuntime) {
             "refused 2 TooLarge\n",
         ),
     ] {
-        expect(&rt, rt.alloc(), script.as_bytes(), 0, line);
+        expect(&rt, script.as_bytes(), 0, line);
     }
 }

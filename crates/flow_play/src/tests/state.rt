@@ -5,7 +5,6 @@ use crate::tests::plays;
 fn a_subscriber_gets_the_newest_value_once(rt: HostRuntime) {
     plays(
         &rt,
-        rt.alloc(),
         r#""kind":"state","initial":0"#,
         &[
             (r#""do":"subscribe","name":"a""#, "subscribed"),

@@ -1,10 +1,12 @@
 //! Readers and writers that give or take little, or fail.
 use crate::program::run;
 use flow_script::{ScriptLines, Watched, read_script};
-use std::alloc::Global;
+use std::alloc::AllocGlobal;
 use std::io;
 use std::io::{Read, Write};
 use std::process::Abort;
+use std::sync::Wait;
+use std::thread::Threads;
 
 const SCRIPT: &str =
     r#"{"version":1,"flow":{"kind":"shared","replay":2,"extra":0,"overflow":"suspend"},"steps":[{"do":"try_emit","value":1},{"do":"try_emit","value":2},{"do":"try_emit","value":3},{"do":"cache"},{"do":"subscribe","name":"a"},{"do":"next","name":"a"},{"do":"next","name":"a"},{"do":"next","name":"a"}]}"#;
@@ -85,20 +87,29 @@ impl<'a> Write for Sluggish<'a> {
 }
 
 /// Plays from a reader that fails after so many bytes.
-fn play_from(alloc: Global, left: usize, printed: &mut Vec<u8>) -> u8 {
+fn play_from<H: Abort + Threads + Wait + Sync + AllocGlobal>(
+    rt: &H,
+    left: usize,
+    printed: &mut Vec<u8>,
+) -> u8 {
     let mut input = Watched::new(Trickle {
         bytes: SCRIPT.as_bytes(),
         left,
     });
     let mut output = Watched::new(printed);
-    run(alloc, &[], &mut input, &mut output)
+    run(rt, &[], &mut input, &mut output)
 }
 
 /// Plays to a writer that stops after so many bytes.
-fn play_to(alloc: Global, left: usize, fails: bool, taken: &mut Vec<u8>) -> u8 {
+fn play_to<H: Abort + Threads + Wait + Sync + AllocGlobal>(
+    rt: &H,
+    left: usize,
+    fails: bool,
+    taken: &mut Vec<u8>,
+) -> u8 {
     let mut input = Watched::new(SCRIPT.as_bytes());
     let mut output = Watched::new(Sluggish { taken, left, fails });
-    run(alloc, &[], &mut input, &mut output)
+    run(rt, &[], &mut input, &mut output)
 }
 
 /// The status and what was printed are those that are wanted, where a stream stopped after so many bytes.
@@ -110,7 +121,7 @@ fn compare(rt: &impl Abort, after: usize, status: u8, printed: &[u8], wanted: u8
 #[test]
 fn a_slow_reader_changes_nothing(rt: HostRuntime) {
     let mut printed = Vec::new(rt.alloc());
-    let status = play_from(rt.alloc(), usize::MAX, &mut printed);
+    let status = play_from(&rt, usize::MAX, &mut printed);
     compare(
         &rt,
         usize::MAX,
@@ -124,7 +135,7 @@ fn a_slow_reader_changes_nothing(rt: HostRuntime) {
 #[test]
 fn a_slow_writer_changes_nothing(rt: HostRuntime) {
     let mut taken = Vec::new(rt.alloc());
-    let status = play_to(rt.alloc(), usize::MAX, true, &mut taken);
+    let status = play_to(&rt, usize::MAX, true, &mut taken);
     compare(
         &rt,
         usize::MAX,
@@ -143,23 +154,23 @@ fn a_script_that_was_read_has_the_same_lines(rt: HostRuntime) {
 }
 
 /// The reader fails after so many bytes.
-fn fail_after(rt: &impl Abort, alloc: Global, left: usize) {
-    let mut printed = Vec::new(alloc);
-    let status = play_from(alloc, left, &mut printed);
+fn fail_after<H: Abort + Threads + Wait + Sync + AllocGlobal>(rt: &H, left: usize) {
+    let mut printed = Vec::new(rt.alloc());
+    let status = play_from(rt, left, &mut printed);
     compare(rt, left, status, printed.as_slice(), 3, b"read failed\n");
 }
 
 #[test]
 fn a_reader_that_fails_prints_its_line_alone(rt: HostRuntime) {
     for left in 0..=SCRIPT.len() {
-        fail_after(&rt, rt.alloc(), left);
+        fail_after(&rt, left);
     }
 }
 
 /// The writer takes these lines, and then fails, or takes no more.
-fn stop_after(rt: &impl Abort, alloc: Global, lines: &[u8], fails: bool) {
-    let mut taken = Vec::new(alloc);
-    let status = play_to(alloc, lines.len(), fails, &mut taken);
+fn stop_after<H: Abort + Threads + Wait + Sync + AllocGlobal>(rt: &H, lines: &[u8], fails: bool) {
+    let mut taken = Vec::new(rt.alloc());
+    let status = play_to(rt, lines.len(), fails, &mut taken);
     compare(rt, lines.len(), status, taken.as_slice(), 3, lines);
 }
 
@@ -167,8 +178,8 @@ fn stop_after(rt: &impl Abort, alloc: Global, lines: &[u8], fails: bool) {
 fn a_writer_that_stops_has_the_first_bytes(rt: HostRuntime) {
     for left in 0..LINES.len() {
         let lines = &LINES.as_bytes()[..left];
-        stop_after(&rt, rt.alloc(), lines, true);
-        stop_after(&rt, rt.alloc(), lines, false);
+        stop_after(&rt, lines, true);
+        stop_after(&rt, lines, false);
     }
 }
 
@@ -178,7 +189,7 @@ fn a_reader_without_end_is_left(rt: HostRuntime) {
     let mut printed = Vec::new(rt.alloc());
     let mut input = Watched::new(Endless { given: &mut given });
     let mut output = Watched::new(&mut printed);
-    let status = run(rt.alloc(), &[], &mut input, &mut output);
+    let status = run(&rt, &[], &mut input, &mut output);
     let line = b"script refused 8 TooLarge at step 0\n";
     compare(&rt, given, status, printed.as_slice(), 2, line);
     assert_eq!(rt; given, 1_048_577);

@@ -1,0 +1,8 @@
+use Rattle.std.proofs.Common.{◌≡◌, ◌+◌, ◌++◌, drop, string_bytes}
+use Rattle.flow_play.specs.CrowdLines.{subscriber_lines}
+use Rattle.flow_play.proofs.crowd_lines.add_subscribers.Given as goal
+
+abbrev pub invariant-loop-index : goal.invariant-loop-index
+invariant-loop-index l =
+    string_bytes l.text ++ subscriber_lines (l.index + 1) (drop l.index l.received)
+    ≡ string_bytes l.fn.text ++ subscriber_lines 1 l.received

@@ -1,0 +1,29 @@
+-- The lines that a crowd prints, and how the program then ends. Begin with `RunsCrowd`.
+use Rattle.std.specs.Prelude.{◌≡◌, ◌⊎◌, ℕ, ◌+◌, ◌*◌, Bool, true, false, List, [], ◌∷◌, ◌++◌, Option, String, codes, decimal, string_bytes}
+use Rattle.flow_crowd.specs.declared.reader.Received.{Received}
+use Rattle.flow_crowd.specs.declared.size.CrowdSize.{CrowdSize}
+use Rattle.flow_lines.specs.Lines.{lined}
+use Rattle.flow_play.specs.Program.{Tells, memory_line}
+
+-- what the subscriber of this number got
+abbrev pub subscriber_line : ℕ → ℕ → Bool → List ℕ
+subscriber_line number count true = codes "subscriber " ++ (decimal number ++ (codes " got " ++ (decimal count ++ lined (codes " in order"))))
+subscriber_line number count false = codes "subscriber " ++ (decimal number ++ (codes " got " ++ (decimal count ++ lined (codes " out of order"))))
+
+-- the lines of subscribers, of which the first has this number
+abbrev pub subscriber_lines : ℕ → List Received → List ℕ
+subscriber_lines number [] = []
+subscriber_lines number (r ∷ rs) = subscriber_line number r.count r.is_in_order ++ subscriber_lines (number + 1) rs
+
+-- the subscribers from 1, and how many values were emitted
+abbrev pub crowd_lines : CrowdSize → List Received → List ℕ
+crowd_lines size received = subscriber_lines 1 received ++ lined (codes "emitted " ++ decimal (size.emitters * size.values))
+
+abbrev pub IsCrowdText : {A : Type 0} → CrowdSize → String A → Type 0
+IsCrowdText size text = (received : List Received) × (string_bytes text ≡ crowd_lines size received)
+
+-- The lines of what the subscribers got were printed, with status 0; or want of memory or of a thread was told.
+abbrev pub RunsCrowd : CrowdSize → Bool → Option (List ℕ) → Option (List ℕ) → ℕ → Type 0
+RunsCrowd size failed old new answered =
+    ((received : List Received) × Tells failed old new (crowd_lines size received) 0 answered)
+    ⊎ Tells failed old new memory_line 4 answered

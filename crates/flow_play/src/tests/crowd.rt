@@ -1,0 +1,41 @@
+//! Crowds, and arguments that name none.
+use crate::tests::expect_of;
+use std::alloc::{AllocError, Global};
+
+/// The arguments that a line of words gives.
+fn words(alloc: Global, line: &str) -> Result<Vec<String>, AllocError> {
+    let mut words = Vec::new(alloc);
+    for word in line.split(' ') {
+        words.push(String::from_str(alloc, word)?)?;
+    }
+    Ok(words)
+}
+
+const USAGE: &str = "usage: flow_play [crowd E S N]\n";
+
+/// Arguments, the status, and what is printed.
+const RUNS: [(&str, u8, &str); 11] = [
+    (
+        "crowd 2 2 100",
+        0,
+        "subscriber 1 got 200 in order\nsubscriber 2 got 200 in order\nemitted 200\n",
+    ),
+    ("crowd 1 0 0", 0, "emitted 0\n"),
+    ("crowd 9 1 1", 2, USAGE),
+    ("crowd 1 9 1", 2, USAGE),
+    ("crowd 0 1 1", 2, USAGE),
+    ("crowd 1 1 10001", 2, USAGE),
+    ("crowd 1 1 000001", 2, USAGE),
+    ("crowd 1 1 +1", 2, USAGE),
+    ("crowd 1 1", 2, USAGE),
+    ("crowd 1 1 1 1", 2, USAGE),
+    ("other", 2, USAGE),
+];
+
+#[test]
+fn arguments_name_a_crowd_or_print_the_usage(rt: HostRuntime) {
+    for (line, status, printed) in RUNS {
+        let args = words(rt.alloc(), line).expect(&rt, "memory");
+        expect_of(&rt, args.as_slice(), b"", status, printed);
+    }
+}
