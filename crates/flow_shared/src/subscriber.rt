@@ -13,7 +13,7 @@ use flow_law::{FlowFault, Next};
 use std::alloc::Allocator;
 use std::sync::Wait;
 
-#[derive(Clone, Copy)]
+#[derive(Drop)]
 struct Subscribe;
 
 impl<S: FlowCore> CoreCall<S> for Subscribe {
@@ -30,7 +30,7 @@ impl<S: FlowCore> CoreCall<S> for Subscribe {
     }
 }
 
-#[derive(Clone, Copy)]
+#[derive(Drop)]
 struct TakeNext {
     id: SubId,
 }
@@ -49,7 +49,7 @@ impl<S: FlowCore> CoreCall<S> for TakeNext {
     }
 }
 
-#[derive(Clone, Copy)]
+#[derive(Drop)]
 struct Unsubscribe {
     id: SubId,
 }
@@ -68,7 +68,7 @@ impl<S: FlowCore> CoreCall<S> for Unsubscribe {
     }
 }
 
-#[derive(Clone, Copy)]
+#[derive(Drop)]
 struct Count;
 
 impl<S: FlowCore> CoreCall<S> for Count {

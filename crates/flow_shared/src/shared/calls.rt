@@ -49,7 +49,7 @@ impl<T: FlowValue, A: Allocator + Copy> CoreCall<SharedCore<T, A>> for Emit<T> {
     }
 }
 
-#[derive(Clone, Copy)]
+#[derive(Drop)]
 pub(super) struct Poll {
     pub(super) number: u64,
 }
@@ -68,7 +68,7 @@ impl<T: FlowValue, A: Allocator + Copy> CoreCall<SharedCore<T, A>> for Poll {
     }
 }
 
-#[derive(Clone, Copy)]
+#[derive(Drop)]
 pub(super) struct Cancel {
     pub(super) number: u64,
 }
@@ -87,7 +87,7 @@ impl<T: FlowValue, A: Allocator + Copy> CoreCall<SharedCore<T, A>> for Cancel {
     }
 }
 
-#[derive(Clone, Copy)]
+#[derive(Drop)]
 pub(super) struct ReplayCache;
 
 impl<T: FlowValue, A: Allocator + Copy> CoreCall<SharedCore<T, A>> for ReplayCache {
@@ -104,7 +104,7 @@ impl<T: FlowValue, A: Allocator + Copy> CoreCall<SharedCore<T, A>> for ReplayCac
     }
 }
 
-#[derive(Clone, Copy)]
+#[derive(Drop)]
 pub(super) struct ResetReplayCache;
 
 impl<T: FlowValue, A: Allocator + Copy> CoreCall<SharedCore<T, A>> for ResetReplayCache {

@@ -10,7 +10,7 @@ use flow_core::StateCore;
 use flow_law::{FlowFault, FlowValue};
 use std::alloc::Allocator;
 
-#[derive(Clone, Copy)]
+#[derive(Drop)]
 pub(super) struct GetValue;
 
 impl<T: FlowValue, A: Allocator + Copy> CoreCall<StateCore<T, A>> for GetValue {
@@ -88,7 +88,7 @@ impl<'a, T: FlowValue, A: Allocator + Copy> CoreCall<StateCore<T, A>> for Compar
     }
 }
 
-#[derive(Clone, Copy)]
+#[derive(Drop)]
 pub(super) struct ReplayCache;
 
 impl<T: FlowValue, A: Allocator + Copy> CoreCall<StateCore<T, A>> for ReplayCache {
@@ -105,7 +105,7 @@ impl<T: FlowValue, A: Allocator + Copy> CoreCall<StateCore<T, A>> for ReplayCach
     }
 }
 
-#[derive(Clone, Copy)]
+#[derive(Drop)]
 pub(super) struct ResetReplayCache;
 
 impl<T: FlowValue, A: Allocator + Copy> CoreCall<StateCore<T, A>> for ResetReplayCache {
