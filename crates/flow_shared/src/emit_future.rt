@@ -118,8 +118,8 @@ impl<'a, T: FlowValue, A: Allocator + Copy> EmitFuture<'a, T, A> {
     {
         match self.flow.poll_now(emission) {
             PolledNow::Done(seat) => Poll::Ready(Sent::Done(seat)),
-            PolledNow::Waiting(emission) | PolledNow::Busy(emission) => {
-                self.stage = EmitStage::Waiting(emission);
+            PolledNow::Waiting(left) | PolledNow::Busy(left) => {
+                self.stage = EmitStage::Waiting(left);
                 Poll::Pending
             }
         }
@@ -144,7 +144,6 @@ impl<'a, T: FlowValue, A: Allocator + Copy> Future for EmitFuture<'a, T, A> {
 
     ghost gives = { λ f sent. GivesSent f sent };
 
-    #[tactic(auto, using(crate::proofs::EmitRuns::gives_value, crate::proofs::EmitRuns::gives_same, crate::proofs::EmitRuns::is_due, crate::proofs::EmitCountLemmas::one_each, crate::proofs::EmitCountLemmas::keeps_count))]
     fn poll(&mut self, cx: &mut Context<'_>) -> Poll<Sent<T, A>>
         ensures flow { self.new.flow ≡ self.old.flow }
         ensures polls { EmitPolls self.old.flow self.old.stage result self.new.stage }

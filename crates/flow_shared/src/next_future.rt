@@ -100,7 +100,6 @@ impl<'a, T: FlowValue, A: Allocator + Copy> Future for NextFuture<'a, T, A> {
 
     ghost gives = { λ f received. GivesReceived f received };
 
-    #[tactic(auto, using(crate::proofs::NextRuns::gives_value, crate::proofs::NextRuns::gives_same, crate::proofs::NextRuns::is_due, crate::proofs::NextRuns::one_each))]
     fn poll(&mut self, cx: &mut Context<'_>) -> Poll<Received<T, A>>
         ensures flow { self.new.flow ≡ self.old.flow }
         ensures polls { NextPolls self.old.flow self.old.subscription result self.new.subscription }

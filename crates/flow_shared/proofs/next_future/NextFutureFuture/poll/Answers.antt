@@ -1,0 +1,24 @@
+use Rattle.std.proofs.Common.{sym, subst}
+use Rattle.futures.specs.declared.task.Poll.TheVariants.{Ready}
+use Rattle.flow_shared.specs.NextFutures.{NextPolls}
+use Rattle.flow_shared.proofs.NextRuns.{gives_value, gives_same, is_due, one_each}
+use Rattle.flow_shared.proofs.next_future.NextFutureFuture.poll.Goals as goal
+
+pub returns-in-Ready-clause-one : goal.returns-in-Ready-clause-one
+returns-in-Ready-clause-one g c = one_each c.args.self.now.flow c.args.self.now.subscription (Ready c.in-Ready.received) c.advance.new.self.subscription c.in-Ready.ensures.polls
+
+pub returns-in-Ready-clause-refused : goal.returns-in-Ready-clause-refused
+returns-in-Ready-clause-refused g c = is_due c.args.self.now.flow c.args.self.now.subscription (Ready c.in-Ready.received) c.advance.new.self.subscription c.in-Ready.ensures.polls
+
+pub returns-in-Ready-clause-value : goal.returns-in-Ready-clause-value
+returns-in-Ready-clause-value g c = gives_value c.args.self.now c.advance.new.self (Ready c.in-Ready.received) c.in-Ready.ensures.polls c.in-Ready.ensures.at
+
+pub returns-in-Pending-clause-one : goal.returns-in-Pending-clause-one
+returns-in-Pending-clause-one g c =
+    let polls = subst (λ p. NextPolls c.args.self.now.flow c.args.self.now.subscription p c.advance.new.self.subscription) (sym c.yield_now.ensures.pending) c.in-Pending.ensures.polls in
+    one_each c.args.self.now.flow c.args.self.now.subscription c.yield_now.result c.advance.new.self.subscription polls
+
+pub returns-in-Pending-clause-same : goal.returns-in-Pending-clause-same
+returns-in-Pending-clause-same g c =
+    let polls = subst (λ p. NextPolls c.args.self.now.flow c.args.self.now.subscription p c.advance.new.self.subscription) (sym c.yield_now.ensures.pending) c.in-Pending.ensures.polls in
+    gives_same c.args.self.now c.advance.new.self c.yield_now.result c.advance.ensures.flow polls
