@@ -1,17 +1,14 @@
 //! Callers of flows for several threads, of which is proved what they conclude from the contracts of the calls that they make, and
 //! tests of worked examples by one caller and by several threads.
 //!
-//! A worked example is a list of steps, each with what it is to answer. Another module takes the steps.
+//! A worked example is a list of steps, each with what it is to answer. Another module takes the steps. All of it is for tests,
+//! and so proved once, with them.
 #![tactic(auto)]
-
-mod awaiting;
-mod reading;
-
-pub use awaiting::{Exchange, exchange, send};
-pub use reading::set_and_read;
 
 #[cfg(test)]
 mod at_most;
+#[cfg(test)]
+mod awaiting;
 #[cfg(test)]
 mod compare;
 #[cfg(test)]
@@ -20,5 +17,7 @@ mod examples;
 mod one_caller;
 #[cfg(test)]
 mod playing;
+#[cfg(test)]
+mod reading;
 #[cfg(test)]
 mod state_playing;

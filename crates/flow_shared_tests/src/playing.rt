@@ -1,29 +1,42 @@
 //! Steps on a shared flow by one caller, each with what it is to answer.
 use crate::compare::compare;
 use crate::one_caller::{OneCaller, Reader, Waiting};
-use flow_law::{Config, Drained, FlowFault, Next, Refused};
+use flow_law::{Config, Drained, FlowFault, Next, Overflow, Refused};
 use flow_shared::SharedFlow;
 use std::alloc::Global;
 use std::process::Abort;
 use std::sync::Wait;
 
-/// What an emission has come to.
-#[derive(Clone, Copy, Debug, PartialEq, Eq)]
-pub enum Emission {
-    Done,
-    Waits,
+/// The configuration of a flow without a buffer (`MutableSharedFlow()`).
+pub const UNBUFFERED: Config = Config {
+    replay: 0,
+    extra: 0,
+    overflow: Overflow::Suspend,
+    limit: u64::MAX,
+};
+
+/// The emission need not wait any more.
+pub const DONE: Result<bool, FlowFault> = Ok(false);
+
+/// The emission waits.
+pub const WAITS: Result<bool, FlowFault> = Ok(true);
+
+/// A worked example: the configuration of a flow, and steps on it.
+pub struct Example {
+    pub config: Config,
+    pub steps: &'static [Step],
 }
 
 /// A step, and what it answers. Emissions and subscribers are named by the order in which they came, from 0.
 pub enum Step {
     /// The value, and whether the flow took or dropped it.
-    TryEmit(i64, bool),
-    TryEmitRefused(i64, FlowFault),
-    Emit(i64, Emission),
-    EmitRefused(i64, FlowFault),
-    Poll(usize, Emission),
+    TryEmit(i64, Result<bool, FlowFault>),
+    /// The value, and whether it waits.
+    Emit(i64, Result<bool, FlowFault>),
+    /// An emission, and whether it waits.
+    Poll(usize, Result<bool, FlowFault>),
     /// An emission, and whether it waited.
-    Cancel(usize, bool),
+    Cancel(usize, Result<bool, FlowFault>),
     Subscribe,
     SubscribeRefused(FlowFault),
     /// The subscriber's own first values.
@@ -60,52 +73,23 @@ fn take<X>(rt: &impl Abort, tokens: &mut Vec<Option<X>>, index: usize) -> X {
     }
 }
 
-fn list(rt: &impl Abort, alloc: Global, values: &[i64]) -> Vec<i64> {
-    values.to_vec(alloc).expect(rt, "memory")
-}
-
-/// A refusal that hands these values back.
-fn refusal(rt: &impl Abort, alloc: Global, values: &[i64], fault: FlowFault) -> Refused<Vec<i64>> {
-    let value = list(rt, alloc, values);
-    Refused { value, fault }
-}
-
-fn come_to(emission: &Option<Waiting<'_>>) -> Emission {
-    match emission {
-        Some(_) => Emission::Waits,
-        None => Emission::Done,
-    }
-}
-
 impl<'a> Player<'a> {
-    /// Names the next emission, and tells what it has come to.
-    fn keep(&mut self, rt: &impl Abort, emission: Option<Waiting<'a>>) -> Emission {
-        let has_come_to = come_to(&emission);
-        let Ok(()) = self.emissions.push(emission) else {
-            panic!(rt; "memory")
-        };
-        has_come_to
+    /// Emits a value, names the emission, and tells whether it waits.
+    fn emit<R: Wait + Abort>(&mut self, rt: &R, value: i64) -> Result<bool, FlowFault> {
+        let emission = self.caller.emit(rt, value)?;
+        let waits = emission.is_some();
+        self.emissions.push(emission).expect(rt, "memory");
+        Ok(waits)
     }
 
-    fn emit<R: Wait + Abort>(&mut self, rt: &R, value: i64) -> Result<Emission, FlowFault> {
-        match self.caller.emit(rt, value) {
-            Ok(emission) => Ok(self.keep(rt, emission)),
-            Err(fault) => Err(fault),
-        }
-    }
-
-    /// Puts what is left of an emission back into its place, and tells what it has come to.
-    fn put_back(&mut self, index: usize, left: Option<Waiting<'a>>) -> Emission {
-        let has_come_to = come_to(&left);
+    /// Asks an emission whether it still waits, and keeps it if it does.
+    fn poll<R: Wait + Abort>(&mut self, rt: &R, index: usize) -> bool {
+        let left = take(rt, &mut self.emissions, index).poll(rt);
+        let waits = left.is_some();
         if let Some(place) = self.emissions.get_mut(index) {
             *place = left;
         }
-        has_come_to
-    }
-
-    fn poll<R: Wait + Abort>(&mut self, rt: &R, index: usize) -> Emission {
-        let left = take(rt, &mut self.emissions, index).poll(rt);
-        self.put_back(index, left)
+        waits
     }
 
     fn cancel<R: Wait + Abort>(&mut self, rt: &R, index: usize) -> bool {
@@ -126,15 +110,21 @@ impl<'a> Player<'a> {
         }
     }
 
+    /// Subscribes with these values. A refusal hands them back.
     fn subscribe_with<R: Wait + Abort>(
         &mut self,
         rt: &R,
         alloc: Global,
+        place: usize,
         first: &[i64],
-    ) -> Result<(), Refused<Vec<i64>>> {
-        match self.caller.subscribe_with(rt, list(rt, alloc, first)) {
+    ) -> Result<(), FlowFault> {
+        let values = first.to_vec(alloc).expect(rt, "memory");
+        match self.caller.subscribe_with(rt, values) {
             Ok(reader) => Ok(self.add(rt, reader)),
-            Err(refused) => Err(refused),
+            Err(Refused { value, fault }) => {
+                compare(rt, place, value.as_slice(), first);
+                Err(fault)
+            }
         }
     }
 
@@ -169,29 +159,27 @@ impl<'a> Player<'a> {
     fn take<R: Wait + Abort>(&mut self, rt: &R, alloc: Global, place: usize, step: &Step) {
         match step {
             Step::TryEmit(value, taken) => {
-                compare(rt, place, self.caller.try_emit(rt, *value), Ok(*taken));
+                compare(rt, place, self.caller.try_emit(rt, *value), *taken);
             }
-            Step::TryEmitRefused(value, fault) => {
-                compare(rt, place, self.caller.try_emit(rt, *value), Err(*fault));
-            }
-            Step::Emit(value, emission) => compare(rt, place, self.emit(rt, *value), Ok(*emission)),
-            Step::EmitRefused(value, fault) => {
-                compare(rt, place, self.emit(rt, *value), Err(*fault));
-            }
-            Step::Poll(index, emission) => compare(rt, place, self.poll(rt, *index), *emission),
-            Step::Cancel(index, waited) => compare(rt, place, self.cancel(rt, *index), *waited),
+            Step::Emit(value, waits) => compare(rt, place, self.emit(rt, *value), *waits),
+            Step::Poll(index, waits) => compare(rt, place, Ok(self.poll(rt, *index)), *waits),
+            Step::Cancel(index, waited) => compare(rt, place, Ok(self.cancel(rt, *index)), *waited),
             Step::Subscribe => compare(rt, place, self.subscribe(rt), Ok(())),
             Step::SubscribeRefused(fault) => compare(rt, place, self.subscribe(rt), Err(*fault)),
             Step::SubscribeWith(first) => {
-                compare(rt, place, self.subscribe_with(rt, alloc, first), Ok(()));
-            }
-            Step::SubscribeWithRefused(first, fault) => {
-                let wanted = refusal(rt, alloc, first, *fault);
                 compare(
                     rt,
                     place,
-                    self.subscribe_with(rt, alloc, first),
-                    Err(wanted),
+                    self.subscribe_with(rt, alloc, place, first),
+                    Ok(()),
+                );
+            }
+            Step::SubscribeWithRefused(first, fault) => {
+                compare(
+                    rt,
+                    place,
+                    self.subscribe_with(rt, alloc, place, first),
+                    Err(*fault),
                 );
             }
             Step::Next(index, next) => compare(rt, place, self.next(rt, *index).as_ref(), Ok(next)),
@@ -207,17 +195,29 @@ impl<'a> Player<'a> {
     }
 }
 
-/// Takes the steps on a new flow of this configuration, and compares what they answer. A wrong answer is told by the
-/// place of its step, from 0.
-pub fn answers<R: Wait + Abort>(rt: &R, alloc: Global, config: Config, steps: &[Step]) {
-    let (flow, seat) = SharedFlow::new(alloc, config).expect(rt, "a flow");
+/// Takes the steps of an example on a new flow, and compares what they answer. A wrong answer is told by the place of its
+/// step, from this one on.
+fn answers<R: Wait + Abort>(rt: &R, alloc: Global, first: usize, example: &Example) {
+    let (flow, seat) = SharedFlow::new(alloc, example.config).expect(rt, "a flow");
     let mut player = Player {
         caller: OneCaller::new(&flow, seat),
         emissions: Vec::new(alloc),
         readers: Vec::new(alloc),
         drained: Vec::new(alloc),
     };
-    for place in 0..steps.len() {
-        player.take(rt, alloc, place, &steps[place]);
+    for place in 0..example.steps.len() {
+        player.take(
+            rt,
+            alloc,
+            first.saturating_add(place),
+            &example.steps[place],
+        );
+    }
+}
+
+/// Plays the examples. Step 7 of the example 3 has the place 307.
+pub fn play<R: Wait + Abort>(rt: &R, alloc: Global, examples: &[Example]) {
+    for number in 0..examples.len() {
+        answers(rt, alloc, number.saturating_mul(100), &examples[number]);
     }
 }

@@ -1,186 +1,168 @@
 //! What becomes of emissions.
-use crate::playing::Emission::{Done, Waits};
 use crate::playing::Step::{Cache, Cancel, Emit, Next, Poll, Subscribe, TryEmit, Unsubscribe};
-use crate::playing::answers;
+use crate::playing::{DONE, Example, UNBUFFERED, WAITS, play};
 use flow_law::Next::{Empty, Value};
 use flow_law::{Config, Overflow};
 
-#[test]
-fn try_emit_does_not_wait(rt: HostRuntime) {
-    answers(
-        &rt,
-        rt.alloc(),
-        Config::new().replay(1).extra(1),
-        &[
+const EXAMPLES: &[Example] = &[
+    // Try emit does not wait.
+    Example {
+        config: Config {
+            replay: 1,
+            extra: 1,
+            ..UNBUFFERED
+        },
+        steps: &[
             Subscribe,
-            TryEmit(1, true),
-            TryEmit(2, true),
-            TryEmit(3, false),
+            TryEmit(1, Ok(true)),
+            TryEmit(2, Ok(true)),
+            TryEmit(3, Ok(false)),
         ],
-    );
-}
-
-#[test]
-fn an_emitter_waits_for_room(rt: HostRuntime) {
-    answers(
-        &rt,
-        rt.alloc(),
-        Config::new().replay(1).extra(1),
-        &[
+    },
+    // An emitter waits for room.
+    Example {
+        config: Config {
+            replay: 1,
+            extra: 1,
+            ..UNBUFFERED
+        },
+        steps: &[
             Subscribe,
-            TryEmit(1, true),
-            TryEmit(2, true),
-            TryEmit(3, false),
-            Emit(3, Waits),
-            Poll(0, Waits),
+            TryEmit(1, Ok(true)),
+            TryEmit(2, Ok(true)),
+            TryEmit(3, Ok(false)),
+            Emit(3, WAITS),
+            Poll(0, WAITS),
             Next(0, Value(1)),
-            Poll(0, Done),
+            Poll(0, DONE),
             Cache(&[3]),
             Next(0, Value(2)),
             Next(0, Value(3)),
             Next(0, Empty),
         ],
-    );
-}
-
-#[test]
-fn drop_oldest_keeps_the_newest(rt: HostRuntime) {
-    answers(
-        &rt,
-        rt.alloc(),
-        Config::new().extra(2).overflow(Overflow::DropOldest),
-        &[
+    },
+    // Drop oldest keeps the newest.
+    Example {
+        config: Config {
+            extra: 2,
+            overflow: Overflow::DropOldest,
+            ..UNBUFFERED
+        },
+        steps: &[
             Subscribe,
-            Emit(1, Done),
-            Emit(2, Done),
-            Emit(3, Done),
-            Emit(4, Done),
-            Emit(5, Done),
+            Emit(1, DONE),
+            Emit(2, DONE),
+            Emit(3, DONE),
+            Emit(4, DONE),
+            Emit(5, DONE),
             Next(0, Value(4)),
             Next(0, Value(5)),
             Next(0, Empty),
             Cache(&[]),
         ],
-    );
-}
-
-#[test]
-fn drop_latest_keeps_the_oldest(rt: HostRuntime) {
-    answers(
-        &rt,
-        rt.alloc(),
-        Config::new()
-            .replay(1)
-            .extra(1)
-            .overflow(Overflow::DropLatest),
-        &[
+    },
+    // Drop latest keeps the oldest.
+    Example {
+        config: Config {
+            replay: 1,
+            extra: 1,
+            overflow: Overflow::DropLatest,
+            ..UNBUFFERED
+        },
+        steps: &[
             Subscribe,
-            Emit(1, Done),
-            Emit(2, Done),
-            Emit(3, Done),
-            Emit(4, Done),
-            Emit(5, Done),
+            Emit(1, DONE),
+            Emit(2, DONE),
+            Emit(3, DONE),
+            Emit(4, DONE),
+            Emit(5, DONE),
             Next(0, Value(1)),
             Next(0, Value(2)),
             Next(0, Empty),
             Cache(&[2]),
         ],
-    );
-}
-
-#[test]
-fn without_a_buffer_an_emitter_waits_for_each_subscriber(rt: HostRuntime) {
-    answers(
-        &rt,
-        rt.alloc(),
-        Config::new(),
-        &[
+    },
+    // Without a buffer an emitter waits for each subscriber.
+    Example {
+        config: UNBUFFERED,
+        steps: &[
             Subscribe,
             Subscribe,
-            TryEmit(7, false),
-            Emit(7, Waits),
+            TryEmit(7, Ok(false)),
+            Emit(7, WAITS),
             Next(0, Value(7)),
-            Poll(0, Waits),
+            Poll(0, WAITS),
             Next(1, Value(7)),
-            Poll(0, Done),
+            Poll(0, DONE),
         ],
-    );
-}
-
-#[test]
-fn a_cancelled_offer_is_not_received(rt: HostRuntime) {
-    answers(
-        &rt,
-        rt.alloc(),
-        Config::new(),
-        &[
+    },
+    // A cancelled offer is not received.
+    Example {
+        config: UNBUFFERED,
+        steps: &[
             Subscribe,
             Subscribe,
-            TryEmit(7, false),
-            Emit(7, Waits),
+            TryEmit(7, Ok(false)),
+            Emit(7, WAITS),
             Next(0, Value(7)),
-            Cancel(0, true),
+            Cancel(0, Ok(true)),
             Next(1, Empty),
         ],
-    );
-}
-
-#[test]
-fn a_late_subscriber_is_offered_the_value_too(rt: HostRuntime) {
-    answers(
-        &rt,
-        rt.alloc(),
-        Config::new(),
-        &[
+    },
+    // A late subscriber is offered the value too.
+    Example {
+        config: UNBUFFERED,
+        steps: &[
             Subscribe,
-            Emit(7, Waits),
+            Emit(7, WAITS),
             Subscribe,
             Next(1, Value(7)),
-            Poll(0, Waits),
+            Poll(0, WAITS),
             Next(0, Value(7)),
-            Poll(0, Done),
+            Poll(0, DONE),
             Subscribe,
             Next(2, Empty),
         ],
-    );
-}
-
-#[test]
-fn emitters_go_on_when_the_last_subscriber_leaves(rt: HostRuntime) {
-    answers(
-        &rt,
-        rt.alloc(),
-        Config::new().replay(1),
-        &[
+    },
+    // Emitters go on when the last subscriber leaves.
+    Example {
+        config: Config {
+            replay: 1,
+            ..UNBUFFERED
+        },
+        steps: &[
             Subscribe,
-            Emit(1, Done),
-            Emit(2, Waits),
-            Emit(3, Waits),
-            Emit(4, Waits),
+            Emit(1, DONE),
+            Emit(2, WAITS),
+            Emit(3, WAITS),
+            Emit(4, WAITS),
             Unsubscribe(0),
-            Poll(1, Done),
-            Poll(2, Done),
-            Poll(3, Done),
+            Poll(1, DONE),
+            Poll(2, DONE),
+            Poll(3, DONE),
             Cache(&[4]),
         ],
-    );
-}
-
-#[test]
-fn a_cancelled_value_is_never_emitted(rt: HostRuntime) {
-    answers(
-        &rt,
-        rt.alloc(),
-        Config::new().replay(1),
-        &[
+    },
+    // A cancelled value is never emitted.
+    Example {
+        config: Config {
+            replay: 1,
+            ..UNBUFFERED
+        },
+        steps: &[
             Subscribe,
-            Emit(1, Done),
-            Emit(2, Waits),
-            Emit(3, Waits),
-            Emit(4, Waits),
-            Cancel(3, true),
+            Emit(1, DONE),
+            Emit(2, WAITS),
+            Emit(3, WAITS),
+            Emit(4, WAITS),
+            Cancel(3, Ok(true)),
             Unsubscribe(0),
             Cache(&[3]),
         ],
-    );
+    },
+];
+
+#[test]
+fn emissions_are_as_documented(rt: HostRuntime) {
+    play(&rt, rt.alloc(), EXAMPLES);
 }

@@ -2,8 +2,8 @@
 ghost use Rattle.std.specs.Prelude.{◌≡◌};
 
 use crate::at_most::AtMost;
+use crate::awaiting::{exchange, send};
 use crate::compare::compare;
-use crate::{exchange, send};
 use flow_law::Config;
 use flow_shared::{EmitFuture, NextFuture, Seat, Sent, SharedFlow, Subscription};
 use futures::executor::block_on;

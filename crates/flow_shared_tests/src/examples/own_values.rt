@@ -1,28 +1,27 @@
 //! Subscribers with first values of their own (`onSubscription`).
-use crate::playing::Emission::{Done, Waits};
 use crate::playing::Step::{
     Cache, Cancel, Emit, Next, Poll, SubscribeWith, SubscribeWithRefused, TryEmit,
 };
-use crate::playing::answers;
+use crate::playing::{DONE, Example, UNBUFFERED, WAITS, play};
 use flow_law::FlowFault::Exhausted;
 use flow_law::Next::{Empty, Value};
 use flow_law::{Config, Overflow};
 
-#[test]
-fn own_values_come_before_the_cache_and_are_never_dropped(rt: HostRuntime) {
-    answers(
-        &rt,
-        rt.alloc(),
-        Config::new()
-            .replay(1)
-            .extra(1)
-            .overflow(Overflow::DropOldest),
-        &[
-            TryEmit(1, true),
+const EXAMPLES: &[Example] = &[
+    // Own values come before the cache and are never dropped.
+    Example {
+        config: Config {
+            replay: 1,
+            extra: 1,
+            overflow: Overflow::DropOldest,
+            ..UNBUFFERED
+        },
+        steps: &[
+            TryEmit(1, Ok(true)),
             SubscribeWith(&[8, 9]),
-            Emit(2, Done),
-            Emit(3, Done),
-            Emit(4, Done),
+            Emit(2, DONE),
+            Emit(3, DONE),
+            Emit(4, DONE),
             Next(0, Value(8)),
             Next(0, Value(9)),
             Next(0, Value(3)),
@@ -30,48 +29,41 @@ fn own_values_come_before_the_cache_and_are_never_dropped(rt: HostRuntime) {
             Next(0, Empty),
             Cache(&[4]),
         ],
-    );
-}
-
-#[test]
-fn an_own_value_lets_an_emission_wait(rt: HostRuntime) {
-    answers(
-        &rt,
-        rt.alloc(),
-        Config::new(),
-        &[
+    },
+    // An own value lets an emission wait.
+    Example {
+        config: UNBUFFERED,
+        steps: &[
             SubscribeWith(&[8]),
-            Emit(7, Waits),
+            Emit(7, WAITS),
             Next(0, Value(8)),
-            Poll(0, Waits),
+            Poll(0, WAITS),
             Next(0, Value(7)),
-            Poll(0, Done),
+            Poll(0, DONE),
         ],
-    );
-}
-
-#[test]
-fn a_cancel_leaves_an_own_value(rt: HostRuntime) {
-    answers(
-        &rt,
-        rt.alloc(),
-        Config::new(),
-        &[
+    },
+    // A cancel leaves an own value.
+    Example {
+        config: UNBUFFERED,
+        steps: &[
             SubscribeWith(&[8]),
-            Emit(7, Waits),
-            Cancel(0, true),
+            Emit(7, WAITS),
+            Cancel(0, Ok(true)),
             Next(0, Value(8)),
             Next(0, Empty),
         ],
-    );
-}
+    },
+    // A refused subscription hands its values back.
+    Example {
+        config: Config {
+            limit: 0,
+            ..UNBUFFERED
+        },
+        steps: &[SubscribeWithRefused(&[1, 2], Exhausted)],
+    },
+];
 
 #[test]
-fn a_refused_subscription_hands_its_values_back(rt: HostRuntime) {
-    answers(
-        &rt,
-        rt.alloc(),
-        Config::new().limit(0),
-        &[SubscribeWithRefused(&[1, 2], Exhausted)],
-    );
+fn own_values_come_as_documented(rt: HostRuntime) {
+    play(&rt, rt.alloc(), EXAMPLES);
 }

@@ -1,83 +1,73 @@
 //! What subscribers receive, and what is refused.
 use crate::compare::compare;
-use crate::playing::Emission::Done;
-use crate::playing::Step::{
-    Cache, Count, Emit, EmitRefused, Next, Reset, Subscribe, SubscribeRefused, TryEmit,
-    TryEmitRefused,
-};
-use crate::playing::answers;
+use crate::playing::Step::{Cache, Count, Emit, Next, Reset, Subscribe, SubscribeRefused, TryEmit};
+use crate::playing::{DONE, Example, UNBUFFERED, play};
 use flow_law::FlowFault::{Exhausted, NeedsBuffer, TooLarge};
 use flow_law::Next::{Empty, Value};
 use flow_law::{Config, Overflow};
 use flow_shared::SharedFlow;
 
-#[test]
-fn nobody_receives_what_was_emitted_before(rt: HostRuntime) {
-    answers(
-        &rt,
-        rt.alloc(),
-        Config::new(),
-        &[
-            TryEmit(5, true),
+const EXAMPLES: &[Example] = &[
+    // Nobody receives what was emitted before.
+    Example {
+        config: UNBUFFERED,
+        steps: &[
+            TryEmit(5, Ok(true)),
             Cache(&[]),
             Count(0),
             Subscribe,
             Next(0, Empty),
         ],
-    );
-}
-
-#[test]
-fn a_new_subscriber_gets_the_cache(rt: HostRuntime) {
-    answers(
-        &rt,
-        rt.alloc(),
-        Config::new().replay(2),
-        &[
-            TryEmit(1, true),
-            TryEmit(2, true),
-            TryEmit(3, true),
+    },
+    // A new subscriber gets the cache.
+    Example {
+        config: Config {
+            replay: 2,
+            ..UNBUFFERED
+        },
+        steps: &[
+            TryEmit(1, Ok(true)),
+            TryEmit(2, Ok(true)),
+            TryEmit(3, Ok(true)),
             Cache(&[2, 3]),
             Subscribe,
             Next(0, Value(2)),
             Next(0, Value(3)),
             Next(0, Empty),
         ],
-    );
-}
-
-#[test]
-fn a_slow_subscriber_loses_the_oldest(rt: HostRuntime) {
-    answers(
-        &rt,
-        rt.alloc(),
-        Config::new().extra(1).overflow(Overflow::DropOldest),
-        &[
+    },
+    // A slow subscriber loses the oldest.
+    Example {
+        config: Config {
+            extra: 1,
+            overflow: Overflow::DropOldest,
+            ..UNBUFFERED
+        },
+        steps: &[
             Subscribe,
             Subscribe,
-            Emit(1, Done),
+            Emit(1, DONE),
             Next(0, Value(1)),
-            Emit(2, Done),
+            Emit(2, DONE),
             Next(0, Value(2)),
-            Emit(3, Done),
+            Emit(3, DONE),
             Next(1, Value(3)),
             Next(1, Empty),
             Next(0, Value(3)),
             Next(0, Empty),
         ],
-    );
-}
-
-#[test]
-fn a_reset_leaves_old_subscribers_what_they_have(rt: HostRuntime) {
-    answers(
-        &rt,
-        rt.alloc(),
-        Config::new().replay(2).extra(1),
-        &[
+    },
+    // A reset leaves old subscribers what they have.
+    Example {
+        config: Config {
+            replay: 2,
+            extra: 1,
+            ..UNBUFFERED
+        },
+        steps: &[
             Subscribe,
-            TryEmit(1, true),
-            TryEmit(2, true),
+            TryEmit(1, Ok(true)),
+            TryEmit(2, Ok(true)),
             Cache(&[1, 2]),
             Reset,
             Cache(&[]),
@@ -86,34 +76,35 @@ fn a_reset_leaves_old_subscribers_what_they_have(rt: HostRuntime) {
             Next(0, Value(1)),
             Next(0, Value(2)),
             Next(0, Empty),
-            TryEmit(3, true),
+            TryEmit(3, Ok(true)),
             Next(1, Value(3)),
             Cache(&[3]),
         ],
-    );
-}
-
-#[test]
-fn no_number_is_issued_beyond_the_limit(rt: HostRuntime) {
-    let three = Config {
-        limit: 3,
-        ..Config::new().replay(1).extra(1)
-    };
-    answers(
-        &rt,
-        rt.alloc(),
-        three,
-        &[
+    },
+    // No number is issued beyond the limit.
+    Example {
+        config: Config {
+            replay: 1,
+            extra: 1,
+            limit: 3,
+            ..UNBUFFERED
+        },
+        steps: &[
             Subscribe,
-            TryEmit(1, true),
-            TryEmit(2, true),
-            TryEmit(3, false),
-            EmitRefused(3, Exhausted),
+            TryEmit(1, Ok(true)),
+            TryEmit(2, Ok(true)),
+            TryEmit(3, Ok(false)),
+            Emit(3, Err(Exhausted)),
             SubscribeRefused(Exhausted),
             Next(0, Value(1)),
-            TryEmitRefused(3, Exhausted),
+            TryEmit(3, Err(Exhausted)),
         ],
-    );
+    },
+];
+
+#[test]
+fn subscribers_receive_as_documented(rt: HostRuntime) {
+    play(&rt, rt.alloc(), EXAMPLES);
 }
 
 #[test]

@@ -2,7 +2,7 @@
 ghost use Rattle.std.specs.Prelude.{◌≡◌, IfSome};
 
 use crate::compare::compare;
-use crate::set_and_read;
+use crate::reading::set_and_read;
 use flow_law::{Config, FlowFault, Next, Refused};
 use flow_shared::{
     Emitted, PolledNow, Seat, SharedFlow, StateFlow, StateSeat, StateSubscription, Subscription,
