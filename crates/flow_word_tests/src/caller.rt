@@ -80,18 +80,13 @@ impl<'a> Caller<'a> {
     }
 
     pub fn add<R: Wait>(&mut self, rt: &R) {
-        self.flow
-            .update(rt, &mut self.seat, |value| value.wrapping_add(1));
+        self.flow.update(rt, &mut self.seat, one_more);
     }
 
     /// The values before and after two updates.
     pub fn add_twice<R: Wait>(&mut self, rt: &R) -> (i64, i64) {
-        let before = self
-            .flow
-            .get_and_update(rt, &mut self.seat, |value| value.wrapping_add(1));
-        let after = self
-            .flow
-            .update_and_get(rt, &mut self.seat, |value| value.wrapping_add(1));
+        let before = self.flow.get_and_update(rt, &mut self.seat, one_more);
+        let after = self.flow.update_and_get(rt, &mut self.seat, one_more);
         (before, after)
     }
 
@@ -142,6 +137,10 @@ impl<'a> Reader<'a> {
             seat: flow.unsubscribe(subscription),
         }
     }
+}
+
+fn one_more(value: i64) -> i64 {
+    value.wrapping_add(1)
 }
 
 /// Waits for the flag, but not for ever.

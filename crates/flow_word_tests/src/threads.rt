@@ -2,7 +2,7 @@
 use crate::caller::{Caller, new_flow};
 use crate::compare::compare;
 use std::sync::atomic::AtomicBool;
-use std::thread::join;
+use std::thread::{for_each_mut, join};
 
 #[test]
 fn a_value_that_was_set_is_read_or_a_later_one(rt: HostRuntime) {
@@ -31,19 +31,12 @@ fn a_set_does_not_wait_for_an_update(rt: HostRuntime) {
 fn four_threads_count(rt: HostRuntime) {
     let (flow, seat) = new_flow(&rt, rt.alloc(), 4_000);
     let mut one = Caller::new(&flow, seat);
-    let (mut two, mut three, mut four) = (one.another(), one.another(), one.another());
-    join(
+    let mut callers = [one.another(), one.another(), one.another(), one.another()];
+    for_each_mut(
         &rt,
-        || join(
-            &rt,
-            || one.count_up(&rt, 1_000),
-            || two.count_up(&rt, 1_000),
-        ),
-        || join(
-            &rt,
-            || three.count_up(&rt, 1_000),
-            || four.count_up(&rt, 1_000),
-        ),
+        &mut callers,
+        4,
+        &|_, caller| caller.count_up(&rt, 1_000),
     );
     compare(&rt, 0, (one.value(), one.count()), (4_000, 0));
 }
