@@ -147,6 +147,18 @@ fn run_threads<'a, R: Threads + Wait + Sync>(
     if stop.load() { None } else { received }
 }
 
+/// Makes the tokens, and then runs the threads.
+fn run_made<'a, R: Threads + Wait + Sync>(
+    rt: &'a R,
+    alloc: Global,
+    size: CrowdSize,
+    maker: &mut Maker<'a>,
+) -> Option<Vec<Received>> {
+    let readers = maker.readers(rt, alloc, size)?;
+    let tasks = maker.tasks(alloc, size)?;
+    run_threads(rt, alloc, size, tasks, readers, maker.stop)
+}
+
 fn run<R: Threads + Wait + Sync>(rt: &R, alloc: Global, size: CrowdSize) -> Option<Vec<Received>> {
     let (flow, seat) = SharedFlow::new(alloc, Config::new().extra(16)).ok()?;
     let stop = AtomicCell::new(false);
@@ -155,9 +167,7 @@ fn run<R: Threads + Wait + Sync>(rt: &R, alloc: Global, size: CrowdSize) -> Opti
         seat,
         stop: &stop,
     };
-    let readers = maker.readers(rt, alloc, size)?;
-    let tasks = maker.tasks(alloc, size)?;
-    run_threads(rt, alloc, size, tasks, readers, &stop)
+    run_made(rt, alloc, size, &mut maker)
 }
 
 /// Runs a crowd at a new shared flow with no replay and room for 16 values more, whose emitters wait for the slowest

@@ -15,8 +15,6 @@ mod emitter;
 mod order;
 mod reader;
 mod size;
-#[cfg(test)]
-mod tests;
 
 pub use crowd::run_crowd;
 pub use order::Order;

@@ -5,7 +5,7 @@ ghost use Rattle.flow_crowd.specs.InOrder.{in_order, stays_in_order};
 /// What a subscriber keeps of one emitter: which of its values is to come next, and whether all came in order so far.
 ///
 /// A value is named by its place among those that the emitter emits, from 0.
-#[derive(Clone, Copy, Debug, PartialEq, Eq)]
+#[derive(Clone, Copy)]
 pub struct Order {
     next: u64,
     count: u64,

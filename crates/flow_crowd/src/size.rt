@@ -3,7 +3,7 @@ ghost use Rattle.std.specs.Prelude.{◌≡◌, ◌*◌};
 ghost use Rattle.flow_crowd.specs.Sizes.{crowd_size};
 
 /// How many emitters and subscribers a crowd has, and how many values each emitter emits.
-#[derive(Clone, Copy, Debug, PartialEq, Eq)]
+#[derive(Clone, Copy)]
 pub struct CrowdSize {
     pub emitters: u32,
     pub subscribers: u32,
