@@ -1,13 +1,20 @@
 //! The last readings of a sensor, in a type of one's own of which something is proved.
 use crate::readings::Readings;
 use anyhow::Result;
+use flow_law::FlowFault;
+use std::alloc::Global;
 
-pub fn show(rt: &HostRuntime) -> Result<()> {
-    let mut readings = Readings::new(rt.alloc(), 3)?;
+/// The last three readings of four.
+fn latest(alloc: Global) -> Result<Vec<i64>, FlowFault> {
+    let mut readings = Readings::new(alloc, 3)?;
     for degrees in [18i64, 19, 21, 20] {
         readings.add(degrees)?;
     }
-    for degrees in &readings.latest()? {
+    readings.latest()
+}
+
+pub fn show(rt: &HostRuntime) -> Result<()> {
+    for degrees in &latest(rt.alloc())? {
         println!(rt; "{degrees}")?;
     }
     Ok(())

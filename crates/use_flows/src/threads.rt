@@ -2,8 +2,7 @@
 mod reader;
 mod sender;
 
-use anyhow::Result;
-use flow_law::Config;
+use flow_law::{Config, FlowFault};
 use flow_shared::SharedFlow;
 use reader::Reader;
 use sender::Sender;
@@ -12,12 +11,12 @@ use std::sync::Wait;
 use std::thread::{Threads, join};
 
 /// What the reading thread has added up.
-pub fn add_up<R: Wait + Threads + Sync>(rt: &R, alloc: Global) -> Result<i64> {
+pub fn add_up<R: Wait + Threads + Sync>(rt: &R, alloc: Global) -> Result<i64, FlowFault> {
     let (flow, mut seat) = SharedFlow::new(alloc, Config::new().extra(16))?;
     let subscription = flow.subscribe(rt, &mut seat)?;
     let mut sender = Sender::new(&flow, seat);
     let mut reader = Reader::new(&flow, subscription);
     let (sent, sum) = join(rt, || sender.send(rt, 1..6), || reader.add_up(rt, 5));
     sent?;
-    Ok(sum?)
+    sum
 }

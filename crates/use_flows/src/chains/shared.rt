@@ -3,11 +3,16 @@ use anyhow::Result;
 use flow_cold::OfRange;
 use flow_law::report::Report;
 use flow_law::{Next, Started};
-use flow_sharing::share_in;
+use flow_sharing::{CoreHub, Sharing, share_in};
+use std::io;
 
 pub fn show(rt: &HostRuntime) -> Result<()> {
     let started = Started::WhileSubscribed { stop: 2 };
     let mut sharing = share_in(rt.alloc(), OfRange::new(1, 3), started, 1, u64::MAX)?;
+    take_turns(rt, &mut sharing)
+}
+
+fn take_turns(rt: &HostRuntime, sharing: &mut Sharing<OfRange, CoreHub<i64>>) -> Result<()> {
     let reader = sharing.hub_mut().core_mut().subscribe()?;
     for moment in 0..4 {
         print(rt, moment, sharing.turn(moment)?)?;
@@ -20,14 +25,13 @@ pub fn show(rt: &HostRuntime) -> Result<()> {
     Ok(())
 }
 
-fn print(rt: &HostRuntime, moment: u64, report: Report) -> Result<()> {
-    println!(rt; "{moment}: {:?}, {:?}", report.command, report.event)?;
-    Ok(())
+fn print(rt: &HostRuntime, moment: u64, report: Report) -> io::Result<()> {
+    println!(rt; "{moment}: {:?}, {:?}", report.command, report.event)
 }
 
-fn print_value(rt: &HostRuntime, next: Next<i64>) -> Result<()> {
-    if let Next::Value(value) = next {
-        println!(rt; "value {value}")?;
+fn print_value(rt: &HostRuntime, next: Next<i64>) -> io::Result<()> {
+    match next {
+        Next::Value(value) => println!(rt; "value {value}"),
+        Next::Empty | Next::Gone => Ok(()),
     }
-    Ok(())
 }

@@ -2,9 +2,15 @@
 use anyhow::Result;
 use flow_core::StateCore;
 use flow_law::{Next, Text};
+use std::alloc::AllocError;
+use std::io;
 
 pub fn show(rt: &HostRuntime) -> Result<()> {
     let mut flow = StateCore::new(rt.alloc(), text(rt, "loading")?, u64::MAX);
+    set_and_read(rt, &mut flow)
+}
+
+fn set_and_read(rt: &HostRuntime, flow: &mut StateCore<Text>) -> Result<()> {
     let reader = flow.subscribe()?;
     for word in ["page 1", "page 2", "page 3"] {
         flow.set(text(rt, word)?);
@@ -15,15 +21,14 @@ pub fn show(rt: &HostRuntime) -> Result<()> {
     Ok(())
 }
 
-fn text(rt: &HostRuntime, word: &str) -> Result<Text> {
+fn text(rt: &HostRuntime, word: &str) -> Result<Text, AllocError> {
     Ok(Text::new(String::from_str(rt.alloc(), word)?))
 }
 
-fn print(rt: &HostRuntime, next: Next<Text>) -> Result<()> {
+fn print(rt: &HostRuntime, next: Next<Text>) -> io::Result<()> {
     match next {
-        Next::Value(value) => println!(rt; "{}", value.as_str())?,
-        Next::Empty => println!(rt; "nothing new")?,
-        Next::Gone => println!(rt; "no such reader")?,
+        Next::Value(value) => println!(rt; "{}", value.as_str()),
+        Next::Empty => println!(rt; "nothing new"),
+        Next::Gone => println!(rt; "no such reader"),
     }
-    Ok(())
 }
