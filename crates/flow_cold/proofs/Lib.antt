@@ -1,3 +1,2 @@
 pub mod OpLemmas
-pub mod OperatorLemmas
 pub mod SumLemmas

@@ -1,5 +1,5 @@
 -- The sums of an item and a list of entries, all of which are in range.
-use Rattle.std.proofs.Common.{◌≡◌, ℕ, ℤ, ◌+ℤ◌, Bool, true, false, cond, ◌&&◌, List, [], ◌∷◌, map, drop, Ok, Err, refl, ap}
+use Rattle.std.proofs.Common.{◌≡◌, ℤ, ◌+ℤ◌, Bool, true, false, cond, ◌&&◌, List, [], ◌∷◌, map, Ok, Err, refl, ap}
 use Rattle.std.specs.List.{list_all}
 use Rattle.flow_law.specs.declared.chain.ChainFault.TheVariants.{Overflow}
 use Rattle.flow_law.specs.ChainRun.{ChainRun, gives}
@@ -18,6 +18,6 @@ with_sums-fits : (x : ℤ) (ds : List ℤ) (r : ChainRun ℤ) → list_all (λ e
 with_sums-fits x [] r h = refl
 with_sums-fits x (d ∷ ds) r h = first-fits (is_i64 (x +ℤ d)) x d ds r h (with_sums-fits x ds r)
 
-pub with_sums-begins : (before : ℤ) (at : ℕ) (x : ℤ) (ds : List ℤ) (r : ChainRun ℤ) → drop at ds ≡ [] → list_all (λ e. is_i64 (x +ℤ e)) ds ≡ true
-    → with_sums before (drop at ds) (transform_run (sums ds) (gives x r)) ≡ with_sums x ds (transform_run (sums ds) r)
-with_sums-begins before at x ds r none fits = rw (none, fits) (with_sums-fits x ds (transform_run (sums ds) r) fits)
+pub with_sums-begins : (x : ℤ) (ds : List ℤ) (r : ChainRun ℤ) → list_all (λ e. is_i64 (x +ℤ e)) ds ≡ true
+    → transform_run (sums ds) (gives x r) ≡ with_sums x ds (transform_run (sums ds) r)
+with_sums-begins x ds r fits = rw fits (with_sums-fits x ds (transform_run (sums ds) r) fits)

@@ -1,17 +1,21 @@
 -- How far the operators on whole numbers take their upstream off in one ask, in the state that each keeps.
-use Rattle.std.specs.Prelude.{◌≡◌, ℤ, drop, replicate}
+use Rattle.std.specs.Prelude.{◌≡◌, ℤ, Option, Some, None, Result, drop, replicate}
 use Rattle.std.specs.Ordering.{int_eq}
+use Rattle.flow_law.specs.declared.chain.ChainFault.{ChainFault}
 use Rattle.flow_law.specs.ChainRun.{ChainRun, list_run}
-use Rattle.flow_operators.specs.Behind.{after_ask, after_take, after_filter, after_drop, after_distinct, after_scan, unless_empty, after_transform, unless_completed, after_flat_map}
+use Rattle.flow_operators.specs.Behind.{after_ask, after_filter, after_drop, after_distinct, after_scan, unless_empty, after_transform, unless_completed, after_flat_map}
 use Rattle.flow_operators.specs.Kept.{unless_ended}
 use Rattle.flow_cold.specs.declared.script_chain.op.Spread.TheVariants as spread
+use Rattle.flow_cold.specs.declared.script_chain.node.Phase.{Phase}
+use Rattle.flow_cold.specs.declared.script_chain.node.Phase.TheVariants.{Ready, Holding, Over}
+use Rattle.flow_cold.specs.declared.script_chain.node.Stage.{Stage}
 use Rattle.flow_cold.specs.declared.script_chain.operator.Operator.{Operator}
 use Rattle.flow_cold.specs.declared.script_chain.operator.Operator.TheVariants.{Map, Filter, TakeWhile, Transform, Take, DropFirst, Scan, FlatMapRange, FlatMapRepeat, Distinct}
 use Rattle.flow_cold.specs.declared.script_chain.state.Adding.{Adding}
 use Rattle.flow_cold.specs.declared.script_chain.state.Following.{Following}
 use Rattle.flow_cold.specs.declared.script_chain.state.Repeating.{Repeating}
 use Rattle.flow_cold.specs.declared.script_chain.operator.Step.{Step}
-use Rattle.flow_cold.specs.declared.script_chain.operator.Step.TheVariants.{Nothing}
+use Rattle.flow_cold.specs.declared.script_chain.operator.Step.TheVariants.{Nothing, Held}
 use Rattle.flow_cold.specs.Numbers.{passes, sums, spread_run}
 use Rattle.flow_operators.specs.Sources.{range_run}
 
@@ -24,20 +28,41 @@ after_following s r = unless_completed (unless_ended s.closed (range_run s.next 
 abbrev pub after_repeating : Repeating → ChainRun ℤ → ChainRun ℤ
 after_repeating s r = unless_completed (list_run (replicate s.left s.item)) r (after_flat_map (spread_run spread.Repeat s.count) r)
 
--- what the upstream has left once the operator was asked, where it had left r
-abbrev pub after_operator : Operator → ChainRun ℤ → ChainRun ℤ
-after_operator (Map s) r = after_ask r
-after_operator (Filter test) r = after_filter (passes test) r
-after_operator (TakeWhile test) r = after_ask r
-after_operator (Transform s) r = after_adding s r
-after_operator (Take s) r = after_take s.left r
-after_operator (DropFirst s) r = after_drop r s.left
-after_operator (Scan s) r = after_scan s.begun r
-after_operator (FlatMapRange s) r = after_following s r
-after_operator (FlatMapRepeat s) r = after_repeating s r
-after_operator (Distinct s) r = after_distinct int_eq s.last r
+-- what the upstream has left once the operator was asked, where it had left r and nothing is held back
+abbrev pub after_ready : Operator → ChainRun ℤ → ChainRun ℤ
+after_ready (Map s) r = after_ask r
+after_ready (Filter test) r = after_filter (passes test) r
+after_ready (TakeWhile test) r = after_ask r
+after_ready (Transform s) r = after_transform (sums s.entries.items) r
+after_ready (Take s) r = after_ask r
+after_ready (DropFirst s) r = after_drop r s.left
+after_ready (Scan s) r = after_ask r
+after_ready (FlatMapRange s) r = after_flat_map (spread_run spread.Range s.count) r
+after_ready (FlatMapRepeat s) r = after_flat_map (spread_run spread.Repeat s.count) r
+after_ready (Distinct s) r = after_distinct int_eq s.last r
+
+-- what it has left with what is held back
+abbrev pub after_held : Operator → ChainRun ℤ → ChainRun ℤ
+after_held (Transform s) r = after_adding s r
+after_held (Scan s) r = after_scan s.begun r
+after_held (FlatMapRange s) r = after_following s r
+after_held (FlatMapRepeat s) r = after_repeating s r
+after_held o r = after_ready o r
+
+abbrev pub after_in : Phase → Operator → ChainRun ℤ → ChainRun ℤ
+after_in Ready o r = after_ready o r
+after_in Holding o r = after_held o r
+after_in Over o r = r
+
+abbrev pub after_stage : Stage → ChainRun ℤ → ChainRun ℤ
+after_stage stage r = after_in stage.phase stage.operator r
 
 -- With an answer nothing more is asked: what is due is r, what the upstream has left. With none it is what further asks leave.
 abbrev pub StepLeaves : ChainRun ℤ → Step → ChainRun ℤ → ChainRun ℤ → Type 0
 StepLeaves due Nothing r further = due ≡ further
+StepLeaves due Held r further = due ≡ further
 StepLeaves due _ r further = due ≡ r
+
+abbrev pub HeldLeaves : ChainRun ℤ → Option (Result ℤ ChainFault) → ChainRun ℤ → ChainRun ℤ → Type 0
+HeldLeaves due None r further = due ≡ further
+HeldLeaves due (Some y) r further = due ≡ r

@@ -1,6 +1,7 @@
 -- The operators on whole numbers, in the state that each keeps. No public clause cites this module but by `node_whole`.
-use Rattle.std.specs.Prelude.{◌≡◌, ◌≢◌, ◌==◌, ℤ, ◌+ℤ◌, Bool, true, false, cond, ◌||◌, List, [], ◌∷◌, drop, replicate, None}
+use Rattle.std.specs.Prelude.{◌≡◌, suc, ℤ, ◌+ℤ◌, cond, List, [], ◌∷◌, drop, replicate, Option, Some, None, Result, Ok, Err}
 use Rattle.std.specs.Ordering.{int_eq}
+use Rattle.flow_law.specs.declared.chain.ChainFault.{ChainFault}
 use Rattle.flow_law.specs.declared.chain.End.TheVariants.{Completed, Failed}
 use Rattle.flow_law.specs.ChainRun.{ChainRun, gives, ends, list_run}
 use Rattle.flow_law.specs.OperatorRuns.{continued, map_run, filter_run, take_while_run, take_run, drop_run, distinct_run, scan_run, transform_run, followed, flat_map_run}
@@ -8,13 +9,15 @@ use Rattle.flow_operators.specs.Kept.{unless_ended}
 use Rattle.flow_cold.specs.declared.script_chain.op.Spread.TheVariants as spread
 use Rattle.flow_cold.specs.declared.script_chain.operator.Operator.{Operator}
 use Rattle.flow_cold.specs.declared.script_chain.operator.Operator.TheVariants.{Map, Filter, TakeWhile, Transform, Take, DropFirst, Scan, FlatMapRange, FlatMapRepeat, Distinct}
+use Rattle.flow_cold.specs.declared.script_chain.node.Phase.{Phase}
+use Rattle.flow_cold.specs.declared.script_chain.node.Phase.TheVariants.{Ready, Holding, Over}
 use Rattle.flow_cold.specs.declared.script_chain.node.Stage.{Stage}
 use Rattle.flow_cold.specs.declared.script_chain.state.Adding.{Adding}
 use Rattle.flow_cold.specs.declared.script_chain.state.Following.{Following}
 use Rattle.flow_cold.specs.declared.script_chain.state.Repeating.{Repeating}
 use Rattle.flow_cold.specs.declared.script_chain.state.Scanning.{Scanning}
 use Rattle.flow_cold.specs.declared.script_chain.operator.Step.{Step}
-use Rattle.flow_cold.specs.declared.script_chain.operator.Step.TheVariants.{Item, Nothing, End, Fault}
+use Rattle.flow_cold.specs.declared.script_chain.operator.Step.TheVariants.{Item, Last, Nothing, Held, End, Fault}
 use Rattle.flow_cold.specs.Numbers.{computed, passes, sums, ranged, spread_run}
 use Rattle.flow_operators.specs.Sources.{range_run}
 
@@ -23,7 +26,7 @@ operator_whole (Map s) r = map_run (λ x. computed s.by (x, s.k)) r
 operator_whole (Filter test) r = filter_run (passes test) r
 operator_whole (TakeWhile test) r = take_while_run (passes test) r
 operator_whole (Transform s) r = transform_run (sums s.entries.items) r
-operator_whole (Take s) r = take_run s.count r
+operator_whole (Take s) r = take_run (suc s.more) r
 operator_whole (DropFirst s) r = drop_run r s.count
 operator_whole (Scan s) r = gives s.initial (scan_run (computed s.by) s.initial r)
 operator_whole (FlatMapRange s) r = flat_map_run (spread_run spread.Range s.count) r
@@ -35,7 +38,7 @@ abbrev pub with_sums : ℤ → List ℤ → ChainRun ℤ → ChainRun ℤ
 with_sums x [] r = r
 with_sums x (d ∷ ds) r = continued (ranged (x +ℤ d)) (λ y. gives y (with_sums x ds r))
 
--- what each operator has left, where r is what the upstream has left
+-- what those that hold numbers back have left, where r is what the upstream has left
 abbrev pub adding_rest : Adding → ChainRun ℤ → ChainRun ℤ
 adding_rest s r = with_sums s.item (drop s.at s.entries.items) (transform_run (sums s.entries.items) r)
 
@@ -48,45 +51,64 @@ following_rest s r = followed (unless_ended s.closed (range_run s.next s.last)) 
 abbrev pub repeating_rest : Repeating → ChainRun ℤ → ChainRun ℤ
 repeating_rest s r = followed (list_run (replicate s.left s.item)) (flat_map_run (spread_run spread.Repeat s.count) r)
 
-abbrev pub operator_rest : Operator → ChainRun ℤ → ChainRun ℤ
-operator_rest (Map s) r = map_run (λ x. computed s.by (x, s.k)) r
-operator_rest (Filter test) r = filter_run (passes test) r
-operator_rest (TakeWhile test) r = take_while_run (passes test) r
-operator_rest (Transform s) r = adding_rest s r
-operator_rest (Take s) r = take_run s.left r
-operator_rest (DropFirst s) r = drop_run r s.left
-operator_rest (Scan s) r = scanning_rest s r
-operator_rest (FlatMapRange s) r = following_rest s r
-operator_rest (FlatMapRepeat s) r = repeating_rest s r
-operator_rest (Distinct s) r = distinct_run int_eq s.last r
+-- what an operator has left that holds nothing back
+abbrev pub ready_rest : Operator → ChainRun ℤ → ChainRun ℤ
+ready_rest (Map s) r = map_run (λ x. computed s.by (x, s.k)) r
+ready_rest (Filter test) r = filter_run (passes test) r
+ready_rest (TakeWhile test) r = take_while_run (passes test) r
+ready_rest (Transform s) r = transform_run (sums s.entries.items) r
+ready_rest (Take s) r = take_run (suc s.left) r
+ready_rest (DropFirst s) r = drop_run r s.left
+ready_rest (Scan s) r = scan_run (computed s.by) s.last r
+ready_rest (FlatMapRange s) r = flat_map_run (spread_run spread.Range s.count) r
+ready_rest (FlatMapRepeat s) r = flat_map_run (spread_run spread.Repeat s.count) r
+ready_rest (Distinct s) r = distinct_run int_eq s.last r
 
--- the next answer comes of the upstream's
-abbrev pub IsReady : Operator → Type 0
-IsReady (Transform s) = drop s.at s.entries.items ≡ []
-IsReady (Take s) = s.left ≢ 0
-IsReady (Scan s) = s.begun ≡ true
-IsReady (FlatMapRange s) = s.closed ≡ true
-IsReady (FlatMapRepeat s) = s.left ≡ 0
-IsReady _ = Unit {0}
+-- what it has left with what it holds back
+abbrev pub held_rest : Operator → ChainRun ℤ → ChainRun ℤ
+held_rest (Transform s) r = adding_rest s r
+held_rest (Scan s) r = scanning_rest s r
+held_rest (FlatMapRange s) r = following_rest s r
+held_rest (FlatMapRepeat s) r = repeating_rest s r
+held_rest o r = ready_rest o r
 
--- what is left before and after an operator's step
+-- what is left before and after a number that was held back; None where none is left
+abbrev pub HeldGives : ChainRun ℤ → Option (Result ℤ ChainFault) → ChainRun ℤ → Type 0
+HeldGives before (Some (Ok y)) after = before ≡ gives y after
+HeldGives before (Some (Err fault)) after = before ≡ ends (Failed fault)
+HeldGives before None after = before ≡ after
+
+abbrev pub after_number : {A : Type 0} → Option (Result ℤ ChainFault) → A → A → A
+after_number (Some y) held ready = held
+after_number None held ready = ready
+
+-- what is left before and after a step on an item
 abbrev pub StepGives : ChainRun ℤ → Step → ChainRun ℤ → Type 0
 StepGives before (Item y) after = before ≡ gives y after
+StepGives before (Last y) after = before ≡ gives y (ends Completed)
 StepGives before Nothing after = before ≡ after
+StepGives before Held after = before ≡ after
 StepGives before End after = before ≡ ends Completed
 StepGives before (Fault fault) after = before ≡ ends (Failed fault)
 
-abbrev pub OnNothing : Step → Type 0 → Type 0
-OnNothing Nothing P = P
-OnNothing _ P = Unit {0}
+-- what follows a step: numbers are held back where it says so
+abbrev pub after_step : {A : Type 0} → Step → A → A → A
+after_step Held held ready = held
+after_step _ held ready = ready
 
--- an operator is over where it has ended, and a take as soon as it has given its last item
-abbrev pub is_spent : Operator → Bool
-is_spent (Take s) = s.left == 0
-is_spent _ = false
-
-abbrev pub is_over : Stage → Bool
-is_over stage = stage.ended || is_spent stage.operator
+abbrev pub rest_in : Phase → Operator → ChainRun ℤ → ChainRun ℤ
+rest_in Ready o r = ready_rest o r
+rest_in Holding o r = held_rest o r
+rest_in Over o r = ends Completed
 
 abbrev pub stage_rest : Stage → ChainRun ℤ → ChainRun ℤ
-stage_rest stage r = unless_ended stage.ended (operator_rest stage.operator r)
+stage_rest stage r = rest_in stage.phase stage.operator r
+
+-- a take is over as soon as it has given its last item
+abbrev pub IsStageOver : Stage → Type 0
+IsStageOver stage = stage.phase ≡ Over
+
+-- where an operator begins
+abbrev pub first_phase : Operator → Phase
+first_phase (Scan s) = Holding
+first_phase _ = Ready

@@ -5,7 +5,7 @@ use Rattle.flow_law.specs.OperatorRuns.{zip_run}
 use Rattle.flow_cold.specs.declared.script_chain.build.Part.{Part}
 use Rattle.flow_cold.specs.declared.script_chain.build.Part.TheVariants.{On, With}
 use Rattle.flow_cold.specs.Numbers.{joined}
-use Rattle.flow_cold.specs.Operators.{operator_whole, operator_rest}
+use Rattle.flow_cold.specs.Operators.{first_phase, operator_whole, rest_in}
 use Rattle.flow_cold.specs.ScriptChain.{node_whole, node_rest}
 
 abbrev pub part_whole : Part → ChainRun ℤ → ChainRun ℤ
@@ -13,7 +13,7 @@ part_whole (On operator) r = operator_whole operator r
 part_whole (With chain by) r = zip_run (joined by) r (node_whole chain.node)
 
 abbrev pub part_rest : Part → ChainRun ℤ → ChainRun ℤ
-part_rest (On operator) r = operator_rest operator r
+part_rest (On operator) r = rest_in (first_phase operator) operator r
 part_rest (With chain by) r = zip_run (joined by) r (node_rest chain.node)
 
 abbrev pub part_depth : Part → ℕ → ℕ

@@ -7,8 +7,8 @@ use Rattle.flow_operators.specs.Kept.{unless_ended, with_kept}
 use Rattle.flow_operators.specs.declared.cold.Asked.{Asked}
 use Rattle.flow_cold.specs.declared.script_chain.node.Node.{Node, List, Range, Script, On', Zip'}
 use Rattle.flow_cold.specs.Numbers.{joined}
-use Rattle.flow_cold.specs.Operators.{operator_whole, stage_rest, is_over}
-use Rattle.flow_cold.specs.OperatorAsks.{after_operator}
+use Rattle.flow_cold.specs.Operators.{operator_whole, stage_rest, IsStageOver}
+use Rattle.flow_cold.specs.OperatorAsks.{after_stage}
 use Rattle.flow_cold.specs.Pairing.{pairing_rest}
 use Rattle.flow_operators.specs.Sources.{range_run, scripted_run}
 
@@ -36,17 +36,16 @@ node_rest (Script source) = scripted_run (drop source.at source.entries.items)
 node_rest (On' p upstream stage) = stage_rest stage (node_rest upstream)
 node_rest (Zip' p left q right pairing) = pairing_rest pairing (node_rest left) (node_rest right)
 
--- a take is over as soon as it has given its last item
 abbrev pub IsNodeOver : Node → Type 0
 IsNodeOver (List source) = length source.items.items ≤ source.at
 IsNodeOver (Range source) = source.ended ≡ true
 IsNodeOver (Script source) = length source.entries.items ≤ source.at
-IsNodeOver (On' p upstream stage) = is_over stage ≡ true
+IsNodeOver (On' p upstream stage) = IsStageOver stage
 IsNodeOver (Zip' p left q right pairing) = pairing.ended ≡ true
 
 -- what an ask does to the chains behind the last operator: each gives just the entries that the answer needs
 abbrev pub NodeAsksBehind : Node → Asked ℤ → Node → Type 0
-NodeAsksBehind (On' p upstream stage) result (On' q upstream_after stage_after) = Leaves (after_operator stage.operator (node_rest upstream)) result (node_rest upstream_after)
+NodeAsksBehind (On' p upstream stage) result (On' q upstream_after stage_after) = Leaves (after_stage stage (node_rest upstream)) result (node_rest upstream_after)
 NodeAsksBehind (Zip' p left q right pairing) result (Zip' r left_after s right_after pairing_after) =
     AsksLeft pairing.kept (node_rest left) result (node_rest left_after)
     × AsksRight (with_kept pairing.kept (node_rest left)) (node_rest right) result (node_rest right_after)

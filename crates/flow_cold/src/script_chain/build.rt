@@ -2,7 +2,7 @@
 ghost use Rattle.std.specs.Prelude.{◌≡◌, ◌≤◌, ⊤, ℕ, ℤ, IfOk, IfErr, MatchResult};
 ghost use Rattle.flow_law.specs.Chain.{meaning_of};
 ghost use Rattle.flow_law.specs.ChainRun.{ChainRun};
-ghost use Rattle.flow_cold.specs.Build.{AddsDepth, Refuses, RefusesDepth, depth_of, op_depth, op_meaning, op_rest, op_whole, source_rest, source_whole};
+ghost use Rattle.flow_cold.specs.Build.{AddsDepth, Refuses, RefusesDepth, TakesNone, depth_of, op_depth, op_meaning, op_rest, op_whole, source_rest, source_whole};
 ghost use Rattle.flow_cold.specs.Part.{part_depth, part_rest, part_whole};
 ghost use Rattle.flow_cold.specs.ScriptChain.{IsNodeOver, NodeAsksBehind, node_depth, node_rest, node_whole};
 
@@ -12,7 +12,7 @@ use crate::script_chain::op::{Joining, Op, Source, Spread};
 use crate::script_chain::operator::Operator;
 use crate::script_chain::pairing::Pairing;
 use crate::script_chain::state::{
-    Adding, Comparing, Counting, Following, Mapping, Repeating, Scanning,
+    Adding, Comparing, Dropping, Following, Mapping, Repeating, Scanning, Taking,
 };
 use flow_law::ChainFault;
 use flow_operators::{Asked, Cold};
@@ -49,6 +49,7 @@ impl Op {
 
     /// The operator as it begins.
     fn begun(self) -> Part
+        requires { ¬ TakesNone self }
         ensures whole { (r : ChainRun ℤ) → part_whole result r ≡ op_whole self r }
         ensures rest { (r : ChainRun ℤ) → part_rest result r ≡ op_rest self r }
         ensures depth { (depth : ℕ) → part_depth result depth ≡ op_depth self depth }
@@ -58,8 +59,8 @@ impl Op {
             Op::Filter(test) => Operator::Filter(test),
             Op::TakeWhile(test) => Operator::TakeWhile(test),
             Op::Transform(entries) => Operator::Transform(Adding::new(entries)),
-            Op::Take(count) => Operator::Take(Counting { count, left: count }),
-            Op::DropFirst(count) => Operator::DropFirst(Counting { count, left: count }),
+            Op::Take(count) => Operator::Take(Taking::new(count)),
+            Op::DropFirst(count) => Operator::DropFirst(Dropping { count, left: count }),
             Op::Scan { from, by } => Operator::Scan(Scanning {
                 initial: from,
                 by,

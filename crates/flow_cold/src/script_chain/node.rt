@@ -5,8 +5,8 @@ ghost use Rattle.flow_cold.specs.declared.script_chain.node.Node.{size-Node};
 ghost use Rattle.flow_operators.specs.Asking.{AskGives, IsFinal};
 ghost use Rattle.flow_operators.specs.Behind.{Leaves};
 ghost use Rattle.flow_cold.specs.Answers.{asked_of};
-ghost use Rattle.flow_cold.specs.OperatorAsks.{after_operator};
-ghost use Rattle.flow_cold.specs.Operators.{is_over, operator_whole, stage_rest};
+ghost use Rattle.flow_cold.specs.OperatorAsks.{after_stage};
+ghost use Rattle.flow_cold.specs.Operators.{IsStageOver, operator_whole, stage_rest};
 ghost use Rattle.flow_cold.specs.ScriptChain.{IsNodeOver, NodeAsksBehind, node_depth, node_rest, node_whole};
 
 use crate::script_chain::answer::Answer;
@@ -14,11 +14,22 @@ use crate::script_chain::operator::Operator;
 use crate::script_chain::pairing::Pairing;
 use flow_operators::{Cold, OfList, OfRange, Scripted};
 
-/// An operator in a chain, and whether it has ended.
+/// What an ask of an operator begins with.
+#[derive(Clone, Copy)]
+pub enum Phase {
+    /// Its upstream is asked.
+    Ready,
+    /// What it holds back is given first.
+    Holding,
+    /// The end, and the upstream is not asked again.
+    Over,
+}
+
+/// An operator in a chain.
 #[derive(Drop)]
 pub struct Stage {
     pub operator: Operator,
-    pub ended: bool,
+    pub phase: Phase,
 }
 
 /// A source, an operator on an upstream, or a zip of two.
@@ -48,7 +59,7 @@ pub fn ask_node(node: &mut Node) -> Answer
         Node::Range(range) => Answer::of(range.ask()),
         Node::Script(script) => Answer::of(script.ask()),
         Node::On(upstream, stage) => {
-            if stage.is_over() {
+            if let Phase::Over = stage.phase {
                 return Answer::End;
             }
             ask_stage(upstream, stage)
@@ -73,21 +84,23 @@ pub fn ask_node(node: &mut Node) -> Answer
 /// Gives the next answer of an operator that is not over: its upstream is asked until there is one.
 #[cycle(asking)]
 fn ask_stage(upstream: &mut Node, stage: &mut Stage) -> Answer
-    requires { is_over stage.old ≡ false }
+    requires { ¬ IsStageOver stage.old }
     ensures whole { node_whole upstream.new ≡ node_whole upstream.old }
     ensures operator { (r : ChainRun ℤ)
         → operator_whole stage.new.operator r ≡ operator_whole stage.old.operator r }
     ensures gives { AskGives (stage_rest stage.old (node_rest upstream.old)) (asked_of result)
         (stage_rest stage.new (node_rest upstream.new)) }
-    ensures over { IsFinal (asked_of result) → stage.new.ended ≡ true }
-    ensures behind { Leaves (after_operator stage.old.operator (node_rest upstream.old)) (asked_of result)
+    ensures over { IsFinal (asked_of result) → IsStageOver stage.new }
+    ensures behind { Leaves (after_stage stage.old (node_rest upstream.old)) (asked_of result)
         (node_rest upstream.new) }
     ensures depth { node_depth upstream.new ≡ node_depth upstream.old }
     ensures size { size-Node upstream.new ≤ size-Node upstream.old }
 {
     loop {
-        if let Some(answer) = stage.first() {
-            return answer;
+        if let Phase::Holding = stage.phase {
+            if let Some(answer) = stage.next_held() {
+                return answer;
+            }
         }
         let asked = ask_node(upstream);
         if let Some(answer) = stage.on_answer(asked) {

@@ -1,12 +1,13 @@
 //! The operators with one upstream: what each makes of its upstream's items, one step at a time.
 ghost use Rattle.std.specs.Prelude.{◌≡◌, ℤ};
 ghost use Rattle.flow_law.specs.ChainRun.{ChainRun, gives};
-ghost use Rattle.flow_cold.specs.OperatorAsks.{StepLeaves, after_operator};
-ghost use Rattle.flow_cold.specs.Operators.{IsReady, OnNothing, StepGives, operator_rest, operator_whole};
+ghost use Rattle.flow_cold.specs.OperatorAsks.{HeldLeaves, StepLeaves, after_held, after_ready};
+ghost use Rattle.flow_cold.specs.Operators.{HeldGives, StepGives, after_number, after_step, first_phase, held_rest, operator_whole, ready_rest, rest_in};
 
+use crate::script_chain::node::Phase;
 use crate::script_chain::op::Test;
 use crate::script_chain::state::{
-    Adding, Comparing, Counting, Following, Mapping, Repeating, Scanning,
+    Adding, Comparing, Dropping, Following, Mapping, Repeating, Scanning, Taking,
 };
 use flow_law::ChainFault;
 
@@ -17,55 +18,65 @@ pub enum Operator {
     Filter(Test),
     TakeWhile(Test),
     Transform(Adding),
-    Take(Counting),
-    DropFirst(Counting),
+    Take(Taking),
+    DropFirst(Dropping),
     Scan(Scanning),
     FlatMapRange(Following),
     FlatMapRepeat(Repeating),
     Distinct(Comparing),
 }
 
-/// What comes of an item, or stands before the next one.
+/// What comes of an item.
 #[derive(Drop)]
 pub enum Step {
     Item(i64),
+    /// An item, after which the operator is over.
+    Last(i64),
     Nothing,
+    /// Nothing yet: there are numbers to give before the upstream is asked again.
+    Held,
     End,
     Fault(ChainFault),
 }
 
 impl Operator {
-    /// What stands before the upstream's next answer: a number that is still to be given, or the end.
-    pub fn first(&mut self) -> Step
-        ensures whole { (r : ChainRun ℤ) → operator_whole self.new r ≡ operator_whole self.old r }
-        ensures gives { (r : ChainRun ℤ) → StepGives (operator_rest self.old r) result
-            (operator_rest self.new r) }
-        ensures behind { (r : ChainRun ℤ)
-            → StepLeaves (after_operator self.old r) result r (after_operator self.new r) }
-        ensures ready { OnNothing result (IsReady self.new) }
+    /// What its first ask begins with.
+    pub fn first_phase(&self) -> Phase
+        ensures { result ≡ first_phase self.now }
     {
         match self {
-            Operator::Transform(state) => state.first(),
-            Operator::Take(state) => state.first(),
-            Operator::Scan(state) => state.first(),
-            Operator::FlatMapRange(state) => state.first(),
-            Operator::FlatMapRepeat(state) => state.first(),
-            Operator::Map(_) => Step::Nothing,
-            Operator::Filter(_) => Step::Nothing,
-            Operator::TakeWhile(_) => Step::Nothing,
-            Operator::DropFirst(_) => Step::Nothing,
-            Operator::Distinct(_) => Step::Nothing,
+            Operator::Scan(_) => Phase::Holding,
+            _ => Phase::Ready,
         }
     }
 
-    /// What is made of the upstream's next item.
-    pub fn on_item(&mut self, item: i64) -> Step
-        requires { IsReady self.old }
+    /// The next number that is held back, or the fault in its place. `None` where none is left.
+    pub fn next_held(&mut self) -> Option<Result<i64, ChainFault>>
         ensures whole { (r : ChainRun ℤ) → operator_whole self.new r ≡ operator_whole self.old r }
-        ensures gives { (r : ChainRun ℤ) → StepGives (operator_rest self.old (gives item r)) result
-            (operator_rest self.new r) }
+        ensures gives { (r : ChainRun ℤ)
+            → HeldGives (held_rest self.old r) result
+            (after_number result (held_rest self.new r) (ready_rest self.new r)) }
         ensures behind { (r : ChainRun ℤ)
-            → StepLeaves (after_operator self.old (gives item r)) result r (after_operator self.new r) }
+            → HeldLeaves (after_held self.old r) result r (after_ready self.new r) }
+    {
+        match self {
+            Operator::Transform(state) => state.next_held(),
+            Operator::Scan(state) => state.next_held(),
+            Operator::FlatMapRange(state) => state.next_held(),
+            Operator::FlatMapRepeat(state) => state.next_held(),
+            _ => None,
+        }
+    }
+
+    /// What is made of the upstream's next item, where nothing is held back.
+    pub fn on_item(&mut self, item: i64) -> Step
+        ensures whole { (r : ChainRun ℤ) → operator_whole self.new r ≡ operator_whole self.old r }
+        ensures gives { (r : ChainRun ℤ)
+            → StepGives (ready_rest self.old (gives item r)) result
+            (after_step result (held_rest self.new r) (ready_rest self.new r)) }
+        ensures behind { (r : ChainRun ℤ)
+            → StepLeaves (after_ready self.old (gives item r)) result r
+            (after_step result (after_held self.new r) (after_ready self.new r)) }
     {
         match self {
             Operator::Filter(test) => {
@@ -87,8 +98,8 @@ impl Operator {
                 Err(fault) => Step::Fault(fault),
             },
             Operator::Transform(state) => state.on_item(item),
-            Operator::Take(state) => state.take(item),
-            Operator::DropFirst(state) => state.drop_first(item),
+            Operator::Take(state) => state.on_item(item),
+            Operator::DropFirst(state) => state.on_item(item),
             Operator::Scan(state) => state.on_item(item),
             Operator::FlatMapRange(state) => state.on_item(item),
             Operator::FlatMapRepeat(state) => state.on_item(item),
@@ -99,19 +110,14 @@ impl Operator {
     /// Starts anew.
     pub fn rewind(&mut self)
         ensures whole { (r : ChainRun ℤ) → operator_whole self.new r ≡ operator_whole self.old r }
-        ensures rest { (r : ChainRun ℤ) → operator_rest self.new r ≡ operator_whole self.old r }
+        ensures rest { (r : ChainRun ℤ) → rest_in (first_phase self.new) self.new r ≡ operator_whole self.old r }
     {
         match self {
-            Operator::Transform(state) => state.at = state.entries.len(),
-            Operator::Take(state) => state.left = state.count,
+            Operator::Take(state) => state.left = state.more,
             Operator::DropFirst(state) => state.left = state.count,
             Operator::Scan(state) => state.begun = false,
-            Operator::FlatMapRange(state) => state.closed = true,
-            Operator::FlatMapRepeat(state) => state.left = 0,
             Operator::Distinct(state) => state.last = None,
-            Operator::Map(_) => {}
-            Operator::Filter(_) => {}
-            Operator::TakeWhile(_) => {}
+            _ => {}
         }
     }
 }

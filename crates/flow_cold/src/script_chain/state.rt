@@ -1,11 +1,13 @@
 //! What each operator with one upstream keeps while its chain is asked, and its steps.
 ghost use Rattle.std.specs.Ordering.{int_eq};
-ghost use Rattle.std.specs.Prelude.{◌≡◌, ◌≢◌, ℤ, true, [], drop};
+ghost use Rattle.std.specs.Prelude.{◌≡◌, ◌≢◌, suc, ℤ};
 ghost use Rattle.flow_law.specs.ChainRun.{ChainRun, gives};
-ghost use Rattle.flow_law.specs.OperatorRuns.{distinct_run, drop_run, take_run};
-ghost use Rattle.flow_operators.specs.Behind.{after_distinct, after_drop, after_scan, after_take};
-ghost use Rattle.flow_cold.specs.OperatorAsks.{StepLeaves, after_adding, after_following, after_repeating};
-ghost use Rattle.flow_cold.specs.Operators.{OnNothing, StepGives, adding_rest, following_rest, repeating_rest, scanning_rest};
+ghost use Rattle.flow_law.specs.OperatorRuns.{distinct_run, drop_run, flat_map_run, scan_run, take_run, transform_run};
+ghost use Rattle.flow_operators.specs.Behind.{after_ask, after_distinct, after_drop, after_flat_map, after_scan, after_transform};
+ghost use Rattle.flow_cold.specs.declared.script_chain.op.Spread.TheVariants as spread;
+ghost use Rattle.flow_cold.specs.Numbers.{computed, spread_run, sums};
+ghost use Rattle.flow_cold.specs.OperatorAsks.{HeldLeaves, StepLeaves, after_adding, after_following, after_repeating};
+ghost use Rattle.flow_cold.specs.Operators.{HeldGives, StepGives, adding_rest, after_number, after_step, following_rest, repeating_rest, scanning_rest};
 
 use crate::script_chain::numbers::{all_sums_fit, last_of};
 use crate::script_chain::op::Arithmetic;
@@ -19,49 +21,56 @@ pub struct Mapping {
     pub k: i64,
 }
 
-/// `left` is how many items may still be given, or have still to be dropped.
+/// `more` is how many items are given after the first, `left` after the next one.
 #[derive(Drop)]
-pub struct Counting {
+pub struct Taking {
+    pub more: u64,
+    pub left: u64,
+}
+
+impl Taking {
+    /// None of the items was given yet; there are to be some.
+    pub fn new(count: u64) -> Taking
+        requires { count ≢ 0 }
+        ensures more { suc result.more ≡ count }
+        ensures left { suc result.left ≡ count }
+    {
+        let more = count - 1;
+        Taking { more, left: more }
+    }
+
+    /// The item; the last one where none may be given after it.
+    pub fn on_item(&mut self, item: i64) -> Step
+        ensures more { self.new.more ≡ self.old.more }
+        ensures gives { (r : ChainRun ℤ) → StepGives (take_run (suc self.old.left) (gives item r)) result
+            (take_run (suc self.new.left) r) }
+        ensures leaves { (r further : ChainRun ℤ) → StepLeaves r result r further }
+        ensures held { (r q : ChainRun ℤ) → after_step result r q ≡ q }
+    {
+        if self.left == 0 {
+            return Step::Last(item);
+        }
+        self.left -= 1;
+        Step::Item(item)
+    }
+}
+
+/// `left` is how many items have still to be dropped.
+#[derive(Drop)]
+pub struct Dropping {
     pub count: u64,
     pub left: u64,
 }
 
-impl Counting {
-    /// The end, where nothing may be given any more.
-    pub fn first(&self) -> Step
-        ensures gives { (r : ChainRun ℤ) → StepGives (take_run self.now.left r) result
-            (take_run self.now.left r) }
-        ensures behind { (r : ChainRun ℤ)
-            → StepLeaves (after_take self.now.left r) result r (after_take self.now.left r) }
-        ensures ready { OnNothing result (self.now.left ≢ 0) }
-    {
-        if self.left == 0 {
-            Step::End
-        } else {
-            Step::Nothing
-        }
-    }
-
-    /// The item, and one less to give.
-    pub fn take(&mut self, item: i64) -> Step
-        requires { self.old.left ≢ 0 }
-        ensures count { self.new.count ≡ self.old.count }
-        ensures gives { (r : ChainRun ℤ) → StepGives (take_run self.old.left (gives item r)) result
-            (take_run self.new.left r) }
-        ensures behind { (r : ChainRun ℤ)
-            → StepLeaves (after_take self.old.left (gives item r)) result r (after_take self.new.left r) }
-    {
-        self.left -= 1;
-        Step::Item(item)
-    }
-
+impl Dropping {
     /// Nothing while items have to be dropped, then the item.
-    pub fn drop_first(&mut self, item: i64) -> Step
+    pub fn on_item(&mut self, item: i64) -> Step
         ensures count { self.new.count ≡ self.old.count }
         ensures gives { (r : ChainRun ℤ) → StepGives (drop_run (gives item r) self.old.left) result
             (drop_run r self.new.left) }
         ensures behind { (r : ChainRun ℤ)
             → StepLeaves (after_drop (gives item r) self.old.left) result r (after_drop r self.new.left) }
+        ensures held { (r q : ChainRun ℤ) → after_step result r q ≡ q }
     {
         if self.left == 0 {
             return Step::Item(item);
@@ -82,52 +91,50 @@ pub struct Adding {
 impl Adding {
     /// No item has been met yet.
     pub fn new(entries: Vec<i64>) -> Adding
-        ensures entries { result.entries ≡ entries }
-        ensures none { drop result.at result.entries.items ≡ [] }
+        ensures { result.entries ≡ entries }
     {
-        let at = entries.len();
         Adding {
             entries,
             item: 0,
-            at,
+            at: 0,
         }
     }
 
     /// The next sum, if one is left.
-    pub fn first(&mut self) -> Step
+    pub fn next_held(&mut self) -> Option<Result<i64, ChainFault>>
         ensures entries { self.new.entries ≡ self.old.entries }
-        ensures gives { (r : ChainRun ℤ) → StepGives (adding_rest self.old r) result
-            (adding_rest self.new r) }
+        ensures gives { (r : ChainRun ℤ) → HeldGives (adding_rest self.old r) result
+            (after_number result (adding_rest self.new r) (transform_run (sums self.new.entries.items) r)) }
         ensures behind { (r : ChainRun ℤ)
-            → StepLeaves (after_adding self.old r) result r (after_adding self.new r) }
-        ensures ready { OnNothing result (drop self.new.at self.new.entries.items ≡ []) }
+            → HeldLeaves (after_adding self.old r) result r (after_transform (sums self.new.entries.items) r) }
     {
         if self.at >= self.entries.len() {
-            return Step::Nothing;
+            return None;
         }
         let sum = self.item.checked_add(self.entries[self.at]);
         self.at += 1;
         match sum {
-            Some(sum) => Step::Item(sum),
-            None => Step::Fault(ChainFault::Overflow),
+            Some(sum) => Some(Ok(sum)),
+            None => Some(Err(ChainFault::Overflow)),
         }
     }
 
     /// Begins the sums of an item, unless one of them is out of range.
     pub fn on_item(&mut self, item: i64) -> Step
-        requires { drop self.old.at self.old.entries.items ≡ [] }
         ensures entries { self.new.entries ≡ self.old.entries }
-        ensures gives { (r : ChainRun ℤ) → StepGives (adding_rest self.old (gives item r)) result
-            (adding_rest self.new r) }
+        ensures gives { (r : ChainRun ℤ)
+            → StepGives (transform_run (sums self.old.entries.items) (gives item r)) result
+            (after_step result (adding_rest self.new r) (transform_run (sums self.new.entries.items) r)) }
         ensures behind { (r : ChainRun ℤ)
-            → StepLeaves (after_adding self.old (gives item r)) result r (after_adding self.new r) }
+            → StepLeaves (after_transform (sums self.old.entries.items) (gives item r)) result r
+            (after_step result (after_adding self.new r) (after_transform (sums self.new.entries.items) r)) }
     {
         if !all_sums_fit(&self.entries, item) {
             return Step::Fault(ChainFault::Overflow);
         }
         self.item = item;
         self.at = 0;
-        Step::Nothing
+        Step::Held
     }
 }
 
@@ -142,32 +149,30 @@ pub struct Scanning {
 
 impl Scanning {
     /// The initial value, if it was not given yet.
-    pub fn first(&mut self) -> Step
+    pub fn next_held(&mut self) -> Option<Result<i64, ChainFault>>
         ensures by { self.new.by ≡ self.old.by }
         ensures initial { self.new.initial ≡ self.old.initial }
-        ensures gives { (r : ChainRun ℤ) → StepGives (scanning_rest self.old r) result
-            (scanning_rest self.new r) }
-        ensures behind { (r : ChainRun ℤ)
-            → StepLeaves (after_scan self.old.begun r) result r (after_scan self.new.begun r) }
-        ensures ready { OnNothing result (self.new.begun ≡ true) }
+        ensures gives { (r : ChainRun ℤ) → HeldGives (scanning_rest self.old r) result
+            (after_number result (scanning_rest self.new r) (scan_run (computed self.new.by) self.new.last r)) }
+        ensures behind { (r : ChainRun ℤ) → HeldLeaves (after_scan self.old.begun r) result r (after_ask r) }
     {
         if self.begun {
-            return Step::Nothing;
+            return None;
         }
         self.begun = true;
         self.last = self.initial;
-        Step::Item(self.initial)
+        Some(Ok(self.initial))
     }
 
     /// The next accumulator, which is given.
     pub fn on_item(&mut self, item: i64) -> Step
-        requires { self.old.begun ≡ true }
         ensures by { self.new.by ≡ self.old.by }
         ensures initial { self.new.initial ≡ self.old.initial }
-        ensures gives { (r : ChainRun ℤ) → StepGives (scanning_rest self.old (gives item r)) result
-            (scanning_rest self.new r) }
-        ensures behind { (r : ChainRun ℤ)
-            → StepLeaves (after_scan self.old.begun (gives item r)) result r (after_scan self.new.begun r) }
+        ensures gives { (r : ChainRun ℤ)
+            → StepGives (scan_run (computed self.old.by) self.old.last (gives item r)) result
+            (scan_run (computed self.new.by) self.new.last r) }
+        ensures leaves { (r further : ChainRun ℤ) → StepLeaves r result r further }
+        ensures held { (r q : ChainRun ℤ) → after_step result r q ≡ q }
     {
         match self.by.compute(self.last, item) {
             Ok(result) => {
@@ -191,8 +196,7 @@ pub struct Following {
 impl Following {
     /// No item has been met yet.
     pub fn new(count: u64) -> Following
-        ensures count { result.count ≡ count }
-        ensures none { result.closed ≡ true }
+        ensures { result.count ≡ count }
     {
         Following {
             count,
@@ -203,38 +207,41 @@ impl Following {
     }
 
     /// The next number, if one is left.
-    pub fn first(&mut self) -> Step
+    pub fn next_held(&mut self) -> Option<Result<i64, ChainFault>>
         ensures count { self.new.count ≡ self.old.count }
-        ensures gives { (r : ChainRun ℤ) → StepGives (following_rest self.old r) result
-            (following_rest self.new r) }
-        ensures behind { (r : ChainRun ℤ)
-            → StepLeaves (after_following self.old r) result r (after_following self.new r) }
-        ensures ready { OnNothing result (self.new.closed ≡ true) }
+        ensures gives { (r : ChainRun ℤ) → HeldGives (following_rest self.old r) result
+            (after_number result (following_rest self.new r)
+            (flat_map_run (spread_run spread.Range self.new.count) r)) }
+        ensures behind { (r : ChainRun ℤ) → HeldLeaves (after_following self.old r) result r
+            (after_flat_map (spread_run spread.Range self.new.count) r) }
     {
         if self.closed {
-            return Step::Nothing;
+            return None;
         }
         let item = self.next;
         if item > self.last {
             self.closed = true;
-            return Step::Nothing;
+            return None;
         }
         if item < self.last {
             self.next = item + 1;
         } else {
             self.closed = true;
         }
-        Step::Item(item)
+        Some(Ok(item))
     }
 
     /// Begins the numbers that follow an item, unless the last of them is out of range.
     pub fn on_item(&mut self, item: i64) -> Step
-        requires { self.old.closed ≡ true }
         ensures count { self.new.count ≡ self.old.count }
-        ensures gives { (r : ChainRun ℤ) → StepGives (following_rest self.old (gives item r)) result
-            (following_rest self.new r) }
+        ensures gives { (r : ChainRun ℤ)
+            → StepGives (flat_map_run (spread_run spread.Range self.old.count) (gives item r)) result
+            (after_step result (following_rest self.new r)
+            (flat_map_run (spread_run spread.Range self.new.count) r)) }
         ensures behind { (r : ChainRun ℤ)
-            → StepLeaves (after_following self.old (gives item r)) result r (after_following self.new r) }
+            → StepLeaves (after_flat_map (spread_run spread.Range self.old.count) (gives item r)) result r
+            (after_step result (after_following self.new r)
+            (after_flat_map (spread_run spread.Range self.new.count) r)) }
     {
         if self.count == 0 {
             return Step::Nothing;
@@ -244,7 +251,7 @@ impl Following {
                 self.next = item;
                 self.last = last;
                 self.closed = false;
-                Step::Nothing
+                Step::Held
             }
             Err(fault) => Step::Fault(fault),
         }
@@ -262,8 +269,7 @@ pub struct Repeating {
 impl Repeating {
     /// No item has been met yet.
     pub fn new(count: u64) -> Repeating
-        ensures count { result.count ≡ count }
-        ensures none { result.left ≡ 0 }
+        ensures { result.count ≡ count }
     {
         Repeating {
             count,
@@ -273,33 +279,35 @@ impl Repeating {
     }
 
     /// The item once more, if it is to be given once more.
-    pub fn first(&mut self) -> Step
+    pub fn next_held(&mut self) -> Option<Result<i64, ChainFault>>
         ensures count { self.new.count ≡ self.old.count }
-        ensures gives { (r : ChainRun ℤ) → StepGives (repeating_rest self.old r) result
-            (repeating_rest self.new r) }
-        ensures behind { (r : ChainRun ℤ)
-            → StepLeaves (after_repeating self.old r) result r (after_repeating self.new r) }
-        ensures ready { OnNothing result (self.new.left ≡ 0) }
+        ensures gives { (r : ChainRun ℤ) → HeldGives (repeating_rest self.old r) result
+            (after_number result (repeating_rest self.new r)
+            (flat_map_run (spread_run spread.Repeat self.new.count) r)) }
+        ensures behind { (r : ChainRun ℤ) → HeldLeaves (after_repeating self.old r) result r
+            (after_flat_map (spread_run spread.Repeat self.new.count) r) }
     {
         if self.left == 0 {
-            return Step::Nothing;
+            return None;
         }
         self.left -= 1;
-        Step::Item(self.item)
+        Some(Ok(self.item))
     }
 
     /// Begins to repeat an item.
     pub fn on_item(&mut self, item: i64) -> Step
-        requires { self.old.left ≡ 0 }
         ensures count { self.new.count ≡ self.old.count }
-        ensures gives { (r : ChainRun ℤ) → StepGives (repeating_rest self.old (gives item r)) result
+        ensures gives { (r : ChainRun ℤ)
+            → StepGives (flat_map_run (spread_run spread.Repeat self.old.count) (gives item r)) result
             (repeating_rest self.new r) }
         ensures behind { (r : ChainRun ℤ)
-            → StepLeaves (after_repeating self.old (gives item r)) result r (after_repeating self.new r) }
+            → StepLeaves (after_flat_map (spread_run spread.Repeat self.old.count) (gives item r)) result r
+            (after_repeating self.new r) }
+        ensures held { (r q : ChainRun ℤ) → after_step result r q ≡ r }
     {
         self.item = item;
         self.left = self.count;
-        Step::Nothing
+        Step::Held
     }
 }
 
@@ -317,6 +325,7 @@ impl Comparing {
         ensures behind { (r : ChainRun ℤ)
             → StepLeaves (after_distinct int_eq self.old.last (gives item r)) result r
             (after_distinct int_eq self.new.last r) }
+        ensures held { (r q : ChainRun ℤ) → after_step result r q ≡ q }
     {
         if self.last == Some(item) {
             return Step::Nothing;
