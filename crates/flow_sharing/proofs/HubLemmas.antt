@@ -1,5 +1,5 @@
--- What each call does to the two seats of a hub, of a shared flow and of a state flow. Begin with `shared-by-seats` and `state-by-seats`.
-use Rattle.std.proofs.Common.{◌≡◌, ◌≢◌, ℕ, ◌+◌, Bool, true, false, Option, Some, None, Result, Ok, Err, subst, sym, refl, ap, ◌∙◌}
+-- What each call does to the two seats of a hub, of a shared flow and of state flows. Begin with `shared-by-seats`, `state-by-seats` and `word-by-seats`.
+use Rattle.std.proofs.Common.{◌≡◌, ◌≢◌, ℕ, ◌+◌, Bool, true, false, Option, Some, None, Result, Ok, Err, subst, sym, refl, ap, ◌∙◌, List, arith}
 use Rattle.std.proofs.Math.Nat.{add-zero, add_assoc, add_comm}
 use Rattle.flow_law.specs.declared.fault.FlowFault.{FlowFault}
 use Rattle.flow_law.specs.declared.fault.FlowFault.TheVariants.{OutOfMemory, TooLarge, NeedsBuffer, Exhausted, Unsupported, Busy}
@@ -8,15 +8,22 @@ use Rattle.flow_law.specs.declared.states.SharedFlowState.{SharedFlowState}
 use Rattle.flow_law.specs.SharedHistory.{shared_flow}
 use Rattle.flow_law.specs.StateFlow.{state_flow}
 use Rattle.flow_law.specs.History.{Kind}
-use Rattle.flow_law.specs.SharingCalls.{HubCall, HubAnswer, HubStep, counts, puts, polls, cancels}
+use Rattle.flow_law.specs.SharingCalls.{HubCall, HubAnswer, HubStep, counts, puts, polls, cancels, ChainAndHub, CallDoes}
+use Rattle.flow_law.specs.SharingTurn.{SharingState, Turned, turn_steps}
+use Rattle.flow_law.specs.Steps.{Takes}
+use Rattle.flow_law.specs.declared.sharing.Started.{Started}
+use Rattle.flow_law.specs.declared.sharing.SharingObservation.{SharingObservation}
+use Rattle.std.specs.Result.{is_ok}
 use Rattle.flow_law.specs.Tokens.{Token, IsBusy, CallsAtOnceIn}
 use Rattle.flow_shared.specs.SharedReplies.{SharedToken}
 use Rattle.flow_sharing.specs.SeatedHub.{SeatedHub, has_emission, OnlySends, CountDoes}
 use Rattle.flow_sharing.specs.SharedFlowHub.{SharedSeats, PutBy, PollBy, CancelBy, SharedFlowHubDoes}
 use Rattle.flow_sharing.specs.StateFlowHub.{StateSeats, nothing_waits, StateFlowHubDoes}
-use Rattle.flow_sharing.specs.OverThreads.{exchanges_lost, HasSeenMore, Follows}
+use Rattle.flow_sharing.specs.WordHub.{WordHubDoes}
+use Rattle.flow_sharing.specs.OverThreads.{exchanges_lost, lost_at, lost_in, HasSeenMore, Follows, IsNotBusy}
 use Rattle.flow_sharing.proofs.SeatLemmas.{seen-here, seen-busy, seen-called}
-use Rattle.flow_sharing.proofs.TurnBySeatsLemmas.{BySeats, lost_for, lost_by}
+use Rattle.flow_sharing.proofs.TurnBySeatsLemmas.{BySeats, lost_for, lost_by, turn-by-seats}
+use Rattle.flow_law.proofs.TurnLemmas.{turn-along}
 
 -- ---- one call of a token, which lost so many exchanges
 
@@ -147,3 +154,34 @@ state-by-seats Id T = record {
   watches = λ c h k a other told. state-watches c h k a other told.0;
   follows = λ c h k a told. (state-steps c h k a told.0).1;
 }
+
+-- ---- a state flow without a lock
+
+none-lost : {X : Type 0} (a : Result X FlowFault) → is_ok a ≡ true → lost_by a ≡ 0
+none-lost (Ok x) is = refl
+none-lost (Err fault) is = absurd (cc)
+
+pub word-by-seats : (Id T : Type 0) → BySeats (state_flow {T = T}) (HubStep (WordHubDoes {Id = Id}) nothing_waits)
+word-by-seats Id T = record {
+  loses = λ c h k a told. (state-steps c h k a told.0.1).0;
+  counted = λ h k a told. told.0.1.0;
+  watches = λ c h k a other told. state-watches c h k a other told.0.1;
+  follows = λ c h k a told. (state-steps c h k a told.0.1).1;
+}
+
+module _ {Id T : Type 0} (started : Started) (now : ℕ) (seen : List SharingObservation) (s : SharingState T) (old new : ChainAndHub T (StateSeats Id T)) (turned : Turned T) where
+  -- no call of it loses an exchange
+  keeps-count : (c : HubCall T) (h k : StateSeats Id T) (a : HubAnswer c) (f : Unit {0}) → exchanges_lost h ≡ exchanges_lost old.hub → HubStep WordHubDoes nothing_waits c h a k
+      → (g : Unit {0}) × (exchanges_lost k ≡ exchanges_lost old.hub) × Unit {0}
+  keeps-count c h k a f same told = (
+    tt,
+    (state-steps c h k a told.0.1).0 ∙ ap (λ n. exchanges_lost h + n) (none-lost a told.0.0) ∙ add-zero (exchanges_lost h) ∙ same,
+    tt,
+  )
+
+  pub word-not-busy : Takes (CallDoes (HubStep WordHubDoes nothing_waits)) (turn_steps started now seen s) old turned new → IsNotBusy turned.answer
+  word-not-busy takes report is is_busy =
+      let same : exchanges_lost new.hub ≡ exchanges_lost old.hub = (turn-along (HubStep WordHubDoes nothing_waits) (λ c f a g. Unit {0}) (λ h f. exchanges_lost h ≡ exchanges_lost old.hub) keeps-count (turn_steps started now seen s) old new tt turned refl takes).1 in
+      let lost : exchanges_lost new.hub ≡ exchanges_lost old.hub + lost_in turned.answer = (turn-by-seats state_flow _ (word-by-seats Id T) started now seen s old new turned takes).lost in
+      let one : lost_in turned.answer ≡ 1 = ap lost_in is ∙ ap lost_at is_busy in
+      absurd (omega arith)

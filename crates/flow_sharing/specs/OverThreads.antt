@@ -1,5 +1,5 @@
 -- What a turn over a flow for several threads is for that flow's history. Begin with `TurnBySeats`.
-use Rattle.std.specs.Prelude.{◌≡◌, ◌⊎◌, ℕ, ◌+◌, List, ◌∷◌, ◌++◌, Result, Ok, Err}
+use Rattle.std.specs.Prelude.{◌≡◌, ◌≢◌, ◌⊎◌, ℕ, ◌+◌, List, ◌∷◌, ◌++◌, Result, Ok, Err}
 use Rattle.atomic_table.specs.Seated.{TableId}
 use Rattle.flow_law.specs.declared.sharing.Started.{Started}
 use Rattle.flow_law.specs.declared.sharing.SharingObservation.{SharingObservation}
@@ -21,6 +21,8 @@ use Rattle.flow_law.specs.TurnMeaning.{HasAccount, BetweenTurns, TurnMeans}
 use Rattle.flow_sharing.specs.SeatedHub.{SeatedHub, has_emission}
 use Rattle.flow_sharing.specs.SharedFlowHub.{SharedSeats, SharedFlowHubDoes}
 use Rattle.flow_sharing.specs.StateFlowHub.{StateSeats, StateFlowHubDoes, nothing_waits}
+use Rattle.flow_sharing.specs.WordHub.{WordHubDoes}
+use Rattle.flow_word.specs.Tokens.{WordId}
 
 -- ---- lost exchanges
 
@@ -79,9 +81,20 @@ LawTurnOverSharedFlow T =
     Takes (CallDoes (HubStep SharedFlowHubDoes has_emission)) (turn_steps started now seen s) old turned new →
     TurnBySeats shared_flow (HubStep SharedFlowHubDoes has_emission) started now seen s old turned new
 
+-- the turn was not Busy
+abbrev pub IsNotBusy : Result Report ShareFault → Type 0
+IsNotBusy answer = (report : Report) → answer ≡ Ok report → report.event ≢ Busy
+
 -- A turn over a state flow for several threads.
 abbrev pub LawTurnOverStateFlow : Type 0 → Type 0
 LawTurnOverStateFlow T =
     (started : Started) (now : ℕ) (seen : List SharingObservation) (s : SharingState T) (old new : ChainAndHub T (StateSeats TableId T)) (turned : Turned T) →
     Takes (CallDoes (HubStep StateFlowHubDoes nothing_waits)) (turn_steps started now seen s) old turned new →
     TurnBySeats state_flow (HubStep StateFlowHubDoes nothing_waits) started now seen s old turned new
+
+-- A turn over a state flow without a lock, which is never Busy.
+abbrev pub LawTurnOverWordState : Type 0 → Type 0
+LawTurnOverWordState T =
+    (started : Started) (now : ℕ) (seen : List SharingObservation) (s : SharingState T) (old new : ChainAndHub T (StateSeats WordId T)) (turned : Turned T) →
+    Takes (CallDoes (HubStep WordHubDoes nothing_waits)) (turn_steps started now seen s) old turned new →
+    TurnBySeats state_flow (HubStep WordHubDoes nothing_waits) started now seen s old turned new × IsNotBusy turned.answer

@@ -30,7 +30,7 @@ pub use flow_turns::{
     ShareFault, Sharing, SharingObservation, Started, StateHub, law_turn_over_core,
     law_turn_over_state_core, share_in, state_in,
 };
-pub use laws::{law_turn_over_shared_flow, law_turn_over_state_flow};
+pub use laws::{law_turn_over_shared_flow, law_turn_over_state_flow, law_turn_over_word_state};
 pub use shared_flow_hub::SharedFlowHub;
 pub use state_flow_hub::StateFlowHub;
 pub use word_hub::WordHub;

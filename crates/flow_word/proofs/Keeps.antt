@@ -121,6 +121,7 @@ module _ (T : Type 0) (packs : ℕ → Type 0) (value_of : ℕ → T) (start : S
     },
     refl,
     refl,
+    refl,
   )
     where
       e : Event (Said (StateCall T) (StateReply T))

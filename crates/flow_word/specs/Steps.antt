@@ -40,10 +40,11 @@ pub record HasGot {T : Type 0} (packs : ℕ → Type 0) (value_of : ℕ → T) (
   pub packed : IsPack packs last
 
 module _ {T : Type 0} (value_of : ℕ → T) where
-  -- the step was the event of this call with this reply, and the seat has one token still
+  -- the step was the event of this call with this reply, the seat has one token still, and no exchange was lost
   abbrev pub Makes : Me Unit (List (Known T)) → StateCall T → StateReply T → Me Unit (List (Known T)) → Type 0
   Makes before call reply after =
       AddsOne (IsStateHistory (begun value_of (only before.0).start)) (only before.0).knows call reply (only after.0).knows × ((only after.0).start ≡ (only before.0).start) × (after ≡ (only after.0 ∷ [], before.1))
+      × ((only after.0).knows.lost ≡ (only before.0).knows.lost)
 
   abbrev pub sets : Step Unit → Me Unit (List (Known T)) → ℕ → Me Unit (List (Known T)) → Type 0
   sets step before found after = Makes before (Set (value_of step.first)) Done after

@@ -4,7 +4,7 @@ ghost use Rattle.flow_law.specs.declared.call.StateCall.TheVariants as call;
 ghost use Rattle.flow_law.specs.declared.call.StateReply.TheVariants as reply;
 ghost use Rattle.flow_law.specs.Growth.{makes, child};
 ghost use Rattle.flow_law.specs.StateFlow.{first_state_flow, state_flow};
-ghost use Rattle.flow_law.specs.Tokens.{Begins, CallsIn, knowing};
+ghost use Rattle.flow_law.specs.Tokens.{Begins, CallsAtOnceIn, knowing};
 
 use crate::plays::{Exchange, Make, Put, Read};
 use crate::token::{WordSeat, WordState};
@@ -56,7 +56,7 @@ impl<T: Packed> WordState<T> {
     pub(crate) fn word(&self, seat: &mut WordSeat<T>) -> u64
         requires { seat.old.table_id ≡ self.now.table_id }
         ensures packs { T.packs result }
-        ensures called { CallsIn state_flow self.now.first seat.old call.GetValue
+        ensures called { CallsAtOnceIn state_flow self.now.first seat.old call.GetValue
             (reply.Got (T.value_of result)) seat.new }
     {
         self.table.shared.load::<Read>(&mut seat.seat, 0)
@@ -66,7 +66,7 @@ impl<T: Packed> WordState<T> {
     pub(crate) fn exchange(&self, seat: &mut WordSeat<T>, expect: u64, update: u64) -> bool
         requires flow { seat.old.table_id ≡ self.now.table_id }
         requires packs { T.packs expect × T.packs update }
-        ensures { CallsIn state_flow self.now.first seat.old
+        ensures { CallsAtOnceIn state_flow self.now.first seat.old
             (call.CompareAndSet (T.value_of expect) (T.value_of update)) (reply.Answered result) seat.new }
     {
         let found = self
@@ -82,7 +82,7 @@ impl<T: Packed> WordState<T> {
     /// right after; to set what depends on the value that was read, `update` or `compare_and_set`.
     pub fn value(&self, seat: &mut WordSeat<T>) -> T
         requires { seat.old.table_id ≡ self.now.table_id }
-        ensures { CallsIn state_flow self.now.first seat.old call.GetValue (reply.Got result) seat.new }
+        ensures { CallsAtOnceIn state_flow self.now.first seat.old call.GetValue (reply.Got result) seat.new }
     {
         T::unpack(self.word(seat))
     }
@@ -94,7 +94,7 @@ impl<T: Packed> WordState<T> {
     /// one. Call it where the new value does not depend on the current one.
     pub fn set(&self, seat: &mut WordSeat<T>, value: T)
         requires { seat.old.table_id ≡ self.now.table_id }
-        ensures { CallsIn state_flow self.now.first seat.old (call.Set value) reply.Done seat.new }
+        ensures { CallsAtOnceIn state_flow self.now.first seat.old (call.Set value) reply.Done seat.new }
     {
         let word = value.pack();
         self.table.shared.swap::<Put>(&mut seat.seat, 0, word);
@@ -108,7 +108,7 @@ impl<T: Packed> WordState<T> {
     /// caller was faster, so read the value and try again, which is what `update` does.
     pub fn compare_and_set(&self, seat: &mut WordSeat<T>, expect: T, update: T) -> bool
         requires { seat.old.table_id ≡ self.now.table_id }
-        ensures { CallsIn state_flow self.now.first seat.old (call.CompareAndSet expect update)
+        ensures { CallsAtOnceIn state_flow self.now.first seat.old (call.CompareAndSet expect update)
             (reply.Answered result) seat.new }
     {
         self.exchange(seat, expect.pack(), update.pack())

@@ -1,10 +1,11 @@
 //! The calls of subscribers.
 ghost use Rattle.std.specs.Prelude.{◌≡◌, ◌≢◌, None, Ok, IfSome, IfErr};
 ghost use Rattle.flow_law.specs.declared.call.StateCall.TheVariants as call;
+ghost use Rattle.flow_law.specs.declared.call.StateReply.TheVariants as reply;
 ghost use Rattle.flow_law.specs.declared.fault.FlowFault.TheVariants.{Exhausted};
 ghost use Rattle.flow_law.specs.declared.outcome.Next.TheVariants.{Gone};
 ghost use Rattle.flow_law.specs.StateFlow.{state_flow};
-ghost use Rattle.flow_law.specs.Tokens.{SubscribesIn, NextsIn, UnsubscribesIn, CountsIn};
+ghost use Rattle.flow_law.specs.Tokens.{SubscribesIn, NextsIn, UnsubscribesIn, CallsAtOnceIn};
 
 use crate::plays::{Count, Enter, FindRoom, Leave, Make, Receive};
 use crate::token::{WordSeat, WordState, WordSubscription};
@@ -110,7 +111,8 @@ impl<T: Packed> WordState<T> {
     /// one.
     pub fn subscription_count(&self, seat: &mut WordSeat<T>) -> u64
         requires { seat.old.table_id ≡ self.now.table_id }
-        ensures { CountsIn state_flow self.now.first seat.old result seat.new }
+        ensures { CallsAtOnceIn state_flow self.now.first seat.old call.SubscriptionCount
+            (reply.Counted result) seat.new }
     {
         let word = self.table.shared.load::<Count>(&mut seat.seat, 1);
         word % (1 << 32)
