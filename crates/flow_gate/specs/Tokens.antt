@@ -70,6 +70,11 @@ module _ {S E : Type 0} (stands : S → S → List (Event E) → Type 0) (gate :
   abbrev pub StandsForSome : S → Type 0
   StandsForSome state = (history : List (Event E)) × stands gate.first state history
 
+  -- the state stands for a history that begins with all that the token has seen and goes on with events of others, within
+  -- the token's rule of names
+  abbrev pub StandsAfter : Token E → S → Type 0
+  StandsAfter t state = (history : List (Event E)) × stands gate.first state history × Fits history t.knows
+
 -- the state of who is inside stands for what was found followed by events of its own
 abbrev pub StandsWith : {S E : Type 0} → (S → S → List (Event E) → Type 0) → HeldState S E → List E → Type 0
 StandsWith stands held added = stands held.first held.state (held.token.knows.seen ++ events_of held.token.knows.name added)

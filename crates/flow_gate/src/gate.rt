@@ -2,7 +2,7 @@
 ghost use Rattle.std.specs.Prelude.{◌≡◌, ◌≤◌, [], Some, IfOk, IfErr, IfSome};
 ghost use Rattle.flow_law.specs.Growth.{loses, makes, child};
 ghost use Rattle.flow_law.specs.Tokens.{Begins, knowing};
-ghost use Rattle.flow_gate.specs.Tokens.{Finds, FindsAtOnce, MeetsAtGate, StandsForSome};
+ghost use Rattle.flow_gate.specs.Tokens.{Finds, FindsAtOnce, MeetsAtGate, StandsForSome, StandsAfter};
 
 use crate::held::Held;
 use crate::steps::{Enter, GateRule, Make, Meet, Observe, Part, StartsFrom};
@@ -168,6 +168,27 @@ impl<S: Guarded + Drop, A: Allocator + Copy> Gate<S, A> {
         let state = closed.take(0);
         closed.free();
         if is_free {
+            Some(Box::into_inner(state?))
+        } else {
+            None
+        }
+    }
+
+    /// As `close`, by one of its seats: the state that comes back is what the last history led to, which begins with all
+    /// that the seat has seen.
+    ///
+    /// Call it where what the seat's calls did is to be found in the state. Seats that are left are of no further use.
+    pub fn close_with(self, seat: Seat<S, A>) -> Option<S>
+        requires { seat.table_id ≡ self.table_id }
+        ensures { IfSome result (StandsAfter S.stands self seat) }
+    {
+        let Gate { table } = self;
+        let Seat { seat } = seat;
+        let mut closed = table.close_with(seat);
+        let is_home = closed.word(0) == 0;
+        let state = closed.take(0);
+        closed.free();
+        if is_home {
             Some(Box::into_inner(state?))
         } else {
             None

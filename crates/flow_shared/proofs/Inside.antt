@@ -1,5 +1,5 @@
 -- From what the gate says to whoever enters, and what a core says of one call, to what a call of a flow says.
-use Rattle.std.proofs.Common.{◌≡◌, ℕ, ◌≤◌, List, [], ◌∷◌, ◌++◌, refl, sym, ap, ◌∙◌, subst}
+use Rattle.std.proofs.Common.{◌≡◌, ℕ, ◌≤◌, List, [], ◌∷◌, ◌++◌, refl, sym, ap, ◌∙◌, subst, Option, Some, None, IfSome}
 use Rattle.flow_law.specs.declared.history.Event.{Event}
 use Rattle.flow_law.specs.declared.history.Said.{Said}
 use Rattle.flow_law.specs.Growth.{event, knowledge, adds, GrowsByOthers}
@@ -79,3 +79,8 @@ module _ {K T S C R : Type 0} (kind : Kind T S C R) (start : K → S) (StandsAs 
 
       pub calls_at_once : held.token.knows.lost ≡ before.knows.lost → CallsAtOnceIn kind flow.first before call r after
       calls_at_once same = (calls (omega (Rattle.std.proofs.Common.arith, same)), ap (λ (t : Token (Said C R)). t.knows.lost) is_after ∙ same)
+
+-- what holds of a value that is there
+pub if_some : {X : Type 0} {P Q : X → Type 0} → ((x : X) → P x → Q x) → (o : Option X) → IfSome o P → IfSome o Q
+if_some more (Some x) h = more x h
+if_some more None h = tt

@@ -3,11 +3,13 @@
 use Rattle.std.specs.Prelude.{◌≡◌, ℕ, List, ◌∷◌, [], ◌++◌, Result}
 use Rattle.atomic_table.specs.Seated.{TableId}
 use Rattle.flow_law.specs.declared.fault.FlowFault.{FlowFault}
+use Rattle.flow_law.specs.declared.history.Event.{Event}
 use Rattle.flow_law.specs.declared.history.Said.{Said}
 use Rattle.flow_law.specs.declared.outcome.Next.{Next}
-use Rattle.flow_law.specs.Growth.{adds, event}
+use Rattle.flow_law.specs.Growth.{Fits, adds, event}
 use Rattle.flow_law.specs.History.{Kind, IsHistory}
 use Rattle.flow_law.specs.OneHistory.{said}
+use Rattle.flow_law.specs.Standing.{StandsForHistory}
 use Rattle.flow_law.specs.Tokens.{CallsIn, CallsAtOnceIn, NextsIn, UnsubscribesIn, CountsIn, MeetsIn, SubscribesIn, NextsNowIn, CountsNowIn}
 use Rattle.flow_law.specs.Tokens as flows
 use Rattle.flow_gate.specs.Tokens.{Token, Origin, HeldState}
@@ -47,6 +49,11 @@ module _ {T S C R : Type 0} (kind : Kind T S C R) (flow : Origin S) where
 
   abbrev pub CountsNow : Token (Said C R) → Result ℕ FlowFault → Token (Said C R) → Type 0
   CountsNow = CountsNowIn kind flow.first
+
+  -- The core stands for the state after a history of the flow, which begins with all that the token had seen, goes on with events
+  -- of others and keeps the token's rule of names.
+  abbrev pub ClosesAs : {K : Type 0} → (K → S → Type 0) → Token (Said C R) → K → Type 0
+  ClosesAs StandsAs t core = (history : List (Event (Said C R))) × StandsForHistory kind StandsAs flow.first core history × Fits history t.knows
 
 -- ---- who is inside
 

@@ -1,9 +1,9 @@
 //! A flow of any kind for several threads.
-ghost use Rattle.std.specs.Prelude.{◌≡◌, ℕ, List, None, IfOk, IfErr};
+ghost use Rattle.std.specs.Prelude.{◌≡◌, ℕ, List, None, IfOk, IfErr, IfSome};
 ghost use Rattle.flow_law.specs.History.{MayCall};
 ghost use Rattle.flow_law.specs.Growth.{makes, child};
 ghost use Rattle.flow_law.specs.Tokens.{subscription_name, knowing, IsBusy};
-ghost use Rattle.flow_shared.specs.Calls.{Calls, CallsAtOnce, Meets};
+ghost use Rattle.flow_shared.specs.Calls.{Calls, CallsAtOnce, ClosesAs, Meets};
 
 use crate::core_call::{CoreCall, call_core};
 use crate::token::{FlowSeat, FlowSubscription};
@@ -122,5 +122,19 @@ impl<S: FlowCore + Drop, A: Allocator + Copy> Flow<S, A> {
         let made = self.gate.seat(&mut inside);
         seat.seat = Some(inside);
         FlowSeat { seat: Some(made) }
+    }
+
+    /// Ends the flow, and gives its core: what all calls so far led to, for one thread. `None` only where somebody who
+    /// was inside never left.
+    ///
+    /// It is no event of the history, waits for nobody and needs no memory. Call it where all threads have ended; what
+    /// calls of other seats did is found in the core, too. The seats, subscriptions and emissions that are left are of
+    /// no further use.
+    pub fn close(self, seat: FlowSeat<S, A>) -> Option<S>
+        requires { seat.table_id ≡ self.table_id }
+        ensures { IfSome result (ClosesAs S.kind self S.stands_as seat) }
+    {
+        let own = seat.seat.unwrap();
+        self.gate.close_with(own)
     }
 }

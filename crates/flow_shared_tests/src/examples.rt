@@ -1,6 +1,7 @@
 //! Worked examples by one caller with a seat for each emission. The values come from kotlinx.coroutines' documentation of
 //! `MutableSharedFlow` and `BufferOverflow`.
 
+mod closing;
 mod drains;
 mod emissions;
 mod futures_awaited;

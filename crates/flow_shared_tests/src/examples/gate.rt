@@ -83,6 +83,16 @@ fn count_of(rt: &impl Abort, gate: Gate<Count>) -> u64 {
     }
 }
 
+/// The same, by one of its seats.
+fn count_by(rt: &impl Abort, gate: Gate<Count>, seat: Seat<Count>) -> u64
+    requires { seat.table_id ≡ gate.table_id }
+{
+    match gate.close_with(seat) {
+        Some(count) => count.events,
+        None => panic!(rt; "somebody is inside"),
+    }
+}
+
 /// Enters after the other seat has left.
 fn enter_alone(rt: &impl Abort, gate: &Gate<Count>, seat: Seat<Count>)
     requires { seat.table_id ≡ gate.now.table_id }
@@ -120,6 +130,8 @@ fn who_is_inside_keeps_others_out(rt: HostRuntime) {
 fn a_fresh_gate_gives_its_state(rt: HostRuntime) {
     let (gate, _seat) = new_gate(&rt, rt.alloc());
     compare(&rt, 0, count_of(&rt, gate), 0);
+    let (gate, seat) = new_gate(&rt, rt.alloc());
+    compare(&rt, 1, count_by(&rt, gate, seat), 0);
 }
 
 /// One seat adds an event and meets the other one. Each of them then adds one, and the second one leaves once more.
