@@ -5,8 +5,8 @@ use Rattle.flow_law.specs.declared.chain.ChainFault.{ChainFault}
 use Rattle.flow_law.specs.declared.chain.ChainFault.TheVariants.{Overflow, Source}
 use Rattle.flow_law.specs.declared.chain.End.TheVariants.{Completed, Failed}
 use Rattle.flow_law.specs.ChainRun.{ChainRun, gives, pends, ends, entries, list_run}
-use Rattle.flow_law.specs.OperatorRuns.{map_run, filter_run, take_while_run, take_run, drop_run, distinct_run, scan_run, zip_run, transform_run, flat_map_run}
-use Rattle.flow_law.specs.Chain.{meaning, meaning_of, map_meaning, filter_meaning, take_while_meaning, take_meaning, drop_meaning, distinct_meaning, scan_meaning, transform_meaning, flat_map_meaning, zip_meaning}
+use Rattle.flow_law.specs.OperatorRuns.{map_run, filter_run, take_while_run, take_run, drop_run, drop_while_run, distinct_run, scan_run, running_reduce_run, zip_run, transform_run, flat_map_run}
+use Rattle.flow_law.specs.Chain.{meaning, meaning_of, map_meaning, filter_meaning, take_while_meaning, take_meaning, drop_meaning, drop_while_meaning, distinct_meaning, scan_meaning, running_reduce_meaning, transform_meaning, flat_map_meaning, zip_meaning}
 
 -- sums up to the greatest i64
 abbrev sum : ℕ × ℕ → Result ℕ ChainFault
@@ -28,6 +28,27 @@ scanned = refl
 
 scanned-lists : take_meaning 3 (scan_meaning sum 0 (meaning (1 ∷ 2 ∷ 3 ∷ 4 ∷ 5 ∷ []) Completed)) ≡ meaning (0 ∷ 1 ∷ 3 ∷ []) Completed
 scanned-lists = refl
+
+-- what is not below 2 any more, and its sums so far
+reduced : meaning_of (running_reduce_run sum (drop_while_run (λ x. nat_lt x 2) (list (1 ∷ 5 ∷ 2 ∷ [])))) ≡ meaning (5 ∷ 7 ∷ []) Completed
+reduced = refl
+
+reduced-lists : running_reduce_meaning sum (drop_while_meaning (λ x. nat_lt x 2) (meaning (1 ∷ 5 ∷ 2 ∷ []) Completed)) ≡ meaning (5 ∷ 7 ∷ []) Completed
+reduced-lists = refl
+
+-- an item that passes is kept after one that does not
+kept : entries (drop_while_run (λ x. nat_lt x 3) (list (1 ∷ 5 ∷ 2 ∷ []))) ≡ Some 5 ∷ Some 2 ∷ []
+kept = refl
+
+-- no item gives no result
+reduced_empty : meaning_of (running_reduce_run sum (list [])) ≡ meaning [] Completed
+reduced_empty = refl
+
+reduced_pending : entries (running_reduce_run sum (pends (gives 5 (pends (gives 2 (ends Completed)))))) ≡ None ∷ Some 5 ∷ None ∷ Some 7 ∷ []
+reduced_pending = refl
+
+reduced_overflown : meaning_of (running_reduce_run sum (list (1 ∷ 9223372036854775807 ∷ 2 ∷ []))) ≡ meaning (1 ∷ []) (Failed Overflow)
+reduced_overflown = refl
 
 zipped : meaning_of (zip_run sum (list (1 ∷ 2 ∷ [])) (list (10 ∷ 20 ∷ 30 ∷ []))) ≡ meaning (11 ∷ 22 ∷ []) Completed
 zipped = refl

@@ -1,7 +1,7 @@
 -- The run that each operator makes means what the lists say. A lemma `map_means` is of `map_run` and `map_meaning`, and so
 -- for each operator.
 use Rattle.std.proofs.Common.{◌≡◌, ℕ, zero, suc, Bool, true, false, cond, ◌&&◌, List, [], ◌∷◌, length, Option, Some, None, Result, Ok, Err, inl, inr, arith, refl, sym, ap, ◌∙◌}
-use Rattle.std.specs.Prelude.{nat_le, filter, take_while, flat_map, option_to_list}
+use Rattle.std.specs.Prelude.{nat_le, filter, take_while, drop, flat_map, option_to_list}
 use Rattle.std.specs.List.{list_all}
 use Rattle.std.proofs.Math.Dec.{leb-suc-zero, leb-suc-suc}
 use Rattle.std.proofs.lemmas.Bool.Decides.{leb_tells}
@@ -11,8 +11,8 @@ use Rattle.flow_law.specs.declared.chain.ChainFault.{ChainFault}
 use Rattle.flow_law.specs.declared.chain.End.{End}
 use Rattle.flow_law.specs.declared.chain.End.TheVariants.{Completed, Failed}
 use Rattle.flow_law.specs.ChainRun.{ChainRun, gives, pends, ends, items, ending, entries, asks}
-use Rattle.flow_law.specs.OperatorRuns.{continued, map_run, filter_run, take_while_run, take_run, drop_run, is_repeated, distinct_run, scan_run, pair_run, zip_run, prepended, transform_run, followed, flat_map_run}
-use Rattle.flow_law.specs.Chain.{Meaning, meaning, meaning_of, with_first, with_ending, then_meaning, onward, images, map_meaning, filter_meaning, take_while_meaning, take_meaning, drop_meaning, differing, distinct_meaning, results, scan_meaning, concatenated, transform_meaning, flattened, flat_map_meaning, zip_meaning}
+use Rattle.flow_law.specs.OperatorRuns.{continued, map_run, filter_run, take_while_run, take_run, drop_run, drop_while_run, is_repeated, distinct_run, scan_run, running_reduce_run, pair_run, zip_run, prepended, transform_run, followed, flat_map_run}
+use Rattle.flow_law.specs.Chain.{Meaning, meaning, meaning_of, with_first, with_ending, then_meaning, onward, images, map_meaning, filter_meaning, take_while_meaning, take_meaning, drop_meaning, drop_while_meaning, differing, distinct_meaning, results, scan_meaning, running_reduce_meaning, concatenated, transform_meaning, flattened, flat_map_meaning, zip_meaning}
 
 continued_means : {B C : Type 0} (a : Result B ChainFault) (k : B → ChainRun C) (m : B → Meaning C) → ((y : B) → meaning_of (k y) ≡ m y)
     → meaning_of (continued a k) ≡ onward a m
@@ -48,6 +48,18 @@ module _ {A : Type 0} (test : A → Bool) where
       ∙ ap (λ xs. meaning xs (cond (test x && list_all test (items r)) (ending r) Completed)) (sym (take_while-cons test x (items r)))
   take_while_means (pends r) = take_while_means r
   take_while_means (ends e) = refl
+
+  drop_while-step : (b : Bool) (x : A) (r dropped : ChainRun A) (xs : List A) → meaning_of dropped ≡ meaning (drop (length xs) (items r)) (ending r)
+      → meaning_of (cond b dropped (gives x r)) ≡ meaning (drop (length (cond b (x ∷ xs) [])) (x ∷ items r)) (ending r)
+  drop_while-step true x r dropped xs h = h
+  drop_while-step false x r dropped xs h = refl
+
+  pub drop_while_means : (r : ChainRun A) → meaning_of (drop_while_run test r) ≡ drop_while_meaning test (meaning_of r)
+  drop_while_means (gives x r) =
+      drop_while-step (test x) x r (drop_while_run test r) (take_while test (items r)) (drop_while_means r)
+      ∙ ap (λ xs. meaning (drop (length xs) (x ∷ items r)) (ending r)) (sym (take_while-cons test x (items r)))
+  drop_while_means (pends r) = drop_while_means r
+  drop_while_means (ends e) = refl
 
 zero-le-length : (n : ℕ) → nat_le 0 n ≡ true
 zero-le-length n = elim (leb_tells 0 n) [ inl h ↦ h.0 | inr h ↦ absurd (omega (arith, h.1)) ]
@@ -96,6 +108,12 @@ module _ {A B : Type 0} (f : B × A → Result B ChainFault) where
 
   pub scan_means : (initial : B) (r : ChainRun A) → meaning_of (gives initial (scan_run f initial r)) ≡ scan_meaning f initial (meaning_of r)
   scan_means initial r = ap (with_first (initial ∷ [])) (results_means initial r)
+
+module _ {A : Type 0} (f : A × A → Result A ChainFault) where
+  pub running_reduce_means : (r : ChainRun A) → meaning_of (running_reduce_run f r) ≡ running_reduce_meaning f (meaning_of r)
+  running_reduce_means (gives x r) = ap (with_first (x ∷ [])) (results_means f x r)
+  running_reduce_means (pends r) = running_reduce_means r
+  running_reduce_means (ends e) = refl
 
 prepended_means : {B : Type 0} (xs : List B) (r : ChainRun B) → meaning_of (prepended xs r) ≡ with_first xs (meaning_of r)
 prepended_means [] r = refl

@@ -66,6 +66,10 @@ take_meaning n m = meaning (take n m.items) (cond (nat_le n (length m.items)) Co
 abbrev pub drop_meaning : {A : Type 0} → ℕ → Meaning A → Meaning A
 drop_meaning n m = meaning (drop n m.items) m.ending
 
+-- all but the longest first part whose items pass
+abbrev pub drop_while_meaning : {A : Type 0} → (A → Bool) → Meaning A → Meaning A
+drop_while_meaning test m = meaning (drop (length (take_while test m.items)) m.items) m.ending
+
 -- the items that differ from the one before
 abbrev pub differing : {A : Type 0} → (A → A → Bool) → Option A → List A → List A
 differing is_same before [] = []
@@ -82,6 +86,14 @@ results f last (x ∷ xs) e = onward (f (last, x)) (λ y. with_first (y ∷ []) 
 -- the initial value, then the results
 abbrev pub scan_meaning : {A B : Type 0} → (B × A → Result B ChainFault) → B → Meaning A → Meaning B
 scan_meaning f initial m = with_first (initial ∷ []) (results f initial m.items m.ending)
+
+-- the first item, then the results after it, then the ending; of no items nothing but the ending
+abbrev pub reduced : {A : Type 0} → (A × A → Result A ChainFault) → List A → End → Meaning A
+reduced f [] e = meaning [] e
+reduced f (x ∷ xs) e = with_first (x ∷ []) (results f x xs e)
+
+abbrev pub running_reduce_meaning : {A : Type 0} → (A × A → Result A ChainFault) → Meaning A → Meaning A
+running_reduce_meaning f m = reduced f m.items m.ending
 
 -- the lists that the items give, one after the other, then the ending
 abbrev pub concatenated : {A B : Type 0} → (A → Result (List B) ChainFault) → List A → End → Meaning B

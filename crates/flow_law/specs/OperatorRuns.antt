@@ -42,6 +42,12 @@ drop_run (gives x r) (suc n) = drop_run r n
 drop_run (pends r) n = pends (drop_run r n)
 drop_run (ends e) n = ends e
 
+-- the first item that does not pass, and all that follows it
+abbrev pub drop_while_run : {A : Type 0} → (A → Bool) → ChainRun A → ChainRun A
+drop_while_run test (gives x r) = cond (test x) (drop_while_run test r) (gives x r)
+drop_while_run test (pends r) = pends (drop_while_run test r)
+drop_while_run test (ends e) = ends e
+
 -- whether x is the same as the one before, if there is one
 abbrev pub is_repeated : {A : Type 0} → (A → A → Bool) → Option A → A → Bool
 is_repeated is_same (Some y) x = is_same y x
@@ -58,6 +64,12 @@ abbrev pub scan_run : {A B : Type 0} → (B × A → Result B ChainFault) → B 
 scan_run f last (gives x r) = continued (f (last, x)) (λ y. gives y (scan_run f y r))
 scan_run f last (pends r) = pends (scan_run f last r)
 scan_run f last (ends e) = ends e
+
+-- the first item, then the results after it
+abbrev pub running_reduce_run : {A : Type 0} → (A × A → Result A ChainFault) → ChainRun A → ChainRun A
+running_reduce_run f (gives x r) = gives x (scan_run f x r)
+running_reduce_run f (pends r) = pends (running_reduce_run f r)
+running_reduce_run f (ends e) = ends e
 
 -- the left item x and the right side's next item; k says what follows
 abbrev pub pair_run : {A B C : Type 0} → (A × B → Result C ChainFault) → A → (ChainRun B → ChainRun C) → ChainRun B → ChainRun C
