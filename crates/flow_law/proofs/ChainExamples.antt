@@ -30,7 +30,7 @@ scanned-lists : take_meaning 3 (scan_meaning sum 0 (meaning (1 ∷ 2 ∷ 3 ∷ 4
 scanned-lists = refl
 
 -- what is not below 2 any more, and its sums so far
-reduced : meaning_of (running_reduce_run sum (drop_while_run (λ x. nat_lt x 2) (list (1 ∷ 5 ∷ 2 ∷ [])))) ≡ meaning (5 ∷ 7 ∷ []) Completed
+reduced : meaning_of (running_reduce_run sum None (drop_while_run (λ x. nat_lt x 2) (list (1 ∷ 5 ∷ 2 ∷ [])))) ≡ meaning (5 ∷ 7 ∷ []) Completed
 reduced = refl
 
 reduced-lists : running_reduce_meaning sum (drop_while_meaning (λ x. nat_lt x 2) (meaning (1 ∷ 5 ∷ 2 ∷ []) Completed)) ≡ meaning (5 ∷ 7 ∷ []) Completed
@@ -41,13 +41,13 @@ kept : entries (drop_while_run (λ x. nat_lt x 3) (list (1 ∷ 5 ∷ 2 ∷ [])))
 kept = refl
 
 -- no item gives no result
-reduced_empty : meaning_of (running_reduce_run sum (list [])) ≡ meaning [] Completed
+reduced_empty : meaning_of (running_reduce_run sum None (list [])) ≡ meaning [] Completed
 reduced_empty = refl
 
-reduced_pending : entries (running_reduce_run sum (pends (gives 5 (pends (gives 2 (ends Completed)))))) ≡ None ∷ Some 5 ∷ None ∷ Some 7 ∷ []
+reduced_pending : entries (running_reduce_run sum None (pends (gives 5 (pends (gives 2 (ends Completed)))))) ≡ None ∷ Some 5 ∷ None ∷ Some 7 ∷ []
 reduced_pending = refl
 
-reduced_overflown : meaning_of (running_reduce_run sum (list (1 ∷ 9223372036854775807 ∷ 2 ∷ []))) ≡ meaning (1 ∷ []) (Failed Overflow)
+reduced_overflown : meaning_of (running_reduce_run sum None (list (1 ∷ 9223372036854775807 ∷ 2 ∷ []))) ≡ meaning (1 ∷ []) (Failed Overflow)
 reduced_overflown = refl
 
 zipped : meaning_of (zip_run sum (list (1 ∷ 2 ∷ [])) (list (10 ∷ 20 ∷ 30 ∷ []))) ≡ meaning (11 ∷ 22 ∷ []) Completed

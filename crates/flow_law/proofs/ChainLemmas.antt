@@ -110,8 +110,15 @@ module _ {A B : Type 0} (f : B × A → Result B ChainFault) where
   scan_means initial r = ap (with_first (initial ∷ [])) (results_means initial r)
 
 module _ {A : Type 0} (f : A × A → Result A ChainFault) where
-  pub running_reduce_means : (r : ChainRun A) → meaning_of (running_reduce_run f r) ≡ running_reduce_meaning f (meaning_of r)
-  running_reduce_means (gives x r) = ap (with_first (x ∷ [])) (results_means f x r)
+  reduced-means_after : (last : A) (r : ChainRun A) → meaning_of (running_reduce_run f (Some last) r) ≡ results f last (items r) (ending r)
+  reduced-means_after last (gives x r) =
+      continued_means (f (last, x)) (λ y. gives y (running_reduce_run f (Some y) r)) (λ y. with_first (y ∷ []) (results f y (items r) (ending r)))
+      (λ y. ap (with_first (y ∷ [])) (reduced-means_after y r))
+  reduced-means_after last (pends r) = reduced-means_after last r
+  reduced-means_after last (ends e) = refl
+
+  pub running_reduce_means : (r : ChainRun A) → meaning_of (running_reduce_run f None r) ≡ running_reduce_meaning f (meaning_of r)
+  running_reduce_means (gives x r) = ap (with_first (x ∷ [])) (reduced-means_after x r)
   running_reduce_means (pends r) = running_reduce_means r
   running_reduce_means (ends e) = refl
 

@@ -65,11 +65,16 @@ scan_run f last (gives x r) = continued (f (last, x)) (λ y. gives y (scan_run f
 scan_run f last (pends r) = pends (scan_run f last r)
 scan_run f last (ends e) = ends e
 
--- the first item, then the results after it
-abbrev pub running_reduce_run : {A : Type 0} → (A × A → Result A ChainFault) → ChainRun A → ChainRun A
-running_reduce_run f (gives x r) = gives x (scan_run f x r)
-running_reduce_run f (pends r) = pends (running_reduce_run f r)
-running_reduce_run f (ends e) = ends e
+-- what f makes of the last result and x; x itself where there is none
+abbrev pub next_result : {A : Type 0} → (A × A → Result A ChainFault) → Option A → A → Result A ChainFault
+next_result f (Some last) x = f (last, x)
+next_result f None x = Ok x
+
+-- the results after the last one; None, and the first item is the first result
+abbrev pub running_reduce_run : {A : Type 0} → (A × A → Result A ChainFault) → Option A → ChainRun A → ChainRun A
+running_reduce_run f last (gives x r) = continued (next_result f last x) (λ y. gives y (running_reduce_run f (Some y) r))
+running_reduce_run f last (pends r) = pends (running_reduce_run f last r)
+running_reduce_run f last (ends e) = ends e
 
 -- the left item x and the right side's next item; k says what follows
 abbrev pub pair_run : {A B C : Type 0} → (A × B → Result C ChainFault) → A → (ChainRun B → ChainRun C) → ChainRun B → ChainRun C

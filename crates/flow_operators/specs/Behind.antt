@@ -46,6 +46,16 @@ after_drop (gives x r) (suc n) = after_drop r n
 after_drop (pends r) n = r
 after_drop (ends e) n = ends Completed
 
+-- items that pass are dropped, and the first one that does not is given
+abbrev pub after_dropping : {A : Type 0} → (A → Bool) → ChainRun A → ChainRun A
+after_dropping test (gives x r) = cond (test x) (after_dropping test r) r
+after_dropping test (pends r) = r
+after_dropping test (ends e) = ends Completed
+
+-- a drop while asks once when it has given an item
+abbrev pub after_drop_while : {A : Type 0} → (A → Bool) → Bool → ChainRun A → ChainRun A
+after_drop_while test is_dropping r = cond is_dropping (after_dropping test r) (after_ask r)
+
 -- up to the first item that differs from the last
 abbrev pub after_distinct : {A : Type 0} → (A → A → Bool) → Option A → ChainRun A → ChainRun A
 after_distinct is_same last (gives x r) = cond (is_repeated is_same last x) (after_distinct is_same last r) r

@@ -3,7 +3,7 @@ use Rattle.std.specs.Prelude.{Bool, true, false, cond, Option, Some, None, Resul
 use Rattle.flow_law.specs.declared.chain.ChainFault.{ChainFault}
 use Rattle.flow_law.specs.declared.chain.End.TheVariants.{Completed}
 use Rattle.flow_law.specs.ChainRun.{ChainRun, gives, ends}
-use Rattle.flow_law.specs.OperatorRuns.{scan_run}
+use Rattle.flow_law.specs.OperatorRuns.{drop_while_run, scan_run}
 
 -- nothing once the chain has ended
 abbrev pub unless_ended : {T : Type 0} → Bool → ChainRun T → ChainRun T
@@ -17,6 +17,10 @@ has_begun None = false
 abbrev pub scan_rest : {A B : Type 0} → (B × A → Result B ChainFault) → B → Option B → ChainRun A → ChainRun B
 scan_rest f initial (Some last) r = scan_run f last r
 scan_rest f initial None r = gives initial (scan_run f initial r)
+
+-- a drop while: what passes is dropped until an item does not
+abbrev pub drop_while_rest : {A : Type 0} → (A → Bool) → Bool → ChainRun A → ChainRun A
+drop_while_rest test is_dropping r = cond is_dropping (drop_while_run test r) r
 
 -- a zip: a left item that was kept stands before the left side
 abbrev pub with_kept : {A : Type 0} → Option A → ChainRun A → ChainRun A

@@ -14,8 +14,9 @@ use crate::cold::Cold;
 use crate::computation::{ItemComputation, ItemTest, PairComputation};
 use crate::meaning::{InnerMeaning, ItemMeaning, ListMeaning, PairMeaning, TestMeaning};
 use crate::operators::{
-    Distinct, DropFirst, Filter, FilterBy, FlatMapConcat, Map, MapBy, Scan, ScanBy, Take,
-    TakeWhile, TakeWhileBy, Transform, Zip, ZipBy,
+    Distinct, DropFirst, DropWhile, DropWhileBy, Filter, FilterBy, FlatMapConcat, Map, MapBy,
+    RunningReduce, RunningReduceBy, Scan, ScanBy, Take, TakeWhile, TakeWhileBy, Transform, Zip,
+    ZipBy,
 };
 use crate::sources::Scripted;
 use flow_law::{ChainFault, FlowValue};
@@ -168,6 +169,43 @@ pub trait Chain: Cold {
         TakeWhileBy::new(self, test)
     }
 
+    /// Drops the first items while they pass the test, and gives all others. See `DropWhile::new`.
+    final fn drop_while<M, F>(self, meaning: M, closure: F) -> DropWhile<Self, M, F>
+    where
+        Self: Sized,
+        M: TestMeaning<Self::Item>,
+        F: Fn(&Self::Item) -> bool,
+        requires sound { Self.sound self }
+        requires callable { F.IsAlwaysCallable closure }
+        requires computes { Decides (λ x b. FnReturnsAt F.Fn closure x b) (M.passes meaning) }
+        ensures sound { ⟦<DropWhile<Self, M, F> as Cold>⟧.sound result }
+        ensures whole { ⟦<DropWhile<Self, M, F> as Cold>⟧.whole result
+            ≡ runs.drop_while_run (M.passes meaning) (Self.whole self) }
+        ensures meaning { meaning_of (⟦<DropWhile<Self, M, F> as Cold>⟧.whole result)
+            ≡ means.drop_while_meaning (M.passes meaning) (meaning_of (Self.whole self)) }
+        ensures rest { ⟦<DropWhile<Self, M, F> as Cold>⟧.rest result
+            ≡ runs.drop_while_run (M.passes meaning) (Self.rest self) }
+    {
+        DropWhile::new(self, meaning, closure)
+    }
+
+    /// Drops the first items while they pass the test, and gives all others. See `DropWhileBy::new`.
+    final fn drop_while_by<M>(self, test: M) -> DropWhileBy<Self, M>
+    where
+        Self: Sized,
+        M: ItemTest<Self::Item>,
+        requires { Self.sound self }
+        ensures sound { ⟦<DropWhileBy<Self, M> as Cold>⟧.sound result }
+        ensures whole { ⟦<DropWhileBy<Self, M> as Cold>⟧.whole result
+            ≡ runs.drop_while_run (M.passes test) (Self.whole self) }
+        ensures meaning { meaning_of (⟦<DropWhileBy<Self, M> as Cold>⟧.whole result)
+            ≡ means.drop_while_meaning (M.passes test) (meaning_of (Self.whole self)) }
+        ensures rest { ⟦<DropWhileBy<Self, M> as Cold>⟧.rest result
+            ≡ runs.drop_while_run (M.passes test) (Self.rest self) }
+    {
+        DropWhileBy::new(self, test)
+    }
+
     /// Gives `initial`, then what the closure makes of the last result and each item. See `Scan::new`.
     final fn scan<U, M, F>(self, initial: U, meaning: M, closure: F) -> Scan<Self, U, M, F>
     where
@@ -205,6 +243,45 @@ pub trait Chain: Cold {
             ≡ gives initial (runs.scan_run (M.image computation) initial (Self.rest self)) }
     {
         ScanBy::new(self, initial, computation)
+    }
+
+    /// Gives the first item, then what the closure makes of the last result and each further item. See
+    /// `RunningReduce::new`.
+    final fn running_reduce<M, F>(self, meaning: M, closure: F) -> RunningReduce<Self, M, F>
+    where
+        Self: Sized,
+        M: PairMeaning<Self::Item, Self::Item, Self::Item>,
+        F: Fn(Self::Item, Self::Item) -> Result<Self::Item, ChainFault>,
+        requires sound { Self.sound self }
+        requires callable { F.IsAlwaysCallable closure }
+        requires computes { Computes (λ x r. F.post closure x.0 x.1 r) (M.image meaning) }
+        ensures sound { ⟦<RunningReduce<Self, M, F> as Cold>⟧.sound result }
+        ensures whole { ⟦<RunningReduce<Self, M, F> as Cold>⟧.whole result
+            ≡ runs.running_reduce_run (M.image meaning) None (Self.whole self) }
+        ensures meaning { meaning_of (⟦<RunningReduce<Self, M, F> as Cold>⟧.whole result)
+            ≡ means.running_reduce_meaning (M.image meaning) (meaning_of (Self.whole self)) }
+        ensures rest { ⟦<RunningReduce<Self, M, F> as Cold>⟧.rest result
+            ≡ runs.running_reduce_run (M.image meaning) None (Self.rest self) }
+    {
+        RunningReduce::new(self, meaning, closure)
+    }
+
+    /// Gives the first item, then what the computation makes of the last result and each further item. See
+    /// `RunningReduceBy::new`.
+    final fn running_reduce_by<M>(self, computation: M) -> RunningReduceBy<Self, M>
+    where
+        Self: Sized,
+        M: PairComputation<Self::Item, Self::Item, Self::Item>,
+        requires { Self.sound self }
+        ensures sound { ⟦<RunningReduceBy<Self, M> as Cold>⟧.sound result }
+        ensures whole { ⟦<RunningReduceBy<Self, M> as Cold>⟧.whole result
+            ≡ runs.running_reduce_run (M.image computation) None (Self.whole self) }
+        ensures meaning { meaning_of (⟦<RunningReduceBy<Self, M> as Cold>⟧.whole result)
+            ≡ means.running_reduce_meaning (M.image computation) (meaning_of (Self.whole self)) }
+        ensures rest { ⟦<RunningReduceBy<Self, M> as Cold>⟧.rest result
+            ≡ runs.running_reduce_run (M.image computation) None (Self.rest self) }
+    {
+        RunningReduceBy::new(self, computation)
     }
 
     /// Drops each item that is the same as the one before. See `Distinct::new`.

@@ -19,8 +19,8 @@
 //! That value is for contracts alone, and a unit struct will do.
 //!
 //! A meaning with code of its own (`ItemComputation`, `PairComputation`, `ItemTest`) is taken alone, by `map_by`,
-//! `scan_by`, `zip_by`, `filter_by` and `take_while_by`. Ready ones on whole numbers are `Plus`, `Times`, `Even`,
-//! `Odd`, `Less` and `Greater`.
+//! `scan_by`, `running_reduce_by`, `zip_by`, `filter_by`, `take_while_by` and `drop_while_by`. Ready ones on whole
+//! numbers are `Plus`, `Times`, `Even`, `Odd`, `Less` and `Greater`.
 //!
 //! # Faults
 //! A closure that computes items may answer a fault. It ends the chain, and of that item nothing is given.
@@ -46,8 +46,9 @@ pub use computation::{ItemComputation, ItemTest, PairComputation};
 pub use flow_law::{ChainFault, End};
 pub use meaning::{InnerMeaning, ItemMeaning, ListMeaning, PairMeaning, TestMeaning};
 pub use operators::{
-    Distinct, DropFirst, Filter, FilterBy, FlatMapConcat, Map, MapBy, Scan, ScanBy, Take,
-    TakeWhile, TakeWhileBy, Transform, Zip, ZipBy,
+    Distinct, DropFirst, DropWhile, DropWhileBy, Filter, FilterBy, FlatMapConcat, Map, MapBy,
+    RunningReduce, RunningReduceBy, Scan, ScanBy, Take, TakeWhile, TakeWhileBy, Transform, Zip,
+    ZipBy,
 };
 pub use ready::{Even, Greater, Less, Not, Odd, Plus, Times};
 pub use sources::{Entry, OfList, OfRange, Scripted};

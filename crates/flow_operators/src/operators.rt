@@ -2,13 +2,18 @@
 
 mod distinct;
 mod drop_first;
+mod drop_while;
+mod drop_while_by;
 mod filter;
 mod filter_by;
 mod flat_map_concat;
+mod last;
 mod map;
 mod map_by;
 mod pairs;
 mod results;
+mod running_reduce;
+mod running_reduce_by;
 mod scan;
 mod scan_by;
 mod take;
@@ -20,11 +25,15 @@ mod zip_by;
 
 pub use distinct::Distinct;
 pub use drop_first::DropFirst;
+pub use drop_while::DropWhile;
+pub use drop_while_by::DropWhileBy;
 pub use filter::Filter;
 pub use filter_by::FilterBy;
 pub use flat_map_concat::FlatMapConcat;
 pub use map::Map;
 pub use map_by::MapBy;
+pub use running_reduce::RunningReduce;
+pub use running_reduce_by::RunningReduceBy;
 pub use scan::Scan;
 pub use scan_by::ScanBy;
 pub use take::Take;

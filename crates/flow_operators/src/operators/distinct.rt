@@ -1,13 +1,14 @@
 //! `distinctUntilChanged`: items that differ from the one before.
-ghost use Rattle.std.specs.Prelude.{◌≡◌, true, None, IfOk, IfErr};
+ghost use Rattle.std.specs.Prelude.{◌≡◌, true, None};
 ghost use Rattle.flow_law.specs.Chain.{distinct_meaning, meaning_of};
 ghost use Rattle.flow_law.specs.OperatorRuns.{distinct_run, is_repeated};
 ghost use Rattle.flow_operators.specs.Behind.{Leaves, after_distinct};
 ghost use Rattle.flow_operators.specs.Upstreams.{chain_of, is_ended, left_of};
 
 use crate::cold::{Asked, Cold};
+use crate::operators::last::keep;
 use crate::upstream::Upstream;
-use flow_law::{ChainFault, FlowValue};
+use flow_law::FlowValue;
 
 /// Drops each item that is the same as the one before.
 #[derive(Drop)]
@@ -58,20 +59,6 @@ fn is_last<T: FlowValue>(last: &Option<T>, item: &T) -> bool
     match last {
         Some(last) => last.same(item),
         None => false,
-    }
-}
-
-/// Keeps a copy of `item` as the last one. Where it cannot be copied, the last one stays.
-fn keep<T: FlowValue>(last: &mut Option<T>, item: T) -> Result<T, ChainFault>
-    ensures kept { IfOk result (λ given. (given ≡ item) × (last.new ≡ Some item)) }
-    ensures memory { IfErr result (λ fault. fault ≡ ChainFault.OutOfMemory) }
-{
-    match item.try_copy() {
-        Ok(copy) => {
-            *last = Some(copy);
-            Ok(item)
-        }
-        Err(_) => Err(ChainFault::OutOfMemory),
     }
 }
 

@@ -1,0 +1,33 @@
+//! The last item that an operator gave, of which it keeps a copy.
+ghost use Rattle.std.specs.Prelude.{◌≡◌, IfOk, IfErr};
+ghost use Rattle.flow_operators.specs.Closures.{Follows};
+
+use flow_law::{ChainFault, FlowValue};
+
+/// Keeps a copy of `item` as the last one. Where it cannot be copied, the last one stays.
+pub(crate) fn keep<T: FlowValue>(last: &mut Option<T>, item: T) -> Result<T, ChainFault>
+    ensures kept { IfOk result (λ given. (given ≡ item) × (last.new ≡ Some item)) }
+    ensures memory { IfErr result (λ fault. fault ≡ ChainFault.OutOfMemory) }
+{
+    match item.try_copy() {
+        Ok(copy) => {
+            *last = Some(copy);
+            Ok(item)
+        }
+        Err(_) => Err(ChainFault::OutOfMemory),
+    }
+}
+
+/// The same of what was made of an item, which may be a fault.
+pub(crate) fn keep_made<T: FlowValue>(
+    last: &mut Option<T>,
+    made: Result<T, ChainFault>,
+) -> Result<T, ChainFault>
+    ensures follows { Follows made result }
+    ensures kept { IfOk result (λ given. last.new ≡ Some given) }
+{
+    match made {
+        Ok(item) => keep(last, item),
+        Err(fault) => Err(fault),
+    }
+}
