@@ -3,9 +3,9 @@ use Rattle.std.specs.Prelude.{◌≡◌, ℕ, ◌+◌, ◌≤◌, ◌<◌, max, 
 use Rattle.std.specs.Ordering.{int_eq}
 use Rattle.flow_law.specs.declared.chain.ChainFault.{ChainFault}
 use Rattle.flow_law.specs.declared.chain.ChainFault.TheVariants.{OutOfMemory, NotPositive, TooDeep}
-use Rattle.flow_law.specs.Chain.{Meaning, meaning_of, map_meaning, filter_meaning, take_while_meaning, transform_meaning, take_meaning, drop_meaning, scan_meaning, flat_map_meaning, zip_meaning, distinct_meaning}
+use Rattle.flow_law.specs.Chain.{Meaning, meaning_of, map_meaning, filter_meaning, take_while_meaning, transform_meaning, take_meaning, drop_meaning, drop_while_meaning, scan_meaning, running_reduce_meaning, flat_map_meaning, zip_meaning, distinct_meaning}
 use Rattle.flow_law.specs.ChainRun.{ChainRun, gives, list_run}
-use Rattle.flow_law.specs.OperatorRuns.{map_run, filter_run, take_while_run, transform_run, take_run, drop_run, scan_run, flat_map_run, zip_run, distinct_run}
+use Rattle.flow_law.specs.OperatorRuns.{map_run, filter_run, take_while_run, transform_run, take_run, drop_run, drop_while_run, scan_run, running_reduce_run, flat_map_run, zip_run, distinct_run}
 use Rattle.flow_operators.specs.Kept.{unless_ended}
 use Rattle.flow_cold.specs.declared.script_chain.op.Op.{Op}
 use Rattle.flow_cold.specs.declared.script_chain.op.Op.TheVariants as op
@@ -38,7 +38,9 @@ op_run with_run (op.TakeWhile test) r = take_while_run (passes test) r
 op_run with_run (op.Transform entries) r = transform_run (sums entries.items) r
 op_run with_run (op.Take count) r = take_run count r
 op_run with_run (op.DropFirst count) r = drop_run r count
+op_run with_run (op.DropWhile test) r = drop_while_run (passes test) r
 op_run with_run (op.Scan from by) r = gives from (scan_run (computed by) from r)
+op_run with_run (op.RunningReduce by) r = running_reduce_run (computed by) None r
 op_run with_run (op.FlatMap to count) r = flat_map_run (spread_run to count) r
 op_run with_run (op.Zip with by) r = zip_run (joined by) r (with_run with)
 op_run with_run op.Distinct r = distinct_run int_eq None r
@@ -82,7 +84,9 @@ op_meaning (op.TakeWhile test) m = take_while_meaning (passes test) m
 op_meaning (op.Transform entries) m = transform_meaning (sums entries.items) m
 op_meaning (op.Take count) m = take_meaning count m
 op_meaning (op.DropFirst count) m = drop_meaning count m
+op_meaning (op.DropWhile test) m = drop_while_meaning (passes test) m
 op_meaning (op.Scan from by) m = scan_meaning (computed by) from m
+op_meaning (op.RunningReduce by) m = running_reduce_meaning (computed by) m
 op_meaning (op.FlatMap to count) m = flat_map_meaning (spread_run to count) m
 op_meaning (op.Zip with by) m = zip_meaning (joined by) m (meaning_of (node_whole with.node))
 op_meaning op.Distinct m = distinct_meaning int_eq m

@@ -3,14 +3,14 @@ use Rattle.std.specs.Prelude.{◌≡◌, ℤ, Option, Some, None, Result, drop, 
 use Rattle.std.specs.Ordering.{int_eq}
 use Rattle.flow_law.specs.declared.chain.ChainFault.{ChainFault}
 use Rattle.flow_law.specs.ChainRun.{ChainRun, list_run}
-use Rattle.flow_operators.specs.Behind.{after_ask, after_filter, after_drop, after_distinct, after_scan, unless_empty, after_transform, unless_completed, after_flat_map}
+use Rattle.flow_operators.specs.Behind.{after_ask, after_filter, after_drop, after_drop_while, after_distinct, after_scan, unless_empty, after_transform, unless_completed, after_flat_map}
 use Rattle.flow_operators.specs.Kept.{unless_ended}
 use Rattle.flow_cold.specs.declared.script_chain.op.Spread.TheVariants as spread
 use Rattle.flow_cold.specs.declared.script_chain.node.Phase.{Phase}
 use Rattle.flow_cold.specs.declared.script_chain.node.Phase.TheVariants.{Ready, Holding, Over}
 use Rattle.flow_cold.specs.declared.script_chain.node.Stage.{Stage}
 use Rattle.flow_cold.specs.declared.script_chain.operator.Operator.{Operator}
-use Rattle.flow_cold.specs.declared.script_chain.operator.Operator.TheVariants.{Map, Filter, TakeWhile, Transform, Take, DropFirst, Scan, FlatMapRange, FlatMapRepeat, Distinct}
+use Rattle.flow_cold.specs.declared.script_chain.operator.Operator.TheVariants.{Map, Filter, TakeWhile, Transform, Take, DropFirst, DropWhile, Scan, RunningReduce, FlatMapRange, FlatMapRepeat, Distinct}
 use Rattle.flow_cold.specs.declared.script_chain.state.Adding.{Adding}
 use Rattle.flow_cold.specs.declared.script_chain.state.Following.{Following}
 use Rattle.flow_cold.specs.declared.script_chain.state.Repeating.{Repeating}
@@ -36,6 +36,8 @@ after_ready (TakeWhile test) r = after_ask r
 after_ready (Transform s) r = after_transform (sums s.entries.items) r
 after_ready (Take s) r = after_ask r
 after_ready (DropFirst s) r = after_drop r s.left
+after_ready (DropWhile s) r = after_drop_while (passes s.test) s.dropping r
+after_ready (RunningReduce s) r = after_ask r
 after_ready (Scan s) r = after_ask r
 after_ready (FlatMapRange s) r = after_flat_map (spread_run spread.Range s.count) r
 after_ready (FlatMapRepeat s) r = after_flat_map (spread_run spread.Repeat s.count) r

@@ -4,11 +4,11 @@ use Rattle.std.specs.Ordering.{int_eq}
 use Rattle.flow_law.specs.declared.chain.ChainFault.{ChainFault}
 use Rattle.flow_law.specs.declared.chain.End.TheVariants.{Completed, Failed}
 use Rattle.flow_law.specs.ChainRun.{ChainRun, gives, ends, list_run}
-use Rattle.flow_law.specs.OperatorRuns.{continued, map_run, filter_run, take_while_run, take_run, drop_run, distinct_run, scan_run, transform_run, followed, flat_map_run}
-use Rattle.flow_operators.specs.Kept.{unless_ended}
+use Rattle.flow_law.specs.OperatorRuns.{continued, map_run, filter_run, take_while_run, take_run, drop_run, drop_while_run, distinct_run, scan_run, running_reduce_run, transform_run, followed, flat_map_run}
+use Rattle.flow_operators.specs.Kept.{unless_ended, drop_while_rest}
 use Rattle.flow_cold.specs.declared.script_chain.op.Spread.TheVariants as spread
 use Rattle.flow_cold.specs.declared.script_chain.operator.Operator.{Operator}
-use Rattle.flow_cold.specs.declared.script_chain.operator.Operator.TheVariants.{Map, Filter, TakeWhile, Transform, Take, DropFirst, Scan, FlatMapRange, FlatMapRepeat, Distinct}
+use Rattle.flow_cold.specs.declared.script_chain.operator.Operator.TheVariants.{Map, Filter, TakeWhile, Transform, Take, DropFirst, DropWhile, Scan, RunningReduce, FlatMapRange, FlatMapRepeat, Distinct}
 use Rattle.flow_cold.specs.declared.script_chain.node.Phase.{Phase}
 use Rattle.flow_cold.specs.declared.script_chain.node.Phase.TheVariants.{Ready, Holding, Over}
 use Rattle.flow_cold.specs.declared.script_chain.node.Stage.{Stage}
@@ -28,6 +28,8 @@ operator_whole (TakeWhile test) r = take_while_run (passes test) r
 operator_whole (Transform s) r = transform_run (sums s.entries.items) r
 operator_whole (Take s) r = take_run (suc s.more) r
 operator_whole (DropFirst s) r = drop_run r s.count
+operator_whole (DropWhile s) r = drop_while_run (passes s.test) r
+operator_whole (RunningReduce s) r = running_reduce_run (computed s.by) None r
 operator_whole (Scan s) r = gives s.initial (scan_run (computed s.by) s.initial r)
 operator_whole (FlatMapRange s) r = flat_map_run (spread_run spread.Range s.count) r
 operator_whole (FlatMapRepeat s) r = flat_map_run (spread_run spread.Repeat s.count) r
@@ -59,6 +61,8 @@ ready_rest (TakeWhile test) r = take_while_run (passes test) r
 ready_rest (Transform s) r = transform_run (sums s.entries.items) r
 ready_rest (Take s) r = take_run (suc s.left) r
 ready_rest (DropFirst s) r = drop_run r s.left
+ready_rest (DropWhile s) r = drop_while_rest (passes s.test) s.dropping r
+ready_rest (RunningReduce s) r = running_reduce_run (computed s.by) s.last r
 ready_rest (Scan s) r = scan_run (computed s.by) s.last r
 ready_rest (FlatMapRange s) r = flat_map_run (spread_run spread.Range s.count) r
 ready_rest (FlatMapRepeat s) r = flat_map_run (spread_run spread.Repeat s.count) r

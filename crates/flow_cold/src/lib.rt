@@ -7,10 +7,11 @@
 mod script_chain;
 
 pub use flow_operators::{
-    Asked, Chain, ChainFault, Cold, Collected, Distinct, DropFirst, End, Entry, Even, Filter,
-    FilterBy, FlatMapConcat, Greater, InnerMeaning, ItemComputation, ItemMeaning, ItemTest, Less,
-    ListMeaning, Map, MapBy, Not, Odd, OfList, OfRange, PairComputation, PairMeaning, Plus, Scan,
-    ScanBy, Scripted, Streamed, Take, TakeWhile, TakeWhileBy, Terminal, TestMeaning, Times,
-    Transform, Zip, ZipBy, collect_all,
+    Asked, Chain, ChainFault, Cold, Collected, Distinct, DropFirst, DropWhile, DropWhileBy, End,
+    Entry, Even, Filter, FilterBy, FlatMapConcat, Greater, InnerMeaning, ItemComputation,
+    ItemMeaning, ItemTest, Less, ListMeaning, Map, MapBy, Not, Odd, OfList, OfRange,
+    PairComputation, PairMeaning, Plus, RunningReduce, RunningReduceBy, Scan, ScanBy, Scripted,
+    Streamed, Take, TakeWhile, TakeWhileBy, Terminal, TestMeaning, Times, Transform, Zip, ZipBy,
+    collect_all,
 };
 pub use script_chain::{Arithmetic, Joining, Op, ScriptChain, Source, Spread, Test};

@@ -4,11 +4,13 @@ ghost use Rattle.flow_cold.specs.ScriptChain.{node_depth};
 
 mod answer;
 mod build;
+mod drop_while;
 mod node;
 mod numbers;
 mod op;
 mod operator;
 mod pairing;
+mod running_reduce;
 mod source_number;
 mod stage;
 mod state;

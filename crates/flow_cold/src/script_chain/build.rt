@@ -7,10 +7,12 @@ ghost use Rattle.flow_cold.specs.Part.{part_depth, part_rest, part_whole};
 ghost use Rattle.flow_cold.specs.ScriptChain.{IsNodeOver, NodeAsksBehind, node_depth, node_rest, node_whole};
 
 use crate::script_chain::ScriptChain;
+use crate::script_chain::drop_while::DroppingWhile;
 use crate::script_chain::node::{Node, Stage, ask_node, rewind_node};
 use crate::script_chain::op::{Joining, Op, Source, Spread};
 use crate::script_chain::operator::Operator;
 use crate::script_chain::pairing::Pairing;
+use crate::script_chain::running_reduce::Reducing;
 use crate::script_chain::state::{
     Adding, Comparing, Dropping, Following, Mapping, Repeating, Scanning, Taking,
 };
@@ -61,6 +63,11 @@ impl Op {
             Op::Transform(entries) => Operator::Transform(Adding::new(entries)),
             Op::Take(count) => Operator::Take(Taking::new(count)),
             Op::DropFirst(count) => Operator::DropFirst(Dropping { count, left: count }),
+            Op::DropWhile(test) => Operator::DropWhile(DroppingWhile {
+                test,
+                dropping: true,
+            }),
+            Op::RunningReduce(by) => Operator::RunningReduce(Reducing { by, last: None }),
             Op::Scan { from, by } => Operator::Scan(Scanning {
                 initial: from,
                 by,

@@ -59,8 +59,12 @@ pub enum Op {
     Take(u64),
     /// All but the first items.
     DropFirst(u64),
+    /// The items from the first that does not pass.
+    DropWhile(Test),
     /// `from`, then the accumulator + item, or the accumulator * item.
     Scan { from: i64, by: Arithmetic },
+    /// The first item, then the accumulator + item, or the accumulator * item.
+    RunningReduce(Arithmetic),
     /// `count` numbers for each item.
     FlatMap { to: Spread, count: u64 },
     /// Pairs with the items of another chain; this side is asked first.

@@ -4,8 +4,10 @@ ghost use Rattle.flow_law.specs.ChainRun.{ChainRun, gives};
 ghost use Rattle.flow_cold.specs.OperatorAsks.{HeldLeaves, StepLeaves, after_held, after_ready};
 ghost use Rattle.flow_cold.specs.Operators.{HeldGives, StepGives, after_number, after_step, first_phase, held_rest, operator_whole, ready_rest, rest_in};
 
+use crate::script_chain::drop_while::DroppingWhile;
 use crate::script_chain::node::Phase;
 use crate::script_chain::op::Test;
+use crate::script_chain::running_reduce::Reducing;
 use crate::script_chain::state::{
     Adding, Comparing, Dropping, Following, Mapping, Repeating, Scanning, Taking,
 };
@@ -20,7 +22,9 @@ pub enum Operator {
     Transform(Adding),
     Take(Taking),
     DropFirst(Dropping),
+    DropWhile(DroppingWhile),
     Scan(Scanning),
+    RunningReduce(Reducing),
     FlatMapRange(Following),
     FlatMapRepeat(Repeating),
     Distinct(Comparing),
@@ -100,7 +104,9 @@ impl Operator {
             Operator::Transform(state) => state.on_item(item),
             Operator::Take(state) => state.on_item(item),
             Operator::DropFirst(state) => state.on_item(item),
+            Operator::DropWhile(state) => state.on_item(item),
             Operator::Scan(state) => state.on_item(item),
+            Operator::RunningReduce(state) => state.on_item(item),
             Operator::FlatMapRange(state) => state.on_item(item),
             Operator::FlatMapRepeat(state) => state.on_item(item),
             Operator::Distinct(state) => state.on_item(item),
@@ -115,7 +121,9 @@ impl Operator {
         match self {
             Operator::Take(state) => state.left = state.more,
             Operator::DropFirst(state) => state.left = state.count,
+            Operator::DropWhile(state) => state.dropping = true,
             Operator::Scan(state) => state.begun = false,
+            Operator::RunningReduce(state) => state.last = None,
             Operator::Distinct(state) => state.last = None,
             _ => {}
         }

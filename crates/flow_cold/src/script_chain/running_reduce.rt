@@ -1,0 +1,41 @@
+//! `runningReduce` of whole numbers: what it keeps while its chain is asked, and its step.
+ghost use Rattle.std.specs.Prelude.{◌≡◌, ℤ};
+ghost use Rattle.flow_law.specs.ChainRun.{ChainRun, gives};
+ghost use Rattle.flow_law.specs.OperatorRuns.{running_reduce_run};
+ghost use Rattle.flow_cold.specs.Numbers.{computed};
+ghost use Rattle.flow_cold.specs.OperatorAsks.{StepLeaves};
+ghost use Rattle.flow_cold.specs.Operators.{StepGives, after_step};
+
+use crate::script_chain::op::Arithmetic;
+use crate::script_chain::operator::Step;
+
+/// `last` is the accumulator, if an item was given.
+#[derive(Drop)]
+pub struct Reducing {
+    pub by: Arithmetic,
+    pub last: Option<i64>,
+}
+
+impl Reducing {
+    /// The first item, or the next accumulator, which is given.
+    pub fn on_item(&mut self, item: i64) -> Step
+        ensures by { self.new.by ≡ self.old.by }
+        ensures gives { (r : ChainRun ℤ)
+            → StepGives (running_reduce_run (computed self.old.by) self.old.last (gives item r)) result
+            (running_reduce_run (computed self.new.by) self.new.last r) }
+        ensures leaves { (r further : ChainRun ℤ) → StepLeaves r result r further }
+        ensures held { (r q : ChainRun ℤ) → after_step result r q ≡ q }
+    {
+        let made = match self.last {
+            Some(last) => self.by.compute(last, item),
+            None => Ok(item),
+        };
+        match made {
+            Ok(result) => {
+                self.last = Some(result);
+                Step::Item(result)
+            }
+            Err(fault) => Step::Fault(fault),
+        }
+    }
+}
