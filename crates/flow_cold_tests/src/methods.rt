@@ -2,7 +2,9 @@
 
 use crate::compare::compare;
 use crate::gives::{fails_after_two, gives, list};
-use crate::operators::{Add, AddOne, IsAboveOne, Twice, TwiceRun, increased, listed, opened, sum};
+use crate::operators::{
+    Add, AddOne, IsAboveOne, Twice, TwiceRun, above_one, increased, listed, opened, sum,
+};
 use flow_cold::{
     Chain, ChainFault, End, Even, Greater, Less, Not, Odd, OfRange, Plus, Terminal, Times,
 };
@@ -26,6 +28,20 @@ fn operators_on_pairs_are_methods(rt: HostRuntime) {
         .take(3)
         .expect(&rt, "a take");
     gives(&rt, rt.alloc(), &mut chain, &[0, 12, 26], End::Completed);
+}
+
+/// Collected twice: each collection drops the first items anew, and begins the sums anew.
+#[test]
+fn a_drop_while_and_a_running_reduce_are_methods(rt: HostRuntime) {
+    let mut chain = list(&rt, rt.alloc(), &[7, 3, 1, 5, 2])
+        .take(4)
+        .expect(&rt, "a take")
+        .drop_while(IsAboveOne, above_one)
+        .zip(OfRange::new(10, 12), Add, sum)
+        .running_reduce(Add, sum);
+    for _ in 0..2 {
+        gives(&rt, rt.alloc(), &mut chain, &[11, 27], End::Completed);
+    }
 }
 
 #[test]
@@ -79,6 +95,15 @@ fn a_scan_without_a_closure_overflows(rt: HostRuntime) {
         &[i64::MAX - 1, i64::MAX],
         OVERFLOW,
     );
+}
+
+/// 2 is below 3, but comes after 5, which is not.
+#[test]
+fn a_drop_while_and_a_running_reduce_need_no_closure(rt: HostRuntime) {
+    let mut chain = list(&rt, rt.alloc(), &[1, 5, 2])
+        .drop_while_by(Less { k: 3 })
+        .running_reduce_by(Add);
+    gives(&rt, rt.alloc(), &mut chain, &[5, 7], End::Completed);
 }
 
 /// `zip` completes as soon as one of its sides does: the item 40 has no partner.

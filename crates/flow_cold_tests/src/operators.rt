@@ -6,9 +6,9 @@ ghost use Rattle.flow_cold_tests.specs.Meanings.{GivesTwice, OpensTwice, add, ad
 use crate::compare::compare;
 use crate::gives::{gives, list};
 use flow_cold::{
-    ChainFault, Distinct, DropFirst, End, Entry, Filter, FlatMapConcat, InnerMeaning, ItemMeaning,
-    ListMeaning, Map, OfRange, PairComputation, PairMeaning, Scripted, Take, TakeWhile,
-    TestMeaning, Transform, Zip,
+    ChainFault, Distinct, DropFirst, DropWhile, End, Entry, Filter, FlatMapConcat, InnerMeaning,
+    ItemMeaning, ListMeaning, Map, OfRange, PairComputation, PairMeaning, RunningReduce, Scripted,
+    Take, TakeWhile, TestMeaning, Transform, Zip,
 };
 use std::alloc::Global;
 
@@ -85,6 +85,21 @@ fn items_are_taken_and_dropped(rt: HostRuntime) {
     let above = TakeWhile::new(dropped, IsAboveOne, |x| *x > 1);
     let mut chain = Take::new(above, 5).expect(&rt, "a take");
     gives(&rt, rt.alloc(), &mut chain, &[3, 2], End::Completed);
+}
+
+pub fn above_one(x: &i64) -> bool
+    ensures { result ≡ is_above_one x.now }
+{
+    *x > 1
+}
+
+/// 7 and 3 pass and are dropped; 5 passes too, but comes after 1, which does not.
+#[test]
+fn first_items_are_dropped_and_the_others_added_up(rt: HostRuntime) {
+    let source = list(&rt, rt.alloc(), &[7, 3, 1, 5, 2]);
+    let dropped = DropWhile::new(source, IsAboveOne, above_one);
+    let mut chain = RunningReduce::new(dropped, Add, sum);
+    gives(&rt, rt.alloc(), &mut chain, &[1, 6, 8], End::Completed);
 }
 
 #[test]

@@ -100,6 +100,62 @@ fn an_empty_list_completes(rt: HostRuntime) {
     gives_twice(&rt, rt.alloc(), chain, &[], End::Completed);
 }
 
+/// A test, the items of a list, and those from the first that does not pass.
+const DROPPED: [(Test, &[i64], &[i64]); 5] = [
+    (Test::Less(3), &[1, 5, 2], &[5, 2]),
+    (Test::Less(3), &[2, 1], &[]),
+    (Test::Greater(3), &[1, 5], &[1, 5]),
+    (Test::Odd, &[1, 3, 2, 4], &[2, 4]),
+    (Test::Even, &[], &[]),
+];
+
+#[test]
+fn first_items_are_dropped_while_they_pass(rt: HostRuntime) {
+    for place in 0..DROPPED.len() {
+        let (test, items, wanted) = DROPPED[place];
+        let chain = list_then(&rt, rt.alloc(), items, Op::DropWhile(test));
+        gives_twice(&rt, rt.alloc(), chain, wanted, End::Completed);
+    }
+}
+
+/// How results are made, the items of a list, what they give, and the end.
+const REDUCED: [(Arithmetic, &[i64], &[i64], End); 4] = [
+    (Arithmetic::Add, &[5, 2], &[5, 7], End::Completed),
+    (Arithmetic::Mul, &[2, 3, 4], &[2, 6, 24], End::Completed),
+    (Arithmetic::Add, &[], &[], End::Completed),
+    (
+        Arithmetic::Mul,
+        &[i64::MAX, 1, 2],
+        &[i64::MAX, i64::MAX],
+        OVERFLOW,
+    ),
+];
+
+#[test]
+fn each_result_is_given_after_the_first_item(rt: HostRuntime) {
+    for place in 0..REDUCED.len() {
+        let (by, items, wanted, end) = REDUCED[place];
+        let chain = list_then(&rt, rt.alloc(), items, Op::RunningReduce(by));
+        gives_twice(&rt, rt.alloc(), chain, wanted, end);
+    }
+}
+
+/// Of 1 to 9 the first five, of these 3, 4 and 5, which are added to 10, 20 and 30.
+#[test]
+fn what_is_left_of_a_take_is_zipped_and_reduced(rt: HostRuntime) {
+    let alloc = rt.alloc();
+    let range = ScriptChain::source(Source::Range(OfRange::new(1, 9)));
+    let taken = then(&rt, alloc, range, Op::Take(5));
+    let left = then(&rt, alloc, taken, Op::DropWhile(Test::Less(3)));
+    let zip = Op::Zip {
+        with: list(&rt, alloc, &[10, 20, 30]),
+        by: Joining::Add,
+    };
+    let zipped = then(&rt, alloc, left, zip);
+    let chain = then(&rt, alloc, zipped, Op::RunningReduce(Arithmetic::Add));
+    gives_twice(&rt, alloc, chain, &[13, 37, 72], End::Completed);
+}
+
 const FAILED: End = End::Failed(ChainFault::Source(7));
 
 #[test]
@@ -179,6 +235,7 @@ fn results_out_of_range_are_overflow(rt: HostRuntime) {
     overflows(&rt, alloc, add_one(), &[2]);
     overflows(&rt, alloc, sums(&rt, alloc, &[0, 1]), &[1, 2]);
     overflows(&rt, alloc, scan(), &[0, 1]);
+    overflows(&rt, alloc, Op::RunningReduce(Arithmetic::Add), &[1]);
     overflows(&rt, alloc, spread(), &[1, 2]);
 }
 
