@@ -34,13 +34,10 @@ fn operators_on_pairs_are_methods(rt: HostRuntime) {
 #[test]
 fn a_drop_while_and_a_running_reduce_are_methods(rt: HostRuntime) {
     let mut chain = list(&rt, rt.alloc(), &[7, 3, 1, 5, 2])
-        .take(4)
-        .expect(&rt, "a take")
         .drop_while(IsAboveOne, above_one)
-        .zip(OfRange::new(10, 12), Add, sum)
         .running_reduce(Add, sum);
     for _ in 0..2 {
-        gives(&rt, rt.alloc(), &mut chain, &[11, 27], End::Completed);
+        gives(&rt, rt.alloc(), &mut chain, &[1, 6, 8], End::Completed);
     }
 }
 
