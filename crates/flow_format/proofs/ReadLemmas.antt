@@ -13,7 +13,7 @@ use Rattle.std.specs.Str.{is_utf8}
 use Rattle.std.proofs.lemmas.Bool.Decides.{nat_tests}
 use Rattle.serde_json.specs.Read.{read}
 use Rattle.flow_format.specs.Checks.{NameLists, no_names, or_fault, Gives, checked, json_of, most_bytes, most_steps, read_script, result_map, result_then, script_of, step_of, steps_of}
-use Rattle.flow_format.specs.Heads.{Head, kind_of}
+use Rattle.flow_format.specs.Heads.{NamedHead, kind_at}
 
 pub members_len_is : (es : List (String Global × Value)) → members_len (members_view es) ≡ length es
 members_len_is [] = refl
@@ -47,7 +47,7 @@ rest_from xs i x here is = drop-cons xs i x here ∙ ap (λ y. y ∷ drop (suc i
 
 -- where a step is read, the rest of the steps gives the rest of the whole
 pub steps_more : (kind : Kind) (steps : List Value) (i : ℕ) (value : Value) (names later : NameLists) (done more : List Action) (step : Action) (whole : Result (List Action) ScriptFault)
-    → i < length steps → value ≡ get_or steps i value → step_of kind (i + 1) names (view value) ≡ Ok (record { step = step; names = later }) → more ≡ done ++ step ∷ []
+    → i < length steps → value ≡ get_or steps i value → step_of kind 0 (i + 1) names (view value) ≡ Ok (record { step = step; names = later }) → more ≡ done ++ step ∷ []
     → result_map (λ rest. done ++ rest) (steps_of kind (i + 1) names (items_view (drop i steps))) ≡ whole
     → result_map (λ rest. more ++ rest) (steps_of kind (i + 1 + 1) later (items_view (drop (i + 1) steps))) ≡ whole
 steps_more kind steps i value names later done more step whole here is read pushed before =
@@ -59,7 +59,7 @@ steps_more kind steps i value names later done more step whole here is read push
 
 -- a step that is refused refuses all
 pub steps_err : (kind : Kind) (steps : List Value) (i : ℕ) (value : Value) (names : NameLists) (done : List Action) (whole : Result (List Action) ScriptFault) (f : ScriptFault)
-    → i < length steps → value ≡ get_or steps i value → step_of kind (i + 1) names (view value) ≡ Err f
+    → i < length steps → value ≡ get_or steps i value → step_of kind 0 (i + 1) names (view value) ≡ Err f
     → result_map (λ rest. done ++ rest) (steps_of kind (i + 1) names (items_view (drop i steps))) ≡ whole → whole ≡ Err f
 steps_err kind steps i value names done whole f here is read before =
     sym before
@@ -77,17 +77,17 @@ read_script_is bytes d short json =
     not_below : (n : ℕ) → n ≤ most_bytes → nat_lt most_bytes n ≡ false
     not_below n le = grind (arith, nat_tests)
 
-pub checked_is : (flow : Head) (vs : List Value) → length vs ≤ most_steps → checked (flow, items_view vs) ≡ result_map (λ steps. record { flow = flow; steps = steps }) (steps_of (kind_of flow) 1 no_names (items_view vs))
-checked_is flow vs short =
-    ap (λ t. if t then Err (TooLarge 0) else result_map (λ steps. record { flow = flow; steps = steps }) (steps_of (kind_of flow) 1 no_names (items_view vs)))
+pub checked_is : (flows : List NamedHead) (vs : List Value) → length vs ≤ most_steps → checked (flows, items_view vs) ≡ result_map (λ steps. record { flows = flows; steps = steps }) (steps_of (kind_at 0 flows) 1 no_names (items_view vs))
+checked_is flows vs short =
+    ap (λ t. if t then Err (TooLarge 0) else result_map (λ steps. record { flows = flows; steps = steps }) (steps_of (kind_at 0 flows) 1 no_names (items_view vs)))
     (ap (λ n. nat_lt most_steps n) (items_len_is vs) ∙ not_below (length vs) short)
   where
     not_below : (n : ℕ) → n ≤ most_steps → nat_lt most_steps n ≡ false
     not_below n le = grind (arith, nat_tests)
 
-pub too_long_is : (flow : Head) (vs : List Value) → most_steps < length vs → checked (flow, items_view vs) ≡ Err (TooLarge 0)
-too_long_is flow vs long =
-    ap (λ t. if t then Err (TooLarge 0) else result_map (λ steps. record { flow = flow; steps = steps }) (steps_of (kind_of flow) 1 no_names (items_view vs)))
+pub too_long_is : (flows : List NamedHead) (vs : List Value) → most_steps < length vs → checked (flows, items_view vs) ≡ Err (TooLarge 0)
+too_long_is flows vs long =
+    ap (λ t. if t then Err (TooLarge 0) else result_map (λ steps. record { flows = flows; steps = steps }) (steps_of (kind_at 0 flows) 1 no_names (items_view vs)))
     (ap (λ n. nat_lt most_steps n) (items_len_is vs) ∙ below (length vs) long)
   where
     below : (n : ℕ) → most_steps < n → nat_lt most_steps n ≡ true

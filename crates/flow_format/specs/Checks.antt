@@ -17,14 +17,14 @@ pub use Rattle.flow_format.specs.Results.{result_then, result_map, or_fault}
 use Rattle.flow_format.specs.declared.script.Script.{Script}
 use Rattle.flow_format.specs.declared.script.FlowStep.TheVariants as step
 use Rattle.flow_format.specs.declared.script.Step.{Step}
-use Rattle.flow_format.specs.Actions.{Action, on_flow, collect, action_of, actions_of, head_of_flow}
+use Rattle.flow_format.specs.Actions.{Action, on_flow, collect, action_of, actions_of, heads_of}
 use Rattle.flow_format.specs.ChainFormat.{Build, chain_in}
 use Rattle.flow_format.specs.declared.verb.Verb.{Verb}
 use Rattle.flow_format.specs.declared.verb.Verb.TheVariants.{TryEmit, Emit, Poll, Cancel, Subscribe, Next, Unsubscribe, Cache, Count, Reset, Collect, Set, CompareAndSet, Turn}
 use Rattle.flow_format.specs.declared.verb.Verb.TheVariants as verbs
 use Rattle.flow_format.specs.declared.verb.Kind.{Kind}
 use Rattle.flow_format.specs.Format.{u64_at, i64_at, name_at, verb_of, has_version}
-use Rattle.flow_format.specs.Heads.{Head, kind_of, head_in}
+use Rattle.flow_format.specs.Heads.{NamedHead, kind_at, head_in}
 
 -- the most bytes, and the most steps
 abbrev pub most_bytes : ℕ
@@ -91,43 +91,44 @@ pair_of d = option_and_then (λ expect. option_map (λ update. (expect, update))
 abbrev pub collected_in : ℕ → Data → Result Build ScriptFault
 collected_in at d = result_then (chain_in at) (or_fault (BadShape at) (get (codes "chain") d))
 
-abbrev pub step_by : Verb → ℕ → NameLists → Data → Result Named ScriptFault
-step_by TryEmit at names d = result_map (λ value. named names (on_flow (step.TryEmit value))) (value_in at d)
-step_by Emit at names d = result_then (λ value. result_then (λ name. result_map (λ after. named after (on_flow (step.Emit value))) (with_emission at name names)) (name_in at d)) (value_in at d)
-step_by Poll at names d = result_map (λ place. named names (on_flow (step.Poll place))) (emission_in at names d)
-step_by Cancel at names d = result_map (λ place. named names (on_flow (step.Cancel place))) (emission_in at names d)
-step_by Subscribe at names d = result_then (λ name. result_map (λ after. named after (on_flow step.Subscribe)) (with_subscriber at name names)) (name_in at d)
-step_by Next at names d = result_map (λ place. named names (on_flow (step.Next place))) (subscriber_in at names d)
-step_by Unsubscribe at names d = result_map (λ place. named names (on_flow (step.Unsubscribe place))) (subscriber_in at names d)
-step_by Cache at names d = Ok (named names (on_flow step.Cache))
-step_by Count at names d = Ok (named names (on_flow step.Count))
-step_by Reset at names d = Ok (named names (on_flow step.Reset))
-step_by verbs.Value at names d = Ok (named names (on_flow step.Value))
-step_by Set at names d = result_map (λ value. named names (on_flow (step.Set value))) (value_in at d)
-step_by CompareAndSet at names d = result_map (λ pair. named names (on_flow (step.CompareAndSet pair.0 pair.1))) (or_fault (BadShape at) (pair_of d))
-step_by Turn at names d = result_map (λ now. named names (on_flow (step.Turn now))) (moment_in at d)
-step_by Collect at names d = result_map (λ build. named names (collect build)) (collected_in at d)
+abbrev pub step_by : Verb → ℕ → ℕ → NameLists → Data → Result Named ScriptFault
+step_by TryEmit flow at names d = result_map (λ value. named names (on_flow flow (step.TryEmit value))) (value_in at d)
+step_by Emit flow at names d = result_then (λ value. result_then (λ name. result_map (λ after. named after (on_flow flow (step.Emit value))) (with_emission at name names)) (name_in at d)) (value_in at d)
+step_by Poll flow at names d = result_map (λ place. named names (on_flow flow (step.Poll place))) (emission_in at names d)
+step_by Cancel flow at names d = result_map (λ place. named names (on_flow flow (step.Cancel place))) (emission_in at names d)
+step_by Subscribe flow at names d = result_then (λ name. result_map (λ after. named after (on_flow flow step.Subscribe)) (with_subscriber at name names)) (name_in at d)
+step_by Next flow at names d = result_map (λ place. named names (on_flow flow (step.Next place))) (subscriber_in at names d)
+step_by Unsubscribe flow at names d = result_map (λ place. named names (on_flow flow (step.Unsubscribe place))) (subscriber_in at names d)
+step_by Cache flow at names d = Ok (named names (on_flow flow step.Cache))
+step_by Count flow at names d = Ok (named names (on_flow flow step.Count))
+step_by Reset flow at names d = Ok (named names (on_flow flow step.Reset))
+step_by verbs.Value flow at names d = Ok (named names (on_flow flow step.Value))
+step_by Set flow at names d = result_map (λ value. named names (on_flow flow (step.Set value))) (value_in at d)
+step_by CompareAndSet flow at names d = result_map (λ pair. named names (on_flow flow (step.CompareAndSet pair.0 pair.1))) (or_fault (BadShape at) (pair_of d))
+step_by Turn flow at names d = result_map (λ now. named names (on_flow flow (step.Turn now))) (moment_in at d)
+step_by Collect flow at names d = result_map (λ build. named names (collect build)) (collected_in at d)
 
-abbrev pub step_of : Kind → ℕ → NameLists → Data → Result Named ScriptFault
-step_of kind at names d = result_then (λ verb. step_by verb at names d) (or_fault (BadShape at) (verb_of kind d))
+-- on a flow of this kind, at this place
+abbrev pub step_of : Kind → ℕ → ℕ → NameLists → Data → Result Named ScriptFault
+step_of kind flow at names d = result_then (λ verb. step_by verb flow at names d) (or_fault (BadShape at) (verb_of kind d))
 
--- the steps in order, up to the first one that is refused
+-- the steps in order, up to the first one that is refused. Each is about the flow at place 0
 abbrev pub steps_of : Kind → ℕ → NameLists → Items → Result (List Action) ScriptFault
 steps_of kind at names no_items = Ok []
-steps_of kind at names (item d ds) = result_then (λ named. result_map (λ steps. named.step ∷ steps) (steps_of kind (at + 1) named.names ds)) (step_of kind at names d)
+steps_of kind at names (item d ds) = result_then (λ named. result_map (λ steps. named.step ∷ steps) (steps_of kind (at + 1) named.names ds)) (step_of kind 0 at names d)
 
 -- ---- scripts
 
 -- a script that is not refused
 pub record Checked : Type 0 where
-  pub flow : Head
+  pub flows : List NamedHead
   pub steps : List Action
 
 -- the number of steps, then the steps
-abbrev pub checked : Head × Items → Result Checked ScriptFault
+abbrev pub checked : List NamedHead × Items → Result Checked ScriptFault
 checked head =
     if nat_lt most_steps (items_len head.1) then Err (TooLarge 0)
-    else result_map (λ steps. record { flow = head.0; steps = steps }) (steps_of (kind_of head.0) 1 no_names head.1)
+    else result_map (λ steps. record { flows = head.0; steps = steps }) (steps_of (kind_at 0 head.0) 1 no_names head.1)
 
 -- an object first, then its version, then its shape, then what it says
 abbrev pub script_of : Data → Result Checked ScriptFault
@@ -171,4 +172,4 @@ abbrev pub steps_result : Result (Vec Step Global) ScriptFault → Result (List 
 steps_result r = result_map (λ steps. actions_of steps.items) r
 
 abbrev pub script_result : Result Script ScriptFault → Result Checked ScriptFault
-script_result r = result_map (λ script. record { flow = head_of_flow script.flow; steps = actions_of script.steps.items }) r
+script_result r = result_map (λ script. record { flows = heads_of script.flows.items; steps = actions_of script.steps.items }) r

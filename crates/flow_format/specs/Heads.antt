@@ -1,6 +1,6 @@
--- What the head of a script says of its flow.
+-- What the head of a script says of its flows.
 -- Begin with `head_in`. A bad form anywhere in the head comes before a limit of its chain.
-use Rattle.std.specs.Prelude.{ℕ, if◌then◌else◌, ℤ, List, Option, Some, None, option_map, option_and_then, Result, Err, codes}
+use Rattle.std.specs.Prelude.{ℕ, if◌then◌else◌, ℤ, List, [], ◌∷◌, slice_get, Option, Some, None, option_map, option_and_then, Result, Err, codes}
 use Rattle.std.specs.Option.{option_map_or}
 use Rattle.std.specs.Str.{bytes_eq}
 use Rattle.serde_json.specs.Data.{Data, Items}
@@ -16,9 +16,8 @@ use Rattle.flow_format.specs.Results.{result_then, result_map, or_fault}
 use Rattle.flow_format.specs.Format.{u64_at, u32_at, i64_at, text_at, has_members, where_true, with_limit, limit_at, config_of}
 use Rattle.flow_format.specs.ChainFormat.{Build, chain_in}
 
--- what a head says of its flow
+-- what a head says of a flow
 pub data Head : Type 0 where
-  no_flow : Head
   shared_flow : Config → Head
   -- with the first value, and the most numbers that it issues
   state_flow : ℤ → ℕ → Head
@@ -27,12 +26,20 @@ pub data Head : Type 0 where
   -- with the chain, when it runs, the first value, and the most numbers
   state_chain : Build → Started → ℤ → ℕ → Head
 
+-- a flow, and its name where it has one
+pub record NamedHead : Type 0 where
+  pub name : Option (List ℕ)
+  pub flow : Head
+
 abbrev pub kind_of : Head → Kind
-kind_of no_flow = kind.Absent
 kind_of (shared_flow config) = kind.Shared
 kind_of (state_flow initial limit) = kind.State
 kind_of (shared_chain build started replay limit) = kind.Share
 kind_of (state_chain build started initial limit) = kind.StateIn
+
+-- the kind of the flow at a place, where there is one
+abbrev pub kind_at : ℕ → List NamedHead → Kind
+kind_at place flows = option_map_or (λ named. kind_of named.flow) (slice_get flows place) kind.Absent
 
 abbrev pub state_of : Data → Option Head
 state_of d = option_and_then (λ initial. option_and_then (λ limit. where_true (has_members (with_limit 2 d) d) (Some (state_flow initial limit)))
@@ -78,23 +85,30 @@ state_in_parts d =
 abbrev pub state_in : Data → Result Head ScriptFault
 state_in d = result_then (λ parts. result_map (λ build. state_chain build parts.started parts.initial parts.limit) (chain_in 0 parts.chain)) (or_fault (BadShape 0) (state_in_parts d))
 
-abbrev pub none_of : Data → Option Head
-none_of d = where_true (has_members 1 d) (Some no_flow)
-
 abbrev pub flow_named : List ℕ → Data → Result Head ScriptFault
 flow_named kind d =
-    if bytes_eq kind (codes "none") then or_fault (BadShape 0) (none_of d)
-    else (if bytes_eq kind (codes "shared") then or_fault (BadShape 0) (option_map shared_flow (config_of d))
+    if bytes_eq kind (codes "shared") then or_fault (BadShape 0) (option_map shared_flow (config_of d))
     else (if bytes_eq kind (codes "state") then or_fault (BadShape 0) (state_of d)
     else (if bytes_eq kind (codes "share") then share_in d
-    else (if bytes_eq kind (codes "state_in") then state_in d else Err (BadShape 0)))))
+    else (if bytes_eq kind (codes "state_in") then state_in d else Err (BadShape 0))))
 
-abbrev pub flow_in : Data → Result Head ScriptFault
-flow_in d = result_then (λ kind. flow_named kind d) (or_fault (BadShape 0) (text_at (codes "kind") d))
+abbrev pub no_flows : Data → Result (List NamedHead) ScriptFault
+no_flows d = or_fault (BadShape 0) (where_true (has_members 1 d) (Some []))
+
+-- one flow, which needs no name
+abbrev pub only : Head → List NamedHead
+only flow = record { name = None; flow = flow } ∷ []
+
+abbrev pub only_named : List ℕ → Data → Result (List NamedHead) ScriptFault
+only_named kind d = if bytes_eq kind (codes "none") then no_flows d else result_map only (flow_named kind d)
+
+-- a row of one flow, or of none
+abbrev pub only_in : Data → Result (List NamedHead) ScriptFault
+only_in d = result_then (λ kind. only_named kind d) (or_fault (BadShape 0) (text_at (codes "kind") d))
 
 abbrev pub steps_in : Data → Option Items
 steps_in d = where_true (has_members 3 d) (option_and_then as_array (get (codes "steps") d))
 
-abbrev pub head_in : Data → Result (Head × Items) ScriptFault
+abbrev pub head_in : Data → Result (List NamedHead × Items) ScriptFault
 head_in d =
-    result_then (λ steps. result_map (λ flow. (flow, steps)) (result_then flow_in (or_fault (BadShape 0) (get (codes "flow") d)))) (or_fault (BadShape 0) (steps_in d))
+    result_then (λ steps. result_map (λ flows. (flows, steps)) (result_then only_in (or_fault (BadShape 0) (get (codes "flow") d)))) (or_fault (BadShape 0) (steps_in d))

@@ -19,4 +19,4 @@ mod verb;
 
 pub use fault::ScriptFault;
 pub use read::{MOST_BYTES, read_script};
-pub use script::{Build, FlowStep, Script, ScriptFlow, Step};
+pub use script::{Build, FlowStep, NamedFlow, Script, ScriptFlow, Step};

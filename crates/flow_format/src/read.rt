@@ -3,13 +3,13 @@ ghost use Rattle.std.specs.Prelude.{◌≡◌, ◌<◌, ◌+◌, Ok, Err, length
 ghost use Rattle.serde_json.specs.Find.{as_object};
 ghost use Rattle.serde_json.specs.View.{view, items_view};
 ghost use Rattle.flow_format.specs.Checks as checks;
-ghost use Rattle.flow_format.specs.Actions.{head_of_flow};
+ghost use Rattle.flow_format.specs.Actions.{heads_of};
 
 use crate::fault::ScriptFault;
 use crate::names::Names;
-use crate::read_head::{has_version, head_in, kind_of};
+use crate::read_head::{has_version, head_in, kind_at};
 use crate::read_step::step_of;
-use crate::script::{Script, ScriptFlow, Step};
+use crate::script::{NamedFlow, Script, Step};
 use crate::verb::Kind;
 use serde_json::Value;
 use std::alloc::Global;
@@ -26,7 +26,7 @@ fn steps_of(alloc: Global, kind: Kind, steps: &[Value]) -> Result<Vec<Step>, Scr
     let mut names = Names::new(alloc);
     let mut checked = Vec::new(alloc);
     for (index, step) in steps.iter().enumerate() {
-        let step = match step_of(alloc, kind, &mut names, index as u64 + 1, step) {
+        let step = match step_of(alloc, kind, 0, &mut names, index as u64 + 1, step) {
             Ok(step) => step,
             Err(fault) => return Err(fault),
         };
@@ -38,15 +38,15 @@ fn steps_of(alloc: Global, kind: Kind, steps: &[Value]) -> Result<Vec<Step>, Scr
 }
 
 /// The script of a head of the right shape.
-fn checked(alloc: Global, flow: ScriptFlow, steps: &[Value]) -> Result<Script, ScriptFault>
-    ensures { checks.Gives (checks.checked (head_of_flow flow, items_view steps.now))
+fn checked(alloc: Global, flows: Vec<NamedFlow>, steps: &[Value]) -> Result<Script, ScriptFault>
+    ensures { checks.Gives (checks.checked (heads_of flows.items, items_view steps.now))
         (checks.script_result result) }
 {
     if steps.len() > MOST_STEPS {
         return Err(ScriptFault::TooLarge(0));
     }
-    match steps_of(alloc, kind_of(&flow), steps) {
-        Ok(steps) => Ok(Script { flow, steps }),
+    match steps_of(alloc, kind_at(flows.as_slice(), 0), steps) {
+        Ok(steps) => Ok(Script { flows, steps }),
         Err(fault) => Err(fault),
     }
 }
@@ -61,7 +61,7 @@ fn script_of(alloc: Global, value: &Value) -> Result<Script, ScriptFault>
         return Err(ScriptFault::BadVersion);
     }
     match head_in(alloc, value) {
-        Ok((flow, steps)) => checked(alloc, flow, steps.as_slice()),
+        Ok((flows, steps)) => checked(alloc, flows, steps.as_slice()),
         Err(fault) => Err(fault),
     }
 }

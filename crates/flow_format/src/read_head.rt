@@ -2,16 +2,16 @@
 ghost use Rattle.std.specs.Prelude.{◌≡◌, codes, Ok, Err, option_map, option_and_then};
 ghost use Rattle.serde_json.specs.View.{view, items_view};
 ghost use Rattle.flow_format.specs.Format as format;
-ghost use Rattle.flow_format.specs.Actions.{head_of_flow};
+ghost use Rattle.flow_format.specs.Actions.{head_of_flow, heads_of};
 ghost use Rattle.flow_format.specs.Heads as heads;
 ghost use Rattle.flow_format.specs.Results.{or_fault};
 ghost use Rattle.flow_format.specs.Checks.{Gives};
-ghost use Rattle.flow_format.specs.HeadViews.{flow_result, head_result};
+ghost use Rattle.flow_format.specs.HeadViews.{flow_result, flows_result, head_result};
 
 use crate::fault::ScriptFault;
 use crate::members::{has_members, i64_at, limit_at, text_at, u32_at, u64_at, with_limit};
 use crate::read_share::{share_in, state_in};
-use crate::script::ScriptFlow;
+use crate::script::{NamedFlow, ScriptFlow};
 use crate::verb::Kind;
 use flow_law::{Config, Overflow};
 use serde_json::Value;
@@ -70,16 +70,6 @@ fn state_of(flow: &Value) -> Option<ScriptFlow>
     Some(ScriptFlow::State { initial, limit })
 }
 
-fn none_of(flow: &Value) -> Option<ScriptFlow>
-    ensures { option_map head_of_flow result ≡ heads.none_of (view flow.now) }
-{
-    if has_members(flow, 1) {
-        Some(ScriptFlow::Absent)
-    } else {
-        None
-    }
-}
-
 fn shared_of(flow: &Value) -> Option<ScriptFlow>
     ensures { option_map head_of_flow result
         ≡ option_map heads.shared_flow (format.config_of (view flow.now)) }
@@ -101,9 +91,6 @@ fn formed(flow: Option<ScriptFlow>) -> Result<ScriptFlow, ScriptFault>
 fn flow_named(alloc: Global, kind: &str, flow: &Value) -> Result<ScriptFlow, ScriptFault>
     ensures { Gives (heads.flow_named kind.now (view flow.now)) (flow_result result) }
 {
-    if kind == "none" {
-        return formed(none_of(flow));
-    }
     if kind == "shared" {
         return formed(shared_of(flow));
     }
@@ -119,25 +106,68 @@ fn flow_named(alloc: Global, kind: &str, flow: &Value) -> Result<ScriptFlow, Scr
     Err(ScriptFault::BadShape(0))
 }
 
-fn flow_in(alloc: Global, flow: &Value) -> Result<ScriptFlow, ScriptFault>
-    ensures { Gives (heads.flow_in (view flow.now)) (flow_result result) }
+fn no_flows(alloc: Global, flow: &Value) -> Result<Vec<NamedFlow>, ScriptFault>
+    ensures { Gives (heads.no_flows (view flow.now)) (flows_result result) }
+{
+    if has_members(flow, 1) {
+        Ok(Vec::new(alloc))
+    } else {
+        Err(ScriptFault::BadShape(0))
+    }
+}
+
+/// A row of one flow.
+fn only(alloc: Global, flow: ScriptFlow) -> Result<Vec<NamedFlow>, ScriptFault>
+    ensures { Gives (Ok (heads.only (head_of_flow flow))) (flows_result result) }
+{
+    let mut flows = Vec::new(alloc);
+    match flows.push(NamedFlow { name: None, flow }) {
+        Ok(()) => Ok(flows),
+        Err(_) => Err(ScriptFault::OutOfMemory),
+    }
+}
+
+fn only_named(alloc: Global, kind: &str, flow: &Value) -> Result<Vec<NamedFlow>, ScriptFault>
+    ensures { Gives (heads.only_named kind.now (view flow.now)) (flows_result result) }
+{
+    if kind == "none" {
+        return no_flows(alloc, flow);
+    }
+    match flow_named(alloc, kind, flow) {
+        Ok(flow) => only(alloc, flow),
+        Err(fault) => Err(fault),
+    }
+}
+
+/// A row of the only flow, or of none.
+fn only_in(alloc: Global, flow: &Value) -> Result<Vec<NamedFlow>, ScriptFault>
+    ensures { Gives (heads.only_in (view flow.now)) (flows_result result) }
 {
     match text_at(flow, "kind") {
-        Some(kind) => flow_named(alloc, kind, flow),
+        Some(kind) => only_named(alloc, kind, flow),
         None => Err(ScriptFault::BadShape(0)),
     }
 }
 
 /// The kind of a flow, which says what steps there may be.
-pub fn kind_of(flow: &ScriptFlow) -> Kind
+fn kind_of(flow: &ScriptFlow) -> Kind
     ensures { result ≡ heads.kind_of (head_of_flow flow.now) }
 {
     match flow {
-        ScriptFlow::Absent => Kind::Absent,
         ScriptFlow::Shared(_) => Kind::Shared,
         ScriptFlow::State { .. } => Kind::State,
         ScriptFlow::Share { .. } => Kind::Share,
         ScriptFlow::StateIn { .. } => Kind::StateIn,
+    }
+}
+
+/// The kind of the flow at a place, where there is one.
+pub fn kind_at(flows: &[NamedFlow], place: usize) -> Kind
+    ensures { result ≡ heads.kind_at place (heads_of flows.now) }
+{
+    match flows.get(place) {
+        Some(named) => kind_of(&named.flow),
+        None => Kind::Absent,
     }
 }
 
@@ -159,8 +189,8 @@ fn steps_in(value: &Value) -> Option<&Vec<Value>>
     value.get("steps").and_then(Value::as_array)
 }
 
-/// The flow and the steps of a head. A bad form comes before a limit, so the steps are looked at first.
-pub fn head_in(alloc: Global, value: &Value) -> Result<(ScriptFlow, &Vec<Value>), ScriptFault>
+/// The flows and the steps of a head. A bad form comes before a limit, so the steps are looked at first.
+pub fn head_in(alloc: Global, value: &Value) -> Result<(Vec<NamedFlow>, &Vec<Value>), ScriptFault>
     ensures { Gives (heads.head_in (view value.now)) (head_result result) }
 {
     let Some(steps) = steps_in(value) else {
@@ -169,8 +199,8 @@ pub fn head_in(alloc: Global, value: &Value) -> Result<(ScriptFlow, &Vec<Value>)
     let Some(flow) = value.get("flow") else {
         return Err(ScriptFault::BadShape(0));
     };
-    match flow_in(alloc, flow) {
-        Ok(flow) => Ok((flow, steps)),
+    match only_in(alloc, flow) {
+        Ok(flows) => Ok((flows, steps)),
         Err(fault) => Err(fault),
     }
 }

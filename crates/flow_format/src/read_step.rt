@@ -64,8 +64,13 @@ fn value_in(at: u64, step: &Value) -> Result<i64, ScriptFault>
 }
 
 /// The step, and its name introduced.
-fn emit_step<'a>(names: &mut Names<'a>, at: u64, step: &'a Value) -> Result<Step, ScriptFault>
-    ensures { checks.Gives (checks.step_by Verb.Emit at (lists_of names.old) (view step.now))
+fn emit_step<'a>(
+    names: &mut Names<'a>,
+    flow: usize,
+    at: u64,
+    step: &'a Value,
+) -> Result<Step, ScriptFault>
+    ensures { checks.Gives (checks.step_by Verb.Emit flow at (lists_of names.old) (view step.now))
         (checks.named_result result (lists_of names.new)) }
 {
     let value = value_in(at, step)?;
@@ -73,19 +78,24 @@ fn emit_step<'a>(names: &mut Names<'a>, at: u64, step: &'a Value) -> Result<Step
         return Err(ScriptFault::BadShape(at));
     };
     names.add_emission(at, name)?;
-    Ok(Step::Flow(FlowStep::Emit(value)))
+    Ok(Step::Flow(flow, FlowStep::Emit(value)))
 }
 
 /// The step, and its name introduced.
-fn subscribe_step<'a>(names: &mut Names<'a>, at: u64, step: &'a Value) -> Result<Step, ScriptFault>
-    ensures { checks.Gives (checks.step_by Verb.Subscribe at (lists_of names.old) (view step.now))
+fn subscribe_step<'a>(
+    names: &mut Names<'a>,
+    flow: usize,
+    at: u64,
+    step: &'a Value,
+) -> Result<Step, ScriptFault>
+    ensures { checks.Gives (checks.step_by Verb.Subscribe flow at (lists_of names.old) (view step.now))
         (checks.named_result result (lists_of names.new)) }
 {
     let Some(name) = name_at(step) else {
         return Err(ScriptFault::BadShape(at));
     };
     names.add_subscriber(at, name)?;
-    Ok(Step::Flow(FlowStep::Subscribe))
+    Ok(Step::Flow(flow, FlowStep::Subscribe))
 }
 
 /// The moment of a turn.
@@ -107,12 +117,12 @@ fn pair_of(step: &Value) -> Option<(i64, i64)>
     Some((expect, update))
 }
 
-fn compare_and_set_step(at: u64, step: &Value) -> Result<Step, ScriptFault>
+fn compare_and_set_step(flow: usize, at: u64, step: &Value) -> Result<Step, ScriptFault>
     ensures { (names : checks.NameLists) → checks.Gives
-        (checks.step_by Verb.CompareAndSet at names (view step.now)) (checks.named_result result names) }
+        (checks.step_by Verb.CompareAndSet flow at names (view step.now)) (checks.named_result result names) }
 {
     match pair_of(step) {
-        Some((expect, update)) => Ok(Step::Flow(FlowStep::CompareAndSet(expect, update))),
+        Some((expect, update)) => Ok(Step::Flow(flow, FlowStep::CompareAndSet(expect, update))),
         None => Err(ScriptFault::BadShape(at)),
     }
 }
@@ -127,35 +137,39 @@ fn collected_in(alloc: Global, at: u64, step: &Value) -> Result<Build, ScriptFau
     }
 }
 
-/// The step, where the names are those of the steps before it.
+/// The step on a flow of this kind, at this place, where the names are those of the steps before it.
 pub fn step_of<'a>(
     alloc: Global,
     kind: Kind,
+    flow: usize,
     names: &mut Names<'a>,
     at: u64,
     step: &'a Value,
 ) -> Result<Step, ScriptFault>
-    ensures { checks.Gives (checks.step_of kind at (lists_of names.old) (view step.now))
+    ensures { checks.Gives (checks.step_of kind flow at (lists_of names.old) (view step.now))
         (checks.named_result result (lists_of names.new)) }
 {
     let Some(verb) = verb_of(kind, step) else {
         return Err(ScriptFault::BadShape(at));
     };
     match verb {
-        Verb::TryEmit => Ok(Step::Flow(FlowStep::TryEmit(value_in(at, step)?))),
-        Verb::Emit => emit_step(names, at, step),
-        Verb::Poll => Ok(Step::Flow(FlowStep::Poll(emission_in(names, at, step)?))),
-        Verb::Cancel => Ok(Step::Flow(FlowStep::Cancel(emission_in(names, at, step)?))),
-        Verb::Subscribe => subscribe_step(names, at, step),
-        Verb::Next => Ok(Step::Flow(FlowStep::Next(subscriber_in(names, at, step)?))),
-        Verb::Unsubscribe => Ok(Step::Flow(FlowStep::Unsubscribe(subscriber_in(names, at, step)?))),
-        Verb::Cache => Ok(Step::Flow(FlowStep::Cache)),
-        Verb::Count => Ok(Step::Flow(FlowStep::Count)),
-        Verb::Reset => Ok(Step::Flow(FlowStep::Reset)),
-        Verb::Value => Ok(Step::Flow(FlowStep::Value)),
-        Verb::Set => Ok(Step::Flow(FlowStep::Set(value_in(at, step)?))),
-        Verb::CompareAndSet => compare_and_set_step(at, step),
-        Verb::Turn => Ok(Step::Flow(FlowStep::Turn(moment_in(at, step)?))),
+        Verb::TryEmit => Ok(Step::Flow(flow, FlowStep::TryEmit(value_in(at, step)?))),
+        Verb::Emit => emit_step(names, flow, at, step),
+        Verb::Poll => Ok(Step::Flow(flow, FlowStep::Poll(emission_in(names, at, step)?))),
+        Verb::Cancel => Ok(Step::Flow(flow, FlowStep::Cancel(emission_in(names, at, step)?))),
+        Verb::Subscribe => subscribe_step(names, flow, at, step),
+        Verb::Next => Ok(Step::Flow(flow, FlowStep::Next(subscriber_in(names, at, step)?))),
+        Verb::Unsubscribe => {
+            let place = subscriber_in(names, at, step)?;
+            Ok(Step::Flow(flow, FlowStep::Unsubscribe(place)))
+        }
+        Verb::Cache => Ok(Step::Flow(flow, FlowStep::Cache)),
+        Verb::Count => Ok(Step::Flow(flow, FlowStep::Count)),
+        Verb::Reset => Ok(Step::Flow(flow, FlowStep::Reset)),
+        Verb::Value => Ok(Step::Flow(flow, FlowStep::Value)),
+        Verb::Set => Ok(Step::Flow(flow, FlowStep::Set(value_in(at, step)?))),
+        Verb::CompareAndSet => compare_and_set_step(flow, at, step),
+        Verb::Turn => Ok(Step::Flow(flow, FlowStep::Turn(moment_in(at, step)?))),
         Verb::Collect => Ok(Step::Collect(collected_in(alloc, at, step)?)),
     }
 }

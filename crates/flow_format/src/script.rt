@@ -6,8 +6,8 @@ use flow_law::{Config, Started};
 /// A chain of a script, or why it could not be built. That is no fault of the script, but what its collection tells.
 pub type Build = Result<ScriptChain, ChainFault>;
 
-/// A step about the flow. A name is known by how many names of its kind were introduced before it: emissions and
-/// subscribers are counted apart.
+/// A step about a flow. A name is known by how many names of its kind were introduced before it for that flow: emissions
+/// and subscribers are counted apart.
 #[derive(Clone, Copy, Debug, PartialEq, Eq)]
 pub enum FlowStep {
     TryEmit(i64),
@@ -36,15 +36,14 @@ pub enum FlowStep {
 
 #[derive(Drop)]
 pub enum Step {
-    Flow(FlowStep),
+    /// With the place of the flow among those of the script.
+    Flow(usize, FlowStep),
     Collect(Build),
 }
 
-/// The flow that the steps of a script are about.
+/// What a flow of a script is made of.
 #[derive(Drop)]
 pub enum ScriptFlow {
-    /// There is none: the steps only collect chains.
-    Absent,
     Shared(Config),
     State {
         initial: i64,
@@ -66,9 +65,18 @@ pub enum ScriptFlow {
     },
 }
 
-/// A script that was checked. The flow itself may still be refused when it is made.
+/// A flow of a script. Where it has a name, its line tells that name if it is refused when it is made, and the script is
+/// played all the same; without one, that line is all that the script writes.
+#[derive(Drop)]
+pub struct NamedFlow {
+    pub name: Option<String>,
+    pub flow: ScriptFlow,
+}
+
+/// A script that was checked. A flow of it may still be refused when it is made.
 #[derive(Drop)]
 pub struct Script {
-    pub flow: ScriptFlow,
+    /// In the order in which they are made.
+    pub flows: Vec<NamedFlow>,
     pub steps: Vec<Step>,
 }

@@ -2,9 +2,10 @@
 ghost use Rattle.std.specs.Prelude.{◌≡◌};
 ghost use Rattle.flow_format.specs.Format as format;
 
-/// What kind of flow a script is about.
+/// What kind of flow a step is about.
 #[derive(Clone, Copy, Debug, PartialEq, Eq)]
 pub enum Kind {
+    /// There is no flow.
     Absent,
     Shared,
     State,

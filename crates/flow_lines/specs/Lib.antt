@@ -9,3 +9,4 @@ pub mod ScriptMeaning
 pub mod Shown
 pub mod Sharings
 pub mod Players
+pub mod Rows

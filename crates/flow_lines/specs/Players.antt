@@ -1,41 +1,52 @@
--- What a player stands for, and how it begins. No public clause cites this module.
-use Rattle.std.specs.Prelude.{◌≡◌, ◌⊎◌, ◌++◌, ℕ, List, Option, Some, None, Result, Ok, Err}
+-- What a player stands for, and how it is made. No public clause cites this module.
+use Rattle.std.specs.Prelude.{◌≡◌, ◌⊎◌, ℕ, List, Result, Ok, Err}
 use Rattle.flow_law.specs.Standing.{StandsFor}
 use Rattle.flow_cold.specs.declared.script_chain.ScriptChain.{ScriptChain}
 use Rattle.flow_cold.specs.ScriptChain.{node_whole, node_rest}
 use Rattle.flow_law.specs.declared.report.ShareFault.{ShareFault}
 use Rattle.flow_law.specs.declared.report.ShareFault.TheVariants.{Chain, Flow}
 use Rattle.flow_law.specs.declared.fault.FlowFault.TheVariants.{OutOfMemory}
+use Rattle.flow_lines.specs.declared.refusal.Refusal.{Refusal}
+use Rattle.flow_lines.specs.declared.refusal.Refusal.TheVariants as refusal
 use Rattle.flow_law.specs.declared.chain.ChainFault.{ChainFault}
 use Rattle.flow_turns.specs.OverCores.{Emits}
 use Rattle.flow_turns.specs.StateHub.{state_core_of}
 use Rattle.flow_lines.specs.declared.player.Player.{Player}
-use Rattle.flow_lines.specs.declared.player.Player.TheVariants.{Idle, Shared, State, Share, StateIn}
+use Rattle.flow_lines.specs.declared.player.Player.TheVariants.{Shared, State, Share, StateIn}
 use Rattle.flow_format.specs.ChainFormat.{BuiltChain}
 use Rattle.flow_format.specs.Chains.{build_of}
 use Rattle.flow_format.specs.Heads.{Head}
-use Rattle.flow_lines.specs.Lines.{lined, share_fault_text}
+use Rattle.flow_lines.specs.Lines.{refusal_text, share_fault_text}
+use Rattle.flow_lines.specs.Memory.{IsToldFlowFault, IsToldFault}
 use Rattle.flow_lines.specs.ScriptMeaning.{player_of}
 use Rattle.flow_lines.specs.ScriptMeaning as player
 use Rattle.flow_lines.specs.Sharings.{ShowsSharing}
 
 abbrev pub Shows : Player → player.Player → Type 0
-Shows Idle player.idle = Unit {0}
 Shows (Shared core) (player.shared s) = StandsFor core s
 Shows (State core) (player.state s) = core ≡ s
 Shows (Share sharing) (player.share p) = ShowsSharing Emits sharing p
 Shows (StateIn sharing) (player.state_in p) = ShowsSharing (λ hub s. state_core_of hub ≡ s) sharing p
 Shows _ _ = ⊥
 
--- the player before the first step, or the line of a flow that is itself refused
-abbrev pub Begins : Head → List ℕ → List ℕ → Option Player → Type 0
-Begins head before after (Some made) = (p : player.Player) × (player_of head ≡ Ok p) × Shows made p × (after ≡ before)
-Begins head before after None = (text : List ℕ) × (player_of head ≡ Err text) × (after ≡ before ++ lined text)
-
 -- the player before the first step, or why no sharing is made: want of memory is no fault of the script
-abbrev pub Makes : Head → Result Player ShareFault → Type 0
+abbrev pub MakesSharing : Head → Result Player ShareFault → Type 0
+MakesSharing head (Ok made) = (p : player.Player) × (player_of head ≡ Ok p) × Shows made p
+MakesSharing head (Err fault) = (player_of head ≡ Err (share_fault_text fault)) ⊎ (fault ≡ Flow OutOfMemory)
+
+-- the rest of the line that tells why a flow was not made
+abbrev pub refused_text : Refusal → List ℕ
+refused_text (refusal.Flow fault) = refusal_text fault
+refused_text (refusal.Sharing fault) = share_fault_text fault
+
+abbrev pub IsTold : Refusal → Type 0
+IsTold (refusal.Flow fault) = IsToldFlowFault fault
+IsTold (refusal.Sharing fault) = IsToldFault fault
+
+-- the player before the first step, or why the flow was not made
+abbrev pub Makes : Head → Result Player Refusal → Type 0
 Makes head (Ok made) = (p : player.Player) × (player_of head ≡ Ok p) × Shows made p
-Makes head (Err fault) = (player_of head ≡ Err (share_fault_text fault)) ⊎ (fault ≡ Flow OutOfMemory)
+Makes head (Err refused) = IsTold refused → player_of head ≡ Err (refused_text refused)
 
 -- the chain that was built, from its beginning, or why it was not built
 abbrev pub Rewinds : Result ScriptChain ChainFault → Result ScriptChain ShareFault → Type 0

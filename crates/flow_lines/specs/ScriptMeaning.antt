@@ -1,10 +1,10 @@
 -- What a script means: the text that it writes, or the fault that it is refused by.
--- Begin with `meaning`: the checks of Checks, then the steps over the documented flow, each with its line.
-use Rattle.std.specs.Prelude.{ℕ, ℤ, List, [], ◌∷◌, ◌++◌, None, Result, Ok, Err}
+-- Begin with `meaning`: the checks of Checks, then the steps over the documented flows, each with its line.
+use Rattle.std.specs.Prelude.{ℕ, ℤ, List, [], ◌∷◌, ◌++◌, slice_get, slice_set, Option, Some, None, option_and_then, Result, Ok, Err, codes}
 use Rattle.std.specs.Option.{option_map_or}
 use Rattle.flow_law.specs.SharedFlow.{config_fault, first_state}
 use Rattle.flow_format.specs.declared.fault.ScriptFault.{ScriptFault}
-use Rattle.flow_format.specs.Heads.{Head, no_flow, shared_chain, state_chain}
+use Rattle.flow_format.specs.Heads.{Head, NamedHead, shared_chain, state_chain}
 use Rattle.flow_format.specs.Heads as head
 use Rattle.flow_format.specs.Actions.{Action, on_flow, collect}
 use Rattle.flow_format.specs.Checks.{result_map, read_script}
@@ -18,7 +18,7 @@ use Rattle.flow_law.specs.SharedHistory.{shared_flow}
 use Rattle.flow_law.specs.SharingFlows.{shared_reply, state_reply}
 use Rattle.flow_law.specs.StateFlow.{first_state_flow, state_flow}
 use Rattle.flow_format.specs.declared.script.FlowStep.{FlowStep}
-use Rattle.flow_lines.specs.FlowMeaning.{Turn, flow_turn, without_call}
+use Rattle.flow_lines.specs.FlowMeaning.{Turn, flow_turn}
 use Rattle.flow_lines.specs.Numbers.{Numbers, no_numbers}
 use Rattle.flow_lines.specs.SharedMeaning.{plays_shared}
 use Rattle.flow_lines.specs.SharingMeaning.{SharingPlay, first_sharing, beside_emission, sharing_step}
@@ -26,9 +26,8 @@ use Rattle.flow_lines.specs.StateMeaning.{plays_state}
 
 -- ---- players
 
--- what the steps are played on
+-- what the steps on a flow are played on
 pub data Player : Type 0 where
-  idle : Player
   shared : SharedFlowState ℤ → Player
   state : StateFlowState ℤ → Player
   share : SharingPlay (EmittingFlow ℤ) → Player
@@ -46,26 +45,60 @@ abbrev pub state_turn : FlowStep → StateFlowState ℤ → Numbers → Turn (St
 state_turn = flow_turn state_flow plays_state
 
 abbrev pub player_turn : FlowStep → Player → Numbers → Turn Player
-player_turn step idle n = without_call step idle n
 player_turn step (shared s) n = played_as shared (shared_turn step s n)
 player_turn step (state s) n = played_as state (state_turn step s n)
 player_turn step (share p) n = played_as share (sharing_step (beside_emission shared_turn) shared_reply step p n)
 player_turn step (state_in p) n = played_as state_in (sharing_step state_turn state_reply step p n)
 
--- a collection is about no flow
-abbrev pub turn : Action → Player → Numbers → Turn Player
-turn (on_flow step) p n = player_turn step p n
-turn (collect build) p n = record { line = collection_text build; after = p; numbers = n }
+-- ---- rows of flows
 
-abbrev pub lines_from : Player → Numbers → List Action → List ℕ
-lines_from p n [] = []
-lines_from p n (action ∷ rest) = lined (turn action p n).line ++ lines_from (turn action p n).after (turn action p n).numbers rest
+-- a flow that was made, and what the names of its steps stand for
+pub record PlayedFlow : Type 0 where
+  pub player : Player
+  pub numbers : Numbers
+
+-- before the first step on it
+abbrev pub first_played : Player → PlayedFlow
+first_played p = record { player = p; numbers = no_numbers }
+
+-- a step's line, and what is at its place afterwards. A flow that was refused when it was made has left its place empty
+pub record PlaceTurn : Type 0 where
+  pub line : List ℕ
+  pub after : Option PlayedFlow
+
+abbrev pub place_turn : FlowStep → Option PlayedFlow → PlaceTurn
+place_turn step None = record { line = codes "no flow"; after = None }
+place_turn step (Some flow) =
+    let t = player_turn step flow.player flow.numbers in
+    record { line = t.line; after = Some (record { player = t.after; numbers = t.numbers }) }
+
+-- a step's line, and the row afterwards
+pub record RowTurn : Type 0 where
+  pub line : List ℕ
+  pub after : List (Option PlayedFlow)
+
+abbrev pub flow_at : ℕ → List (Option PlayedFlow) → Option PlayedFlow
+flow_at place row = option_and_then (λ flow. flow) (slice_get row place)
+
+-- a step at a place leaves all others as they were
+abbrev pub turn_at : ℕ → FlowStep → List (Option PlayedFlow) → RowTurn
+turn_at place step row =
+    let t = place_turn step (flow_at place row) in
+    record { line = t.line; after = slice_set row place t.after }
+
+-- a collection is about no flow
+abbrev pub turn : Action → List (Option PlayedFlow) → RowTurn
+turn (on_flow place step) row = turn_at place step row
+turn (collect build) row = record { line = collection_text build; after = row }
+
+abbrev pub lines_from : List (Option PlayedFlow) → List Action → List ℕ
+lines_from row [] = []
+lines_from row (action ∷ rest) = lined (turn action row).line ++ lines_from (turn action row).after rest
 
 -- ---- scripts
 
--- what the steps are played on, or the line of a flow that is itself refused
+-- what the steps on a flow are played on, or the line of a flow that is refused when it is made
 abbrev pub player_of : Head → Result Player (List ℕ)
-player_of no_flow = Ok idle
 player_of (head.shared_flow config) = option_map_or (λ fault. Err (refusal_text fault)) (config_fault config) (Ok (shared (first_state config)))
 player_of (head.state_flow initial limit) = Ok (state (first_state_flow limit initial))
 player_of (shared_chain (Err fault) started replay limit) = Err (share_fault_text (Chain fault))
@@ -75,14 +108,22 @@ player_of (shared_chain (Ok chain) started replay limit) =
 player_of (state_chain (Err fault) started initial limit) = Err (share_fault_text (Chain fault))
 player_of (state_chain (Ok chain) started initial limit) = Ok (state_in (first_sharing chain.run started (first_state_flow limit initial)))
 
-abbrev pub text_by : List Action → Result Player (List ℕ) → List ℕ
-text_by steps (Ok p) = lines_from p no_numbers steps
-text_by steps (Err text) = lined text
+-- One flow more is made, and the rest of the text follows. A refused flow that has a name has a line with that name, and
+-- its place stays empty; without a name, its line is all of the rest.
+abbrev pub with_flow : Option (List ℕ) → Result Player (List ℕ) → (List (Option PlayedFlow) → List ℕ) → List (Option PlayedFlow) → List ℕ
+with_flow name (Ok p) rest row = rest (row ++ Some (first_played p) ∷ [])
+with_flow None (Err text) rest row = lined text
+with_flow (Some name) (Err text) rest row = lined (name ++ codes " " ++ text) ++ rest (row ++ None ∷ [])
 
--- all that a script writes. Where the flow itself is refused, that is the only line
-abbrev pub text_of : Head → List Action → List ℕ
-text_of flow steps = text_by steps (player_of flow)
+-- the flows are made in their order, and then the steps are played
+abbrev pub text_from : List NamedHead → List Action → List (Option PlayedFlow) → List ℕ
+text_from [] steps row = lines_from row steps
+text_from (named ∷ more) steps row = with_flow named.name (player_of named.flow) (text_from more steps) row
+
+-- all that a script writes
+abbrev pub text_of : List NamedHead → List Action → List ℕ
+text_of flows steps = text_from flows steps []
 
 -- the text that a script writes, or why it is refused
 abbrev pub meaning : List ℕ → Result (List ℕ) ScriptFault
-meaning bytes = result_map (λ script. text_of script.flow script.steps) (read_script bytes)
+meaning bytes = result_map (λ script. text_of script.flows script.steps) (read_script bytes)

@@ -9,11 +9,14 @@ mod lines;
 mod memory;
 mod numbers;
 mod player;
+mod refusal;
+mod row;
 mod script_core;
 mod script_hub;
+mod script_lines;
 mod share_lines;
 mod shared_calls;
 mod sharing_steps;
 mod state_calls;
 
-pub use player::ScriptLines;
+pub use script_lines::ScriptLines;

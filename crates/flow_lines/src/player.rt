@@ -1,29 +1,26 @@
-//! Playing the steps of a script.
-ghost use Rattle.std.specs.Prelude.{◌≡◌, OnOk, IfOk, IfErr, MatchResult, Err, string_bytes};
-ghost use Rattle.flow_format.specs.Actions.{action_of, actions_of, head_of_flow};
-ghost use Rattle.flow_format.specs.Chains.{build_of, built_of};
+//! A flow of a script, as its steps are played on it.
+ghost use Rattle.std.specs.Prelude.{◌≡◌, OnOk, IfErr};
+ghost use Rattle.flow_format.specs.Actions.{head_of_flow};
+ghost use Rattle.flow_format.specs.Chains.{build_of};
 ghost use Rattle.flow_format.specs.Heads.{Head, shared_chain, state_chain};
 ghost use Rattle.flow_lines.specs.ScriptMeaning as meaning;
-ghost use Rattle.flow_lines.specs.Players.{Begins, Makes, Rewinds, Shows};
+ghost use Rattle.flow_lines.specs.Players.{Makes, MakesSharing, Rewinds, Shows};
 ghost use Rattle.flow_lines.specs.Shown.{Follows};
 
-use crate::collect::add_collection;
 use crate::flow_steps::flow_step;
-use crate::lines::{add_line_without_call, add_refusal};
 use crate::numbers::Numbers;
-use crate::share_lines::add_share_fault;
+use crate::refusal::Refusal;
 use crate::sharing_steps::sharing_step;
 use flow_cold::{Cold, ScriptChain};
 use flow_core::{SharedCore, StateCore};
-use flow_format::{Build, FlowStep, Script, ScriptFault, ScriptFlow, Step};
+use flow_format::{Build, FlowStep, ScriptFault, ScriptFlow};
 use flow_law::Started;
 use flow_turns::{CoreHub, ShareFault, Sharing, StateHub, share_in, state_in};
 use std::alloc::Global;
 
-/// What the steps of a script are played on.
+/// What the steps on a flow are played on.
 #[derive(Drop)]
 pub enum Player {
-    Idle,
     Shared(SharedCore<i64>),
     State(StateCore<i64>),
     Share(Sharing<ScriptChain, CoreHub<i64>>),
@@ -51,7 +48,7 @@ impl Player {
         replay: u32,
         limit: u64,
     ) -> Result<Self, ShareFault>
-        ensures { Makes (shared_chain (build_of chain) started replay limit) result }
+        ensures { MakesSharing (shared_chain (build_of chain) started replay limit) result }
     {
         let chain = match rewound(chain) {
             Ok(chain) => chain,
@@ -70,7 +67,7 @@ impl Player {
         initial: i64,
         limit: u64,
     ) -> Result<Self, ShareFault>
-        ensures { Makes (state_chain (build_of chain) started initial limit) result }
+        ensures { MakesSharing (state_chain (build_of chain) started initial limit) result }
     {
         let chain = match rewound(chain) {
             Ok(chain) => chain,
@@ -82,62 +79,45 @@ impl Player {
         }
     }
 
-    /// Before the first step, or nothing where no sharing is made, with the line of that.
-    fn sharing(
-        text: &mut String,
-        made: Result<Self, ShareFault>,
-    ) -> Result<Option<Self>, ScriptFault>
-        ensures { (head : Head) → Makes head made → MatchResult result
-            (Begins head (string_bytes text.old) (string_bytes text.new))
-            (λ fault. fault ≡ ScriptFault.OutOfMemory) }
+    /// The flow before the first step, where a sharing was made.
+    fn sharing(made: Result<Self, ShareFault>) -> Result<Self, Refusal>
+        ensures { (head : Head) → MakesSharing head made → Makes head result }
     {
         match made {
-            Ok(player) => Ok(Some(player)),
-            Err(fault) => {
-                add_share_fault(text, fault)?;
-                Ok(None)
-            }
+            Ok(player) => Ok(player),
+            Err(fault) => Err(Refusal::Sharing(fault)),
         }
     }
 
-    /// Before the first step, or nothing where the flow itself is refused, with the line of that.
-    fn new(alloc: Global, text: &mut String, flow: ScriptFlow) -> Result<Option<Self>, ScriptFault>
-        ensures { MatchResult result
-            (Begins (head_of_flow flow) (string_bytes text.old) (string_bytes text.new))
-            (λ fault. fault ≡ ScriptFault.OutOfMemory) }
+    /// A flow before the first step.
+    pub fn new(alloc: Global, flow: ScriptFlow) -> Result<Self, Refusal>
+        ensures { Makes (head_of_flow flow) result }
     {
         match flow {
-            ScriptFlow::Absent => Ok(Some(Player::Idle)),
             ScriptFlow::Shared(config) => match SharedCore::new(alloc, config) {
-                Ok(core) => Ok(Some(Player::Shared(core))),
-                Err(fault) => {
-                    add_refusal(text, fault)?;
-                    Ok(None)
-                }
+                Ok(core) => Ok(Player::Shared(core)),
+                Err(fault) => Err(Refusal::Flow(fault)),
             },
             ScriptFlow::State { initial, limit } => {
-                Ok(Some(Player::State(StateCore::new(alloc, initial, limit))))
+                Ok(Player::State(StateCore::new(alloc, initial, limit)))
             }
             ScriptFlow::Share {
                 chain,
                 started,
                 replay,
                 limit,
-            } => Player::sharing(text, Player::share(alloc, chain, started, replay, limit)),
+            } => Player::sharing(Player::share(alloc, chain, started, replay, limit)),
             ScriptFlow::StateIn {
                 chain,
                 started,
                 initial,
                 limit,
-            } => Player::sharing(
-                text,
-                Player::state_in(alloc, chain, started, initial, limit),
-            ),
+            } => Player::sharing(Player::state_in(alloc, chain, started, initial, limit)),
         }
     }
 
-    /// Plays a step that is about the flow.
-    fn flow_step(
+    /// Plays a step on the flow.
+    pub fn flow_step(
         &mut self,
         numbers: &mut Numbers,
         text: &mut String,
@@ -148,58 +128,10 @@ impl Player {
         ensures fault { IfErr result (λ fault. fault ≡ ScriptFault.OutOfMemory) }
     {
         match self {
-            Player::Idle => add_line_without_call(text, step),
             Player::Shared(core) => flow_step(core, numbers, text, step),
             Player::State(core) => flow_step(core, numbers, text, step),
             Player::Share(sharing) => sharing_step(sharing, numbers, text, step),
             Player::StateIn(sharing) => sharing_step(sharing, numbers, text, step),
         }
-    }
-
-    fn step(
-        &mut self,
-        alloc: Global,
-        numbers: &mut Numbers,
-        text: &mut String,
-        step: Step,
-    ) -> Result<(), ScriptFault>
-        ensures plays { OnOk result (Follows Shows (meaning.turn (action_of step))
-            self.old self.new numbers.old numbers.new text.old text.new) }
-        ensures fault { IfErr result (λ fault. fault ≡ ScriptFault.OutOfMemory) }
-    {
-        match step {
-            Step::Flow(step) => self.flow_step(numbers, text, step),
-            Step::Collect(build) => add_collection(alloc, text, build),
-        }
-    }
-}
-
-/// What a script that was read writes.
-pub trait ScriptLines {
-    fn lines(self, alloc: Global) -> Result<String, ScriptFault>;
-}
-
-impl ScriptLines for Script {
-    /// The lines that the steps write, each ended by a line feed. Where the flow itself is refused, its line is the only
-    /// one.
-    fn lines(self, alloc: Global) -> Result<String, ScriptFault>
-        ensures text { IfOk result (λ text.
-            string_bytes text ≡ meaning.text_of (head_of_flow self.flow) (actions_of self.steps.items)) }
-        ensures fault { IfErr result (λ fault. fault ≡ ScriptFault.OutOfMemory) }
-    {
-        let Script { flow, steps } = self;
-        let mut text = String::new(alloc);
-        let made = match Player::new(alloc, &mut text, flow) {
-            Ok(made) => made,
-            Err(fault) => return Err(fault),
-        };
-        let Some(mut player) = made else {
-            return Ok(text);
-        };
-        let mut numbers = Numbers::new(alloc);
-        for step in steps {
-            player.step(alloc, &mut numbers, &mut text, step)?;
-        }
-        Ok(text)
     }
 }

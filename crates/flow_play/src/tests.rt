@@ -10,6 +10,7 @@ use std::thread::Threads;
 mod chains;
 mod crowd;
 mod refused;
+mod rows;
 mod share;
 mod shared;
 mod state;

@@ -31,7 +31,7 @@ same_script input bytes rest whole end =
 pub same_meaning : (input : List ℕ) (left : Option (List ℕ)) (bytes : List ℕ) → Consumes (Some input) left bytes → (length bytes ≤ most_bytes → IsAtEnd left)
     → meaning input ≡ meaning bytes
 same_meaning input None bytes taken end = absurd taken
-same_meaning input (Some rest) bytes taken end = ap (λ r. result_map (λ script. text_of script.flow script.steps) r) (same_script input bytes rest taken end)
+same_meaning input (Some rest) bytes taken end = ap (λ r. result_map (λ script. text_of script.flows script.steps) r) (same_script input bytes rest taken end)
 
 pub meant : (known left : Option (List ℕ)) (bytes : List ℕ) (r : Result (List ℕ) ScriptFault) → Consumes known left bytes → (length bytes ≤ most_bytes → IsAtEnd left)
     → meaning bytes ≡ r → IfSome known (λ input. meaning input ≡ r)

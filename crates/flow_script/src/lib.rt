@@ -8,7 +8,9 @@ mod playing;
 mod transfer;
 mod watched;
 
-pub use flow_format::{Build, FlowStep, Script, ScriptFault, ScriptFlow, Step, read_script};
+pub use flow_format::{
+    Build, FlowStep, NamedFlow, Script, ScriptFault, ScriptFlow, Step, read_script,
+};
 pub use flow_lines::ScriptLines;
 pub use playing::play;
 pub use transfer::write_all;

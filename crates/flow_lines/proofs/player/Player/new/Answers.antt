@@ -1,4 +1,4 @@
-use Rattle.std.proofs.Common.{rules, inl, inr, ◌≡◌, Some, Ok, Err, refl, sym, ap, subst, w64, ◌∙◌}
+use Rattle.std.proofs.Common.{rules, inl, inr, ◌≡◌, Some, Ok, Err, sym, ap, subst, w64, ◌∙◌}
 use Rattle.std.proofs.Math.Facts.{to_z-of_z}
 use mir.Val.{to_z, of_z}
 use Rattle.std.specs.Option.{option_map_or}
@@ -9,32 +9,29 @@ use Rattle.flow_format.specs.Chains.{build_of}
 use Rattle.flow_format.specs.Heads.{state_chain}
 use Rattle.flow_lines.specs.Lines.{refusal_text}
 use Rattle.flow_lines.specs.Memory.{IsToldFlowFault}
-use Rattle.flow_lines.specs.Players.{Makes}
+use Rattle.flow_lines.specs.Players.{MakesSharing}
 use Rattle.flow_lines.specs.ScriptMeaning.{player_of, shared, state}
 use Rattle.flow_lines.proofs.player.Player.new.Goals as goal
 
 pub returns-in-Ok : goal.returns-in-Ok
 returns-in-Ok c =
     let config = c.in-Shared.config in
-    let begins = Ok (shared (first_state config)) in (
+    let made = Ok (shared (first_state config)) in (
       shared (first_state config),
-      ap (λ flow. player_of (head_of_flow flow)) c.in-Shared.is ∙ ap (λ o. option_map_or (λ fault. Err (refusal_text fault)) o begins) c.in-Ok.ensures.0,
+      ap (λ flow. player_of (head_of_flow flow)) c.in-Shared.is ∙ ap (λ o. option_map_or (λ fault. Err (refusal_text fault)) o made) c.in-Ok.ensures.0,
       c.in-Ok.ensures.1,
-      refl,
     )
 
-pub returns-in_ok-add_refusal-in-Err : goal.returns-in_ok-add_refusal-in-Err
-returns-in_ok-add_refusal-in-Err c =
+pub returns-in-Err : goal.returns-in-Err
+returns-in-Err c = λ told.
     let config = c.in-Shared.config in
-    let begins = Ok (shared (first_state config)) in
+    let made = Ok (shared (first_state config)) in
     let of_fault : config_fault config ≡ Some c.in-Err.fault → player_of (head_of_flow c.args.flow) ≡ Err (refusal_text c.in-Err.fault) = λ none.
-    ap (λ flow. player_of (head_of_flow flow)) c.in-Shared.is ∙ ap (λ o. option_map_or (λ fault. Err (refusal_text fault)) o begins) none in
-    let told = c.in_ok-add_refusal-in-Err.ensures.told in
-    let refused : player_of (head_of_flow c.args.flow) ≡ Err (refusal_text c.in-Err.fault) = elim c.in-Err.ensures [
+    ap (λ flow. player_of (head_of_flow flow)) c.in-Shared.is ∙ ap (λ o. option_map_or (λ fault. Err (refusal_text fault)) o made) none in
+    elim c.in-Err.ensures [
       | inl none ↦ of_fault none
       | inr memory ↦ absurd (subst IsToldFlowFault memory.1 told)
-    ] in
-    (refusal_text c.in-Err.fault, refused, c.in_ok-add_refusal-in-Err.ensures.line)
+    ]
 
 pub returns-in-State : goal.returns-in-State
 returns-in-State c =
@@ -43,14 +40,13 @@ returns-in-State c =
       state (first_state_flow limit c.in-State.initial),
       ap (λ flow. player_of (head_of_flow flow)) c.in-State.is,
       subst (λ v. c.new-in-State.result ≡ first_state_flow limit v) same c.new-in-State.ensures,
-      refl,
     )
 
 pub returns-in-Share : goal.returns-in-Share
-returns-in-Share c = c.sharing.ensures (head_of_flow c.args.flow) (subst (λ flow. Makes (head_of_flow flow) c.share.result) (sym c.in-Share.is) c.share.ensures)
+returns-in-Share c = c.sharing.ensures (head_of_flow c.args.flow) (subst (λ flow. MakesSharing (head_of_flow flow) c.share.result) (sym c.in-Share.is) c.share.ensures)
 
 pub returns-in-StateIn : goal.returns-in-StateIn
 returns-in-StateIn c =
     let same : to_z w64 (of_z w64 c.in-StateIn.initial) ≡ c.in-StateIn.initial = search (rules, to_z-of_z) in
-    let made = subst (λ v. Makes (state_chain (build_of c.in-StateIn.chain) c.in-StateIn.started v c.in-StateIn.limit) c.state_in.result) same c.state_in.ensures in
-    c.sharing-in-StateIn.ensures (head_of_flow c.args.flow) (subst (λ flow. Makes (head_of_flow flow) c.state_in.result) (sym c.in-StateIn.is) made)
+    let made = subst (λ v. MakesSharing (state_chain (build_of c.in-StateIn.chain) c.in-StateIn.started v c.in-StateIn.limit) c.state_in.result) same c.state_in.ensures in
+    c.sharing-in-StateIn.ensures (head_of_flow c.args.flow) (subst (λ flow. MakesSharing (head_of_flow flow) c.state_in.result) (sym c.in-StateIn.is) made)
