@@ -1,11 +1,17 @@
 -- Names as the reader keeps them, and as the definitions list them.
-use Rattle.std.proofs.Common.{◌≡◌, ℕ, ◌+◌, Bool, true, false, cond, ◌||◌, if◌then◌else◌, List, [], ◌∷◌, ◌++◌, map, Some, Bor, refl, sym, ap, ◌∙◌}
+use Rattle.std.proofs.Common.{◌≡◌, ℕ, zero, suc, ◌+◌, ◌<◌, ◌≤◌, Bool, true, false, cond, ◌||◌, if◌then◌else◌, List, [], ◌∷◌, ◌++◌, map, length, get_or, drop, Some, Ok, Err, Bor, refl, sym, ap, ◌∙◌, arith}
+use Rattle.std.proofs.Math.ListN.{set, drop_of_length-le}
+use Rattle.std.proofs.lemmas.List.{map-set}
 use Rattle.std.specs.List.{list_any, position, position_from}
 use Rattle.std.specs.Str.{bytes_eq}
 use Rattle.std.proofs.lemmas.Iterator.Adapters.{position_from-zero}
-use Rattle.flow_format.specs.Checks.{is_known}
+use Rattle.flow_format.specs.declared.fault.ScriptFault.TheVariants.{DuplicateName}
+use Rattle.flow_format.specs.declared.names.FlowNames.{FlowNames}
+use Rattle.flow_format.specs.Checks.{NameLists, introduced, is_known, names_at}
+use Rattle.flow_format.specs.Names.{lists_of}
+use Rattle.flow_format.proofs.ReadLemmas.{rest_from}
 
-list_any-map : {X Y : Type 0} (p : Y → Bool) (f : X → Y) (xs : List X) → list_any p (map f xs) ≡ list_any (λ x. p (f x)) xs
+pub list_any-map : {X Y : Type 0} (p : Y → Bool) (f : X → Y) (xs : List X) → list_any p (map f xs) ≡ list_any (λ x. p (f x)) xs
 list_any-map p f [] = refl
 list_any-map p f (x ∷ xs) = ap (λ b. p (f x) || b) (list_any-map p f xs)
 
@@ -45,3 +51,46 @@ map-snoc f (y ∷ ys) x = ap (λ l. f y ∷ l) (map-snoc f ys x)
 pub added : (name : Bor (List ℕ)) (keys new : List (Bor (List ℕ))) → new ≡ (if has_text name.now keys then keys else keys ++ name ∷ []) → has_text name.now keys ≡ false
     → texts keys ++ name.now ∷ [] ≡ texts new
 added name keys new is absent = sym (ap texts (is ∙ ap (λ b. if b then keys else keys ++ name ∷ []) absent) ∙ map-snoc (λ k. k.now) keys name)
+
+-- ---- rows of names
+
+names-at : (items : List FlowNames) (i : ℕ) (k : FlowNames) → i < length items → k ≡ get_or items i k → names_at i (map lists_of items) ≡ lists_of k
+names-at [] i k here is = absurd (omega arith)
+names-at (x ∷ xs) zero k here is = ap lists_of (sym is)
+names-at (x ∷ xs) (suc i) k here is = names-at xs i k (omega arith) is
+
+pub unknown-at : (name : List ℕ) (items : List FlowNames) (i : ℕ) (k : FlowNames) → i < length items → k ≡ get_or items i k
+    → list_any (is_known name) (map lists_of items) ≡ false → is_known name (lists_of k) ≡ false
+unknown-at name [] i k here is none = absurd (omega arith)
+unknown-at name (x ∷ xs) zero k here is none = ap (λ n. is_known name (lists_of n)) is ∙ first-false (is_known name (lists_of x)) (list_any (is_known name) (map lists_of xs)) none
+unknown-at name (x ∷ xs) (suc i) k here is none = unknown-at name xs i k (omega arith) is (second-false (is_known name (lists_of x)) (list_any (is_known name) (map lists_of xs)) none)
+
+set-past : (items : List FlowNames) (i : ℕ) (p : NameLists) → length items ≤ i → set (map lists_of items) i p ≡ map lists_of items
+set-past [] i p past = refl
+set-past (x ∷ xs) zero p past = absurd (omega arith)
+set-past (x ∷ xs) (suc i) p past = ap (λ l. lists_of x ∷ l) (set-past xs i p (omega arith))
+
+pub introduced-new : (at : ℕ) (name : List ℕ) (row after : List NameLists) → list_any (is_known name) row ≡ false → introduced at name row after ≡ Ok after
+introduced-new at name row after none = ap (λ t. if t then Err (DuplicateName at) else Ok after) none
+
+pub introduced-again : (at : ℕ) (name : List ℕ) (row after : List NameLists) → list_any (is_known name) row ≡ true → introduced at name row after ≡ Err (DuplicateName at)
+introduced-again at name row after known = ap (λ t. if t then Err (DuplicateName at) else Ok after) known
+
+-- the row after a name was added for the flow at a place
+pub added-at : (f : NameLists → NameLists) (items : List FlowNames) (i : ℕ) (k new : FlowNames) → i < length items → k ≡ get_or items i k → lists_of new ≡ f (lists_of k)
+    → set (map lists_of items) i (f (names_at i (map lists_of items))) ≡ map lists_of (set items i new)
+added-at f items i k new here is adds =
+    ap (λ n. set (map lists_of items) i (f n)) (names-at items i k here is) ∙ ap (λ n. set (map lists_of items) i n) (sym adds) ∙ sym (map-set lists_of items i new)
+
+pub added-past : (f : NameLists → NameLists) (items : List FlowNames) (i : ℕ) → length items ≤ i → set (map lists_of items) i (f (names_at i (map lists_of items))) ≡ map lists_of items
+added-past f items i past = set-past items i (f (names_at i (map lists_of items))) past
+
+-- ---- whether some flow has a name
+
+pub known-next : (name : List ℕ) (items : List FlowNames) (i : ℕ) (k : FlowNames) (b : Bool) → i < length items → k ≡ get_or items i k → is_known name (lists_of k) ≡ b
+    → list_any (is_known name) (map lists_of (drop i items)) ≡ (b || list_any (is_known name) (map lists_of (drop (i + 1) items)))
+known-next name items i k b here is found =
+    ap (λ l. list_any (is_known name) (map lists_of l)) (rest_from items i k here is) ∙ ap (λ t. t || list_any (is_known name) (map lists_of (drop (i + 1) items))) found
+
+pub known-past : (name : List ℕ) (items : List FlowNames) (i : ℕ) → length items ≤ i → list_any (is_known name) (map lists_of (drop i items)) ≡ false
+known-past name items i past = ap (λ l. list_any (is_known name) (map lists_of l)) (drop_of_length-le items {i = i} past)

@@ -1,7 +1,8 @@
 -- Why a script is refused, and in which order: the first fault that is found is the script's.
 -- Begin with `read_script`. The forms are in Format.
-use Rattle.std.specs.Prelude.{◌≡◌, ℕ, ◌+◌, Bool, not, ◌||◌, nat_lt, if◌then◌else◌, ℤ, codes, List, [], ◌∷◌, ◌++◌, length, position, Option, is_some, Result, Ok, Err, Vec}
+use Rattle.std.specs.Prelude.{◌≡◌, ℕ, ◌+◌, Bool, not, ◌||◌, nat_lt, if◌then◌else◌, ℤ, codes, List, [], ◌∷◌, ◌++◌, length, slice_get, slice_set, replicate, position, Option, Some, is_some, Result, Ok, Err, Vec}
 use Rattle.std.specs.Prelude.{option_map, option_and_then}
+use Rattle.std.specs.Option.{option_map_or}
 use Rattle.std.specs.List.{list_any}
 use Rattle.std.specs.Str.{is_utf8, bytes_eq}
 use Rattle.std.specs.declared.alloc.Global.{Global}
@@ -10,20 +11,21 @@ use Rattle.serde_json.specs.Read.{read}
 use Rattle.serde_json.specs.Events.{items_len}
 use Rattle.serde_json.specs.Find.{get, as_object}
 use Rattle.serde_json.specs.View.{view}
-use Rattle.serde_json.specs.declared.value.Value.{Value}
+use Rattle.serde_json.specs.declared.value.Value.{Value as JsonValue}
 use Rattle.flow_format.specs.declared.fault.ScriptFault.{ScriptFault}
 use Rattle.flow_format.specs.declared.fault.ScriptFault.TheVariants.{OutOfMemory, ReadFailed, WriteFailed, NotJson, BadVersion, BadShape, UnknownName, DuplicateName, TooLarge}
 pub use Rattle.flow_format.specs.Results.{result_then, result_map, or_fault}
 use Rattle.flow_format.specs.declared.script.Script.{Script}
+use Rattle.flow_format.specs.declared.script.FlowStep.{FlowStep}
 use Rattle.flow_format.specs.declared.script.FlowStep.TheVariants as step
 use Rattle.flow_format.specs.declared.script.Step.{Step}
 use Rattle.flow_format.specs.Actions.{Action, on_flow, collect, action_of, actions_of, heads_of}
 use Rattle.flow_format.specs.ChainFormat.{Build, chain_in}
 use Rattle.flow_format.specs.declared.verb.Verb.{Verb}
-use Rattle.flow_format.specs.declared.verb.Verb.TheVariants.{TryEmit, Emit, Poll, Cancel, Subscribe, Next, Unsubscribe, Cache, Count, Reset, Collect, Set, CompareAndSet, Turn}
-use Rattle.flow_format.specs.declared.verb.Verb.TheVariants as verbs
-use Rattle.flow_format.specs.declared.verb.Kind.{Kind}
-use Rattle.flow_format.specs.Format.{u64_at, i64_at, name_at, verb_of, has_version}
+use Rattle.flow_format.specs.declared.verb.Verb.TheVariants.{Flow, Collect}
+use Rattle.flow_format.specs.declared.verb.FlowVerb.{FlowVerb}
+use Rattle.flow_format.specs.declared.verb.FlowVerb.TheVariants.{TryEmit, Emit, Poll, Cancel, Subscribe, Next, Unsubscribe, Cache, Count, Reset, Value, Set, CompareAndSet, Turn}
+use Rattle.flow_format.specs.Format.{u64_at, i64_at, name_at, allows, verb_of, has_version}
 use Rattle.flow_format.specs.Heads.{NamedHead, kind_at, head_in}
 
 -- the most bytes, and the most steps
@@ -35,7 +37,7 @@ most_steps = 10000
 
 -- ---- names
 
--- the names that were introduced, each kind in its order
+-- the names that were introduced for a flow, each kind in its order
 pub record NameLists : Type 0 where
   pub emissions : List (List ℕ)
   pub subscribers : List (List ℕ)
@@ -46,76 +48,119 @@ no_names = record { emissions = []; subscribers = [] }
 abbrev pub place_of : List ℕ → List (List ℕ) → Option ℕ
 place_of name names = position (λ known. bytes_eq name known) names
 
--- names of emissions and of subscribers are in one space
 abbrev pub is_known : List ℕ → NameLists → Bool
 is_known name names = list_any (λ known. bytes_eq name known) names.emissions || list_any (λ known. bytes_eq name known) names.subscribers
 
--- a name is introduced once
-abbrev pub with_emission : ℕ → List ℕ → NameLists → Result NameLists ScriptFault
-with_emission at name names = if is_known name names then Err (DuplicateName at) else Ok (record names { emissions = names.emissions ++ name ∷ [] })
+abbrev pub with_emission : List ℕ → NameLists → NameLists
+with_emission name names = record names { emissions = names.emissions ++ name ∷ [] }
 
-abbrev pub with_subscriber : ℕ → List ℕ → NameLists → Result NameLists ScriptFault
-with_subscriber at name names = if is_known name names then Err (DuplicateName at) else Ok (record names { subscribers = names.subscribers ++ name ∷ [] })
+abbrev pub with_subscriber : List ℕ → NameLists → NameLists
+with_subscriber name names = record names { subscribers = names.subscribers ++ name ∷ [] }
+
+-- the names that were introduced for the flow at a place
+abbrev pub names_at : ℕ → List NameLists → NameLists
+names_at flow row = option_map_or (λ names. names) (slice_get row flow) no_names
+
+-- a name is introduced once: those of emissions and of subscribers are in one space, whatever their flow
+abbrev pub introduced : ℕ → List ℕ → List NameLists → List NameLists → Result (List NameLists) ScriptFault
+introduced at name row after = if list_any (is_known name) row then Err (DuplicateName at) else Ok after
+
+abbrev pub introduces_emission : ℕ → ℕ → List ℕ → List NameLists → Result (List NameLists) ScriptFault
+introduces_emission flow at name row = introduced at name row (slice_set row flow (with_emission name (names_at flow row)))
+
+abbrev pub introduces_subscriber : ℕ → ℕ → List ℕ → List NameLists → Result (List NameLists) ScriptFault
+introduces_subscriber flow at name row = introduced at name row (slice_set row flow (with_subscriber name (names_at flow row)))
+
+-- a name is used after a step introduced it, for the flow of that step and for what that step made
+abbrev pub emission_at : ℕ → ℕ → List ℕ → List NameLists → Result ℕ ScriptFault
+emission_at flow at name row = or_fault (UnknownName at) (place_of name (names_at flow row).emissions)
+
+abbrev pub subscriber_at : ℕ → ℕ → List ℕ → List NameLists → Result ℕ ScriptFault
+subscriber_at flow at name row = or_fault (UnknownName at) (place_of name (names_at flow row).subscribers)
 
 -- ---- steps
 
--- a step, and the names that were introduced up to it
-pub record Named : Type 0 where
-  pub step : Action
-  pub names : NameLists
-
--- what a step's keys hold
-abbrev pub value_in : ℕ → Data → Result ℤ ScriptFault
-value_in at d = or_fault (BadShape at) (i64_at (codes "value") d)
-
-abbrev pub name_in : ℕ → Data → Result (List ℕ) ScriptFault
-name_in at d = or_fault (BadShape at) (name_at d)
-
--- a name is used after a step introduced it, and for what that step made
-abbrev pub emission_in : ℕ → NameLists → Data → Result ℕ ScriptFault
-emission_in at names d = result_then (λ name. or_fault (UnknownName at) (place_of name names.emissions)) (name_in at d)
-
-abbrev pub subscriber_in : ℕ → NameLists → Data → Result ℕ ScriptFault
-subscriber_in at names d = result_then (λ name. or_fault (UnknownName at) (place_of name names.subscribers)) (name_in at d)
-
-abbrev pub named : NameLists → Action → Named
-named names step = record { step = step; names = names }
-
-abbrev pub moment_in : ℕ → Data → Result ℕ ScriptFault
-moment_in at d = or_fault (BadShape at) (u64_at (codes "at") d)
+-- a step on a flow as it is written, before its flow and its name are looked up
+pub data Written : Type 0 where
+  plain : FlowStep → Written
+  emit : List ℕ → ℤ → Written
+  poll : List ℕ → Written
+  cancel : List ℕ → Written
+  subscribe : List ℕ → Written
+  next : List ℕ → Written
+  unsubscribe : List ℕ → Written
 
 -- what is expected, and what it is replaced by
 abbrev pub pair_of : Data → Option (ℤ × ℤ)
 pair_of d = option_and_then (λ expect. option_map (λ update. (expect, update)) (i64_at (codes "update") d)) (i64_at (codes "expect") d)
 
+abbrev pub written_by : FlowVerb → Data → Option Written
+written_by TryEmit d = option_map (λ value. plain (step.TryEmit value)) (i64_at (codes "value") d)
+written_by Emit d = option_and_then (λ value. option_map (λ name. emit name value) (name_at d)) (i64_at (codes "value") d)
+written_by Poll d = option_map poll (name_at d)
+written_by Cancel d = option_map cancel (name_at d)
+written_by Subscribe d = option_map subscribe (name_at d)
+written_by Next d = option_map next (name_at d)
+written_by Unsubscribe d = option_map unsubscribe (name_at d)
+written_by Cache d = Some (plain step.Cache)
+written_by Count d = Some (plain step.Count)
+written_by Reset d = Some (plain step.Reset)
+written_by Value d = Some (plain step.Value)
+written_by Set d = option_map (λ value. plain (step.Set value)) (i64_at (codes "value") d)
+written_by CompareAndSet d = option_map (λ pair. plain (step.CompareAndSet pair.0 pair.1)) (pair_of d)
+written_by Turn d = option_map (λ now. plain (step.Turn now)) (u64_at (codes "at") d)
+
+-- a step on a flow, and the names that were introduced up to it
+pub record Stepped : Type 0 where
+  pub step : FlowStep
+  pub names : List NameLists
+
+abbrev pub stepped : List NameLists → FlowStep → Stepped
+stepped names step = record { step = step; names = names }
+
+-- the step on the flow at a place, its name looked up among those that were introduced before it
+abbrev pub named_step : ℕ → ℕ → List NameLists → Written → Result Stepped ScriptFault
+named_step flow at names (plain s) = Ok (stepped names s)
+named_step flow at names (emit name value) = result_map (λ after. stepped after (step.Emit value)) (introduces_emission flow at name names)
+named_step flow at names (poll name) = result_map (λ place. stepped names (step.Poll place)) (emission_at flow at name names)
+named_step flow at names (cancel name) = result_map (λ place. stepped names (step.Cancel place)) (emission_at flow at name names)
+named_step flow at names (subscribe name) = result_map (λ after. stepped after step.Subscribe) (introduces_subscriber flow at name names)
+named_step flow at names (next name) = result_map (λ place. stepped names (step.Next place)) (subscriber_at flow at name names)
+named_step flow at names (unsubscribe name) = result_map (λ place. stepped names (step.Unsubscribe place)) (subscriber_at flow at name names)
+
+-- a step, and the names that were introduced up to it
+pub record Named : Type 0 where
+  pub step : Action
+  pub names : List NameLists
+
+abbrev pub named : List NameLists → Action → Named
+named names step = record { step = step; names = names }
+
+-- its form, then whether its flow has such a step, then its name. Each step is about the flow at place 0
+abbrev pub flow_step_by : List NamedHead → FlowVerb → ℕ → List NameLists → Data → Result Named ScriptFault
+flow_step_by flows verb at names d =
+    result_then (λ written.
+    if allows verb (kind_at 0 flows) then result_map (λ s. named s.names (on_flow 0 s.step)) (named_step 0 at names written) else Err (BadShape at))
+    (or_fault (BadShape at) (written_by verb d))
+
 abbrev pub collected_in : ℕ → Data → Result Build ScriptFault
 collected_in at d = result_then (chain_in at) (or_fault (BadShape at) (get (codes "chain") d))
 
-abbrev pub step_by : Verb → ℕ → ℕ → NameLists → Data → Result Named ScriptFault
-step_by TryEmit flow at names d = result_map (λ value. named names (on_flow flow (step.TryEmit value))) (value_in at d)
-step_by Emit flow at names d = result_then (λ value. result_then (λ name. result_map (λ after. named after (on_flow flow (step.Emit value))) (with_emission at name names)) (name_in at d)) (value_in at d)
-step_by Poll flow at names d = result_map (λ place. named names (on_flow flow (step.Poll place))) (emission_in at names d)
-step_by Cancel flow at names d = result_map (λ place. named names (on_flow flow (step.Cancel place))) (emission_in at names d)
-step_by Subscribe flow at names d = result_then (λ name. result_map (λ after. named after (on_flow flow step.Subscribe)) (with_subscriber at name names)) (name_in at d)
-step_by Next flow at names d = result_map (λ place. named names (on_flow flow (step.Next place))) (subscriber_in at names d)
-step_by Unsubscribe flow at names d = result_map (λ place. named names (on_flow flow (step.Unsubscribe place))) (subscriber_in at names d)
-step_by Cache flow at names d = Ok (named names (on_flow flow step.Cache))
-step_by Count flow at names d = Ok (named names (on_flow flow step.Count))
-step_by Reset flow at names d = Ok (named names (on_flow flow step.Reset))
-step_by verbs.Value flow at names d = Ok (named names (on_flow flow step.Value))
-step_by Set flow at names d = result_map (λ value. named names (on_flow flow (step.Set value))) (value_in at d)
-step_by CompareAndSet flow at names d = result_map (λ pair. named names (on_flow flow (step.CompareAndSet pair.0 pair.1))) (or_fault (BadShape at) (pair_of d))
-step_by Turn flow at names d = result_map (λ now. named names (on_flow flow (step.Turn now))) (moment_in at d)
-step_by Collect flow at names d = result_map (λ build. named names (collect build)) (collected_in at d)
+abbrev pub step_by : List NamedHead → Verb → ℕ → List NameLists → Data → Result Named ScriptFault
+step_by flows (Flow verb) at names d = flow_step_by flows verb at names d
+step_by flows Collect at names d = result_map (λ build. named names (collect build)) (collected_in at d)
 
--- on a flow of this kind, at this place
-abbrev pub step_of : Kind → ℕ → ℕ → NameLists → Data → Result Named ScriptFault
-step_of kind flow at names d = result_then (λ verb. step_by verb flow at names d) (or_fault (BadShape at) (verb_of kind d))
+abbrev pub step_of : List NamedHead → ℕ → List NameLists → Data → Result Named ScriptFault
+step_of flows at names d = result_then (λ verb. step_by flows verb at names d) (or_fault (BadShape at) (verb_of d))
 
--- the steps in order, up to the first one that is refused. Each is about the flow at place 0
-abbrev pub steps_of : Kind → ℕ → NameLists → Items → Result (List Action) ScriptFault
-steps_of kind at names no_items = Ok []
-steps_of kind at names (item d ds) = result_then (λ named. result_map (λ steps. named.step ∷ steps) (steps_of kind (at + 1) named.names ds)) (step_of kind 0 at names d)
+-- the steps in order, up to the first one that is refused
+abbrev pub steps_of : List NamedHead → ℕ → List NameLists → Items → Result (List Action) ScriptFault
+steps_of flows at names no_items = Ok []
+steps_of flows at names (item d ds) = result_then (λ named. result_map (λ steps. named.step ∷ steps) (steps_of flows (at + 1) named.names ds)) (step_of flows at names d)
+
+-- before the first step
+abbrev pub nothing_named : List NamedHead → List NameLists
+nothing_named flows = replicate (length flows) no_names
 
 -- ---- scripts
 
@@ -128,7 +173,7 @@ pub record Checked : Type 0 where
 abbrev pub checked : List NamedHead × Items → Result Checked ScriptFault
 checked head =
     if nat_lt most_steps (items_len head.1) then Err (TooLarge 0)
-    else result_map (λ steps. record { flows = head.0; steps = steps }) (steps_of (kind_at 0 head.0) 1 no_names head.1)
+    else result_map (λ steps. record { flows = head.0; steps = steps }) (steps_of head.0 1 (nothing_named head.0) head.1)
 
 -- an object first, then its version, then its shape, then what it says
 abbrev pub script_of : Data → Result Checked ScriptFault
@@ -159,13 +204,16 @@ Gives meaning (Err (DuplicateName at)) = meaning ≡ Err (DuplicateName at)
 Gives meaning (Err (TooLarge at)) = meaning ≡ Err (TooLarge at)
 
 -- a result with the names after it
-abbrev pub then_names : Result (Unit {0}) ScriptFault → NameLists → Result NameLists ScriptFault
+abbrev pub then_names : Result (Unit {0}) ScriptFault → List NameLists → Result (List NameLists) ScriptFault
 then_names r names = result_map (λ _. names) r
 
-abbrev pub value_result : Result Value ScriptFault → Result Data ScriptFault
+abbrev pub value_result : Result JsonValue ScriptFault → Result Data ScriptFault
 value_result r = result_map view r
 
-abbrev pub named_result : Result Step ScriptFault → NameLists → Result Named ScriptFault
+abbrev pub stepped_result : Result FlowStep ScriptFault → List NameLists → Result Stepped ScriptFault
+stepped_result r names = result_map (stepped names) r
+
+abbrev pub named_result : Result Step ScriptFault → List NameLists → Result Named ScriptFault
 named_result r names = result_map (λ step. named names (action_of step)) r
 
 abbrev pub steps_result : Result (Vec Step Global) ScriptFault → Result (List Action) ScriptFault

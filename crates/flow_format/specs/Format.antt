@@ -11,7 +11,9 @@ use Rattle.flow_law.specs.declared.config.Config.{Config}
 use Rattle.flow_law.specs.declared.config.Overflow.{Overflow}
 use Rattle.flow_law.specs.declared.config.Overflow.TheVariants.{Suspend, DropOldest, DropLatest}
 use Rattle.flow_format.specs.declared.verb.Verb.{Verb}
-use Rattle.flow_format.specs.declared.verb.Verb.TheVariants.{TryEmit, Emit, Poll, Cancel, Subscribe, Next, Unsubscribe, Cache, Count, Reset, Collect, Value, Set, CompareAndSet, Turn}
+use Rattle.flow_format.specs.declared.verb.Verb.TheVariants.{Flow, Collect}
+use Rattle.flow_format.specs.declared.verb.FlowVerb.{FlowVerb}
+use Rattle.flow_format.specs.declared.verb.FlowVerb.TheVariants.{TryEmit, Emit, Poll, Cancel, Subscribe, Next, Unsubscribe, Cache, Count, Reset, Value, Set, CompareAndSet, Turn}
 use Rattle.flow_format.specs.declared.verb.Rule.{Rule}
 use Rattle.flow_format.specs.declared.verb.Kind.{Kind}
 use Rattle.flow_format.specs.declared.verb.Kind.TheVariants as kind
@@ -106,29 +108,45 @@ is_sharing kind.Share = true
 is_sharing kind.StateIn = true
 is_sharing _ = false
 
-abbrev pub rule_of : Verb → ℕ → Bool → Option Rule
-rule_of verb keys allowed = Some (record { verb = verb; keys = keys; allowed = allowed })
+-- which kinds of flow have such a step
+abbrev pub allows : FlowVerb → Kind → Bool
+allows TryEmit kind = is_mutable kind
+allows Emit kind = is_shared kind
+allows Poll kind = is_shared kind
+allows Cancel kind = is_shared kind
+allows Subscribe kind = is_flow kind
+allows Next kind = is_flow kind
+allows Unsubscribe kind = is_flow kind
+allows Cache kind = is_flow kind
+allows Count kind = is_flow kind
+allows Reset kind = is_mutable kind
+allows Value kind = has_value kind
+allows Set kind = is_state kind
+allows CompareAndSet kind = is_state kind
+allows Turn kind = is_sharing kind
 
--- what a step does by the text of its key `do`, how many keys it has, `do` among them, and which flows allow it
-abbrev pub rule_named : Kind → List ℕ → Option Rule
-rule_named kind text =
-    if bytes_eq text (codes "try_emit") then rule_of TryEmit 2 (is_mutable kind)
-    else (if bytes_eq text (codes "emit") then rule_of Emit 3 (is_shared kind)
-    else (if bytes_eq text (codes "poll") then rule_of Poll 2 (is_shared kind)
-    else (if bytes_eq text (codes "cancel") then rule_of Cancel 2 (is_shared kind)
-    else (if bytes_eq text (codes "subscribe") then rule_of Subscribe 2 (is_flow kind)
-    else (if bytes_eq text (codes "next") then rule_of Next 2 (is_flow kind)
-    else (if bytes_eq text (codes "unsubscribe") then rule_of Unsubscribe 2 (is_flow kind)
-    else (if bytes_eq text (codes "cache") then rule_of Cache 1 (is_flow kind)
-    else (if bytes_eq text (codes "count") then rule_of Count 1 (is_flow kind)
-    else (if bytes_eq text (codes "reset") then rule_of Reset 1 (is_mutable kind)
-    else (if bytes_eq text (codes "collect") then rule_of Collect 2 true
-    else (if bytes_eq text (codes "value") then rule_of Value 1 (has_value kind)
-    else (if bytes_eq text (codes "set") then rule_of Set 2 (is_state kind)
-    else (if bytes_eq text (codes "compare_and_set") then rule_of CompareAndSet 3 (is_state kind)
-    else (if bytes_eq text (codes "turn") then rule_of Turn 2 (is_sharing kind) else None))))))))))))))
+abbrev pub rule_of : FlowVerb → ℕ → Option Rule
+rule_of verb keys = Some (record { verb = Flow verb; keys = keys })
 
--- what a step does, if the flow allows it and it has as many keys as it needs
-abbrev pub verb_of : Kind → Data → Option Verb
-verb_of kind d =
-    option_and_then (λ rule. where_true (rule.allowed && has_members rule.keys d) (Some rule.verb)) (option_and_then (rule_named kind) (text_at (codes "do") d))
+-- what a step does by the text of its key `do`, and how many keys it has, `do` among them
+abbrev pub rule_named : List ℕ → Option Rule
+rule_named text =
+    if bytes_eq text (codes "try_emit") then rule_of TryEmit 2
+    else (if bytes_eq text (codes "emit") then rule_of Emit 3
+    else (if bytes_eq text (codes "poll") then rule_of Poll 2
+    else (if bytes_eq text (codes "cancel") then rule_of Cancel 2
+    else (if bytes_eq text (codes "subscribe") then rule_of Subscribe 2
+    else (if bytes_eq text (codes "next") then rule_of Next 2
+    else (if bytes_eq text (codes "unsubscribe") then rule_of Unsubscribe 2
+    else (if bytes_eq text (codes "cache") then rule_of Cache 1
+    else (if bytes_eq text (codes "count") then rule_of Count 1
+    else (if bytes_eq text (codes "reset") then rule_of Reset 1
+    else (if bytes_eq text (codes "value") then rule_of Value 1
+    else (if bytes_eq text (codes "set") then rule_of Set 2
+    else (if bytes_eq text (codes "compare_and_set") then rule_of CompareAndSet 3
+    else (if bytes_eq text (codes "turn") then rule_of Turn 2
+    else (if bytes_eq text (codes "collect") then Some (record { verb = Collect; keys = 2 }) else None))))))))))))))
+
+-- what a step does, if it has as many keys as it needs
+abbrev pub verb_of : Data → Option Verb
+verb_of d = option_and_then (λ rule. where_true (has_members rule.keys d) (Some rule.verb)) (option_and_then rule_named (text_at (codes "do") d))

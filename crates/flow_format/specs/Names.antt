@@ -1,7 +1,23 @@
--- What the reader's names are in the definitions' terms. No public clause cites this module.
-use Rattle.std.specs.Prelude.{map}
-use Rattle.flow_format.specs.Checks.{NameLists}
+-- What the reader's names and steps are in the definitions' terms. No public clause cites this module.
+use Rattle.std.specs.Prelude.{List, map}
+use Rattle.flow_format.specs.declared.names.FlowNames.{FlowNames}
 use Rattle.flow_format.specs.declared.names.Names.{Names}
+use Rattle.flow_format.specs.declared.written.Written.{Written}
+use Rattle.flow_format.specs.declared.written.Written.TheVariants as kept
+use Rattle.flow_format.specs.Checks.{NameLists, plain, emit, poll, cancel, subscribe, next, unsubscribe}
+use Rattle.flow_format.specs.Checks as checks
 
-abbrev pub lists_of : Names → NameLists
+abbrev pub lists_of : FlowNames → NameLists
 lists_of names = record { emissions = map (λ k. k.now) names.emissions.keys; subscribers = map (λ k. k.now) names.subscribers.keys }
+
+abbrev pub row_of : Names → List NameLists
+row_of names = map lists_of names.flows.items
+
+abbrev pub written_of : Written → checks.Written
+written_of (kept.Plain step) = plain step
+written_of (kept.Emit name value) = emit name.now value
+written_of (kept.Poll name) = poll name.now
+written_of (kept.Cancel name) = cancel name.now
+written_of (kept.Subscribe name) = subscribe name.now
+written_of (kept.Next name) = next name.now
+written_of (kept.Unsubscribe name) = unsubscribe name.now

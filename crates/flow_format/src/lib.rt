@@ -16,6 +16,7 @@ mod read_source;
 mod read_step;
 mod script;
 mod verb;
+mod written;
 
 pub use fault::ScriptFault;
 pub use read::{MOST_BYTES, read_script};

@@ -1,38 +1,39 @@
 //! The names that the steps of a script introduce.
-ghost use Rattle.std.specs.Prelude.{◌≡◌, [], ℕ, IfErr, option_map, Result, Ok, Err};
+ghost use Rattle.std.specs.Prelude.{◌≡◌, false, OnOk, IfOk, IfErr, replicate};
+ghost use Rattle.std.specs.List.{list_any};
 ghost use Rattle.flow_format.specs.Checks as checks;
-ghost use Rattle.flow_format.specs.Names.{lists_of};
+ghost use Rattle.flow_format.specs.Names.{lists_of, row_of};
 
 use crate::fault::ScriptFault;
 use indexmap::IndexSet;
 use std::alloc::Global;
 
-/// The names that the steps up to here introduced. No name is in both.
+/// The names that were introduced for one flow. No name is in both.
 #[derive(Drop)]
-pub struct Names<'a> {
+struct FlowNames<'a> {
     emissions: IndexSet<&'a str>,
     subscribers: IndexSet<&'a str>,
 }
 
-impl<'a> Names<'a> {
-    pub fn new(alloc: Global) -> Self
+impl<'a> FlowNames<'a> {
+    fn new(alloc: Global) -> Self
         ensures { lists_of result ≡ checks.no_names }
     {
-        Names {
+        FlowNames {
             emissions: IndexSet::new(alloc),
             subscribers: IndexSet::new(alloc),
         }
     }
 
     /// Which emission the name stands for.
-    pub fn emission(&self, name: &str) -> Option<usize>
+    fn emission(&self, name: &str) -> Option<usize>
         ensures { result ≡ checks.place_of name.now (lists_of self.now).emissions }
     {
         self.emissions.get_index_of(name)
     }
 
     /// Which subscriber the name stands for.
-    pub fn subscriber(&self, name: &str) -> Option<usize>
+    fn subscriber(&self, name: &str) -> Option<usize>
         ensures { result ≡ checks.place_of name.now (lists_of self.now).subscribers }
     {
         self.subscribers.get_index_of(name)
@@ -44,29 +45,111 @@ impl<'a> Names<'a> {
         self.emissions.contains(name) || self.subscribers.contains(name)
     }
 
-    pub fn add_emission(&mut self, at: u64, name: &'a str) -> Result<(), ScriptFault>
-        ensures { checks.Gives (checks.with_emission at name.now (lists_of self.old))
-            (checks.then_names result (lists_of self.new)) }
+    fn add_emission(&mut self, name: &'a str) -> Result<(), ScriptFault>
+        requires { checks.is_known name.now (lists_of self.old) ≡ false }
+        ensures added { OnOk result (lists_of self.new ≡ checks.with_emission name.now (lists_of self.old)) }
+        ensures fault { IfErr result (λ fault. fault ≡ ScriptFault.OutOfMemory) }
     {
-        if self.is_known(name) {
-            return Err(ScriptFault::DuplicateName(at));
-        }
         match self.emissions.insert(name) {
             Ok(_) => Ok(()),
             Err(_) => Err(ScriptFault::OutOfMemory),
         }
     }
 
-    pub fn add_subscriber(&mut self, at: u64, name: &'a str) -> Result<(), ScriptFault>
-        ensures { checks.Gives (checks.with_subscriber at name.now (lists_of self.old))
-            (checks.then_names result (lists_of self.new)) }
+    fn add_subscriber(&mut self, name: &'a str) -> Result<(), ScriptFault>
+        requires { checks.is_known name.now (lists_of self.old) ≡ false }
+        ensures added { OnOk result (lists_of self.new ≡ checks.with_subscriber name.now (lists_of self.old)) }
+        ensures fault { IfErr result (λ fault. fault ≡ ScriptFault.OutOfMemory) }
     {
-        if self.is_known(name) {
-            return Err(ScriptFault::DuplicateName(at));
-        }
         match self.subscribers.insert(name) {
             Ok(_) => Ok(()),
             Err(_) => Err(ScriptFault::OutOfMemory),
         }
+    }
+}
+
+/// The names that the steps up to here introduced, by the places of their flows. No name is there twice.
+#[derive(Drop)]
+pub struct Names<'a> {
+    flows: Vec<FlowNames<'a>>,
+}
+
+impl<'a> Names<'a> {
+    /// Before the first step of a script of so many flows.
+    pub fn new(alloc: Global, count: usize) -> Result<Self, ScriptFault>
+        ensures none { IfOk result (λ names. row_of names ≡ replicate count checks.no_names) }
+        ensures fault { IfErr result (λ fault. fault ≡ ScriptFault.OutOfMemory) }
+    {
+        let mut flows = Vec::new(alloc);
+        while flows.len() < count {
+            if let Err(_refused) = flows.push(FlowNames::new(alloc)) {
+                return Err(ScriptFault::OutOfMemory);
+            }
+        }
+        Ok(Names { flows })
+    }
+
+    /// Which emission of a flow the name stands for.
+    pub fn emission(&self, flow: usize, at: u64, name: &str) -> Result<usize, ScriptFault>
+        ensures { checks.Gives (checks.emission_at flow at name.now (row_of self.now)) result }
+    {
+        let Some(names) = self.flows.get(flow) else {
+            return Err(ScriptFault::UnknownName(at));
+        };
+        match names.emission(name) {
+            Some(place) => Ok(place),
+            None => Err(ScriptFault::UnknownName(at)),
+        }
+    }
+
+    /// Which subscriber of a flow the name stands for.
+    pub fn subscriber(&self, flow: usize, at: u64, name: &str) -> Result<usize, ScriptFault>
+        ensures { checks.Gives (checks.subscriber_at flow at name.now (row_of self.now)) result }
+    {
+        match self
+            .flows
+            .get(flow)
+            .and_then(|names| names.subscriber(name))
+        {
+            Some(place) => Ok(place),
+            None => Err(ScriptFault::UnknownName(at)),
+        }
+    }
+
+    fn is_known(&self, name: &str) -> bool
+        ensures { result ≡ list_any (checks.is_known name.now) (row_of self.now) }
+    {
+        for names in &self.flows {
+            if names.is_known(name) {
+                return true;
+            }
+        }
+        false
+    }
+
+    pub fn add_emission(&mut self, flow: usize, at: u64, name: &'a str) -> Result<(), ScriptFault>
+        ensures { checks.Gives (checks.introduces_emission flow at name.now (row_of self.old))
+            (checks.then_names result (row_of self.new)) }
+    {
+        if self.is_known(name) {
+            return Err(ScriptFault::DuplicateName(at));
+        }
+        if flow < self.flows.len() {
+            self.flows[flow].add_emission(name)?;
+        }
+        Ok(())
+    }
+
+    pub fn add_subscriber(&mut self, flow: usize, at: u64, name: &'a str) -> Result<(), ScriptFault>
+        ensures { checks.Gives (checks.introduces_subscriber flow at name.now (row_of self.old))
+            (checks.then_names result (row_of self.new)) }
+    {
+        if self.is_known(name) {
+            return Err(ScriptFault::DuplicateName(at));
+        }
+        if flow < self.flows.len() {
+            self.flows[flow].add_subscriber(name)?;
+        }
+        Ok(())
     }
 }

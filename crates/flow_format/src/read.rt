@@ -7,10 +7,9 @@ ghost use Rattle.flow_format.specs.Actions.{heads_of};
 
 use crate::fault::ScriptFault;
 use crate::names::Names;
-use crate::read_head::{has_version, head_in, kind_at};
+use crate::read_head::{has_version, head_in};
 use crate::read_step::step_of;
 use crate::script::{NamedFlow, Script, Step};
-use crate::verb::Kind;
 use serde_json::Value;
 use std::alloc::Global;
 
@@ -19,14 +18,18 @@ pub const MOST_BYTES: usize = 1_048_576;
 
 const MOST_STEPS: usize = 10_000;
 
-fn steps_of(alloc: Global, kind: Kind, steps: &[Value]) -> Result<Vec<Step>, ScriptFault>
-    ensures { checks.Gives (checks.steps_of kind 1 checks.no_names (items_view steps.now))
+fn steps_of(alloc: Global, flows: &[NamedFlow], steps: &[Value]) -> Result<Vec<Step>, ScriptFault>
+    ensures { let heads = heads_of flows.now in checks.Gives
+        (checks.steps_of heads 1 (checks.nothing_named heads) (items_view steps.now))
         (checks.steps_result result) }
 {
-    let mut names = Names::new(alloc);
+    let mut names = match Names::new(alloc, flows.len()) {
+        Ok(names) => names,
+        Err(_) => return Err(ScriptFault::OutOfMemory),
+    };
     let mut checked = Vec::new(alloc);
     for (index, step) in steps.iter().enumerate() {
-        let step = match step_of(alloc, kind, 0, &mut names, index as u64 + 1, step) {
+        let step = match step_of(alloc, flows, &mut names, index as u64 + 1, step) {
             Ok(step) => step,
             Err(fault) => return Err(fault),
         };
@@ -45,7 +48,7 @@ fn checked(alloc: Global, flows: Vec<NamedFlow>, steps: &[Value]) -> Result<Scri
     if steps.len() > MOST_STEPS {
         return Err(ScriptFault::TooLarge(0));
     }
-    match steps_of(alloc, kind_at(flows.as_slice(), 0), steps) {
+    match steps_of(alloc, flows.as_slice(), steps) {
         Ok(steps) => Ok(Script { flows, steps }),
         Err(fault) => Err(fault),
     }

@@ -3,7 +3,7 @@ ghost use Rattle.std.specs.Prelude.{◌≡◌};
 ghost use Rattle.flow_format.specs.Format as format;
 
 /// What kind of flow a step is about.
-#[derive(Clone, Copy, Debug, PartialEq, Eq)]
+#[derive(Clone, Copy)]
 pub enum Kind {
     /// There is no flow.
     Absent,
@@ -13,9 +13,9 @@ pub enum Kind {
     StateIn,
 }
 
-/// What a step does.
-#[derive(Clone, Copy, Debug, PartialEq, Eq)]
-pub enum Verb {
+/// What a step does on a flow.
+#[derive(Clone, Copy)]
+pub enum FlowVerb {
     TryEmit,
     Emit,
     Poll,
@@ -26,58 +26,86 @@ pub enum Verb {
     Cache,
     Count,
     Reset,
-    Collect,
     Value,
     Set,
     CompareAndSet,
     Turn,
 }
 
+/// What a step does.
+#[derive(Clone, Copy)]
+pub enum Verb {
+    Flow(FlowVerb),
+    Collect,
+}
+
 /// What the format says of a step.
-#[derive(Clone, Copy, Debug, PartialEq, Eq)]
+#[derive(Clone, Copy)]
 pub struct Rule {
     pub verb: Verb,
     /// How many keys it has, `do` among them.
     pub keys: usize,
-    /// Whether the flow allows it.
-    pub allowed: bool,
 }
 
-fn rule_of(verb: Verb, keys: usize, allowed: bool) -> Option<Rule>
-    ensures { result ≡ format.rule_of verb keys allowed }
+fn rule_of(verb: FlowVerb, keys: usize) -> Option<Rule>
+    ensures { result ≡ format.rule_of verb keys }
 {
     Some(Rule {
-        verb,
+        verb: Verb::Flow(verb),
         keys,
-        allowed,
     })
 }
 
-/// What a step may be on a flow of this kind, by the text of its key `do`.
-pub fn rule_named(kind: Kind, text: &str) -> Option<Rule>
-    ensures { result ≡ format.rule_named kind text.now }
+/// What a step is, by the text of its key `do`.
+pub fn rule_named(text: &str) -> Option<Rule>
+    ensures { result ≡ format.rule_named text.now }
 {
     match text {
-        "try_emit" => rule_of(Verb::TryEmit, 2, kind.is_mutable()),
-        "emit" => rule_of(Verb::Emit, 3, kind.is_shared()),
-        "poll" => rule_of(Verb::Poll, 2, kind.is_shared()),
-        "cancel" => rule_of(Verb::Cancel, 2, kind.is_shared()),
-        "subscribe" => rule_of(Verb::Subscribe, 2, kind.is_flow()),
-        "next" => rule_of(Verb::Next, 2, kind.is_flow()),
-        "unsubscribe" => rule_of(Verb::Unsubscribe, 2, kind.is_flow()),
-        "cache" => rule_of(Verb::Cache, 1, kind.is_flow()),
-        "count" => rule_of(Verb::Count, 1, kind.is_flow()),
-        "reset" => rule_of(Verb::Reset, 1, kind.is_mutable()),
-        "collect" => rule_of(Verb::Collect, 2, true),
-        "value" => rule_of(Verb::Value, 1, kind.has_value()),
-        "set" => rule_of(Verb::Set, 2, kind.is_state()),
-        "compare_and_set" => rule_of(Verb::CompareAndSet, 3, kind.is_state()),
-        "turn" => rule_of(Verb::Turn, 2, kind.is_sharing()),
+        "try_emit" => rule_of(FlowVerb::TryEmit, 2),
+        "emit" => rule_of(FlowVerb::Emit, 3),
+        "poll" => rule_of(FlowVerb::Poll, 2),
+        "cancel" => rule_of(FlowVerb::Cancel, 2),
+        "subscribe" => rule_of(FlowVerb::Subscribe, 2),
+        "next" => rule_of(FlowVerb::Next, 2),
+        "unsubscribe" => rule_of(FlowVerb::Unsubscribe, 2),
+        "cache" => rule_of(FlowVerb::Cache, 1),
+        "count" => rule_of(FlowVerb::Count, 1),
+        "reset" => rule_of(FlowVerb::Reset, 1),
+        "value" => rule_of(FlowVerb::Value, 1),
+        "set" => rule_of(FlowVerb::Set, 2),
+        "compare_and_set" => rule_of(FlowVerb::CompareAndSet, 3),
+        "turn" => rule_of(FlowVerb::Turn, 2),
+        "collect" => Some(Rule {
+            verb: Verb::Collect,
+            keys: 2,
+        }),
         _ => None,
     }
 }
 
 impl Kind {
+    /// Whether a flow of this kind has such a step.
+    pub fn allows(self, verb: FlowVerb) -> bool
+        ensures { result ≡ format.allows verb self }
+    {
+        match verb {
+            FlowVerb::TryEmit => self.is_mutable(),
+            FlowVerb::Emit => self.is_shared(),
+            FlowVerb::Poll => self.is_shared(),
+            FlowVerb::Cancel => self.is_shared(),
+            FlowVerb::Subscribe => self.is_flow(),
+            FlowVerb::Next => self.is_flow(),
+            FlowVerb::Unsubscribe => self.is_flow(),
+            FlowVerb::Cache => self.is_flow(),
+            FlowVerb::Count => self.is_flow(),
+            FlowVerb::Reset => self.is_mutable(),
+            FlowVerb::Value => self.has_value(),
+            FlowVerb::Set => self.is_state(),
+            FlowVerb::CompareAndSet => self.is_state(),
+            FlowVerb::Turn => self.is_sharing(),
+        }
+    }
+
     fn is_flow(self) -> bool
         ensures { result ≡ format.is_flow self }
     {

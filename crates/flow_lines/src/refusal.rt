@@ -10,7 +10,7 @@ use flow_law::FlowFault;
 use flow_turns::ShareFault;
 
 /// Why a flow of a script was not made.
-#[derive(Clone, Copy, Debug, PartialEq, Eq)]
+#[derive(Clone, Copy)]
 pub enum Refusal {
     Flow(FlowFault),
     /// Of a chain that was to be shared.

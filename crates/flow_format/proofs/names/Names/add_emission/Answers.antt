@@ -1,14 +1,21 @@
-use Rattle.std.proofs.Common.{◌++◌, [], ◌∷◌, if◌then◌else◌, Ok, Err, sym, ap, ◌∙◌}
-use Rattle.flow_format.specs.declared.fault.ScriptFault.TheVariants.{DuplicateName}
-use Rattle.flow_format.proofs.NameLemmas.{known-is, has_text, texts, added, first-false}
+use Rattle.std.proofs.Common.{◌<◌, Ok, length, map, sym, ap, ◌∙◌, arith}
+use Rattle.flow_format.specs.Checks.{names_at, with_emission}
+use Rattle.flow_format.specs.Names.{lists_of}
+use Rattle.std.proofs.Math.ListN.{set}
+use Rattle.flow_format.proofs.NameLemmas.{added-at, introduced-new, unknown-at}
 use Rattle.flow_format.proofs.names.Names.add_emission.Goals as goal
 
-pub returns-in-Ok : goal.returns-in-Ok
-returns-in-Ok c =
+pub add_emission-requires : goal.add_emission-requires
+add_emission-requires c =
+    let flows = c.args.self.now.flows in
+    let here : c.args.flow < length flows.items = omega (arith, flows.ok.0) in
+    unknown-at c.args.name.now flows.items c.args.flow c.index_mut.result.now here c.index_mut.ensures.value (sym c.is_known.ensures ∙ c.if-is_known.false)
+
+pub returns-in_ok-add_emission : goal.returns-in_ok-add_emission
+returns-in_ok-add_emission c =
     let name = c.args.name.now in
-    let names = c.args.self.now in
-    let new = sym c.is_known.ensures ∙ c.if-is_known.false in
-    let absent = first-false (has_text name names.emissions.keys) (has_text name names.subscribers.keys)
-    (sym (known-is name names.emissions.keys names.subscribers.keys) ∙ new) in
-    ap (λ t. if t then Err (DuplicateName c.args.at) else Ok (record { emissions = texts names.emissions.keys ++ name ∷ []; subscribers = texts names.subscribers.keys })) new
-    ∙ ap (λ l. Ok (record { emissions = l; subscribers = texts names.subscribers.keys })) (added c.args.name names.emissions.keys _ c.in-Ok.ensures.keys absent)
+    let flows = c.args.self.now.flows in
+    let row = map lists_of flows.items in
+    let here : c.args.flow < length flows.items = omega (arith, flows.ok.0) in
+    introduced-new c.args.at name row (set row c.args.flow (with_emission name (names_at c.args.flow row))) (sym c.is_known.ensures ∙ c.if-is_known.false)
+    ∙ ap Ok (added-at (with_emission name) flows.items c.args.flow c.index_mut.result.now c.add_emission.new.self here c.index_mut.ensures.value c.in_ok-add_emission.ensures.added)

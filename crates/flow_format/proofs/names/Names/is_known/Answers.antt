@@ -1,17 +1,20 @@
-use Rattle.std.proofs.Common.{◌||◌, sym, ap, ◌∙◌}
-use Rattle.flow_format.proofs.NameLemmas.{known-is, has_text}
+use Rattle.std.proofs.Common.{false, true, get_or, sym, ap, ◌∙◌, arith}
+use Rattle.flow_format.proofs.NameLemmas.{known-next, known-past}
 use Rattle.flow_format.proofs.names.Names.is_known.Goals as goal
 
-pub returns-then-contains : goal.returns-then-contains
-returns-then-contains c =
-    let name = c.args.name.now in
-    let names = c.args.self.now in
-    c.if-contains.true ∙ sym (ap (λ b. b || has_text name names.subscribers.keys) (sym c.contains.ensures ∙ c.if-contains.true))
-    ∙ sym (known-is name names.emissions.keys names.subscribers.keys)
+pub returns-then-is_known : goal.returns-then-is_known
+returns-then-is_known c =
+    let items = c.args.self.now.flows.items in
+    let here = c.names-item in
+    let is = here.is ∙ ap (λ l. get_or l c.loop-names.names-index here.result) c.deref-names-items.ensures.value in
+    sym (known-next c.args.name.now items c.loop-names.names-index here.result true (omega (arith, c.args.self.now.flows.ok.0)) is (sym c.is_known.ensures ∙ c.if-is_known.true)) ∙ c.loop-names.invariant
 
-pub returns-else-contains : goal.returns-else-contains
-returns-else-contains c =
-    let name = c.args.name.now in
-    let names = c.args.self.now in
-    c.contains-else-contains.ensures ∙ sym (ap (λ b. b || has_text name names.subscribers.keys) (sym c.contains.ensures ∙ c.if-contains.false))
-    ∙ sym (known-is name names.emissions.keys names.subscribers.keys)
+pub loop-names-preserved : goal.loop-names-preserved
+loop-names-preserved c =
+    let items = c.args.self.now.flows.items in
+    let here = c.names-item in
+    let is = here.is ∙ ap (λ l. get_or l c.loop-names.names-index here.result) c.deref-names-items.ensures.value in
+    sym (known-next c.args.name.now items c.loop-names.names-index here.result false (omega (arith, c.args.self.now.flows.ok.0)) is (sym c.is_known.ensures ∙ c.if-is_known.false)) ∙ c.loop-names.invariant
+
+pub returns : goal.returns
+returns c = sym (known-past c.args.name.now c.args.self.now.flows.items c.loop-names.names-index (omega (arith, c.args.self.now.flows.ok.0))) ∙ c.loop-names.invariant

@@ -1,0 +1,69 @@
+//! A step on a flow as it is written, before its flow and its name are looked up.
+ghost use Rattle.std.specs.Prelude.{◌≡◌, option_map};
+ghost use Rattle.serde_json.specs.View.{view};
+ghost use Rattle.flow_format.specs.Checks as checks;
+ghost use Rattle.flow_format.specs.Names.{written_of};
+
+use crate::members::{i64_at, name_at, u64_at};
+use crate::script::FlowStep;
+use crate::verb::FlowVerb;
+use serde_json::Value;
+
+/// A step on a flow as it is written, with the name and the value that it has.
+#[derive(Clone, Copy)]
+pub enum Written<'a> {
+    /// It has no name.
+    Plain(FlowStep),
+    Emit(&'a str, i64),
+    Poll(&'a str),
+    Cancel(&'a str),
+    Subscribe(&'a str),
+    Next(&'a str),
+    Unsubscribe(&'a str),
+}
+
+fn emit_of(step: &Value) -> Option<Written<'_>>
+    ensures { option_map written_of result ≡ checks.written_by FlowVerb.Emit (view step.now) }
+{
+    let value = i64_at(step, "value")?;
+    let name = name_at(step)?;
+    Some(Written::Emit(name, value))
+}
+
+/// What is expected, and what it is replaced by.
+fn pair_of(step: &Value) -> Option<(i64, i64)>
+    ensures { result ≡ checks.pair_of (view step.now) }
+{
+    let expect = i64_at(step, "expect")?;
+    let update = i64_at(step, "update")?;
+    Some((expect, update))
+}
+
+fn compare_and_set_of(step: &Value) -> Option<Written<'_>>
+    ensures { option_map written_of result ≡ checks.written_by FlowVerb.CompareAndSet (view step.now) }
+{
+    let (expect, update) = pair_of(step)?;
+    Some(Written::Plain(FlowStep::CompareAndSet(expect, update)))
+}
+
+/// The step, if its keys have the right form.
+pub fn written_by(verb: FlowVerb, step: &Value) -> Option<Written<'_>>
+    ensures { option_map written_of result ≡ checks.written_by verb (view step.now) }
+{
+    match verb {
+        FlowVerb::TryEmit => Some(Written::Plain(FlowStep::TryEmit(i64_at(step, "value")?))),
+        FlowVerb::Emit => emit_of(step),
+        FlowVerb::Poll => Some(Written::Poll(name_at(step)?)),
+        FlowVerb::Cancel => Some(Written::Cancel(name_at(step)?)),
+        FlowVerb::Subscribe => Some(Written::Subscribe(name_at(step)?)),
+        FlowVerb::Next => Some(Written::Next(name_at(step)?)),
+        FlowVerb::Unsubscribe => Some(Written::Unsubscribe(name_at(step)?)),
+        FlowVerb::Cache => Some(Written::Plain(FlowStep::Cache)),
+        FlowVerb::Count => Some(Written::Plain(FlowStep::Count)),
+        FlowVerb::Reset => Some(Written::Plain(FlowStep::Reset)),
+        FlowVerb::Value => Some(Written::Plain(FlowStep::Value)),
+        FlowVerb::Set => Some(Written::Plain(FlowStep::Set(i64_at(step, "value")?))),
+        FlowVerb::CompareAndSet => compare_and_set_of(step),
+        FlowVerb::Turn => Some(Written::Plain(FlowStep::Turn(u64_at(step, "at")?))),
+    }
+}
