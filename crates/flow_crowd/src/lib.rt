@@ -1,5 +1,5 @@
 //! A crowd at one shared flow: several threads emit into it, and several subscribers, each in a thread of its own, read all
-//! that was emitted.
+//! that was emitted. And threads that count by one state flow without a lock (`run_count`).
 //!
 //! # What a crowd shows
 //! Under `BufferOverflow.SUSPEND` no subscriber loses a value, and the values of one emitter come in the order in which it
@@ -10,12 +10,14 @@
 //! then stop, and the answer is want of memory.
 #![tactic(auto)]
 
+mod count;
 mod crowd;
 mod emitter;
 mod order;
 mod reader;
 mod size;
 
+pub use count::{CountSize, run_count};
 pub use crowd::run_crowd;
 pub use order::Order;
 pub use reader::Received;

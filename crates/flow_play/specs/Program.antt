@@ -7,7 +7,7 @@ use Rattle.flow_lines.specs.Lines.{lined}
 use Rattle.flow_script.specs.Playing.{Plays, is_read_failed}
 
 abbrev pub usage_line : List ℕ
-usage_line = lined (codes "usage: flow_play [crowd E S N]")
+usage_line = lined (codes "usage: flow_play [crowd E S N | count T N]")
 
 abbrev pub memory_line : List ℕ
 memory_line = lined (codes "out of memory")

@@ -1,7 +1,7 @@
-//! Plays a flow script from standard input to standard output, or runs a crowd: `flow_play [crowd E S N]`.
+//! Plays a flow script from standard input to standard output, or lets threads run: `flow_play [crowd E S N | count T N]`.
 #![tactic(auto)]
 
-mod crowd_arguments;
+mod command;
 mod crowd_lines;
 mod program;
 #[cfg(test)]

@@ -2,13 +2,13 @@
 ghost use Rattle.std.specs.Prelude.{◌≡◌, ◌≢◌, ◌⊎◌, ◌++◌, false, OnOk, IfOk, IfSome, None, length, string_bytes};
 ghost use Rattle.flow_script.specs.Playing.{write_failed};
 ghost use Rattle.flow_script.specs.Watching.{inner_of, has_failed};
-ghost use Rattle.flow_play.specs.Arguments.{crowd_of};
-ghost use Rattle.flow_play.specs.CrowdLines.{IsCrowdText, RunsCrowd};
+ghost use Rattle.flow_play.specs.Arguments.{command_of};
+ghost use Rattle.flow_play.specs.CrowdLines.{IsCountText, IsCrowdText, Runs, RunsCount, RunsCrowd, count_line};
 ghost use Rattle.flow_play.specs.Program.{RunsScript, Tells, TellsFault, fault_line, memory_line, usage_line, IsRefusal};
 
-use crate::crowd_arguments::crowd_of;
+use crate::command::{Command, command_of};
 use crate::crowd_lines::crowd_text;
-use flow_crowd::{CrowdSize, run_crowd};
+use flow_crowd::{CountSize, CrowdSize, run_count, run_crowd};
 use flow_script::{ScriptFault, Watched, play, write_all};
 use std::alloc::{AllocError, AllocGlobal, Global};
 use std::io::{ErrorKind, Read, Write};
@@ -41,7 +41,11 @@ fn tell_usage<W: Write>(output: &mut Watched<W>) -> u8
     ensures { Tells (has_failed output.new)
         (W.contents (inner_of output.old)) (W.contents (inner_of output.new)) usage_line 2 result }
 {
-    tell(output, "usage: flow_play [crowd E S N]\n", REFUSED)
+    tell(
+        output,
+        "usage: flow_play [crowd E S N | count T N]\n",
+        REFUSED,
+    )
 }
 
 fn tell_memory<W: Write>(output: &mut Watched<W>) -> u8
@@ -150,6 +154,39 @@ fn tell_crowd<H: Threads + Wait + Sync, W: Write>(
     }
 }
 
+/// The line of a count that has run. `None` for want of memory.
+fn count_line<H: Threads + Wait + Sync>(rt: &H, alloc: Global, size: CountSize) -> Option<String>
+    ensures { IfSome result IsCountText }
+{
+    let value = run_count(rt, alloc, size).ok()?;
+    value_line(alloc, value).ok()
+}
+
+fn value_line(alloc: Global, value: i64) -> Result<String, AllocError>
+    ensures { IfOk result (λ line. string_bytes line ≡ count_line value) }
+{
+    let mut line = String::new(alloc);
+    writeln!(line, "value {value}")?;
+    Ok(line)
+}
+
+/// Lets threads count, and prints the value that they left.
+fn tell_count<H: Threads + Wait + Sync, W: Write>(
+    rt: &H,
+    alloc: Global,
+    output: &mut Watched<W>,
+    size: CountSize,
+) -> u8
+    requires { has_failed output.old ≡ false }
+    ensures { RunsCount (has_failed output.new)
+        (W.contents (inner_of output.old)) (W.contents (inner_of output.new)) result }
+{
+    match count_line(rt, alloc, size) {
+        Some(line) => tell(output, line.as_str(), PLAYED),
+        None => tell_memory(output),
+    }
+}
+
 /// Plays the script that is read, and answers the program's status.
 fn play_script<R: Read, W: Write>(
     alloc: Global,
@@ -168,10 +205,10 @@ fn play_script<R: Read, W: Write>(
     }
 }
 
-/// Plays the script that is read, or runs the crowd that the arguments name, and answers the program's status. The
-/// arguments, without the program's name, are looked at before anything is read.
+/// Plays the script that is read, or runs the crowd or the count that the arguments name, and answers the program's
+/// status. The arguments, without the program's name, are looked at before anything is read.
 ///
-/// 0: the script was played, or the crowd ran; 2: the script or the arguments were refused; 3: a read or a write failed;
+/// 0: the script was played, or the threads ran; 2: the script or the arguments were refused; 3: a read or a write failed;
 /// 4: want of memory, or of a thread. Every line goes to `output`. After a write that failed no line is printed.
 pub fn run<H: Threads + Wait + Sync + AllocGlobal, R: Read, W: Write>(
     rt: &H,
@@ -181,9 +218,9 @@ pub fn run<H: Threads + Wait + Sync + AllocGlobal, R: Read, W: Write>(
 ) -> u8
     requires reads { has_failed input.old ≡ false }
     requires writes { has_failed output.old ≡ false }
-    ensures usage { length args.now ≢ 0 → crowd_of args.now ≡ None → Tells (has_failed output.new)
+    ensures usage { length args.now ≢ 0 → command_of args.now ≡ None → Tells (has_failed output.new)
         (W.contents (inner_of output.old)) (W.contents (inner_of output.new)) usage_line 2 result }
-    ensures crowd { IfSome (crowd_of args.now) (λ size. RunsCrowd size (has_failed output.new)
+    ensures runs { IfSome (command_of args.now) (λ command. Runs command (has_failed output.new)
         (W.contents (inner_of output.old)) (W.contents (inner_of output.new)) result) }
     ensures unread { length args.now ≢ 0 → input.new ≡ input.old }
     ensures plays { length args.now ≡ 0 → RunsScript
@@ -193,8 +230,9 @@ pub fn run<H: Threads + Wait + Sync + AllocGlobal, R: Read, W: Write>(
     if args.is_empty() {
         return play_script(rt.alloc(), input, output);
     }
-    match crowd_of(args) {
-        Some(size) => tell_crowd(rt, rt.alloc(), output, size),
+    match command_of(args) {
+        Some(Command::Crowd(size)) => tell_crowd(rt, rt.alloc(), output, size),
+        Some(Command::Count(size)) => tell_count(rt, rt.alloc(), output, size),
         None => tell_usage(output),
     }
 }

@@ -1,4 +1,4 @@
-//! Crowds, and arguments that name none.
+//! Crowds and counts, and arguments that name none.
 use crate::tests::expect_of;
 use std::alloc::{AllocError, Global};
 
@@ -11,10 +11,10 @@ fn words(alloc: Global, line: &str) -> Result<Vec<String>, AllocError> {
     Ok(words)
 }
 
-const USAGE: &str = "usage: flow_play [crowd E S N]\n";
+const USAGE: &str = "usage: flow_play [crowd E S N | count T N]\n";
 
 /// Arguments, the status, and what is printed.
-const RUNS: [(&str, u8, &str); 11] = [
+const RUNS: [(&str, u8, &str); 19] = [
     (
         "crowd 2 2 100",
         0,
@@ -29,11 +29,19 @@ const RUNS: [(&str, u8, &str); 11] = [
     ("crowd 1 1 +1", 2, USAGE),
     ("crowd 1 1", 2, USAGE),
     ("crowd 1 1 1 1", 2, USAGE),
+    ("count 4 100", 0, "value 400\n"),
+    ("count 1 0", 0, "value 0\n"),
+    ("count 8 10000", 0, "value 80000\n"),
+    ("count 9 1", 2, USAGE),
+    ("count 0 1", 2, USAGE),
+    ("count 1 10001", 2, USAGE),
+    ("count 1", 2, USAGE),
+    ("count 1 1 1", 2, USAGE),
     ("other", 2, USAGE),
 ];
 
 #[test]
-fn arguments_name_a_crowd_or_print_the_usage(rt: HostRuntime) {
+fn arguments_name_a_crowd_or_a_count_or_print_the_usage(rt: HostRuntime) {
     for (line, status, printed) in RUNS {
         let args = words(rt.alloc(), line).expect(&rt, "memory");
         expect_of(&rt, args.as_slice(), b"", status, printed);
