@@ -17,13 +17,14 @@ use Rattle.flow_law.specs.declared.states.StateFlowState.{StateFlowState}
 use Rattle.flow_law.specs.SharedStep as flow
 use Rattle.flow_law.specs.SharedHistory.{reply_by}
 use Rattle.flow_law.specs.Steps.{After, Takes}
-use Rattle.flow_law.specs.SharingCalls.{HubCall, HubAnswer, TurnCall, TurnAnswer, to_hub, asks, rewinds, counts, puts, polls, cancels, ChainAndHub, CallDoes}
+use Rattle.flow_law.specs.SharingCalls.{HubCall, HubAnswer, TurnCall, TurnAnswer, to_hub, asks, rewinds, counts, puts, polls, cancels, resets, ChainAndHub, CallDoes}
 use Rattle.flow_law.specs.SharingTurn.{SharingState, Turned, refusal, reported, turn_steps}
 use Rattle.flow_law.specs.SharingFlows.{EmittingFlow, emitted, shared_reply, SharedDoes, state_reply, StateDoes, IsNotBusy, IsAtOnce, DocumentedTurn}
 use Rattle.flow_law.proofs.StepsLemmas.{always-takes}
 use Rattle.flow_law.proofs.NeverBusy.{never_busy}
 use Rattle.flow_law.proofs.TurnLemmas.{turn-plays}
 use Rattle.flow_law.proofs.TurnMeaningLemmas.{turn-means}
+use Rattle.flow_law.proofs.TurnResetLemmas.{turn-resets}
 use Rattle.flow_law.proofs.TurnAnswerLemmas.{Likeness, MayCall, IsSettled, turn-settles}
 
 module _ {T F : Type 0} (does : (c : HubCall T) → F → HubAnswer c → F → Type 0) (reply : (c : HubCall T) → F → After (HubAnswer c) F)
@@ -42,6 +43,7 @@ module _ {T F : Type 0} (does : (c : HubCall T) → F → HubAnswer c → F → 
         answered = settled.0;
         cancelled = settled.1;
         means = λ runs between accepted. (turn-means does started now seen s old new turned accepted runs between h).0;
+        reset = turn-resets does s started now seen old new turned h;
       }
     where
       may-call : (like : Likeness T May Is) → ((c : HubCall T) (f g : F) (a : HubAnswer c) → does c f a g → May c a)
@@ -61,6 +63,7 @@ SharedMay counts a = IsAccepted a
 SharedMay (puts x) a = a ≢ Err LockTaken
 SharedMay polls a = IsAccepted a
 SharedMay cancels a = IsAccepted a
+SharedMay resets a = IsAccepted a
 
 not_busy : (command : Command) (fault : FlowFault) → ◌≢◌ {A = Result Bool FlowFault} (Err fault) (Err LockTaken) → IsNotBusy (reported command (refusal fault))
 not_busy command OutOfMemory free = tt
@@ -75,6 +78,7 @@ shared-like = record {
   counts_on = λ fault may. may;
   polls_on = λ fault may. may;
   cancels_on = λ fault may. may;
+  reset_refused = λ command fault may. absurd may;
   refused = λ command x fault may. not_busy command fault may;
   queued = λ command x may e. cc;
   waiting = λ command may e. cc;
@@ -99,10 +103,12 @@ module _ {T : Type 0} where
   shared-may (puts x) f g a (inl is) = subst (λ x. x.result ≢ Err LockTaken) is (emitted-free f (flow.emit x f.flow).reply (flow.emit x f.flow).after (never_busy f.flow (call.Emit x)))
   shared-may polls f g a (inl is) = subst (λ x. IsAccepted x.result) is tt
   shared-may cancels f g a (inl is) = subst (λ x. IsAccepted x.result) is tt
+  shared-may resets f g a (inl is) = subst (λ x. IsAccepted x.result) is tt
   shared-may counts f g a (inr lacks) = absurd lacks.0
   shared-may (puts x) f g a (inr lacks) = λ e. let both : ◌≡◌ {A = Result Bool FlowFault} (Err OutOfMemory) (Err LockTaken) = sym lacks.1 ∙ e in cc
   shared-may polls f g a (inr lacks) = absurd lacks.0
   shared-may cancels f g a (inr lacks) = absurd lacks.0
+  shared-may resets f g a (inr lacks) = absurd lacks.0
 
   shared-either : (c : HubCall T) (f g : EmittingFlow T) (a : HubAnswer c) → SharedDoes c f a g → (shared_reply c f ≡ record { result = a; state = g }) ⊎ (a ≡ Err OutOfMemory)
   shared-either c f g a (inl is) = inl is
@@ -114,17 +120,24 @@ module _ {T : Type 0} where
 
 -- ---- a state flow
 
+-- it is not refused but for want of memory
+abbrev IsAmple : {R : Type 0} → Result R FlowFault → Type 0
+IsAmple (Ok r) = Unit {0}
+IsAmple (Err fault) = fault ≡ OutOfMemory
+
 abbrev StateMay : {T : Type 0} → (c : HubCall T) → HubAnswer c → Type 0
 StateMay counts a = IsAccepted a
 StateMay (puts x) a = a ≡ Ok false
 StateMay polls a = a ≡ Ok false
 StateMay cancels a = a ≡ Ok false
+StateMay resets a = IsAmple a
 
 state-like : {T : Type 0} → Likeness T StateMay IsAtOnce
 state-like = record {
   counts_on = λ fault may. may;
   polls_on = λ fault may. cc;
   cancels_on = λ fault may. cc;
+  reset_refused = λ command fault may. subst (λ (f : FlowFault). IsAtOnce (reported command (refusal f))) (sym may) refl;
   refused = λ command x fault may. absurd (cc);
   queued = λ command x may. absurd (cc);
   waiting = λ command may. absurd (cc);
@@ -138,12 +151,33 @@ state-like = record {
 }
 
 module _ {T : Type 0} where
-  state-may : (c : HubCall T) (f g : StateFlowState T) (a : HubAnswer c) → StateDoes c f a g → StateMay c a
-  state-may counts f g a is = subst (λ x. IsAccepted x.result) is tt
-  state-may (puts x) f g a is = ap (λ x. x.result) (sym is)
-  state-may polls f g a is = ap (λ x. x.result) (sym is)
-  state-may cancels f g a is = ap (λ x. x.result) (sym is)
+  -- the other calls are no resets
+  abbrev pub IsNoReset : HubCall T → Type 0
+  IsNoReset counts = Unit {0}
+  IsNoReset (puts x) = Unit {0}
+  IsNoReset polls = Unit {0}
+  IsNoReset cancels = Unit {0}
+  IsNoReset resets = ⊥
 
-  pub state-turn : (started : Started) (now : ℕ) (seen : List SharingObservation) (s : SharingState T) (old new : ChainAndHub T (StateFlowState T)) (turned : Turned T)
-      → Takes (CallDoes StateDoes) (turn_steps started now seen s) old turned new → DocumentedTurn StateDoes state_reply IsAtOnce started now seen s old turned new
-  state-turn = documented-turn StateDoes state_reply StateMay IsAtOnce state-like state-may (λ c f g a is. inl is)
+  no-reset : (c : HubCall T) → IsNoReset c → c ≡ resets → ⊥
+  no-reset c other is = subst IsNoReset is other
+
+  state-may : (initial : T) (c : HubCall T) (f g : StateFlowState T) (a : HubAnswer c) → StateDoes initial c f a g → StateMay c a
+  state-may initial counts f g a (inl is) = subst (λ x. IsAccepted x.result) is tt
+  state-may initial (puts x) f g a (inl is) = ap (λ x. x.result) (sym is)
+  state-may initial polls f g a (inl is) = ap (λ x. x.result) (sym is)
+  state-may initial cancels f g a (inl is) = ap (λ x. x.result) (sym is)
+  state-may initial resets f g a (inl is) = subst (λ x. IsAmple x.result) is tt
+  state-may initial counts f g a (inr lacks) = absurd (no-reset counts tt lacks.0)
+  state-may initial (puts x) f g a (inr lacks) = absurd (no-reset (puts x) tt lacks.0)
+  state-may initial polls f g a (inr lacks) = absurd (no-reset polls tt lacks.0)
+  state-may initial cancels f g a (inr lacks) = absurd (no-reset cancels tt lacks.0)
+  state-may initial resets f g a (inr lacks) = subst IsAmple (sym lacks.1) refl
+
+  state-either : (initial : T) (c : HubCall T) (f g : StateFlowState T) (a : HubAnswer c) → StateDoes initial c f a g → (state_reply initial c f ≡ record { result = a; state = g }) ⊎ (a ≡ Err OutOfMemory)
+  state-either initial c f g a (inl is) = inl is
+  state-either initial c f g a (inr lacks) = inr lacks.1
+
+  pub state-turn : (initial : T) (started : Started) (now : ℕ) (seen : List SharingObservation) (s : SharingState T) (old new : ChainAndHub T (StateFlowState T)) (turned : Turned T)
+      → Takes (CallDoes (StateDoes initial)) (turn_steps started now seen s) old turned new → DocumentedTurn (StateDoes initial) (state_reply initial) IsAtOnce started now seen s old turned new
+  state-turn initial = documented-turn (StateDoes initial) (state_reply initial) StateMay IsAtOnce state-like (state-may initial) (state-either initial)

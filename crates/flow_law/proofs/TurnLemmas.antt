@@ -1,25 +1,29 @@
 -- A turn of a sharing, walked along its calls. `leads-takes` proves what holds after a turn from what holds after each of its calls,
 -- `turn-along` carries a turn to another hub, and `turn-plays` gives the turn over a flow that answers by a function.
-use Rattle.std.proofs.Common.{◌≡◌, ◌⊎◌, inl, inr, ℕ, Bool, true, false, nat_lt, if◌then◌else◌, List, ◌∷◌, Option, Some, None, Result, Ok, Err, sym, refl, ap, ◌∙◌, subst}
+use Rattle.std.proofs.Common.{◌≡◌, ◌⊎◌, inl, inr, ℕ, Bool, true, false, nat_lt, if◌then◌else◌, List, ◌∷◌, ◌||◌, Option, Some, None, Result, Ok, Err, sym, refl, ap, ◌∙◌, subst}
 use Rattle.flow_law.specs.declared.fault.FlowFault.{FlowFault}
 use Rattle.flow_law.specs.declared.fault.FlowFault.TheVariants.{OutOfMemory}
 use Rattle.flow_law.specs.declared.chain.ChainFault.TheVariants as chain_fault
 use Rattle.flow_law.specs.declared.chain.End.TheVariants.{Completed as AtEnd, Failed}
 use Rattle.flow_law.specs.declared.sharing.Started.{Started}
 use Rattle.flow_law.specs.declared.sharing.Command.{Command}
-use Rattle.flow_law.specs.declared.sharing.Command.TheVariants.{Start, Stop, Keep}
+use Rattle.flow_law.specs.declared.sharing.Command.TheVariants.{Start, Stop, StopAndReset, Keep}
 use Rattle.flow_law.specs.declared.sharing.SharingObservation.{SharingObservation}
 use Rattle.flow_law.specs.ChainRun.{ChainRun}
 use Rattle.flow_law.specs.Sharing.{newest_command, last_moment}
 use Rattle.flow_law.specs.Steps.{answers, calls, After, Takes}
-use Rattle.flow_law.specs.SharingCalls.{HubCall, HubAnswer, TurnCall, TurnAnswer, ChainAnswer, to_hub, asks, rewinds, counts, puts, polls, cancels, item, pending, end, first_answer, rest_after, AskDoes, ChainAndHub, with_hub, CallDoes, call_reply}
-use Rattle.flow_law.specs.SharingTurn.{SharingState, Turned, TurnSteps, after_put, after_ask, send, after_poll, collect, collect_while_running, after_cancel, work, begin, after_count, turn_steps}
+use Rattle.flow_law.specs.SharingCalls.{HubCall, HubAnswer, TurnCall, TurnAnswer, ChainAnswer, to_hub, asks, rewinds, counts, puts, polls, cancels, resets, item, pending, end, first_answer, rest_after, AskDoes, ChainAndHub, with_hub, CallDoes, call_reply}
+use Rattle.flow_law.specs.SharingTurn.{SharingState, Turned, TurnSteps, after_put, after_ask, send, after_poll, collect, collect_while_running, after_reset, reset_if_due, after_cancel, work, begin, after_count, turn_steps}
 use Rattle.flow_law.specs.SharingFlows.{HadMemory, flow_turn}
 use Rattle.flow_law.proofs.StepsLemmas.{Always, Tells, takes-along, takes-plays}
 
 pub by-if : {X : Type 0} (P : X → Type 0) (b : Bool) (x y : X) → (b ≡ true → P x) → (b ≡ false → P y) → P (if b then x else y)
 by-if P true x y f g = f refl
 by-if P false x y f g = g refl
+
+pub neither-due : (a b : Bool) → (a || b) ≡ false → (a ≡ false) × (b ≡ false)
+neither-due true b e = let x : true ≡ false = e in cc
+neither-due false b e = (refl, e)
 
 -- ---- what each call leads to
 
@@ -143,17 +147,26 @@ module _ {T : Type 0} where
     tells-running : (s : SharingState T) → TellsMemory (collect_while_running command seen s)
     tells-running s = by-if TellsMemory s.runs _ _ (λ e. tells-collect s) (λ e. tt)
 
+    tells-reset : (s : SharingState T) (a : Result (Unit {0}) FlowFault) → TellsMemory (after_reset command seen s a)
+    tells-reset s (Ok done) = tells-running (record s { reset_due = false })
+    tells-reset s (Err fault) = tt
+
+    tells-reset_if_due : (s : SharingState T) → TellsMemory (reset_if_due command seen s)
+    tells-reset_if_due s =
+        by-if TellsMemory s.reset_due _ _ (λ e. tells-hub resets (after_reset command seen s) (λ h. h) (tells-reset s)) (λ e. tells-running s)
+
     tells-cancel : (s : SharingState T) (a : Result Bool FlowFault) → TellsMemory (after_cancel command seen s a)
-    tells-cancel s (Ok waited) = tells-running (record s { cancel_due = false })
+    tells-cancel s (Ok waited) = tells-reset_if_due (record s { cancel_due = false })
     tells-cancel s (Err fault) = tt
 
     tells-work : (s : SharingState T) → TellsMemory (work command seen s)
     tells-work s =
-        by-if TellsMemory s.cancel_due _ _ (λ e. tells-hub cancels (after_cancel command seen s) (λ h. h) (tells-cancel s)) (λ e. tells-running s)
+        by-if TellsMemory (s.cancel_due || s.reset_due) _ _ (λ e. tells-hub cancels (after_cancel command seen s) (λ h. h) (tells-cancel s)) (λ e. tells-running s)
 
   tells-begin : (all : List SharingObservation) (command : Command) (s : SharingState T) → TellsMemory (begin all command s)
   tells-begin all Start s = λ a. (λ lacks. absurd lacks, tells-work Start all (record s { runs = true; completed = false }))
   tells-begin all Stop s = tells-work Stop all (record s { runs = false; kept = None; cancel_due = true })
+  tells-begin all StopAndReset s = tells-work StopAndReset all (record s { runs = false; kept = None; cancel_due = true; reset_due = true })
   tells-begin all Keep s = tells-work Keep all s
 
   tells-count : (started : Started) (now : ℕ) (seen : List SharingObservation) (s : SharingState T) (a : Result ℕ FlowFault) → TellsMemory (after_count started now seen s a)

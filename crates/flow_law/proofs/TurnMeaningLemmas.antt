@@ -1,11 +1,11 @@
 -- The account holds after a turn of a sharing, and so does what is true between turns. Begin with `turn-means`.
-use Rattle.std.proofs.Common.{◌≡◌, inl, inr, ℕ, Bool, true, false, nat_lt, List, [], ◌∷◌, ◌++◌, Option, Some, None, Result, Ok, Err, subst, sym, refl, ap, ◌∙◌, append_assoc}
+use Rattle.std.proofs.Common.{◌≡◌, inl, inr, ℕ, Bool, true, false, nat_lt, List, [], ◌∷◌, ◌++◌, ◌||◌, Option, Some, None, Result, Ok, Err, subst, sym, refl, ap, ◌∙◌, append_assoc}
 use Rattle.flow_law.specs.declared.fault.FlowFault.{FlowFault}
 use Rattle.flow_law.specs.declared.fault.FlowFault.TheVariants.{OutOfMemory, TooLarge, NeedsBuffer, Exhausted, Unsupported, Busy as LockTaken}
 use Rattle.flow_law.specs.declared.chain.End.TheVariants.{Completed as AtEnd, Failed}
 use Rattle.flow_law.specs.declared.sharing.Started.{Started}
 use Rattle.flow_law.specs.declared.sharing.Command.{Command}
-use Rattle.flow_law.specs.declared.sharing.Command.TheVariants.{Start, Stop, Keep}
+use Rattle.flow_law.specs.declared.sharing.Command.TheVariants.{Start, Stop, StopAndReset, Keep}
 use Rattle.flow_law.specs.declared.sharing.SharingObservation.{SharingObservation}
 use Rattle.flow_law.specs.declared.report.Event.{Event}
 use Rattle.flow_law.specs.declared.report.Event.TheVariants.{Busy, Idle, Put, Queued, Waiting, Pending, Completed}
@@ -15,8 +15,8 @@ use Rattle.flow_law.specs.ChainRun.{ChainRun, items}
 use Rattle.flow_law.specs.TurnAccount.{kept_items}
 use Rattle.flow_law.specs.Sharing.{newest_command, last_moment, command_of, is_running}
 use Rattle.flow_law.specs.Steps.{Takes}
-use Rattle.flow_law.specs.SharingCalls.{HubCall, HubAnswer, ChainAnswer, counts, puts, polls, cancels, item, pending, end, AskDoes, ChainAndHub, CallDoes}
-use Rattle.flow_law.specs.SharingTurn.{SharingState, Turned, refusal, reported, after_put, after_ask, send, after_poll, collect_while_running, after_cancel, work, begin, after_count, turn_steps}
+use Rattle.flow_law.specs.SharingCalls.{HubCall, HubAnswer, ChainAnswer, counts, puts, polls, cancels, resets, item, pending, end, AskDoes, ChainAndHub, CallDoes}
+use Rattle.flow_law.specs.SharingTurn.{SharingState, Turned, refusal, reported, after_put, after_ask, send, after_poll, collect_while_running, after_reset, reset_if_due, after_cancel, work, begin, after_count, turn_steps}
 use Rattle.flow_law.specs.TurnMeaning.{Accounts, HasAccount, BetweenTurns, since_start, rest_at, WasRefused, OutcomeMeans, TurnMeans}
 use Rattle.flow_law.proofs.TurnLemmas.{by-if, Leads, leads-takes, leads-so}
 
@@ -24,10 +24,15 @@ pub not-both : {b : Bool} → b ≡ true → b ≡ false → ⊥
 not-both p q = let h : true ≡ false = sym p ∙ q in cc
 
 -- only what did not run is started
-starts-at-rest : (ran runs : Bool) → command_of ran runs ≡ Start → ran ≡ false
-starts-at-rest false runs e = refl
-starts-at-rest true true e = cc
-starts-at-rest true false e = cc
+starts-at-rest : (ran runs was_expired expired : Bool) → command_of ran runs was_expired expired ≡ Start → ran ≡ false
+starts-at-rest false runs was_expired expired e = refl
+starts-at-rest true true false true e = cc
+starts-at-rest true true false false e = cc
+starts-at-rest true true true expired e = cc
+starts-at-rest true false false true e = cc
+starts-at-rest true false false false e = cc
+starts-at-rest true false true false e = cc
+starts-at-rest true false true true e = cc
 
 -- ---- what a turn means
 
@@ -134,17 +139,31 @@ module _ {T H : Type 0} (does : (c : HubCall T) → H → HubAnswer c → H → 
         (λ on. poll-means s both runs on same (λ g. held g runs going)))
         (λ rests. (Ok Idle, refl, λ g. (rests, between.rested rests), between))
 
+    reset-means : (s : SharingState T) (both : ChainAndHub T H) → s.ended ≡ false → BetweenTurns s both → before ≡ both.rest → (Given → HasAccount accepted s both)
+        → (a : Result (Unit {0}) FlowFault) (h : H) → does resets both.hub a h → Leads does Comes (after_reset command seen s a) (record both { hub = h })
+    reset-means s both going between same held (Ok done) h told =
+        running-means (record s { reset_due = false }) (record both { hub = h }) going (record { rested = between.rested; done = between.done }) same held
+    reset-means s both going between same held (Err fault) h told =
+        refused-means fault s (record both { hub = h }) held (both.hub, (resets, told)) (record { rested = between.rested; done = between.done })
+
+    reset_if_due-means : (s : SharingState T) (both : ChainAndHub T H) → s.ended ≡ false → BetweenTurns s both → before ≡ both.rest → (Given → HasAccount accepted s both)
+        → Leads does Comes (reset_if_due command seen s) both
+    reset_if_due-means s both going between same held =
+        by-if (λ steps. Leads does Comes steps both) s.reset_due _ _
+        (λ due. reset-means s both going between same held)
+        (λ none. running-means s both going between same held)
+
     cancel-means : (s : SharingState T) (both : ChainAndHub T H) → s.ended ≡ false → BetweenTurns s both → before ≡ both.rest → (Given → HasAccount accepted s both)
         → (a : Result Bool FlowFault) (h : H) → does cancels both.hub a h → Leads does Comes (after_cancel command seen s a) (record both { hub = h })
     cancel-means s both going between same held (Ok waited) h told =
-        running-means (record s { cancel_due = false }) (record both { hub = h }) going (record { rested = between.rested; done = between.done }) same held
+        reset_if_due-means (record s { cancel_due = false }) (record both { hub = h }) going (record { rested = between.rested; done = between.done }) same held
     cancel-means s both going between same held (Err fault) h told =
         refused-means fault s (record both { hub = h }) held (both.hub, (cancels, told)) (record { rested = between.rested; done = between.done })
 
     work-means : (s : SharingState T) (both : ChainAndHub T H) → s.ended ≡ false → BetweenTurns s both → before ≡ both.rest → (Given → HasAccount accepted s both)
         → Leads does Comes (work command seen s) both
     work-means s both going between same held =
-        by-if (λ steps. Leads does Comes steps both) s.cancel_due _ _
+        by-if (λ steps. Leads does Comes steps both) (s.cancel_due || s.reset_due) _ _
         (λ due. cancel-means s both going between same held)
         (λ none. running-means s both going between same held)
 
@@ -159,9 +178,11 @@ module _ {T H : Type 0} (does : (c : HubCall T) → H → HubAnswer c → H → 
     told-means command (Ok event) t new m = m
     told-means Start (Err (Flow fault)) t new m = inr m
     told-means Stop (Err (Flow fault)) t new m = inl m
+    told-means StopAndReset (Err (Flow fault)) t new m = inl m
     told-means Keep (Err (Flow fault)) t new m = inl m
     told-means Start (Err (Chain fault)) t new m = inr m
     told-means Stop (Err (Chain fault)) t new m = inl m
+    told-means StopAndReset (Err (Chain fault)) t new m = inl m
     told-means Keep (Err (Chain fault)) t new m = inl m
     told-means command (Err Ended) t new m = absurd m
     told-means command (Err (Backwards last)) t new m = absurd m
@@ -185,6 +206,10 @@ module _ {T H : Type 0} (does : (c : HubCall T) → H → HubAnswer c → H → 
         work-means (HasAccount accepted s old) Stop all old.rest accepted (record s { runs = false; kept = None; cancel_due = true }) (record old { hub = h }) going
         (record { rested = λ r. refl; done = λ r d. let x : false ≡ true = r in cc }) refl
         (λ g r u. let x : false ≡ true = r in cc)
+    begin-means all StopAndReset h going rests between =
+        work-means (HasAccount accepted s old) StopAndReset all old.rest accepted (record s { runs = false; kept = None; cancel_due = true; reset_due = true }) (record old { hub = h }) going
+        (record { rested = λ r. refl; done = λ r d. let x : false ≡ true = r in cc }) refl
+        (λ g r u. let x : false ≡ true = r in cc)
     begin-means all Keep h going rests between =
         work-means (HasAccount accepted s old) Keep all old.rest accepted s (record old { hub = h }) going
         (record { rested = between.rested; done = between.done }) refl (λ g. g)
@@ -200,7 +225,7 @@ module _ {T H : Type 0} (does : (c : HubCall T) → H → HubAnswer c → H → 
         ))
         (λ after. leads-so does (ComesOf (newest_command started all) all) Ends (comes-ends (newest_command started all) all)
         (begin all (newest_command started all) s) (record old { hub = h })
-        (begin-means all (newest_command started all) h going (λ c. runs ∙ starts-at-rest _ _ c) between))
+        (begin-means all (newest_command started all) h going (λ c. runs ∙ starts-at-rest _ _ _ _ c) between))
     count-means started now seen going runs between (Err fault) h told =
         comes-ends Keep seen (record { answer = reported Keep (refusal fault); seen = seen; state = s }) (record old { hub = h }) (
         refused-means (HasAccount accepted s old) Keep seen old.rest accepted fault s (record old { hub = h }) (λ g. g) (old.hub, (counts, told))

@@ -1,22 +1,22 @@
 -- No emission waits while a sharing does not run, but one that is still to be cancelled. Begin with `turn-quiet`.
-use Rattle.std.proofs.Common.{◌≡◌, ℕ, Bool, true, false, nat_lt, List, ◌∷◌, Option, Some, None, Result, Ok, Err, subst, sym, refl, ◌∙◌}
+use Rattle.std.proofs.Common.{◌≡◌, ℕ, Bool, true, false, nat_lt, List, ◌∷◌, ◌||◌, Option, Some, None, Result, Ok, Err, subst, sym, refl, ◌∙◌}
 use Rattle.flow_law.specs.declared.fault.FlowFault.{FlowFault}
 use Rattle.flow_law.specs.declared.fault.FlowFault.TheVariants.{OutOfMemory, TooLarge, NeedsBuffer, Exhausted, Unsupported, Busy as LockTaken}
 use Rattle.flow_law.specs.declared.chain.End.TheVariants.{Completed as AtEnd, Failed}
 use Rattle.flow_law.specs.declared.sharing.Started.{Started}
 use Rattle.flow_law.specs.declared.sharing.Command.{Command}
-use Rattle.flow_law.specs.declared.sharing.Command.TheVariants.{Start, Stop, Keep}
+use Rattle.flow_law.specs.declared.sharing.Command.TheVariants.{Start, Stop, StopAndReset, Keep}
 use Rattle.flow_law.specs.declared.sharing.SharingObservation.{SharingObservation}
 use Rattle.flow_law.specs.declared.report.Event.TheVariants.{Busy, Idle, Put, Queued, Waiting, Pending, Completed}
 use Rattle.flow_law.specs.declared.report.Report.{Report}
 use Rattle.flow_law.specs.declared.report.ShareFault.{ShareFault}
 use Rattle.flow_law.specs.Sharing.{newest_command, last_moment}
 use Rattle.flow_law.specs.Steps.{Takes}
-use Rattle.flow_law.specs.SharingCalls.{HubCall, HubAnswer, ChainAnswer, counts, cancels, item, pending, end, ChainAndHub, CallDoes, HubStep}
-use Rattle.flow_law.specs.SharingTurn.{SharingState, Turned, TurnSteps, refusal, reported, after_put, after_ask, send, after_poll, collect, collect_while_running, after_cancel, work, begin, after_count, turn_steps}
+use Rattle.flow_law.specs.SharingCalls.{HubCall, HubAnswer, ChainAnswer, counts, cancels, resets, item, pending, end, ChainAndHub, CallDoes, HubStep}
+use Rattle.flow_law.specs.SharingTurn.{SharingState, Turned, TurnSteps, refusal, reported, after_put, after_ask, send, after_poll, collect, collect_while_running, after_reset, reset_if_due, after_cancel, work, begin, after_count, turn_steps}
 use Rattle.flow_law.specs.TurnMeaning.{IsQuiet}
 use Rattle.flow_law.proofs.StepsLemmas.{Always}
-use Rattle.flow_law.proofs.TurnLemmas.{by-if, Leads, leads-takes, always-leads}
+use Rattle.flow_law.proofs.TurnLemmas.{by-if, neither-due, Leads, leads-takes, always-leads}
 use Rattle.flow_law.proofs.TurnMeaningLemmas.{not-both}
 
 -- only the outcome `Idle` is reported as `Idle`
@@ -81,18 +81,30 @@ module _ {T H : Type 0} (does : (c : HubCall T) → H → HubAnswer c → H → 
         (collect command seen s) both (collect-works command seen s runs))
         (λ rests. (λ r none. free rests, λ is. free rests))
 
-    cancel-quiet : (s : SharingState T) (both : ChainAndHub T H) → s.cancel_due ≡ true
+    reset-quiet : (s : SharingState T) (both : ChainAndHub T H) → waits both.hub ≡ false
+        → (a : Result (Unit {0}) FlowFault) (h : H) → HubStep does waits resets both.hub a h → Quietly (after_reset command seen s a) (record both { hub = h })
+    reset-quiet s both free (Ok done) h told = running-quiet (record s { reset_due = false }) (record both { hub = h }) (λ rests. told.1 ∙ free)
+    reset-quiet s both free (Err fault) h told = (λ rests none. told.1 ∙ free, λ is. absurd (busy-not_idle command fault is))
+
+    reset_if_due-quiet : (s : SharingState T) (both : ChainAndHub T H) → waits both.hub ≡ false → Quietly (reset_if_due command seen s) both
+    reset_if_due-quiet s both free =
+        by-if (λ steps. Quietly steps both) s.reset_due _ _ (λ due. reset-quiet s both free) (λ none. running-quiet s both (λ rests. free))
+
+    cancel-quiet : (s : SharingState T) (both : ChainAndHub T H) → (s.runs ≡ false → s.cancel_due ≡ false → waits both.hub ≡ false)
         → (a : Result Bool FlowFault) (h : H) → HubStep does waits cancels both.hub a h → Quietly (after_cancel command seen s a) (record both { hub = h })
-    cancel-quiet s both due (Ok waited) h told = running-quiet (record s { cancel_due = false }) (record both { hub = h }) (λ rests. told.1)
-    cancel-quiet s both due (Err fault) h told = (λ rests none. absurd (not-both due none), λ is. absurd (busy-not_idle command fault is))
+    cancel-quiet s both quiet (Ok waited) h told = reset_if_due-quiet (record s { cancel_due = false }) (record both { hub = h }) told.1
+    cancel-quiet s both quiet (Err fault) h told = (λ rests none. told.1 ∙ quiet rests none, λ is. absurd (busy-not_idle command fault is))
 
     work-quiet : (s : SharingState T) (both : ChainAndHub T H) → IsQuiet waits s both → Quietly (work command seen s) both
     work-quiet s both quiet =
-        by-if (λ steps. Quietly steps both) s.cancel_due _ _ (λ due. cancel-quiet s both due) (λ none. running-quiet s both (λ rests. quiet rests none))
+        by-if (λ steps. Quietly steps both) (s.cancel_due || s.reset_due) _ _ (λ due. cancel-quiet s both quiet)
+        (λ none. running-quiet s both (λ rests. quiet rests (neither-due s.cancel_due s.reset_due none).0))
 
   begin-quiet : (all : List SharingObservation) (command : Command) (s : SharingState T) (both : ChainAndHub T H) → IsQuiet waits s both → Quietly (begin all command s) both
   begin-quiet all Start s both quiet = work-quiet Start all (record s { runs = true; completed = false }) (record both { rest = both.whole }) (λ rests none. let x : true ≡ false = rests in cc)
   begin-quiet all Stop s both quiet = work-quiet Stop all (record s { runs = false; kept = None; cancel_due = true }) both (λ rests none. let x : true ≡ false = none in cc)
+  begin-quiet all StopAndReset s both quiet =
+      work-quiet StopAndReset all (record s { runs = false; kept = None; cancel_due = true; reset_due = true }) both (λ rests none. let x : true ≡ false = none in cc)
   begin-quiet all Keep s both quiet = work-quiet Keep all s both quiet
 
   count-quiet : (started : Started) (now : ℕ) (seen : List SharingObservation) (s : SharingState T) (both : ChainAndHub T H) → IsQuiet waits s both

@@ -1,14 +1,14 @@
 -- When a sharing runs (`SharingStarted`), by all observations that were accepted, the newest one first.
--- Begin with `idle_since` and `is_running`. The key fact is `LawIdleSince`: it says in plain words which moment `idle_since` is.
-use Rattle.std.specs.Prelude.{◌≡◌, ◌↔◌, ℕ, ◌-◌, ◌<◌, ◌||◌, ◌==◌, Bool, true, false, nat_lt, if◌then◌else◌, List, [], ◌∷◌, ◌++◌, Option, Some, None}
+-- Begin with `idle_since`, `is_running` and `is_expired`. The key fact is `LawIdleSince`: it says in plain words which moment `idle_since` is.
+use Rattle.std.specs.Prelude.{◌≡◌, ◌↔◌, ℕ, ◌+◌, ◌-◌, ◌<◌, ◌&&◌, ◌||◌, ◌==◌, Bool, true, false, not, nat_lt, nat_le, if◌then◌else◌, List, [], ◌∷◌, ◌++◌, Option, Some, None}
 use Rattle.std.specs.List.{AllByRecursion, list_any}
 use Rattle.flow_law.specs.declared.sharing.Started.{Started}
 use Rattle.flow_law.specs.declared.sharing.Started.TheVariants.{Eagerly, Lazily, WhileSubscribed}
 use Rattle.flow_law.specs.declared.sharing.Command.{Command}
-use Rattle.flow_law.specs.declared.sharing.Command.TheVariants.{Start, Stop, Keep}
+use Rattle.flow_law.specs.declared.sharing.Command.TheVariants.{Start, Stop, StopAndReset, Keep}
 use Rattle.flow_law.specs.declared.sharing.SharingObservation.{SharingObservation}
 
--- a stop that never comes
+-- a stop or an expiry that never comes
 abbrev pub never : ℕ
 never = 18446744073709551615
 
@@ -43,25 +43,41 @@ abbrev pub is_running : Started → List SharingObservation → Bool
 is_running started [] = false
 is_running Eagerly (o ∷ seen) = true
 is_running Lazily (o ∷ seen) = list_any has_subscribers (o ∷ seen)
-is_running (WhileSubscribed stop) (o ∷ seen) = has_subscribers o || is_before_stop stop o.moment (idle_since (o ∷ seen))
+is_running (WhileSubscribed stop expire) (o ∷ seen) = has_subscribers o || is_before_stop stop o.moment (idle_since (o ∷ seen))
+
+-- ---- when the flow is to forget what it replays
+
+-- at this moment the stop and the expiry after it have come, where the counts are zero since then
+abbrev pub is_past_expiry : Started → ℕ → Option ℕ → Bool
+is_past_expiry (WhileSubscribed stop expire) now (Some since) = not (stop == never) && (not (expire == never) && nat_le (stop + expire) (now - since))
+is_past_expiry (WhileSubscribed stop expire) now None = false
+is_past_expiry Eagerly now since = false
+is_past_expiry Lazily now since = false
+
+-- the reset is due, by all observations
+abbrev pub is_expired : Started → List SharingObservation → Bool
+is_expired started seen = is_past_expiry started (last_moment seen) (idle_since seen)
 
 -- ---- the command
 
--- by whether it ran and whether it runs
-abbrev pub command_of : Bool → Bool → Command
-command_of false true = Start
-command_of true false = Stop
-command_of ran runs = Keep
+-- by whether it ran and whether it runs, and by whether the reset was due and whether it is due
+abbrev pub command_of : Bool → Bool → Bool → Bool → Command
+command_of false true was_expired expired = Start
+command_of ran runs false true = StopAndReset
+command_of true false was_expired false = Stop
+command_of ran runs was_expired expired = Keep
 
 -- the command of the newest observation
 abbrev pub newest_command : Started → List SharingObservation → Command
 newest_command started [] = Keep
-newest_command started (o ∷ seen) = command_of (is_running started seen) (is_running started (o ∷ seen))
+newest_command started (o ∷ seen) =
+    command_of (is_running started seen) (is_running started (o ∷ seen)) (is_expired started seen) (is_expired started (o ∷ seen))
 
 -- whether it runs after a command
 abbrev pub runs_after : Command → Bool → Bool
 runs_after Start ran = true
 runs_after Stop ran = false
+runs_after StopAndReset ran = false
 runs_after Keep ran = ran
 
 -- ---- which moment `idle_since` is

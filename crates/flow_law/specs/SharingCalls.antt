@@ -10,19 +10,22 @@ use Rattle.flow_law.specs.Steps.{After}
 
 -- ---- the calls
 
--- of the hub: how many subscribers there are, a value is emitted, whether the hub's emission still waits, and it is taken back
+-- of the hub: how many subscribers there are, a value is emitted, whether the hub's emission still waits, it is taken back, and the flow
+-- forgets what it replays
 pub data HubCall (T : Type 0) : Type 0 where
   counts : HubCall T
   puts : T → HubCall T
   polls : HubCall T
   cancels : HubCall T
+  resets : HubCall T
 
--- a count; and else whether the hub's emission waits, or waited
+-- a count; a reset answers nothing; and else whether the hub's emission waits, or waited
 abbrev pub HubReply : {T : Type 0} → HubCall T → Type 0
 HubReply counts = ℕ
 HubReply (puts x) = Bool
 HubReply polls = Bool
 HubReply cancels = Bool
+HubReply resets = Unit {0}
 
 abbrev pub HubAnswer : {T : Type 0} → HubCall T → Type 0
 HubAnswer call = Result (HubReply call) FlowFault
@@ -99,6 +102,7 @@ waits_after polls (Ok waits) waited = waits
 waits_after polls (Err fault) waited = waited
 waits_after cancels (Ok was_waiting) waited = false
 waits_after cancels (Err fault) waited = waited
+waits_after resets answer waited = waited
 
 -- a call of the hub, by what the hub says that it does, and that its emission waits
 abbrev pub HubStep : {T H : Type 0} → ((c : HubCall T) → H → HubAnswer c → H → Type 0) → (H → Bool) → (c : HubCall T) → H → HubAnswer c → H → Type 0

@@ -21,8 +21,8 @@ pub use Rattle.flow_law.specs.declared.states.EmittingFlow.{EmittingFlow}
 use Rattle.flow_law.specs.SharedStep as flow
 use Rattle.flow_law.specs.Sharing.{is_running}
 use Rattle.flow_law.specs.Steps.{After, Takes, plays}
-use Rattle.flow_law.specs.SharingCalls.{HubCall, HubAnswer, counts, puts, polls, cancels, ChainAndHub, CallDoes, call_reply}
-use Rattle.flow_law.specs.TurnMeaning.{HasAccount, BetweenTurns, TurnMeans}
+use Rattle.flow_law.specs.SharingCalls.{HubCall, HubAnswer, counts, puts, polls, cancels, resets, ChainAndHub, CallDoes, call_reply}
+use Rattle.flow_law.specs.TurnMeaning.{HasAccount, BetweenTurns, TurnMeans, TurnResets}
 use Rattle.flow_law.specs.SharingTurn.{SharingState, Turned, turn_steps}
 
 -- ---- a shared flow
@@ -44,7 +44,7 @@ module _ {T : Type 0} where
   emitted s (Ok (Queued number)) after = record { result = Ok true; state = record { flow = after; waiting = Some number } }
   emitted s (Err fault) after = record { result = Err fault; state = s }
 
-  -- a put emits; polls and cancels are of the emission that waited, if there is one
+  -- a put emits; polls and cancels are of the emission that waited, if there is one; a reset empties the replay cache
   abbrev pub shared_reply : (c : HubCall T) → EmittingFlow T → After (HubAnswer c) (EmittingFlow T)
   shared_reply counts s = record { result = Ok (length s.flow.subscribers); state = s }
   shared_reply (puts x) s = emitted s (flow.emit x s.flow).reply (flow.emit x s.flow).after
@@ -56,6 +56,7 @@ module _ {T : Type 0} where
     result = Ok (still_waits s.waiting s.flow);
     state = record { flow = cancelled s.waiting s.flow; waiting = None };
   }
+  shared_reply resets s = record { result = Ok tt; state = record s { flow = (flow.reset_replay_cache s.flow).after } }
 
   -- a put may be refused for want of memory
   abbrev pub MayLackMemory : HubCall T → EmittingFlow T → Type 0
@@ -63,6 +64,7 @@ module _ {T : Type 0} where
   MayLackMemory (puts x) s = Replies s.flow (call.Emit x) (reply.Refused OutOfMemory)
   MayLackMemory polls s = ⊥
   MayLackMemory cancels s = ⊥
+  MayLackMemory resets s = ⊥
 
   -- the flow answers, or is refused for want of memory and does nothing
   abbrev pub SharedDoes : (c : HubCall T) → EmittingFlow T → HubAnswer c → EmittingFlow T → Type 0
@@ -72,16 +74,21 @@ module _ {T : Type 0} where
 
 -- ---- a state flow
 
-module _ {T : Type 0} where
-  -- a put sets the value; nothing waits, and nothing is refused
+-- with this initial value
+module _ {T : Type 0} (initial : T) where
+  -- a put sets the value, and a reset sets the initial one; nothing waits, and nothing is refused
   abbrev pub state_reply : (c : HubCall T) → StateFlowState T → After (HubAnswer c) (StateFlowState T)
   state_reply counts s = record { result = Ok (length s.subscribers); state = s }
   state_reply (puts x) s = record { result = Ok false; state = record s { value = x } }
   state_reply polls s = record { result = Ok false; state = s }
   state_reply cancels s = record { result = Ok false; state = s }
+  state_reply resets s = record { result = Ok tt; state = record s { value = initial } }
 
+  -- the flow answers; or a reset is refused for want of memory, to copy the initial value, and does nothing
   abbrev pub StateDoes : (c : HubCall T) → StateFlowState T → HubAnswer c → StateFlowState T → Type 0
-  StateDoes call old answer new = state_reply call old ≡ record { result = answer; state = new }
+  StateDoes call old answer new =
+      (state_reply call old ≡ record { result = answer; state = new })
+      ⊎ ((call ≡ resets) × (answer ≡ Err OutOfMemory) × (new ≡ old))
 
 -- ---- a turn
 
@@ -100,10 +107,10 @@ abbrev pub IsNotBusy : Result Report ShareFault → Type 0
 IsNotBusy (Ok report) = report.event ≢ event.Busy
 IsNotBusy (Err fault) = Unit {0}
 
--- an answer of a turn over a flow that refuses nothing, and in which nothing waits
+-- an answer of a turn over a flow that refuses nothing but for want of memory, and in which nothing waits
 abbrev pub IsAtOnce : Result Report ShareFault → Type 0
 IsAtOnce (Ok report) = (report.event ≢ event.Busy) × (report.event ≢ event.Queued) × (report.event ≢ event.Waiting)
-IsAtOnce (Err (Flow fault)) = ⊥
+IsAtOnce (Err (Flow fault)) = fault ≡ OutOfMemory
 IsAtOnce (Err fault) = Unit {0}
 
 -- A turn over a documented flow, from `old` to `new`. `reply` is what the flow answers, `does` has want of memory, too.
@@ -118,3 +125,5 @@ pub record DocumentedTurn {T F : Type 0} (does : (c : HubCall T) → F → HubAn
   -- the account
   pub means : s.runs ≡ is_running started seen → BetweenTurns s old → (accepted : List T) → HasAccount accepted s old
       → TurnMeans does accepted s old turned.answer turned.state new
+  -- what becomes of a reset
+  pub reset : TurnResets does s turned.answer turned.state

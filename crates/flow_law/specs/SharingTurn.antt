@@ -1,12 +1,12 @@
 -- One turn of a sharing (`shareIn`, `stateIn`): a chain, collected into a flow while a policy says so.
 -- Begin with `turn_steps`. When a sharing runs, and the command, are those of `Sharing`; the calls are those of `SharingCalls`.
-use Rattle.std.specs.Prelude.{ℕ, Bool, true, false, nat_lt, if◌then◌else◌, List, ◌∷◌, Option, Some, None, Result, Ok, Err}
+use Rattle.std.specs.Prelude.{ℕ, ◌||◌, Bool, true, false, nat_lt, if◌then◌else◌, List, ◌∷◌, Option, Some, None, Result, Ok, Err}
 use Rattle.flow_law.specs.declared.fault.FlowFault.{FlowFault}
 use Rattle.flow_law.specs.declared.fault.FlowFault.TheVariants.{Busy as LockTaken}
 use Rattle.flow_law.specs.declared.chain.End.TheVariants.{Completed as AtEnd, Failed}
 use Rattle.flow_law.specs.declared.sharing.Started.{Started}
 use Rattle.flow_law.specs.declared.sharing.Command.{Command}
-use Rattle.flow_law.specs.declared.sharing.Command.TheVariants.{Start, Stop, Keep}
+use Rattle.flow_law.specs.declared.sharing.Command.TheVariants.{Start, Stop, StopAndReset, Keep}
 use Rattle.flow_law.specs.declared.sharing.SharingObservation.{SharingObservation}
 use Rattle.flow_law.specs.declared.report.Event.{Event}
 use Rattle.flow_law.specs.declared.report.Event.TheVariants.{Busy, Idle, Put, Queued, Waiting, Pending, Completed}
@@ -15,7 +15,7 @@ use Rattle.flow_law.specs.declared.report.ShareFault.{ShareFault}
 use Rattle.flow_law.specs.declared.report.ShareFault.TheVariants.{Backwards, Ended, Chain, Flow}
 use Rattle.flow_law.specs.Sharing.{newest_command, last_moment}
 use Rattle.flow_law.specs.Steps.{Steps, answers, calls}
-use Rattle.flow_law.specs.SharingCalls.{TurnCall, TurnAnswer, ChainAnswer, to_hub, asks, rewinds, counts, puts, polls, cancels, item, pending, end}
+use Rattle.flow_law.specs.SharingCalls.{TurnCall, TurnAnswer, ChainAnswer, to_hub, asks, rewinds, counts, puts, polls, cancels, resets, item, pending, end}
 
 -- what a sharing keeps, beside its chain, its hub and what was observed
 pub record SharingState (T : Type 0) : Type 0 where
@@ -25,6 +25,8 @@ pub record SharingState (T : Type 0) : Type 0 where
   pub runs : Bool
   -- the hub's emission is still to be cancelled, since a stop
   pub cancel_due : Bool
+  -- the flow is still to forget what it replays, since a stop and its expiry
+  pub reset_due : Bool
   -- the chain has ended normally since the last start
   pub completed : Bool
   -- the chain has failed
@@ -32,7 +34,7 @@ pub record SharingState (T : Type 0) : Type 0 where
 
 -- before any turn
 abbrev pub at_rest : {T : Type 0} → SharingState T
-at_rest = record { kept = None; runs = false; cancel_due = false; completed = false; ended = false }
+at_rest = record { kept = None; runs = false; cancel_due = false; reset_due = false; completed = false; ended = false }
 
 -- what a turn answers, the observations that were accepted, the newest one first, and what the sharing keeps then
 pub record Turned (T : Type 0) : Type 0 where
@@ -98,18 +100,28 @@ module _ {T : Type 0} where
     abbrev pub collect_while_running : SharingState T → TurnSteps T
     collect_while_running s = if s.runs then collect s else comes_to (Ok Idle) s
 
+    abbrev pub after_reset : SharingState T → Result (Unit {0}) FlowFault → TurnSteps T
+    after_reset s (Ok done) = collect_while_running (record s { reset_due = false })
+    after_reset s (Err fault) = comes_to (refusal fault) s
+
+    abbrev pub reset_if_due : SharingState T → TurnSteps T
+    reset_if_due s = if s.reset_due then calls (to_hub resets) (after_reset s) else collect_while_running s
+
     abbrev pub after_cancel : SharingState T → Result Bool FlowFault → TurnSteps T
-    after_cancel s (Ok waited) = collect_while_running (record s { cancel_due = false })
+    after_cancel s (Ok waited) = reset_if_due (record s { cancel_due = false })
     after_cancel s (Err fault) = comes_to (refusal fault) s
 
-    -- a cancel that is due comes before anything else
+    -- What is due comes before anything else: a cancel, and after it a reset. A reset that an earlier turn could not do has a cancel before
+    -- it once more, which does nothing where no emission waits.
     abbrev pub work : SharingState T → TurnSteps T
-    work s = if s.cancel_due then calls (to_hub cancels) (after_cancel s) else collect_while_running s
+    work s = if s.cancel_due || s.reset_due then calls (to_hub cancels) (after_cancel s) else collect_while_running s
 
-  -- a start collects the chain from its beginning; a stop drops the kept item, and the hub's emission is to be cancelled
+  -- A start collects the chain from its beginning. A stop drops the kept item, and the hub's emission is to be cancelled; where the time has
+  -- come to forget, the flow is to be reset, too.
   abbrev pub begin : List SharingObservation → Command → SharingState T → TurnSteps T
   begin all Start s = calls rewinds (λ done. work Start all (record s { runs = true; completed = false }))
   begin all Stop s = work Stop all (record s { runs = false; kept = None; cancel_due = true })
+  begin all StopAndReset s = work StopAndReset all (record s { runs = false; kept = None; cancel_due = true; reset_due = true })
   begin all Keep s = work Keep all s
 
   -- ---- the turn

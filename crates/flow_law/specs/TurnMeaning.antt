@@ -1,11 +1,12 @@
--- What a turn of a sharing means for the items that its hub has accepted, and what is true between turns. Begin with `TurnMeans`.
+-- What a turn of a sharing means for the items that its hub has accepted, what is true between turns, and what becomes
+-- of a reset. Begin with `TurnMeans` and `TurnResets`.
 use Rattle.std.specs.Prelude.{◌≡◌, ◌≢◌, ◌⊎◌, ℕ, Bool, true, false, List, [], ◌∷◌, ◌++◌, None, Result, Ok, Err}
 use Rattle.flow_law.specs.declared.fault.FlowFault.{FlowFault}
 use Rattle.flow_law.specs.declared.fault.FlowFault.TheVariants.{Busy as LockTaken}
 use Rattle.flow_law.specs.declared.chain.ChainFault.TheVariants.{OutOfMemory}
 use Rattle.flow_law.specs.declared.chain.End.TheVariants.{Completed as AtEnd, Failed}
 use Rattle.flow_law.specs.declared.sharing.Command.{Command}
-use Rattle.flow_law.specs.declared.sharing.Command.TheVariants.{Start, Stop, Keep}
+use Rattle.flow_law.specs.declared.sharing.Command.TheVariants.{Start, Stop, StopAndReset, Keep}
 use Rattle.flow_law.specs.declared.report.Event.{Event}
 use Rattle.flow_law.specs.declared.report.Event.TheVariants.{Busy, Idle, Put, Queued, Waiting, Pending, Completed}
 use Rattle.flow_law.specs.declared.report.Report.{Report}
@@ -13,7 +14,7 @@ use Rattle.flow_law.specs.declared.report.ShareFault.{ShareFault}
 use Rattle.flow_law.specs.declared.report.ShareFault.TheVariants.{Backwards, Ended, Chain, Flow}
 use Rattle.flow_law.specs.ChainRun.{ChainRun, pends, ends, items}
 use Rattle.flow_law.specs.TurnAccount.{IsAccountOf}
-use Rattle.flow_law.specs.SharingCalls.{HubCall, HubAnswer, counts, puts, polls, ChainAndHub}
+use Rattle.flow_law.specs.SharingCalls.{HubCall, HubAnswer, counts, puts, polls, cancels, resets, ChainAndHub}
 use Rattle.flow_law.specs.SharingTurn.{SharingState}
 
 -- ---- between turns
@@ -44,13 +45,22 @@ IsQuiet waits s both = s.runs ≡ false → s.cancel_due ≡ false → waits bot
 abbrev pub since_start : {T : Type 0} → Command → List T → List T
 since_start Start accepted = []
 since_start Stop accepted = accepted
+since_start StopAndReset accepted = accepted
 since_start Keep accepted = accepted
 
 -- what the chain has to give, at a command
 abbrev pub rest_at : {T H : Type 0} → Command → ChainAndHub T H → ChainRun T
 rest_at Start both = both.whole
 rest_at Stop both = both.rest
+rest_at StopAndReset both = both.rest
 rest_at Keep both = both.rest
+
+-- a reset is to be done in a turn with this command, where one was due before it or not
+abbrev pub resets_at : Command → Bool → Bool
+resets_at StopAndReset was_due = true
+resets_at Start was_due = was_due
+resets_at Stop was_due = was_due
+resets_at Keep was_due = was_due
 
 -- `does` says what a call of the hub does
 module _ {T H : Type 0} (does : (c : HubCall T) → H → HubAnswer c → H → Type 0) where
@@ -61,6 +71,10 @@ module _ {T H : Type 0} (does : (c : HubCall T) → H → HubAnswer c → H → 
   -- the last call of the hub was refused with this fault
   abbrev pub WasRefused : FlowFault → ChainAndHub T H → Type 0
   WasRefused fault new = (h : H) × ((call : HubCall T) × does call h (Err fault) new.hub)
+
+  -- the hub took its emission back, and then made the reset
+  abbrev pub WasReset : Type 0
+  WasReset = (g : H) × ((h : H) × ((waited : Bool) × does cancels g (Ok waited) h) × ((k : H) × does resets h (Ok tt) k))
 
   -- what an event or a fault means, where the hub had accepted these items since the last start, and the chain had still to give `before`
   abbrev pub OutcomeMeans : ChainRun T → List T → Result Event ShareFault → SharingState T → ChainAndHub T H → Type 0
@@ -89,3 +103,26 @@ module _ {T H : Type 0} (does : (c : HubCall T) → H → HubAnswer c → H → 
       OutcomeMeans old.rest accepted (Err (Chain fault)) t new ⊎ OutcomeMeans old.whole [] (Err (Chain fault)) t new
   TurnMeans accepted s old (Err (Flow fault)) t new =
       OutcomeMeans old.rest accepted (Err (Flow fault)) t new ⊎ OutcomeMeans old.whole [] (Err (Flow fault)) t new
+
+-- ---- what becomes of a reset
+
+-- a turn that answers so may leave undone what is due
+abbrev pub MayLeaveDue : Result Report ShareFault → Type 0
+MayLeaveDue (Ok report) = report.event ≡ Busy
+MayLeaveDue (Err (Chain fault)) = ⊥
+MayLeaveDue (Err fault) = Unit {0}
+
+-- the command of a turn that answers so; a fault does not tell it
+abbrev pub HadCommand : Command → Result Report ShareFault → Type 0
+HadCommand command (Ok report) = report.command ≡ command
+HadCommand command (Err fault) = Unit {0}
+
+module _ {T H : Type 0} (does : (c : HubCall T) → H → HubAnswer c → H → Type 0) where
+  -- a reset that is to be done has been made, or stays due; and where none is to be done none is due after the turn
+  abbrev pub ResetMeans : Bool → Result Report ShareFault → SharingState T → Type 0
+  ResetMeans true answer t = ((t.reset_due ≡ false) × WasReset does) ⊎ ((t.reset_due ≡ true) × MayLeaveDue answer)
+  ResetMeans false answer t = t.reset_due ≡ false
+
+  -- what a turn that answers so has done about a reset
+  abbrev pub TurnResets : SharingState T → Result Report ShareFault → SharingState T → Type 0
+  TurnResets s answer t = (command : Command) × HadCommand command answer × ResetMeans (resets_at command s.reset_due) answer t

@@ -26,7 +26,7 @@ pub use guarded::Guarded;
 pub use history::{Event, Knowledge, Said};
 pub use laws::{law_conflated, law_delivered, law_idle_since, law_no_idle_queue, law_turn_account};
 pub use outcome::{Drained, Emit, Next};
-pub use sharing::{Command, SharingObservation, Started};
+pub use sharing::{Command, NEVER, SharingObservation, Started};
 pub use states::{
     EmittingFlow, Numbered, SharedFlowState, StateFlowState, StateSubscriber, Subscriber,
 };

@@ -1,6 +1,9 @@
 //! When a cold flow that is shared runs (`SharingStarted`).
 ghost use Rattle.std.specs.Prelude.{◌≡◌};
 
+/// A `stop` or an `expire` that never comes.
+pub const NEVER: u64 = u64::MAX;
+
 /// When the sharing of a cold flow starts and stops, by the number of subscribers (`SharingStarted`).
 #[derive(Clone, Copy, Debug, PartialEq, Eq)]
 pub enum Started {
@@ -8,9 +11,11 @@ pub enum Started {
     Eagerly,
     /// From the first subscriber on. It never stops.
     Lazily,
-    /// While there are subscribers, and `stop` milliseconds longer. It starts again with the next subscriber.
-    /// A `stop` of `u64::MAX` means that it never stops once it has started.
-    WhileSubscribed { stop: u64 },
+    /// While there are subscribers, and `stop` milliseconds longer (`stopTimeoutMillis`). It starts again with the next
+    /// subscriber. `expire` milliseconds after the stop the flow forgets what it replays (`replayExpirationMillis`): a
+    /// shared flow empties its replay cache, a state flow goes back to its initial value.
+    /// A `stop` of `NEVER` means that it never stops once it has started, an `expire` of `NEVER` that nothing is forgotten.
+    WhileSubscribed { stop: u64, expire: u64 },
 }
 
 /// What an observation asks of a sharing.
@@ -20,6 +25,8 @@ pub enum Command {
     Start,
     /// It ran and runs no more.
     Stop,
+    /// The time has come to forget what the flow replays. The sharing does not run: it stops now, or has stopped before.
+    StopAndReset,
     Keep,
 }
 
