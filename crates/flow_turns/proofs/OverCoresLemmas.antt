@@ -14,7 +14,7 @@ use Rattle.flow_law.specs.SharedStep as flow
 use Rattle.flow_law.specs.SharedHistory.{reply_by}
 use Rattle.flow_law.specs.Standing.{StandsFor}
 use Rattle.flow_law.specs.Steps.{Takes}
-use Rattle.flow_law.specs.SharingCalls.{HubCall, HubAnswer, counts, puts, polls, cancels, HubStep, CallDoes, with_hub}
+use Rattle.flow_law.specs.SharingCalls.{HubCall, HubAnswer, counts, puts, polls, cancels, resets, HubStep, CallDoes, with_hub}
 use Rattle.flow_law.specs.SharingTurn.{turn_steps}
 use Rattle.flow_law.specs.declared.states.EmittingFlow.{EmittingFlow}
 use Rattle.flow_law.specs.SharingFlows.{still_waits, cancelled, emitted, SharedDoes, state_reply, StateDoes}
@@ -132,6 +132,10 @@ module _ {T A : Type 0} where
   core-gives polls h k (Err fault) f stands told = absurd told.0
   core-gives cancels h k (Ok waited) f stands told = cancel-gives h.emission h k f waited refl stands told.0
   core-gives cancels h k (Err fault) f stands told = absurd told.0
+  core-gives resets h k (Ok done) f stands told =
+      let did = told.0.0.0 f.flow stands.0 in
+      (record f { flow = (flow.reset_replay_cache f.flow).after }, (did.1, told.0.1 ∙ stands.1), inl refl)
+  core-gives resets h k (Err fault) f stands told = absurd told.0
 
 pub turn-over_core : (T A : Type 0) → LawTurnOverCore T A
 turn-over_core T A started now seen s f old new turned stands h =
@@ -140,44 +144,67 @@ turn-over_core T A started now seen s f old new turned stands h =
 
 -- ---- a state flow
 
-module _ {T A : Type 0} where
-  -- the core is the flow
+module _ {T A : Type 0} (initial : T) where
+  -- the core is the flow, and a reset sets this value
   abbrev IsFlow : StateHub T A → StateFlowState T → Type 0
-  IsFlow hub f = f ≡ hub.core
+  IsFlow hub f = (f ≡ hub.core) × (hub.initial ≡ initial)
+
+  nothing-done : (c : HubCall T) (h k : StateHub T A) (a : HubAnswer c) (f : StateFlowState T) → IsFlow h f → k ≡ h
+      → state_reply initial c h.core ≡ record { result = a; state = h.core }
+      → (g : StateFlowState T) × IsFlow k g × StateDoes initial c f a g
+  nothing-done c h k a f is same does = (
+    k.core,
+    (refl, ap (λ (x : StateHub T A). x.initial) same ∙ is.1),
+    inl (ap (state_reply initial c) is.0 ∙ does ∙ ap (λ (y : StateHub T A). record { result = a; state = y.core }) (sym same)),
+  )
 
   state-gives : (c : HubCall T) (h k : StateHub T A) (a : HubAnswer c) (f : StateFlowState T) → IsFlow h f → HubStep StateHubDoes never_waits c h a k
-      → (g : StateFlowState T) × IsFlow k g × StateDoes c f a g
+      → (g : StateFlowState T) × IsFlow k g × StateDoes initial c f a g
   state-gives counts h k (Ok count) f is told =
-      let did = told.0.0 h.core refl in
+      let did = told.0.0.0 h.core refl in
       let same : ◌≡◌ {A = StateReply T} (state_answer.Counted count) (state_answer.Counted (length h.core.subscribers)) = did.0 in
       let so : length h.core.subscribers ≡ count = cc in (
         k.core,
-        refl,
-        ap (state_reply counts) is ∙ ap (λ (n : ℕ). record { result = Ok n; state = h.core }) so
-            ∙ ap (λ (x : StateFlowState T). record { result = Ok count; state = x }) (sym did.1),
+        (refl, told.0.1 ∙ is.1),
+        inl (
+            ap (state_reply initial counts) is.0 ∙ ap (λ (n : ℕ). record { result = Ok n; state = h.core }) so
+            ∙ ap (λ (x : StateFlowState T). record { result = Ok count; state = x }) (sym did.1)
+            ),
       )
   state-gives counts h k (Err fault) f is told = absurd told.0
   state-gives (puts x) h k a f is told =
+      let did = told.0.0.0.0 h.core refl in (
+        k.core,
+        (refl, told.0.0.1 ∙ is.1),
+        inl (
+            ap (state_reply initial (puts x)) is.0 ∙ ap (λ (y : Result Bool FlowFault). record { result = y; state = record h.core { value = x } }) (sym told.0.1)
+            ∙ ap (λ (y : StateFlowState T). record { result = a; state = y }) (sym did.1)
+            ),
+      )
+  state-gives polls h k a f is told =
+      nothing-done polls h k a f is told.0.0 (ap (λ (y : Result Bool FlowFault). record { result = y; state = h.core }) (sym told.0.1))
+  state-gives cancels h k a f is told =
+      nothing-done cancels h k a f is told.0.0 (ap (λ (y : Result Bool FlowFault). record { result = y; state = h.core }) (sym told.0.1))
+  state-gives resets h k (Ok done) f is told =
       let did = told.0.0.0 h.core refl in (
         k.core,
-        refl,
-        ap (state_reply (puts x)) is ∙ ap (λ (y : Result Bool FlowFault). record { result = y; state = record h.core { value = x } }) (sym told.0.1)
-            ∙ ap (λ (y : StateFlowState T). record { result = a; state = y }) (sym did.1),
+        (refl, told.0.1 ∙ is.1),
+        inl (
+            ap (state_reply initial resets) is.0 ∙ ap (λ (x : T). record { result = Ok tt; state = record h.core { value = x } }) (sym is.1)
+            ∙ ap (λ (y : StateFlowState T). record { result = Ok tt; state = y }) (sym did.1)
+            ),
       )
-  state-gives polls h k a f is told = (
-    k.core,
-    refl,
-    ap (state_reply polls) is ∙ ap (λ (y : Result Bool FlowFault). record { result = y; state = h.core }) (sym told.0.1)
-        ∙ ap (λ (y : StateHub T A). record { result = a; state = y.core }) (sym told.0.0),
-  )
-  state-gives cancels h k a f is told = (
-    k.core,
-    refl,
-    ap (state_reply cancels) is ∙ ap (λ (y : Result Bool FlowFault). record { result = y; state = h.core }) (sym told.0.1)
-        ∙ ap (λ (y : StateHub T A). record { result = a; state = y.core }) (sym told.0.0),
+  state-gives resets h k (Err fault) f is told = (
+    f,
+    (is.0 ∙ ap (λ (x : StateHub T A). x.core) (sym told.0.0), ap (λ (x : StateHub T A). x.initial) told.0.0 ∙ is.1),
+    inr (refl, ap Err told.0.1, refl),
   )
 
 pub turn-over_state_core : (T A : Type 0) → LawTurnOverStateCore T A
 turn-over_state_core T A started now seen s old new turned h =
-    let done = turn-along (HubStep StateHubDoes never_waits) StateDoes IsFlow state-gives _ old new old.hub.core turned refl h in
-    state-turn started now seen s _ _ turned (subst (λ g. Takes (CallDoes StateDoes) (turn_steps started now seen s) (with_hub old old.hub.core) turned (with_hub new g)) done.1 done.2)
+    let initial : T = old.hub.initial in
+    let done = turn-along (HubStep StateHubDoes never_waits) (StateDoes initial) (IsFlow initial) (state-gives initial) _ old new old.hub.core turned (refl, refl) h in (
+      done.1.1,
+      state-turn initial started now seen s _ _ turned
+          (subst (λ g. Takes (CallDoes (StateDoes initial)) (turn_steps started now seen s) (with_hub old old.hub.core) turned (with_hub new g)) done.1.0 done.2),
+    )

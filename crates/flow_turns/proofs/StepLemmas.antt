@@ -1,5 +1,5 @@
 -- The steps of a turn, put together: what a sharing finds and what its calls did lead along the turn of flow_law.
-use Rattle.std.proofs.Common.{◌≡◌, ◌<◌, ◌≤◌, ℕ, Bool, true, false, nat_lt, if◌then◌else◌, List, ◌∷◌, Option, Some, None, Result, Ok, Err, sym, ap, ◌∙◌, subst, arith}
+use Rattle.std.proofs.Common.{◌≡◌, ◌<◌, ◌≤◌, ℕ, Bool, true, false, nat_lt, if◌then◌else◌, List, ◌∷◌, ◌||◌, Option, Some, None, Result, Ok, Err, sym, ap, ◌∙◌, subst, arith}
 use Rattle.std.proofs.lemmas.Bool.Decides.{nat_tests}
 use Rattle.flow_law.specs.declared.fault.FlowFault.{FlowFault}
 use Rattle.flow_law.specs.declared.sharing.Started.{Started}
@@ -11,8 +11,8 @@ use Rattle.flow_law.specs.declared.report.ShareFault.TheVariants.{Backwards}
 use Rattle.flow_law.specs.ChainRun.{ChainRun}
 use Rattle.flow_law.specs.Sharing.{newest_command, last_moment}
 use Rattle.flow_law.specs.Steps.{Takes}
-use Rattle.flow_law.specs.SharingCalls.{TurnCall, TurnAnswer, ChainAnswer, ChainAndHub, to_hub, asks, counts, polls, cancels}
-use Rattle.flow_law.specs.SharingTurn.{SharingState, Turned, after_ask, put, send, after_poll, collect_while_running, after_cancel, work, begin, after_count, turn_steps}
+use Rattle.flow_law.specs.SharingCalls.{TurnCall, TurnAnswer, ChainAnswer, ChainAndHub, to_hub, asks, counts, polls, cancels, resets}
+use Rattle.flow_law.specs.SharingTurn.{SharingState, Turned, after_ask, put, send, after_poll, collect_while_running, after_reset, reset_if_due, after_cancel, work, begin, after_count, turn_steps}
 
 pub if-true : {X : Type 0} (P : X → Type 0) (b : Bool) (x y : X) → b ≡ true → P x → P (if b then x else y)
 if-true P true x y is p = p
@@ -49,12 +49,19 @@ module _ {T H : Type 0} (does : (c : TurnCall T) → ChainAndHub T H → TurnAns
         if-true (λ steps. Takes does steps old r new) s.runs _ _ runs
         (if-false (λ steps. Takes does steps old r new) s.completed _ _ on (a, mid, told, h))
 
-    pub cancels-hub : (mid : ChainAndHub T H) (a : Result Bool FlowFault) → s.cancel_due ≡ true → does (to_hub cancels) old a mid → Takes does (after_cancel command seen s a) mid r new
-        → Takes does (work command seen s) old r new
-    cancels-hub mid a due told h = if-true (λ steps. Takes does steps old r new) s.cancel_due _ _ due (a, mid, told, h)
+    pub resets-hub : (mid : ChainAndHub T H) (a : Result (Unit {0}) FlowFault) → s.reset_due ≡ true → does (to_hub resets) old a mid → Takes does (after_reset command seen s a) mid r new
+        → Takes does (reset_if_due command seen s) old r new
+    resets-hub mid a due told h = if-true (λ steps. Takes does steps old r new) s.reset_due _ _ due (a, mid, told, h)
 
-    pub cancels-nothing : s.cancel_due ≡ false → Takes does (collect_while_running command seen s) old r new → Takes does (work command seen s) old r new
-    cancels-nothing none h = if-false (λ steps. Takes does steps old r new) s.cancel_due _ _ none h
+    pub resets-nothing : s.reset_due ≡ false → Takes does (collect_while_running command seen s) old r new → Takes does (reset_if_due command seen s) old r new
+    resets-nothing none h = if-false (λ steps. Takes does steps old r new) s.reset_due _ _ none h
+
+    pub cancels-hub : (mid : ChainAndHub T H) (a : Result Bool FlowFault) → (s.cancel_due || s.reset_due) ≡ true → does (to_hub cancels) old a mid → Takes does (after_cancel command seen s a) mid r new
+        → Takes does (work command seen s) old r new
+    cancels-hub mid a due told h = if-true (λ steps. Takes does steps old r new) (s.cancel_due || s.reset_due) _ _ due (a, mid, told, h)
+
+    pub cancels-nothing : (s.cancel_due || s.reset_due) ≡ false → Takes does (collect_while_running command seen s) old r new → Takes does (work command seen s) old r new
+    cancels-nothing none h = if-false (λ steps. Takes does steps old r new) (s.cancel_due || s.reset_due) _ _ none h
 
   module _ (started : Started) (now : ℕ) (seen : List SharingObservation) (s : SharingState T) where
     pub counts-hub : (mid : ChainAndHub T H) (a : Result ℕ FlowFault) → s.ended ≡ false → does (to_hub counts) old a mid → Takes does (after_count started now seen s a) mid r new

@@ -3,7 +3,7 @@ use Rattle.std.specs.Prelude.{◌≡◌, ℕ, Bool, true, false, if◌then◌els
 use Rattle.flow_law.specs.declared.call.SharedCall.TheVariants as call
 use Rattle.flow_law.specs.declared.call.SharedReply.TheVariants as reply
 use Rattle.flow_law.specs.declared.outcome.Emit.TheVariants.{Done, Queued}
-use Rattle.flow_law.specs.SharingCalls.{HubCall, HubAnswer, counts, puts, polls, cancels}
+use Rattle.flow_law.specs.SharingCalls.{HubCall, HubAnswer, counts, puts, polls, cancels, resets}
 use Rattle.flow_law.specs.Standing.{Core, Conforms}
 use Rattle.flow_turns.specs.declared.core_hub.CoreHub.{CoreHub}
 
@@ -35,7 +35,7 @@ module _ {T A : Type 0} where
       Conforms old.core (call.Cancel number) (reply.Tested waited) new.core × (new.emission ≡ None)
 
   -- A put is an `emit` of the core; where it queues, its number is kept, and polls and cancels are of that number.
-  -- Without such an emission they do nothing. Only a put can be refused.
+  -- Without such an emission they do nothing. A reset empties the replay cache. Only a put can be refused.
   abbrev pub CoreHubDoes : (c : HubCall T) → CoreHub T A → HubAnswer c → CoreHub T A → Type 0
   CoreHubDoes counts old (Ok count) new = Conforms old.core call.SubscriptionCount (reply.Counted count) new.core × (new.emission ≡ old.emission)
   CoreHubDoes counts old (Err fault) new = ⊥
@@ -47,3 +47,5 @@ module _ {T A : Type 0} where
   CoreHubDoes polls old (Err fault) new = ⊥
   CoreHubDoes cancels old (Ok waited) new = CancelDoes old.emission old waited new
   CoreHubDoes cancels old (Err fault) new = ⊥
+  CoreHubDoes resets old (Ok done) new = Conforms old.core call.ResetReplayCache reply.Reset new.core × (new.emission ≡ old.emission)
+  CoreHubDoes resets old (Err fault) new = ⊥

@@ -12,7 +12,7 @@ use Rattle.flow_turns.specs.declared.policy.Backwards.{Backwards}
 abbrev pub kept_since : Started → List SharingObservation → Option ℕ
 kept_since Eagerly seen = None
 kept_since Lazily seen = None
-kept_since (WhileSubscribed stop) seen = idle_since seen
+kept_since (WhileSubscribed stop expire) seen = idle_since seen
 
 -- The policy is this one, and these observations, the newest one first, lead to what it keeps.
 pub record HasSeen (chosen : Started) (policy : Policy) (seen : List SharingObservation) : Type 0 where

@@ -14,6 +14,7 @@ module _ {C H T : Type 0} where
     kept = sharing.kept;
     runs = sharing.policy.running;
     cancel_due = sharing.cancel_due;
+    reset_due = sharing.reset_due;
     completed = sharing.completed;
     ended = sharing.ended;
   }

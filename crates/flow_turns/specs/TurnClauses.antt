@@ -14,7 +14,7 @@ use Rattle.flow_law.specs.Sharing.{runs_after}
 use Rattle.flow_law.specs.Steps.{Takes}
 use Rattle.flow_law.specs.SharingCalls.{HubCall, HubAnswer, to_hub, CallDoes, HubStep}
 use Rattle.flow_law.specs.SharingTurn.{SharingState, TurnSteps, reported, begin, turn_steps}
-use Rattle.flow_law.specs.TurnMeaning.{HasAccount, BetweenTurns, IsQuiet, TurnMeans}
+use Rattle.flow_law.specs.TurnMeaning.{HasAccount, BetweenTurns, IsQuiet, TurnMeans, TurnResets}
 use Rattle.flow_turns.specs.declared.sharing.Sharing.{Sharing}
 use Rattle.flow_turns.specs.SharingViews.{state_of, chain_and_hub, hub_of, HasObserved}
 
@@ -53,6 +53,13 @@ module _ {C H T : Type 0} (whole rest : C → ChainRun T) (does : (c : HubCall T
       (all : List SharingObservation) (ran : Bool) → (state_of old).runs ≡ runs_after command ran →
       Takes (CallDoes (HubStep does waits)) (begin all command (record (state_of old) { runs = ran })) (chain_and_hub whole rest old)
       (record { answer = reported command outcome; seen = all; state = state_of new }) (chain_and_hub whole rest new)
+
+module _ {C H T : Type 0} (does : (c : HubCall T) → H → HubAnswer c → H → Type 0) (waits : H → Bool) where
+  -- a reset that was due, or that the command asked for, has been made or stays due
+  abbrev pub HandlesReset : Sharing C H T → Result Report ShareFault → Sharing C H T → Type 0
+  HandlesReset old result new =
+      (started : Started) (seen : List SharingObservation) → HasObserved started old seen →
+      TurnResets (HubStep does waits) (state_of old) result (state_of new)
 
 module _ {C H T : Type 0} (whole rest : C → ChainRun T) where
   -- what is true between turns is true again after the turn

@@ -70,4 +70,9 @@ impl<T: FlowValue, A: Allocator + Copy> Hub for CoreHub<T, A> {
             None => Ok(false),
         }
     }
+
+    fn reset(&mut self) -> Result<(), FlowFault> {
+        self.core.reset_replay_cache();
+        Ok(())
+    }
 }

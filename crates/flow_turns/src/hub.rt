@@ -1,7 +1,7 @@
 //! The flow into which a sharing emits.
 ghost use Rattle.std.specs.Prelude.{◌≡◌, ◌≢◌, Bool, false, IfErr};
 ghost use Rattle.flow_law.specs.declared.fault.FlowFault.{FlowFault};
-ghost use Rattle.flow_law.specs.SharingCalls.{HubCall, HubAnswer, HubStep, counts, puts, polls, cancels};
+ghost use Rattle.flow_law.specs.SharingCalls.{HubCall, HubAnswer, HubStep, counts, puts, polls, cancels, resets};
 ghost use Rattle.flow_turns.specs.Hub.{put_answer};
 
 use flow_law::{FlowFault, Refused};
@@ -39,4 +39,10 @@ pub trait Hub: Drop {
     fn cancel(&mut self) -> Result<bool, FlowFault>
         ensures cancels { HubStep does waits cancels self.old result self.new }
         ensures memory { IfErr result (λ fault. fault ≢ FlowFault.OutOfMemory) };
+
+    /// The flow forgets what it replays: a shared flow empties its replay cache, a state flow goes back to its initial
+    /// value. Call it while no emission of the hub waits.
+    fn reset(&mut self) -> Result<(), FlowFault>
+        requires { waits self.old ≡ false }
+        ensures { HubStep does waits resets self.old result self.new };
 }

@@ -14,6 +14,11 @@
 //! A start collects the chain from its beginning. A stop drops an item that the flow has not accepted, and cancels an
 //! emission that waits. The subscribers keep what they have.
 //!
+//! # When the flow forgets
+//! Some time after the stop the flow forgets what it replays, where the policy says so (`expire`): a shared flow empties its
+//! replay cache, a state flow goes back to its initial value. It does so at the first turn that finds the time come; a
+//! subscriber who is counted by that turn starts the chain again instead, and nothing is forgotten.
+//!
 //! # How it ends
 //! A chain that ends normally is asked again only after a stop and a start. A chain that fails ends the sharing: one turn
 //! answers the fault, and every later one `Ended`. Subscribers notice neither.
@@ -37,7 +42,7 @@ mod turn;
 pub use core_hub::CoreHub;
 pub use flow_cold::{Asked, Cold};
 pub use flow_law::report::{Event, Report, ShareFault};
-pub use flow_law::{ChainFault, Command, End, SharingObservation, Started};
+pub use flow_law::{ChainFault, Command, End, NEVER, SharingObservation, Started};
 pub use hub::Hub;
 pub use laws::{law_turn_over_core, law_turn_over_state_core};
 pub use policy::{Backwards, Policy};

@@ -1,12 +1,12 @@
 //! When a sharing runs, told from the numbers of subscribers (`SharingStarted`).
 //!
 //! A policy keeps no list of observations: the last moment, the first moment of the zero counts at the end, and whether
-//! it runs are enough. Its clauses speak of every list of observations that leads to what it keeps.
-ghost use Rattle.std.specs.Prelude.{◌≡◌, ◌≤◌, ◌<◌, [], true, IfOk, OnErr};
+//! it runs are enough, with its own `Started` to tell whether a reset was due. Its clauses speak of every list of observations that leads to what it keeps.
+ghost use Rattle.std.specs.Prelude.{◌≡◌, ◌≤◌, ◌<◌, [], true, false, None, IfOk, OnErr};
 ghost use Rattle.std.specs.Option.{ForSome};
-ghost use Rattle.flow_law.specs.Sharing.{command_of, runs_after};
+ghost use Rattle.flow_law.specs.Sharing.{command_of, runs_after, is_past_expiry};
 
-use flow_law::{Command, Started};
+use flow_law::{Command, NEVER, Started};
 use thiserror::Error;
 
 /// An observation is refused whose moment is before the last one.
@@ -28,15 +28,20 @@ pub struct Policy {
     since: Option<u64>,
     running: bool,
     ghost in_order: { ForSome since (λ moment. moment ≤ last) },
+    ghost apart: { running ≡ true → is_past_expiry started last since ≡ false },
 }
 
-fn change(ran: bool, runs: bool) -> Command
-    ensures command { result ≡ command_of ran runs }
+/// The command, by whether it ran and runs, and by whether the reset was due and is due. None is due while it runs.
+fn change(ran: bool, runs: bool, was_expired: bool, expired: bool) -> Command
+    requires ran { ran ≡ true → was_expired ≡ false }
+    requires runs { runs ≡ true → expired ≡ false }
+    ensures command { result ≡ command_of ran runs was_expired expired }
     ensures runs { runs ≡ runs_after result ran }
 {
-    match (ran, runs) {
-        (false, true) => Command::Start,
-        (true, false) => Command::Stop,
+    match (ran, runs, was_expired, expired) {
+        (false, true, _, _) => Command::Start,
+        (_, _, false, true) => Command::StopAndReset,
+        (true, false, _, false) => Command::Stop,
         _ => Command::Keep,
     }
 }
@@ -68,10 +73,11 @@ impl Policy {
         requires { self.now.last ≤ now }
         ensures since { GivesSince self.now (record { moment = now; count = count }) result }
         ensures in_order { ForSome result (λ moment. moment ≤ now) }
+        ensures subscribed { 0 < count → result ≡ None }
     {
         match self.started {
             Started::Eagerly | Started::Lazily => None,
-            Started::WhileSubscribed { stop: _ } => {
+            Started::WhileSubscribed { stop: _, expire: _ } => {
                 if count > 0 {
                     None
                 } else if self.running && self.since.is_none() {
@@ -85,19 +91,37 @@ impl Policy {
 
     /// Whether it runs, after one more observation.
     fn runs_after(&self, since: Option<u64>, now: u64, count: u64) -> bool
-        requires { ForSome since (λ moment. moment ≤ now) }
-        ensures { GivesRunning self.now (record { moment = now; count = count }) since result }
+        requires in_order { ForSome since (λ moment. moment ≤ now) }
+        requires subscribed { 0 < count → since ≡ None }
+        ensures runs { GivesRunning self.now (record { moment = now; count = count }) since result }
+        ensures apart { result ≡ true → is_past_expiry self.now.started now since ≡ false }
     {
         match self.started {
             Started::Eagerly => true,
             Started::Lazily => count > 0 || self.running,
-            Started::WhileSubscribed { stop } => {
+            Started::WhileSubscribed { stop, expire: _ } => {
                 count > 0
                     || match since {
                         None => false,
-                        Some(since) => stop == u64::MAX || now - since < stop,
+                        Some(since) => stop == NEVER || now - since < stop,
                     }
             }
+        }
+    }
+
+    /// Whether the reset is due at a moment, where the counts are zero since that one.
+    fn is_expired(&self, since: Option<u64>, now: u64) -> bool
+        requires { ForSome since (λ moment. moment ≤ now) }
+        ensures { result ≡ is_past_expiry self.now.started now since }
+    {
+        match (self.started, since) {
+            (Started::WhileSubscribed { stop, expire }, Some(since)) => {
+                stop != NEVER
+                    && expire != NEVER
+                    && now - since >= stop
+                    && now - since - stop >= expire
+            }
+            _ => false,
         }
     }
 
@@ -113,7 +137,9 @@ impl Policy {
         }
         let since = self.since_after(now, count);
         let runs = self.runs_after(since, now, count);
-        let command = change(self.running, runs);
+        let was_expired = self.is_expired(self.since, self.last);
+        let expired = self.is_expired(since, now);
+        let command = change(self.running, runs, was_expired, expired);
         self.since = since;
         self.running = runs;
         self.last = now;

@@ -1,5 +1,5 @@
 //! Sharings over flows for one thread (`shareIn`, `stateIn`).
-ghost use Rattle.std.specs.Prelude.{◌≡◌, [], None, IfOk, IsOk, MatchResult};
+ghost use Rattle.std.specs.Prelude.{◌≡◌, [], None, IfOk, IfErr, MatchResult};
 ghost use Rattle.flow_law.specs.declared.fault.FlowFault.{FlowFault};
 ghost use Rattle.flow_law.specs.SharedFlow.{NoFlow, config_fault, first_state};
 ghost use Rattle.flow_law.specs.Standing.{StandsFor};
@@ -8,7 +8,7 @@ ghost use Rattle.flow_law.specs.SharingTurn.{at_rest};
 ghost use Rattle.flow_law.specs.TurnMeaning.{BetweenTurns, IsQuiet};
 ghost use Rattle.flow_turns.specs.CoreHub.{core_of, is_waiting};
 ghost use Rattle.flow_turns.specs.ShareIn.{share_config};
-ghost use Rattle.flow_turns.specs.StateHub.{state_core_of, never_waits};
+ghost use Rattle.flow_turns.specs.StateHub.{state_core_of, initial_of, never_waits};
 ghost use Rattle.flow_turns.specs.SharingViews.{state_of, chain_and_hub, hub_of, IsSound, HasObserved};
 
 use crate::core_hub::CoreHub;
@@ -17,7 +17,7 @@ use crate::state_hub::StateHub;
 use flow_cold::Cold;
 use flow_core::{SharedCore, StateCore};
 use flow_law::report::ShareFault;
-use flow_law::{Config, Overflow, Started};
+use flow_law::{Config, FlowValue, Overflow, Started};
 use std::alloc::Allocator;
 
 /// The least number of values that a shared chain keeps for its subscribers.
@@ -61,8 +61,9 @@ pub fn share_in<C: Cold, A: Allocator + Copy>(
     }
 }
 
-/// Shares a chain by a state flow of its own (`stateIn`), which has the value `initial` until the chain gives an item.
-/// `limit` is the most numbers that the flow issues. It is never refused today.
+/// Shares a chain by a state flow of its own (`stateIn`), which has the value `initial` until the chain gives an item, and
+/// again when the flow forgets what it replays. `limit` is the most numbers that the flow issues. It is refused only where
+/// there is no memory for a copy of `initial`.
 pub fn state_in<C: Cold, A: Allocator + Copy>(
     alloc: A,
     chain: C,
@@ -71,8 +72,9 @@ pub fn state_in<C: Cold, A: Allocator + Copy>(
     limit: u64,
 ) -> Result<Sharing<C, StateHub<C::Item, A>>, ShareFault>
     requires { C.sound chain }
-    ensures made { IsOk result }
+    ensures refused { IfErr result (λ fault. fault ≡ ShareFault.Flow FlowFault.OutOfMemory) }
     ensures flow { IfOk result (λ sharing. state_core_of (hub_of sharing) ≡ first_state_flow limit initial) }
+    ensures initial { IfOk result (λ sharing. initial_of (hub_of sharing) ≡ initial) }
     ensures nothing { IfOk result (λ sharing. HasObserved started sharing []) }
     ensures sound { IfOk result (λ sharing. IsSound C.sound sharing) }
     ensures state { IfOk result (λ sharing. state_of sharing ≡ at_rest) }
@@ -83,6 +85,11 @@ pub fn state_in<C: Cold, A: Allocator + Copy>(
     ensures quiet { IfOk result (λ sharing.
         IsQuiet never_waits (state_of sharing) (chain_and_hub C.whole C.rest sharing)) }
 {
-    let core = StateCore::new(alloc, initial, limit);
-    Ok(Sharing::new(chain, started, StateHub::new(core)))
+    match initial.try_copy() {
+        Ok(copy) => {
+            let hub = StateHub::new(StateCore::new(alloc, copy, limit), initial);
+            Ok(Sharing::new(chain, started, hub))
+        }
+        Err(fault) => Err(ShareFault::Flow(fault)),
+    }
 }

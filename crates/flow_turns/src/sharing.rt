@@ -12,6 +12,8 @@ pub struct Sharing<C: Cold, H> {
     pub(crate) kept: Option<C::Item>,
     /// The hub's emission is still to be cancelled, since a stop.
     pub(crate) cancel_due: bool,
+    /// The flow is still to forget what it replays, since a stop and its expiry.
+    pub(crate) reset_due: bool,
     /// The chain has ended normally since the last start.
     pub(crate) completed: bool,
     /// The chain has failed.

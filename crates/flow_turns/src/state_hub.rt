@@ -1,25 +1,29 @@
 //! A state flow for one thread as the flow of a sharing.
 ghost use Rattle.std.specs.Prelude.{◌≡◌, false};
-ghost use Rattle.flow_turns.specs.StateHub.{state_core_of};
+ghost use Rattle.flow_turns.specs.StateHub.{state_core_of, initial_of};
 
 use crate::hub::Hub;
 use flow_core::StateCore;
 use flow_law::{FlowFault, FlowValue, Refused};
 use std::alloc::{Allocator, Global};
 
-/// A `StateCore` whose value a sharing sets. No item ever waits, none is refused, and it is never busy.
+/// A `StateCore` whose value a sharing sets. No item ever waits, none is refused, and it is never busy. A reset copies the
+/// initial value, and is refused where memory is wanting.
 #[derive(Drop)]
 pub struct StateHub<T: FlowValue, A: Allocator + Copy = Global> {
     pub(crate) core: StateCore<T, A>,
+    /// The value that a reset sets.
+    pub(crate) initial: T,
 }
 
 impl<T: FlowValue, A: Allocator + Copy> StateHub<T, A> {
-    /// A hub that has set nothing yet.
-    pub fn new(core: StateCore<T, A>) -> Self
+    /// A hub that has set nothing yet. `initial` is what a reset sets: the value that the core began with.
+    pub fn new(core: StateCore<T, A>, initial: T) -> Self
         ensures core { state_core_of result ≡ core }
+        ensures initial { initial_of result ≡ initial }
         ensures waits { ⟦<StateHub<T, A> as Hub>⟧.waits result ≡ false }
     {
-        StateHub { core }
+        StateHub { core, initial }
     }
 }
 
@@ -47,5 +51,15 @@ impl<T: FlowValue, A: Allocator + Copy> Hub for StateHub<T, A> {
 
     fn cancel(&mut self) -> Result<bool, FlowFault> {
         Ok(false)
+    }
+
+    fn reset(&mut self) -> Result<(), FlowFault> {
+        match self.initial.try_copy() {
+            Ok(initial) => {
+                self.core.set(initial);
+                Ok(())
+            }
+            Err(fault) => Err(fault),
+        }
     }
 }

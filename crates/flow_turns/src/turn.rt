@@ -1,12 +1,12 @@
 //! Turns of a sharing: the caller drives them, and hands in the moment. Each method here is one part of `turn_steps` of
 //! flow_law, in its order.
-ghost use Rattle.std.specs.Prelude.{◌≡◌, ◌≢◌, [], None, MatchResult, false, IsTrue, ◌↔◌, Err};
-ghost use Rattle.flow_law.specs.SharingCalls.{counts, polls, cancels};
+ghost use Rattle.std.specs.Prelude.{◌≡◌, ◌≢◌, [], None, IfOk, MatchResult, ◌||◌, false, IsTrue, ◌↔◌, Err};
+ghost use Rattle.flow_law.specs.SharingCalls.{counts, polls, cancels, resets};
 ghost use Rattle.flow_law.specs.SharingTurn as steps;
 ghost use Rattle.flow_law.specs.SharingTurn.{at_rest, refusal, reported};
 ghost use Rattle.flow_law.specs.TurnMeaning.{BetweenTurns, IsQuiet};
 ghost use Rattle.flow_turns.specs.SharingViews.{state_of, chain_and_hub, IsSound, HasObserved, has_ended};
-ghost use Rattle.flow_turns.specs.TurnClauses.{CallsHub, ComesTo, Begins, TakesTurn, MeansAnswer, StaysBetween, StaysQuiet, ended_after};
+ghost use Rattle.flow_turns.specs.TurnClauses.{CallsHub, ComesTo, Begins, TakesTurn, MeansAnswer, HandlesReset, StaysBetween, StaysQuiet, ended_after};
 
 use crate::hub::Hub;
 use crate::policy::Policy;
@@ -52,6 +52,7 @@ impl<C: Cold, H: Hub<Item = C::Item>> Sharing<C, H> {
             policy: Policy::new(started),
             kept: None,
             cancel_due: false,
+            reset_due: false,
             completed: false,
             ended: false,
         }
@@ -162,13 +163,56 @@ impl<C: Cold, H: Hub<Item = C::Item>> Sharing<C, H> {
             (λ _. state_of self.new ≡ record (state_of self.old) { cancel_due = false })
             (λ _. state_of self.new ≡ state_of self.old) }
         ensures cancels { CallsHub C.whole C.rest H.does H.waits cancels self.old result self.new }
+        ensures free { IfOk result (λ _. H.waits self.new.hub ≡ false) }
     {
         let waited = self.hub.cancel()?;
         self.cancel_due = false;
         Ok(waited)
     }
 
-    /// What a turn does after its command: the cancel first, where it is due.
+    /// Makes the flow forget what it replays. The reset stays due where the hub refuses it.
+    fn reset(&mut self) -> Result<(), FlowFault>
+        requires sound { IsSound C.sound self.old }
+        requires free { H.waits self.old.hub ≡ false }
+        ensures sound { IsSound C.sound self.new }
+        ensures policy { self.new.policy ≡ self.old.policy }
+        ensures state { MatchResult result
+            (λ _. state_of self.new ≡ record (state_of self.old) { reset_due = false })
+            (λ _. state_of self.new ≡ state_of self.old) }
+        ensures resets { CallsHub C.whole C.rest H.does H.waits resets self.old result self.new }
+    {
+        self.hub.reset()?;
+        self.reset_due = false;
+        Ok(())
+    }
+
+    /// What a turn does after a cancel: the reset first, where it is due.
+    fn reset_if_due(&mut self) -> Result<Event, ShareFault>
+        requires sound { IsSound C.sound self.old }
+        requires free { H.waits self.old.hub ≡ false }
+        ensures sound { IsSound C.sound self.new }
+        ensures policy { self.new.policy ≡ self.old.policy }
+        ensures ended { has_ended self.new ≡ ended_after result (has_ended self.old) }
+        ensures not_ended { result ≢ Err ShareFault.Ended }
+        ensures steps { ComesTo C.whole C.rest H.does H.waits steps.reset_if_due self.old result self.new }
+    {
+        if !self.reset_due {
+            return self.collect();
+        }
+        match self.reset() {
+            Ok(()) => self.collect(),
+            Err(fault) => refusal_of(fault),
+        }
+    }
+
+    /// Whether a cancel or a reset is due.
+    fn is_work_due(&self) -> bool
+        ensures { result ≡ (self.now.cancel_due || self.now.reset_due) }
+    {
+        self.cancel_due || self.reset_due
+    }
+
+    /// What a turn does after its command: what is due first, the cancel and then the reset.
     fn work(&mut self) -> Result<Event, ShareFault>
         requires { IsSound C.sound self.old }
         ensures sound { IsSound C.sound self.new }
@@ -177,11 +221,11 @@ impl<C: Cold, H: Hub<Item = C::Item>> Sharing<C, H> {
         ensures not_ended { result ≢ Err ShareFault.Ended }
         ensures steps { ComesTo C.whole C.rest H.does H.waits steps.work self.old result self.new }
     {
-        if !self.cancel_due {
+        if !self.is_work_due() {
             return self.collect();
         }
         match self.cancel() {
-            Ok(_) => self.collect(),
+            Ok(_) => self.reset_if_due(),
             Err(fault) => refusal_of(fault),
         }
     }
@@ -206,6 +250,12 @@ impl<C: Cold, H: Hub<Item = C::Item>> Sharing<C, H> {
                 self.cancel_due = true;
                 self.work()
             }
+            Command::StopAndReset => {
+                self.kept = None;
+                self.cancel_due = true;
+                self.reset_due = true;
+                self.work()
+            }
             Command::Keep => self.work(),
         }
     }
@@ -225,7 +275,7 @@ impl<C: Cold, H: Hub<Item = C::Item>> Sharing<C, H> {
     /// policy says, and while it runs one item at most goes into the flow.
     ///
     /// An emission that waits is polled first, and only once it is done the next item follows, in the same turn. What a
-    /// refusal leaves undone (an item in hand, a cancel) is where the next turn goes on.
+    /// refusal leaves undone (an item in hand, a cancel, a reset) is where the next turn goes on.
     pub fn turn(&mut self, now: u64) -> Result<Report, ShareFault>
         requires { IsSound C.sound self.old }
         ensures sound { IsSound C.sound self.new }
@@ -239,6 +289,7 @@ impl<C: Cold, H: Hub<Item = C::Item>> Sharing<C, H> {
 
         // What the answer means for the items that the flow has accepted since the last start.
         ensures means { MeansAnswer C.whole C.rest H.does H.waits self.old result self.new }
+        ensures resets { HandlesReset H.does H.waits self.old result self.new }
         ensures between { StaysBetween C.whole C.rest self.old self.new }
         ensures quiet { StaysQuiet C.whole C.rest H.waits self.old result self.new }
     {

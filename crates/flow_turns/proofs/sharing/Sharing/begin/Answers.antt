@@ -1,6 +1,6 @@
 use Rattle.std.proofs.Common.{Bool, true, false, None, sym, subst}
 use Rattle.flow_law.specs.declared.sharing.Command.{Command}
-use Rattle.flow_law.specs.declared.sharing.Command.TheVariants.{Start, Stop, Keep}
+use Rattle.flow_law.specs.declared.sharing.Command.TheVariants.{Start, Stop, StopAndReset, Keep}
 use Rattle.flow_law.specs.Steps.{Takes}
 use Rattle.flow_law.specs.SharingCalls.{CallDoes, HubStep}
 use Rattle.flow_law.specs.SharingTurn.{reported, work}
@@ -30,6 +30,17 @@ returns-in-Stop-clause-steps g c =
     (record { answer = reported Stop c.work-in-Stop.result; seen = all; state = state_of c.work-in-Stop.new.self }) (chain_and_hub g.C.Cold.whole g.C.Cold.rest c.work-in-Stop.new.self) in
     subst P is (c.work-in-Stop.ensures.steps Stop all) in
     subst G (sym c.in-Stop.is) begun
+
+pub returns-in-StopAndReset-clause-steps : goal.returns-in-StopAndReset-clause-steps
+returns-in-StopAndReset-clause-steps g c =
+    let mid = record c.args.self.now { kept = None; cancel_due = true; reset_due = true } in
+    let G : Command → Type 0 = λ command. Begins g.C.Cold.whole g.C.Cold.rest g.H.Hub.does g.H.Hub.waits command c.args.self.now c.work-in-StopAndReset.result c.work-in-StopAndReset.new.self in
+    let begun : G StopAndReset = λ all ran is.
+    let P : Bool → Type 0 = λ runs.
+    Takes (CallDoes (HubStep g.H.Hub.does g.H.Hub.waits)) (work StopAndReset all (record (state_of mid) { runs = runs })) (chain_and_hub g.C.Cold.whole g.C.Cold.rest mid)
+    (record { answer = reported StopAndReset c.work-in-StopAndReset.result; seen = all; state = state_of c.work-in-StopAndReset.new.self }) (chain_and_hub g.C.Cold.whole g.C.Cold.rest c.work-in-StopAndReset.new.self) in
+    subst P is (c.work-in-StopAndReset.ensures.steps StopAndReset all) in
+    subst G (sym c.in-StopAndReset.is) begun
 
 pub returns-in-Keep-clause-steps : goal.returns-in-Keep-clause-steps
 returns-in-Keep-clause-steps g c =

@@ -8,6 +8,7 @@ use Rattle.flow_law.specs.Steps.{Takes}
 use Rattle.flow_law.specs.SharingCalls.{CallDoes, HubStep}
 use Rattle.flow_law.specs.SharingTurn.{SharingState, Turned, reported, begin}
 use Rattle.flow_law.proofs.TurnMeaningLemmas.{turn-means}
+use Rattle.flow_law.proofs.TurnResetLemmas.{turn-resets}
 use Rattle.flow_law.proofs.TurnQuietLemmas.{turn-quiet}
 use Rattle.flow_turns.specs.Policy.{HasSeen}
 use Rattle.flow_turns.specs.SharingViews.{state_of, chain_and_hub}
@@ -71,3 +72,7 @@ returns-clause-between g c = λ started seen stands between.
 pub returns-clause-quiet : goal.returns-clause-quiet
 returns-clause-quiet g c = λ started seen stands quiet.
     let turn = returns-clause-turn g c started seen stands in turn-quiet g.H.Hub.does g.H.Hub.waits started c.args.now seen _ _ _ _ quiet turn.2
+
+pub returns-clause-resets : goal.returns-clause-resets
+returns-clause-resets g c = λ started seen stands.
+    let turn = returns-clause-turn g c started seen stands in turn-resets (HubStep g.H.Hub.does g.H.Hub.waits) _ started c.args.now seen _ _ _ turn.2

@@ -1,26 +1,26 @@
-use Rattle.std.proofs.Common.{Ok, Err, refl, ap, subst}
+use Rattle.std.proofs.Common.{Ok, Err, refl, sym, ap, ◌∙◌, subst}
 use Rattle.flow_law.specs.Steps.{Takes}
 use Rattle.flow_law.specs.SharingCalls.{CallDoes, HubStep}
-use Rattle.flow_law.specs.SharingTurn.{SharingState, reported, collect_while_running}
+use Rattle.flow_law.specs.SharingTurn.{SharingState, reported, reset_if_due}
 use Rattle.flow_turns.specs.SharingViews.{state_of, chain_and_hub}
 use Rattle.flow_turns.proofs.StepLemmas.{same-end, cancels-hub, cancels-nothing}
 use Rattle.flow_turns.proofs.sharing.Sharing.work.Goals as goal
 
-pub returns-then-not-self-clause-steps : goal.returns-then-not-self-clause-steps
-returns-then-not-self-clause-steps g c = λ command seen.
-    cancels-nothing _ _ _ _ command seen (state_of c.args.self.now) c.if-not-self.true (c.collect.ensures.steps command seen)
+pub returns-then-not-is_work_due-clause-steps : goal.returns-then-not-is_work_due-clause-steps
+returns-then-not-is_work_due-clause-steps g c = λ command seen.
+    cancels-nothing _ _ _ _ command seen (state_of c.args.self.now) (sym c.is_work_due.ensures ∙ c.if-not-is_work_due.true) (c.collect.ensures.steps command seen)
 
 pub returns-in-Ok-clause-steps : goal.returns-in-Ok-clause-steps
 returns-in-Ok-clause-steps g c = λ command seen.
     let P : SharingState g.row.C-Item.Denot → Type 0 = λ s.
-    Takes (CallDoes (HubStep g.H.Hub.does g.H.Hub.waits)) (collect_while_running command seen s) (chain_and_hub g.C.Cold.whole g.C.Cold.rest c.cancel.new.self)
-    (record { answer = reported command c.collect-in-Ok.result; seen = seen; state = state_of c.collect-in-Ok.new.self }) (chain_and_hub g.C.Cold.whole g.C.Cold.rest c.collect-in-Ok.new.self) in
+    Takes (CallDoes (HubStep g.H.Hub.does g.H.Hub.waits)) (reset_if_due command seen s) (chain_and_hub g.C.Cold.whole g.C.Cold.rest c.cancel.new.self)
+    (record { answer = reported command c.reset_if_due.result; seen = seen; state = state_of c.reset_if_due.new.self }) (chain_and_hub g.C.Cold.whole g.C.Cold.rest c.reset_if_due.new.self) in
     cancels-hub _ _ _ _ command seen (state_of c.args.self.now) (chain_and_hub g.C.Cold.whole g.C.Cold.rest c.cancel.new.self) (Ok c.in-Ok.field-0)
-    c.if-not-self.false c.in-Ok.ensures.cancels
-    (subst P c.in-Ok.ensures.state (c.collect-in-Ok.ensures.steps command seen))
+    (sym c.is_work_due.ensures ∙ c.if-not-is_work_due.false) c.in-Ok.ensures.cancels
+    (subst P c.in-Ok.ensures.state (c.reset_if_due.ensures.steps command seen))
 
 pub returns-in-Err-clause-steps : goal.returns-in-Err-clause-steps
 returns-in-Err-clause-steps g c = λ command seen.
     cancels-hub _ _ _ _ command seen (state_of c.args.self.now) (chain_and_hub g.C.Cold.whole g.C.Cold.rest c.cancel.new.self) (Err c.in-Err.fault)
-    c.if-not-self.false c.in-Err.ensures.cancels
+    (sym c.is_work_due.ensures ∙ c.if-not-is_work_due.false) c.in-Err.ensures.cancels
     (same-end seen _ _ _ _ (ap (reported command) c.refusal_of.ensures) c.in-Err.ensures.state, refl)

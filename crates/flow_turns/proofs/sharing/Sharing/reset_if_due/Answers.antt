@@ -1,0 +1,26 @@
+use Rattle.std.proofs.Common.{Ok, Err, refl, ap, subst}
+use Rattle.flow_law.specs.Steps.{Takes}
+use Rattle.flow_law.specs.SharingCalls.{CallDoes, HubStep}
+use Rattle.flow_law.specs.SharingTurn.{SharingState, reported, collect_while_running}
+use Rattle.flow_turns.specs.SharingViews.{state_of, chain_and_hub}
+use Rattle.flow_turns.proofs.StepLemmas.{same-end, resets-hub, resets-nothing}
+use Rattle.flow_turns.proofs.sharing.Sharing.reset_if_due.Goals as goal
+
+pub returns-then-not-self-clause-steps : goal.returns-then-not-self-clause-steps
+returns-then-not-self-clause-steps g c = λ command seen.
+    resets-nothing _ _ _ _ command seen (state_of c.args.self.now) c.if-not-self.true (c.collect.ensures.steps command seen)
+
+pub returns-in-Ok-clause-steps : goal.returns-in-Ok-clause-steps
+returns-in-Ok-clause-steps g c = λ command seen.
+    let P : SharingState g.row.C-Item.Denot → Type 0 = λ s.
+    Takes (CallDoes (HubStep g.H.Hub.does g.H.Hub.waits)) (collect_while_running command seen s) (chain_and_hub g.C.Cold.whole g.C.Cold.rest c.reset.new.self)
+    (record { answer = reported command c.collect-in-Ok.result; seen = seen; state = state_of c.collect-in-Ok.new.self }) (chain_and_hub g.C.Cold.whole g.C.Cold.rest c.collect-in-Ok.new.self) in
+    resets-hub _ _ _ _ command seen (state_of c.args.self.now) (chain_and_hub g.C.Cold.whole g.C.Cold.rest c.reset.new.self) (Ok tt)
+    c.if-not-self.false c.in-Ok.ensures.resets
+    (subst P c.in-Ok.ensures.state (c.collect-in-Ok.ensures.steps command seen))
+
+pub returns-in-Err-clause-steps : goal.returns-in-Err-clause-steps
+returns-in-Err-clause-steps g c = λ command seen.
+    resets-hub _ _ _ _ command seen (state_of c.args.self.now) (chain_and_hub g.C.Cold.whole g.C.Cold.rest c.reset.new.self) (Err c.in-Err.fault)
+    c.if-not-self.false c.in-Err.ensures.resets
+    (same-end seen _ _ _ _ (ap (reported command) c.refusal_of.ensures) c.in-Err.ensures.state, refl)
