@@ -6,6 +6,7 @@ use Rattle.std.specs.Str.{bytes_eq}
 use Rattle.serde_json.specs.Data.{Data, Items}
 use Rattle.serde_json.specs.Find.{get, as_str, as_array}
 use Rattle.flow_law.specs.declared.config.Config.{Config}
+use Rattle.flow_law.specs.Sharing.{never}
 use Rattle.flow_law.specs.declared.sharing.Started.{Started}
 use Rattle.flow_law.specs.declared.sharing.Started.TheVariants.{Eagerly, Lazily, WhileSubscribed}
 use Rattle.flow_format.specs.declared.fault.ScriptFault.{ScriptFault}
@@ -48,9 +49,9 @@ state_of d = option_and_then (λ initial. option_and_then (λ limit. where_true 
 abbrev pub started_named : List ℕ → Option Started
 started_named text = if bytes_eq text (codes "eagerly") then Some Eagerly else (if bytes_eq text (codes "lazily") then Some Lazily else None)
 
--- a word, or an object with the key `stop` alone
+-- a word, or an object with the key `stop` alone, after which nothing is forgotten
 abbrev pub started_of : Data → Option Started
-started_of d = option_map_or started_named (as_str d) (where_true (has_members 1 d) (option_map WhileSubscribed (u64_at (codes "stop") d)))
+started_of d = option_map_or started_named (as_str d) (where_true (has_members 1 d) (option_map (λ stop. WhileSubscribed stop never) (u64_at (codes "stop") d)))
 
 abbrev pub started_at : Data → Option Started
 started_at d = option_and_then started_of (get (codes "started") d)

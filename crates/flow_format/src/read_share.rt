@@ -9,7 +9,7 @@ use crate::fault::ScriptFault;
 use crate::members::{has_members, i64_at, limit_at, u32_at, u64_at, with_limit};
 use crate::read_chain::chain_in;
 use crate::script::ScriptFlow;
-use flow_law::Started;
+use flow_law::{NEVER, Started};
 use serde_json::Value;
 use std::alloc::Global;
 
@@ -36,7 +36,10 @@ fn started_of(value: &Value) -> Option<Started>
         return None;
     }
     let stop = u64_at(value, "stop")?;
-    Some(Started::WhileSubscribed { stop })
+    Some(Started::WhileSubscribed {
+        stop,
+        expire: NEVER,
+    })
 }
 
 fn started_at(flow: &Value) -> Option<Started>

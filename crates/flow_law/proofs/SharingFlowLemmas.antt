@@ -13,13 +13,12 @@ use Rattle.flow_law.specs.declared.sharing.SharingObservation.{SharingObservatio
 use Rattle.flow_law.specs.declared.report.Report.{Report}
 use Rattle.flow_law.specs.declared.report.ShareFault.{ShareFault}
 use Rattle.flow_law.specs.declared.states.SharedFlowState.{SharedFlowState}
-use Rattle.flow_law.specs.declared.states.StateFlowState.{StateFlowState}
 use Rattle.flow_law.specs.SharedStep as flow
 use Rattle.flow_law.specs.SharedHistory.{reply_by}
 use Rattle.flow_law.specs.Steps.{After, Takes}
 use Rattle.flow_law.specs.SharingCalls.{HubCall, HubAnswer, TurnCall, TurnAnswer, to_hub, asks, rewinds, counts, puts, polls, cancels, resets, ChainAndHub, CallDoes}
 use Rattle.flow_law.specs.SharingTurn.{SharingState, Turned, refusal, reported, turn_steps}
-use Rattle.flow_law.specs.SharingFlows.{EmittingFlow, emitted, shared_reply, SharedDoes, state_reply, StateDoes, IsNotBusy, IsAtOnce, DocumentedTurn}
+use Rattle.flow_law.specs.SharingFlows.{EmittingFlow, StateAndInitial, emitted, shared_reply, SharedDoes, state_reply, StateDoes, IsNotBusy, IsAtOnce, DocumentedTurn}
 use Rattle.flow_law.proofs.StepsLemmas.{always-takes}
 use Rattle.flow_law.proofs.NeverBusy.{never_busy}
 use Rattle.flow_law.proofs.TurnLemmas.{turn-plays}
@@ -162,22 +161,22 @@ module _ {T : Type 0} where
   no-reset : (c : HubCall T) → IsNoReset c → c ≡ resets → ⊥
   no-reset c other is = subst IsNoReset is other
 
-  state-may : (initial : T) (c : HubCall T) (f g : StateFlowState T) (a : HubAnswer c) → StateDoes initial c f a g → StateMay c a
-  state-may initial counts f g a (inl is) = subst (λ x. IsAccepted x.result) is tt
-  state-may initial (puts x) f g a (inl is) = ap (λ x. x.result) (sym is)
-  state-may initial polls f g a (inl is) = ap (λ x. x.result) (sym is)
-  state-may initial cancels f g a (inl is) = ap (λ x. x.result) (sym is)
-  state-may initial resets f g a (inl is) = subst (λ x. IsAmple x.result) is tt
-  state-may initial counts f g a (inr lacks) = absurd (no-reset counts tt lacks.0)
-  state-may initial (puts x) f g a (inr lacks) = absurd (no-reset (puts x) tt lacks.0)
-  state-may initial polls f g a (inr lacks) = absurd (no-reset polls tt lacks.0)
-  state-may initial cancels f g a (inr lacks) = absurd (no-reset cancels tt lacks.0)
-  state-may initial resets f g a (inr lacks) = subst IsAmple (sym lacks.1) refl
+  state-may : (c : HubCall T) (f g : StateAndInitial T) (a : HubAnswer c) → StateDoes c f a g → StateMay c a
+  state-may counts f g a (inl is) = subst (λ x. IsAccepted x.result) is tt
+  state-may (puts x) f g a (inl is) = ap (λ x. x.result) (sym is)
+  state-may polls f g a (inl is) = ap (λ x. x.result) (sym is)
+  state-may cancels f g a (inl is) = ap (λ x. x.result) (sym is)
+  state-may resets f g a (inl is) = subst (λ x. IsAmple x.result) is tt
+  state-may counts f g a (inr lacks) = absurd (no-reset counts tt lacks.0)
+  state-may (puts x) f g a (inr lacks) = absurd (no-reset (puts x) tt lacks.0)
+  state-may polls f g a (inr lacks) = absurd (no-reset polls tt lacks.0)
+  state-may cancels f g a (inr lacks) = absurd (no-reset cancels tt lacks.0)
+  state-may resets f g a (inr lacks) = subst IsAmple (sym lacks.1) refl
 
-  state-either : (initial : T) (c : HubCall T) (f g : StateFlowState T) (a : HubAnswer c) → StateDoes initial c f a g → (state_reply initial c f ≡ record { result = a; state = g }) ⊎ (a ≡ Err OutOfMemory)
-  state-either initial c f g a (inl is) = inl is
-  state-either initial c f g a (inr lacks) = inr lacks.1
+  state-either : (c : HubCall T) (f g : StateAndInitial T) (a : HubAnswer c) → StateDoes c f a g → (state_reply c f ≡ record { result = a; state = g }) ⊎ (a ≡ Err OutOfMemory)
+  state-either c f g a (inl is) = inl is
+  state-either c f g a (inr lacks) = inr lacks.1
 
-  pub state-turn : (initial : T) (started : Started) (now : ℕ) (seen : List SharingObservation) (s : SharingState T) (old new : ChainAndHub T (StateFlowState T)) (turned : Turned T)
-      → Takes (CallDoes (StateDoes initial)) (turn_steps started now seen s) old turned new → DocumentedTurn (StateDoes initial) (state_reply initial) IsAtOnce started now seen s old turned new
-  state-turn initial = documented-turn (StateDoes initial) (state_reply initial) StateMay IsAtOnce state-like (state-may initial) (state-either initial)
+  pub state-turn : (started : Started) (now : ℕ) (seen : List SharingObservation) (s : SharingState T) (old new : ChainAndHub T (StateAndInitial T)) (turned : Turned T)
+      → Takes (CallDoes StateDoes) (turn_steps started now seen s) old turned new → DocumentedTurn StateDoes state_reply IsAtOnce started now seen s old turned new
+  state-turn = documented-turn StateDoes state_reply StateMay IsAtOnce state-like state-may state-either

@@ -50,5 +50,5 @@ goes_back : (later 1 (later 2 first)).result.answer ≡ Err (Backwards 2)
 goes_back = refl
 
 -- a state flow takes the first item at once
-sets_the_value : (flow_turn (state_reply 0) Eagerly 0 [] at_rest (record { whole = two; rest = two; hub = first_state_flow 100 0 })).state.hub.value ≡ 1
+sets_the_value : (flow_turn state_reply Eagerly 0 [] at_rest (record { whole = two; rest = two; hub = record { flow = first_state_flow 100 0; initial = 0 } })).state.hub.flow.value ≡ 1
 sets_the_value = refl

@@ -15,9 +15,9 @@ use Rattle.flow_law.specs.declared.report.Report.{Report}
 use Rattle.flow_law.specs.declared.report.ShareFault.{ShareFault}
 use Rattle.flow_law.specs.declared.report.ShareFault.TheVariants.{Chain, Flow}
 use Rattle.flow_law.specs.declared.states.SharedFlowState.{SharedFlowState}
-use Rattle.flow_law.specs.declared.states.StateFlowState.{StateFlowState}
 use Rattle.flow_law.specs.SharedHistory.{Replies}
 pub use Rattle.flow_law.specs.declared.states.EmittingFlow.{EmittingFlow}
+pub use Rattle.flow_law.specs.declared.states.StateAndInitial.{StateAndInitial}
 use Rattle.flow_law.specs.SharedStep as flow
 use Rattle.flow_law.specs.Sharing.{is_running}
 use Rattle.flow_law.specs.Steps.{After, Takes, plays}
@@ -74,18 +74,21 @@ module _ {T : Type 0} where
 
 -- ---- a state flow
 
--- with this initial value
-module _ {T : Type 0} (initial : T) where
+module _ {T : Type 0} where
+  -- the flow with another value
+  abbrev pub with_value : T → StateAndInitial T → StateAndInitial T
+  with_value x s = record s { flow = record s.flow { value = x } }
+
   -- a put sets the value, and a reset sets the initial one; nothing waits, and nothing is refused
-  abbrev pub state_reply : (c : HubCall T) → StateFlowState T → After (HubAnswer c) (StateFlowState T)
-  state_reply counts s = record { result = Ok (length s.subscribers); state = s }
-  state_reply (puts x) s = record { result = Ok false; state = record s { value = x } }
+  abbrev pub state_reply : (c : HubCall T) → StateAndInitial T → After (HubAnswer c) (StateAndInitial T)
+  state_reply counts s = record { result = Ok (length s.flow.subscribers); state = s }
+  state_reply (puts x) s = record { result = Ok false; state = with_value x s }
   state_reply polls s = record { result = Ok false; state = s }
   state_reply cancels s = record { result = Ok false; state = s }
-  state_reply resets s = record { result = Ok tt; state = record s { value = initial } }
+  state_reply resets s = record { result = Ok tt; state = with_value s.initial s }
 
   -- the flow answers; or a reset is refused for want of memory, to copy the initial value, and does nothing
-  abbrev pub StateDoes : (c : HubCall T) → StateFlowState T → HubAnswer c → StateFlowState T → Type 0
+  abbrev pub StateDoes : (c : HubCall T) → StateAndInitial T → HubAnswer c → StateAndInitial T → Type 0
   StateDoes call old answer new =
       (state_reply call old ≡ record { result = answer; state = new })
       ⊎ ((call ≡ resets) × (answer ≡ Err OutOfMemory) × (new ≡ old))

@@ -28,6 +28,7 @@ pub use laws::{law_conflated, law_delivered, law_idle_since, law_no_idle_queue, 
 pub use outcome::{Drained, Emit, Next};
 pub use sharing::{Command, NEVER, SharingObservation, Started};
 pub use states::{
-    EmittingFlow, Numbered, SharedFlowState, StateFlowState, StateSubscriber, Subscriber,
+    EmittingFlow, Numbered, SharedFlowState, StateAndInitial, StateFlowState, StateSubscriber,
+    Subscriber,
 };
 pub use value::{Boxed, FlowValue, Half, Items, Packed, Text};

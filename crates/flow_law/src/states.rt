@@ -55,3 +55,10 @@ pub struct EmittingFlow<T> {
     /// The number of the sharing's emission, where it waited when it was last asked.
     pub waiting: Option<u64>,
 }
+
+/// A documented state flow whose value a sharing sets.
+pub struct StateAndInitial<T> {
+    pub flow: StateFlowState<T>,
+    /// The value that a reset sets.
+    pub initial: T,
+}

@@ -123,6 +123,7 @@ state_line_of call (state.Cached values) = list_text values
 abbrev pub command_text : Command → List ℕ
 command_text command.Start = codes "start"
 command_text command.Stop = codes "stop"
+command_text command.StopAndReset = codes "stop_and_reset"
 command_text command.Keep = codes "keep"
 
 abbrev pub event_text : Event → List ℕ

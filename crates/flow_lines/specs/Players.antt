@@ -10,7 +10,7 @@ use Rattle.flow_lines.specs.declared.refusal.Refusal.{Refusal}
 use Rattle.flow_lines.specs.declared.refusal.Refusal.TheVariants as refusal
 use Rattle.flow_law.specs.declared.chain.ChainFault.{ChainFault}
 use Rattle.flow_turns.specs.OverCores.{Emits}
-use Rattle.flow_turns.specs.StateHub.{state_core_of}
+use Rattle.flow_turns.specs.StateHub.{state_flow_of}
 use Rattle.flow_lines.specs.declared.player.Player.{Player}
 use Rattle.flow_lines.specs.declared.player.Player.TheVariants.{Shared, State, Share, StateIn}
 use Rattle.flow_format.specs.ChainFormat.{BuiltChain}
@@ -26,7 +26,7 @@ abbrev pub Shows : Player → player.Player → Type 0
 Shows (Shared core) (player.shared s) = StandsFor core s
 Shows (State core) (player.state s) = core ≡ s
 Shows (Share sharing) (player.share p) = ShowsSharing Emits sharing p
-Shows (StateIn sharing) (player.state_in p) = ShowsSharing (λ hub s. state_core_of hub ≡ s) sharing p
+Shows (StateIn sharing) (player.state_in p) = ShowsSharing (λ hub s. state_flow_of hub ≡ s) sharing p
 Shows _ _ = ⊥
 
 -- the player before the first step, or why no sharing is made: want of memory is no fault of the script

@@ -14,6 +14,7 @@ use Rattle.flow_turns.specs.ShareIn.{share_config}
 use Rattle.flow_law.specs.declared.states.EmittingFlow.{EmittingFlow}
 use Rattle.flow_law.specs.declared.states.SharedFlowState.{SharedFlowState}
 use Rattle.flow_law.specs.declared.states.StateFlowState.{StateFlowState}
+use Rattle.flow_law.specs.declared.states.StateAndInitial.{StateAndInitial}
 use Rattle.flow_law.specs.SharedHistory.{shared_flow}
 use Rattle.flow_law.specs.SharingFlows.{shared_reply, state_reply}
 use Rattle.flow_law.specs.StateFlow.{first_state_flow, state_flow}
@@ -21,7 +22,7 @@ use Rattle.flow_format.specs.declared.script.FlowStep.{FlowStep}
 use Rattle.flow_lines.specs.FlowMeaning.{Turn, flow_turn}
 use Rattle.flow_lines.specs.Numbers.{Numbers, no_numbers}
 use Rattle.flow_lines.specs.SharedMeaning.{plays_shared}
-use Rattle.flow_lines.specs.SharingMeaning.{SharingPlay, first_sharing, beside_emission, sharing_step}
+use Rattle.flow_lines.specs.SharingMeaning.{SharingPlay, first_sharing, beside_emission, beside_initial, sharing_step}
 use Rattle.flow_lines.specs.StateMeaning.{plays_state}
 
 -- ---- players
@@ -31,7 +32,7 @@ pub data Player : Type 0 where
   shared : SharedFlowState ℤ → Player
   state : StateFlowState ℤ → Player
   share : SharingPlay (EmittingFlow ℤ) → Player
-  state_in : SharingPlay (StateFlowState ℤ) → Player
+  state_in : SharingPlay (StateAndInitial ℤ) → Player
 
 -- ---- steps
 
@@ -48,7 +49,7 @@ abbrev pub player_turn : FlowStep → Player → Numbers → Turn Player
 player_turn step (shared s) n = played_as shared (shared_turn step s n)
 player_turn step (state s) n = played_as state (state_turn step s n)
 player_turn step (share p) n = played_as share (sharing_step (beside_emission shared_turn) shared_reply step p n)
-player_turn step (state_in p) n = played_as state_in (sharing_step state_turn state_reply step p n)
+player_turn step (state_in p) n = played_as state_in (sharing_step (beside_initial state_turn) state_reply step p n)
 
 -- ---- rows of flows
 
@@ -106,7 +107,8 @@ player_of (shared_chain (Ok chain) started replay limit) =
     option_map_or (λ fault. Err (share_fault_text (Flow fault))) (config_fault (share_config replay limit))
     (Ok (share (first_sharing chain.run started (record { flow = first_state (share_config replay limit); waiting = None }))))
 player_of (state_chain (Err fault) started initial limit) = Err (share_fault_text (Chain fault))
-player_of (state_chain (Ok chain) started initial limit) = Ok (state_in (first_sharing chain.run started (first_state_flow limit initial)))
+player_of (state_chain (Ok chain) started initial limit) =
+    Ok (state_in (first_sharing chain.run started (record { flow = first_state_flow limit initial; initial = initial })))
 
 -- One flow more is made, and the rest of the text follows. A refused flow that has a name has a line with that name, and
 -- its place stays empty; without a name, its line is all of the rest.

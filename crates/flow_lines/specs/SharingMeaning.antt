@@ -5,6 +5,8 @@ use Rattle.flow_law.specs.declared.sharing.Started.{Started}
 use Rattle.flow_law.specs.declared.sharing.SharingObservation.{SharingObservation}
 use Rattle.flow_law.specs.declared.states.EmittingFlow.{EmittingFlow}
 use Rattle.flow_law.specs.declared.states.SharedFlowState.{SharedFlowState}
+use Rattle.flow_law.specs.declared.states.StateAndInitial.{StateAndInitial}
+use Rattle.flow_law.specs.declared.states.StateFlowState.{StateFlowState}
 use Rattle.flow_law.specs.ChainRun.{ChainRun}
 use Rattle.flow_law.specs.SharingCalls.{HubCall, HubAnswer, ChainAndHub, with_hub}
 use Rattle.flow_law.specs.SharingFlows as sharing
@@ -31,6 +33,12 @@ first_sharing whole started f = record { started = started; seen = []; state = a
 -- a step on a shared flow into which a chain is shared: the sharing's own emission is none of the script's
 abbrev pub beside_emission : (FlowStep → SharedFlowState ℤ → Numbers → Turn (SharedFlowState ℤ)) → FlowStep → EmittingFlow ℤ → Numbers → Turn (EmittingFlow ℤ)
 beside_emission flow step f n =
+    let t = flow step f.flow n in
+    record { line = t.line; after = record f { flow = t.after }; numbers = t.numbers }
+
+-- a step on a state flow into which a chain is shared: no step changes its initial value
+abbrev pub beside_initial : (FlowStep → StateFlowState ℤ → Numbers → Turn (StateFlowState ℤ)) → FlowStep → StateAndInitial ℤ → Numbers → Turn (StateAndInitial ℤ)
+beside_initial flow step f n =
     let t = flow step f.flow n in
     record { line = t.line; after = record f { flow = t.after }; numbers = t.numbers }
 

@@ -11,7 +11,7 @@ ghost use Rattle.flow_lines.specs.Sharings.{TurnsAsDocumented};
 use crate::flow_steps::flow_step;
 use crate::numbers::Numbers;
 use flow_format::{FlowStep, ScriptFault};
-use flow_law::{EmittingFlow, StateFlowState};
+use flow_law::{EmittingFlow, StateAndInitial};
 use flow_turns::{CoreHub, Hub, StateHub, law_turn_over_core, law_turn_over_state_core};
 use std::alloc::Global;
 
@@ -76,17 +76,18 @@ impl ScriptHub for CoreHub<i64> {
 }
 
 impl ScriptHub for StateHub<i64> {
-    type State = StateFlowState<i64>;
+    type State = StateAndInitial<i64>;
 
     ghost use Rattle.flow_law.specs.SharingFlows.{state_reply};
     ghost use Rattle.flow_law.specs.StateFlow.{state_flow};
-    ghost use Rattle.flow_turns.specs.StateHub.{state_core_of};
+    ghost use Rattle.flow_turns.specs.StateHub.{state_flow_of};
     ghost use Rattle.flow_lines.specs.FlowMeaning.{flow_turn};
+    ghost use Rattle.flow_lines.specs.SharingMeaning.{beside_initial};
     ghost use Rattle.flow_lines.specs.StateMeaning.{plays_state};
 
-    ghost stands = { λ hub s. state_core_of hub ≡ s };
+    ghost stands = { λ hub s. state_flow_of hub ≡ s };
 
-    ghost flow = { flow_turn state_flow plays_state };
+    ghost flow = { beside_initial (flow_turn state_flow plays_state) };
 
     ghost reply = { state_reply };
 

@@ -17,6 +17,7 @@ fn add_command(text: &mut String, command: Command) -> Result<(), AllocError>
     match command {
         Command::Start => text.push_str("start"),
         Command::Stop => text.push_str("stop"),
+        Command::StopAndReset => text.push_str("stop_and_reset"),
         Command::Keep => text.push_str("keep"),
     }
 }

@@ -1,5 +1,5 @@
 -- What each call does to the two seats of a hub, of a shared flow and of state flows. Begin with `shared-by-seats`, `state-by-seats` and `word-by-seats`.
-use Rattle.std.proofs.Common.{◌≡◌, ◌≢◌, ℕ, ◌+◌, Bool, true, false, Option, Some, None, Result, Ok, Err, subst, sym, refl, ap, ◌∙◌, List, arith}
+use Rattle.std.proofs.Common.{◌≡◌, ◌≢◌, inl, inr, ℕ, ◌+◌, Bool, true, false, Option, Some, None, Result, Ok, Err, subst, sym, refl, ap, ◌∙◌, List, arith}
 use Rattle.std.proofs.Math.Nat.{add-zero, add_assoc, add_comm}
 use Rattle.flow_law.specs.declared.fault.FlowFault.{FlowFault}
 use Rattle.flow_law.specs.declared.fault.FlowFault.TheVariants.{OutOfMemory, TooLarge, NeedsBuffer, Exhausted, Unsupported, Busy}
@@ -8,7 +8,7 @@ use Rattle.flow_law.specs.declared.states.SharedFlowState.{SharedFlowState}
 use Rattle.flow_law.specs.SharedHistory.{shared_flow}
 use Rattle.flow_law.specs.StateFlow.{state_flow}
 use Rattle.flow_law.specs.History.{Kind}
-use Rattle.flow_law.specs.SharingCalls.{HubCall, HubAnswer, HubStep, counts, puts, polls, cancels, ChainAndHub, CallDoes}
+use Rattle.flow_law.specs.SharingCalls.{HubCall, HubAnswer, HubStep, counts, puts, polls, cancels, resets, ChainAndHub, CallDoes}
 use Rattle.flow_law.specs.SharingTurn.{SharingState, Turned, turn_steps}
 use Rattle.flow_law.specs.Steps.{Takes}
 use Rattle.flow_law.specs.declared.sharing.Started.{Started}
@@ -17,7 +17,7 @@ use Rattle.std.specs.Result.{is_ok}
 use Rattle.flow_law.specs.Tokens.{Token, IsBusy, CallsAtOnceIn}
 use Rattle.flow_shared.specs.SharedReplies.{SharedToken}
 use Rattle.flow_sharing.specs.SeatedHub.{SeatedHub, has_emission, OnlySends, CountDoes}
-use Rattle.flow_sharing.specs.SharedFlowHub.{SharedSeats, PutBy, PollBy, CancelBy, SharedFlowHubDoes}
+use Rattle.flow_sharing.specs.SharedFlowHub.{SharedSeats, PutBy, PollBy, CancelBy, ResetBy, SharedFlowHubDoes}
 use Rattle.flow_sharing.specs.StateFlowHub.{StateSeats, nothing_waits, StateFlowHubDoes}
 use Rattle.flow_sharing.specs.WordHub.{WordHubDoes}
 use Rattle.flow_sharing.specs.OverThreads.{exchanges_lost, lost_at, lost_in, HasSeenMore, Follows, IsNotBusy}
@@ -43,39 +43,41 @@ module _ {Id T S C R : Type 0} (kind : Kind T S C R) (first : S) where
 
 -- ---- the hub, where one of its seats has made the call
 
-module _ {Id S E : Type 0} where
-  abbrev Steps : SeatedHub Id S E → ℕ → SeatedHub Id S E → Type 0
+module _ {Id S E I : Type 0} where
+  abbrev Steps : SeatedHub Id S E I → ℕ → SeatedHub Id S E I → Type 0
   Steps h n k = (exchanges_lost k ≡ exchanges_lost h + n) × Follows h k
 
-  sending-steps : (h k : SeatedHub Id S E) (n : ℕ) → OnlySends h k → Moves h.sending n k.sending → Steps h n k
+  sending-steps : (h k : SeatedHub Id S E I) (n : ℕ) → OnlySends h k → Moves h.sending n k.sending → Steps h n k
   sending-steps h k n only (lost, more) = (
-    ap (λ (t : Token Id E). t.knows.lost + k.sending.knows.lost) (ap (λ (x : SeatedHub Id S E). x.watching) only)
+    ap (λ (t : Token Id E). t.knows.lost + k.sending.knows.lost) (ap (λ (x : SeatedHub Id S E I). x.watching) only)
         ∙ ap (λ m. h.watching.knows.lost + m) lost ∙ sym (add_assoc h.watching.knows.lost h.sending.knows.lost n),
     (
-      ap (λ (x : SeatedHub Id S E). x.flow) only,
-      subst (HasSeenMore h.watching) (sym (ap (λ (x : SeatedHub Id S E). x.watching) only)) (seen-here h.watching),
+      ap (λ (x : SeatedHub Id S E I). x.flow) only,
+      ap (λ (x : SeatedHub Id S E I). x.initial) only,
+      subst (HasSeenMore h.watching) (sym (ap (λ (x : SeatedHub Id S E I). x.watching) only)) (seen-here h.watching),
       more,
     ),
   )
 
-  watching-steps : (h k : SeatedHub Id S E) (n : ℕ) → k ≡ record h { watching = k.watching } → Moves h.watching n k.watching → Steps h n k
+  watching-steps : (h k : SeatedHub Id S E I) (n : ℕ) → k ≡ record h { watching = k.watching } → Moves h.watching n k.watching → Steps h n k
   watching-steps h k n only (lost, more) = (
-    ap (λ (t : Token Id E). k.watching.knows.lost + t.knows.lost) (ap (λ (x : SeatedHub Id S E). x.sending) only)
+    ap (λ (t : Token Id E). k.watching.knows.lost + t.knows.lost) (ap (λ (x : SeatedHub Id S E I). x.sending) only)
         ∙ ap (λ m. m + h.sending.knows.lost) lost
         ∙ add_assoc h.watching.knows.lost n h.sending.knows.lost ∙ ap (λ m. h.watching.knows.lost + m) (add_comm n h.sending.knows.lost)
         ∙ sym (add_assoc h.watching.knows.lost h.sending.knows.lost n),
     (
-      ap (λ (x : SeatedHub Id S E). x.flow) only,
+      ap (λ (x : SeatedHub Id S E I). x.flow) only,
+      ap (λ (x : SeatedHub Id S E I). x.initial) only,
       more,
-      subst (HasSeenMore h.sending) (sym (ap (λ (x : SeatedHub Id S E). x.sending) only)) (seen-here h.sending),
+      subst (HasSeenMore h.sending) (sym (ap (λ (x : SeatedHub Id S E I). x.sending) only)) (seen-here h.sending),
     ),
   )
 
-  nothing-steps : (h k : SeatedHub Id S E) → k ≡ h → Steps h 0 k
-  nothing-steps h k is = sending-steps h k 0 (is ∙ ap (λ (x : SeatedHub Id S E). record h { sending = x.sending; emission = x.emission }) (sym is)) (stays h.sending k.sending (ap (λ (x : SeatedHub Id S E). x.sending) is))
+  nothing-steps : (h k : SeatedHub Id S E I) → k ≡ h → Steps h 0 k
+  nothing-steps h k is = sending-steps h k 0 (is ∙ ap (λ (x : SeatedHub Id S E I). record h { sending = x.sending; emission = x.emission }) (sym is)) (stays h.sending k.sending (ap (λ (x : SeatedHub Id S E I). x.sending) is))
 
-module _ {Id T S C R : Type 0} (kind : Kind T S C R) where
-  count-steps : (h k : SeatedHub Id S (Said C R)) (a : Result ℕ FlowFault) → CountDoes kind h a k → Steps h (lost_by a) k
+module _ {Id T S C R I : Type 0} (kind : Kind T S C R) where
+  count-steps : (h k : SeatedHub Id S (Said C R) I) (a : Result ℕ FlowFault) → CountDoes kind h a k → Steps h (lost_by a) k
   count-steps h k (Ok count) (does, only) = watching-steps h k 0 only (called kind h.flow.first h.watching k.watching kind.count (kind.counted count) does)
   count-steps h k (Err fault) ((is, lost), only) =
       subst (λ (f : FlowFault). Steps h (lost_for f) k) (sym is) (watching-steps h k 1 only (busy h.watching k.watching lost))
@@ -110,17 +112,23 @@ module _ {T : Type 0} (first : SharedFlowState T) where
   cancel-moves (Some number) before after (Ok waited) emission does = called shared_flow first before after _ _ does.0
   cancel-moves (Some number) before after (Err fault) emission does = busy-moves before after fault does.0 does.1
 
+  reset-moves : (before after : SharedToken T) (a : Result (Unit {0}) FlowFault) (emission : Option ℕ) → ResetBy first before a after emission → Moves before (lost_by a) after
+  reset-moves before after (Ok done) emission does = called shared_flow first before after _ _ does.0
+  reset-moves before after (Err fault) emission does = busy-moves before after fault does.0 does.1
+
 shared-steps : {T : Type 0} (c : HubCall T) (h k : SharedSeats T) (a : HubAnswer c) → SharedFlowHubDoes c h a k → Steps h (lost_by a) k
 shared-steps counts h k a does = count-steps shared_flow h k a does
 shared-steps (puts x) h k a does = sending-steps h k (lost_by a) does.1 (put-moves h.flow.first x h.sending k.sending a k.emission does.0)
 shared-steps polls h k a does = sending-steps h k (lost_by a) does.1 (poll-moves h.flow.first h.emission h.sending k.sending a k.emission does.0)
 shared-steps cancels h k a does = sending-steps h k (lost_by a) does.1 (cancel-moves h.flow.first h.emission h.sending k.sending a k.emission does.0)
+shared-steps resets h k a does = sending-steps h k (lost_by a) does.1 (reset-moves h.flow.first h.sending k.sending a k.emission does.0)
 
 shared-watches : {T : Type 0} (c : HubCall T) (h k : SharedSeats T) (a : HubAnswer c) → c ≢ counts → SharedFlowHubDoes c h a k → k.watching ≡ h.watching
 shared-watches counts h k a other does = absurd (other refl)
 shared-watches (puts x) h k a other does = ap (λ (s : SharedSeats _). s.watching) does.1
 shared-watches polls h k a other does = ap (λ (s : SharedSeats _). s.watching) does.1
 shared-watches cancels h k a other does = ap (λ (s : SharedSeats _). s.watching) does.1
+shared-watches resets h k a other does = ap (λ (s : SharedSeats _). s.watching) does.1
 
 pub shared-by-seats : (T : Type 0) → BySeats (shared_flow {T = T}) (HubStep SharedFlowHubDoes has_emission)
 shared-by-seats T = record {
@@ -139,6 +147,10 @@ state-steps (puts x) h k (Err fault) (is, lost, only) =
     subst (λ (f : FlowFault). Steps h (lost_for f) k) (sym is) (sending-steps h k 1 only (busy h.sending k.sending lost))
 state-steps polls h k a (none, is) = subst (λ (b : Result Bool FlowFault). Steps h (lost_by b) k) (sym none) (nothing-steps h k is)
 state-steps cancels h k a (none, is) = subst (λ (b : Result Bool FlowFault). Steps h (lost_by b) k) (sym none) (nothing-steps h k is)
+state-steps resets h k (Ok done) (does, only) = sending-steps h k 0 only (called state_flow h.flow.first h.sending k.sending _ _ does)
+state-steps resets h k (Err fault) (inl (is, lost, only)) =
+    subst (λ (f : FlowFault). Steps h (lost_for f) k) (sym is) (sending-steps h k 1 only (busy h.sending k.sending lost))
+state-steps resets h k (Err fault) (inr (is, same)) = subst (λ (f : FlowFault). Steps h (lost_for f) k) (sym is) (nothing-steps h k same)
 
 state-watches : {Id T : Type 0} (c : HubCall T) (h k : StateSeats Id T) (a : HubAnswer c) → c ≢ counts → StateFlowHubDoes c h a k → k.watching ≡ h.watching
 state-watches counts h k a other does = absurd (other refl)
@@ -146,6 +158,9 @@ state-watches (puts x) h k (Ok waits) other does = ap (λ (s : StateSeats _ _). 
 state-watches (puts x) h k (Err fault) other does = ap (λ (s : StateSeats _ _). s.watching) does.2
 state-watches polls h k a other does = ap (λ (s : StateSeats _ _). s.watching) does.1
 state-watches cancels h k a other does = ap (λ (s : StateSeats _ _). s.watching) does.1
+state-watches resets h k (Ok done) other does = ap (λ (s : StateSeats _ _). s.watching) does.1
+state-watches resets h k (Err fault) other (inl (is, lost, only)) = ap (λ (s : StateSeats _ _). s.watching) only
+state-watches resets h k (Err fault) other (inr (is, same)) = ap (λ (s : StateSeats _ _). s.watching) same
 
 pub state-by-seats : (Id T : Type 0) → BySeats (state_flow {T = T}) (HubStep (StateFlowHubDoes {Id = Id}) nothing_waits)
 state-by-seats Id T = record {

@@ -31,10 +31,10 @@ module _ {Id T S C R : Type 0} (kind : Kind T S C R) (first : S) where
         (grows.0 ++ event before.knows.name (said call reply) ∷ [], grows.1 ∙ append_assoc before.knows.seen grows.0 (event before.knows.name (said call reply) ∷ [])),
       )
 
-module _ {Id S E : Type 0} where
-  pub follows-here : (h : SeatedHub Id S E) → Follows h h
-  follows-here h = (refl, seen-here h.watching, seen-here h.sending)
+module _ {Id S E I : Type 0} where
+  pub follows-here : (h : SeatedHub Id S E I) → Follows h h
+  follows-here h = (refl, refl, seen-here h.watching, seen-here h.sending)
 
-  pub follows-on : (g h k : SeatedHub Id S E) → Follows g h → Follows h k → Follows g k
+  pub follows-on : (g h k : SeatedHub Id S E I) → Follows g h → Follows h k → Follows g k
   follows-on g h k one next =
-      (next.0 ∙ one.0, seen-on g.watching h.watching k.watching one.1 next.1, seen-on g.sending h.sending k.sending one.2 next.2)
+      (next.0 ∙ one.0, next.1 ∙ one.1, seen-on g.watching h.watching k.watching one.2 next.2, seen-on g.sending h.sending k.sending one.3 next.3)

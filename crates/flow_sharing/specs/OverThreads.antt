@@ -17,7 +17,7 @@ use Rattle.flow_law.specs.SharingTurn.{SharingState, Turned, turn_steps}
 use Rattle.flow_law.specs.StateFlow.{state_flow}
 use Rattle.flow_law.specs.Steps.{Takes}
 use Rattle.flow_law.specs.Tokens.{Token, CallsAtOnceIn}
-use Rattle.flow_law.specs.TurnMeaning.{HasAccount, BetweenTurns, TurnMeans}
+use Rattle.flow_law.specs.TurnMeaning.{HasAccount, BetweenTurns, TurnMeans, TurnResets}
 use Rattle.flow_sharing.specs.SeatedHub.{SeatedHub, has_emission}
 use Rattle.flow_sharing.specs.SharedFlowHub.{SharedSeats, SharedFlowHubDoes}
 use Rattle.flow_sharing.specs.StateFlowHub.{StateSeats, StateFlowHubDoes, nothing_waits}
@@ -27,7 +27,7 @@ use Rattle.flow_word.specs.Tokens.{WordId}
 -- ---- lost exchanges
 
 -- how many exchanges the seats of a hub have lost
-abbrev pub exchanges_lost : {Id S E : Type 0} → SeatedHub Id S E → ℕ
+abbrev pub exchanges_lost : {Id S E I : Type 0} → SeatedHub Id S E I → ℕ
 exchanges_lost hub = hub.watching.knows.lost + hub.sending.knows.lost
 
 abbrev pub lost_at : Event → ℕ
@@ -47,23 +47,23 @@ HasSeenMore {Id} {E} before after =
     (after.table_id ≡ before.table_id) × (after.knows.name ≡ before.knows.name)
     × ((more : List (HistoryEvent E)) × (after.knows.seen ≡ before.knows.seen ++ more))
 
-module _ {Id S E : Type 0} where
+module _ {Id S E I : Type 0} where
   -- a turn that began with the first hub may come to the second
-  abbrev pub Follows : SeatedHub Id S E → SeatedHub Id S E → Type 0
+  abbrev pub Follows : SeatedHub Id S E I → SeatedHub Id S E I → Type 0
   Follows before after =
-      (after.flow ≡ before.flow) × HasSeenMore before.watching after.watching × HasSeenMore before.sending after.sending
+      (after.flow ≡ before.flow) × (after.initial ≡ before.initial) × HasSeenMore before.watching after.watching × HasSeenMore before.sending after.sending
 
   -- a call of the hub in a turn that began with this one
-  abbrev pub InTurn : {T : Type 0} → ((c : HubCall T) → SeatedHub Id S E → HubAnswer c → SeatedHub Id S E → Type 0) → SeatedHub Id S E
-      → (c : HubCall T) → SeatedHub Id S E → HubAnswer c → SeatedHub Id S E → Type 0
+  abbrev pub InTurn : {T : Type 0} → ((c : HubCall T) → SeatedHub Id S E I → HubAnswer c → SeatedHub Id S E I → Type 0) → SeatedHub Id S E I
+      → (c : HubCall T) → SeatedHub Id S E I → HubAnswer c → SeatedHub Id S E I → Type 0
   InTurn does began call old answer new = does call old answer new × Follows began old
 
 -- ---- the turn
 
 -- `step` says what a call of the hub does.
-pub record TurnBySeats {Id T S C R : Type 0} (kind : Kind T S C R) (step : (c : HubCall T) → SeatedHub Id S (Said C R) → HubAnswer c → SeatedHub Id S (Said C R) → Type 0)
+pub record TurnBySeats {Id T S C R I : Type 0} (kind : Kind T S C R) (step : (c : HubCall T) → SeatedHub Id S (Said C R) I → HubAnswer c → SeatedHub Id S (Said C R) I → Type 0)
     (started : Started) (now : ℕ) (seen : List SharingObservation) (s : SharingState T)
-    (old : ChainAndHub T (SeatedHub Id S (Said C R))) (turned : Turned T) (new : ChainAndHub T (SeatedHub Id S (Said C R))) : Type 0 where
+    (old : ChainAndHub T (SeatedHub Id S (Said C R) I)) (turned : Turned T) (new : ChainAndHub T (SeatedHub Id S (Said C R) I)) : Type 0 where
   -- one exchange was lost where the turn reports Busy, and else none
   pub lost : exchanges_lost new.hub ≡ exchanges_lost old.hub + lost_in turned.answer
   -- Where an observation was accepted, its count is the reply of a `subscription_count`, the one event that the watching seat has added.
@@ -73,6 +73,10 @@ pub record TurnBySeats {Id T S C R : Type 0} (kind : Kind T S C R) (step : (c : 
   -- at Waiting.
   pub means : s.runs ≡ is_running started seen → BetweenTurns s old → (accepted : List T) → HasAccount accepted s old
       → TurnMeans (InTurn step old.hub) accepted s old turned.answer turned.state new
+  -- A reset that was made is an event of the sending seat in this turn, after the cancel.
+  pub reset : TurnResets (InTurn step old.hub) s turned.answer turned.state
+  -- The hub is of the same flow, by the same two seats.
+  pub follows : Follows old.hub new.hub
 
 -- A turn over a shared flow for several threads.
 abbrev pub LawTurnOverSharedFlow : Type 0 → Type 0

@@ -8,37 +8,40 @@ use Rattle.flow_law.specs.Tokens.{Token, Origin, knowing, CountsNowIn}
 
 -- The flow that is lent, and the hub's two seats at it. One counts the subscribers; the other emits, and while an emission of the
 -- hub waits it goes with the emission.
-pub record SeatedHub (Id S E : Type 0) : Type 0 where
+pub record SeatedHub (Id S E I : Type 0) : Type 0 where
   pub flow : Origin Id S
   pub watching : Token Id E
   pub sending : Token Id E
   -- the number of the hub's emission, where it waited when it was last asked
   pub emission : Option ℕ
+  -- what a reset sets: the initial value of a state flow. A shared flow has nothing there
+  pub initial : I
 
-module _ {Id S E : Type 0} where
+-- the token is of the flow
+abbrev pub IsOf : {Id S E : Type 0} → Token Id E → Origin Id S → Type 0
+IsOf t flow = t.table_id ≡ flow.table_id
+
+module _ {Id S E I : Type 0} where
   -- a hub whose two seats were made through this one: first the one that counts, then the one that emits
-  abbrev pub seated : Origin Id S → Token Id E → SeatedHub Id S E
-  seated flow maker = record {
+  abbrev pub seated : Origin Id S → Token Id E → I → SeatedHub Id S E I
+  seated flow maker initial = record {
     flow = flow;
     watching = knowing maker (child maker.knows);
     sending = knowing maker (child (makes maker.knows));
     emission = None;
+    initial = initial;
   }
 
-  -- the token is of the flow
-  abbrev pub IsOf : Token Id E → Origin Id S → Type 0
-  IsOf t flow = t.table_id ≡ flow.table_id
-
   -- the hub has an emission that waited when it was last asked
-  abbrev pub has_emission : SeatedHub Id S E → Bool
+  abbrev pub has_emission : SeatedHub Id S E I → Bool
   has_emission hub = is_some hub.emission
 
   -- the flow and the watching seat are as they were
-  abbrev pub OnlySends : SeatedHub Id S E → SeatedHub Id S E → Type 0
+  abbrev pub OnlySends : SeatedHub Id S E I → SeatedHub Id S E I → Type 0
   OnlySends old new = new ≡ record old { sending = new.sending; emission = new.emission }
 
-module _ {Id T S C R : Type 0} (kind : Kind T S C R) where
+module _ {Id T S C R I : Type 0} (kind : Kind T S C R) where
   -- a count is a call through the watching seat, or Busy where that seat lost an exchange; nothing else changes
-  abbrev pub CountDoes : SeatedHub Id S (Said C R) → Result ℕ FlowFault → SeatedHub Id S (Said C R) → Type 0
+  abbrev pub CountDoes : SeatedHub Id S (Said C R) I → Result ℕ FlowFault → SeatedHub Id S (Said C R) I → Type 0
   CountDoes old answer new =
       CountsNowIn kind old.flow.first old.watching answer new.watching × (new ≡ record old { watching = new.watching })

@@ -10,7 +10,7 @@ use Rattle.flow_law.specs.declared.call.SharedReply.TheVariants as reply
 use Rattle.flow_law.specs.declared.outcome.Emit.TheVariants.{Done, Queued}
 use Rattle.flow_law.specs.declared.states.SharedFlowState.{SharedFlowState}
 use Rattle.flow_law.specs.SharedHistory.{shared_flow}
-use Rattle.flow_law.specs.SharingCalls.{HubCall, HubAnswer, counts, puts, polls, cancels}
+use Rattle.flow_law.specs.SharingCalls.{HubCall, HubAnswer, counts, puts, polls, cancels, resets}
 use Rattle.flow_law.specs.Tokens.{IsBusy, CallsAtOnceIn}
 use Rattle.flow_shared.specs.SharedReplies.{SharedToken}
 use Rattle.atomic_table.specs.Seated.{TableId}
@@ -18,7 +18,7 @@ use Rattle.flow_sharing.specs.SeatedHub.{SeatedHub, OnlySends, CountDoes}
 
 -- a hub of a shared flow
 abbrev pub SharedSeats : Type 0 → Type 0
-SharedSeats T = SeatedHub TableId (SharedFlowState T) (Said (SharedCall T) (SharedReply T))
+SharedSeats T = SeatedHub TableId (SharedFlowState T) (Said (SharedCall T) (SharedReply T)) (Unit {0})
 
 -- an emission that waits no more is forgotten
 abbrev pub still : Bool → ℕ → Option ℕ
@@ -53,13 +53,20 @@ module _ {T : Type 0} (first : SharedFlowState T) where
       Called before (call.Cancel number) (reply.Tested waited) after × (emission ≡ None)
   CancelBy (Some number) before (Err fault) after emission = (fault ≡ Busy) × IsBusy before after × (emission ≡ Some number)
 
+  -- one `reset_replay_cache`, or Busy where the token lost an exchange; no emission waits
+  abbrev pub ResetBy : SharedToken T → Result (Unit {0}) FlowFault → SharedToken T → Option ℕ → Type 0
+  ResetBy before (Ok done) after emission = Called before call.ResetReplayCache reply.Reset after × (emission ≡ None)
+  ResetBy before (Err fault) after emission = (fault ≡ Busy) × IsBusy before after × (emission ≡ None)
+
 -- ---- the hub
 
 -- A count is one event under the watching seat. A put is one `emit` under the sending seat; where it queues, its number is kept, and
--- polls and cancels are events of that number, under the same seat. Without such an emission they do nothing. Busy comes exactly
--- where the seat lost an exchange, and is no event. The other seat stays as it is.
+-- polls and cancels are events of that number, under the same seat. Without such an emission they do nothing. A reset is one
+-- `reset_replay_cache` under the sending seat. Busy comes exactly where the seat lost an exchange, and is no event. The other seat stays
+-- as it is.
 abbrev pub SharedFlowHubDoes : {T : Type 0} → (c : HubCall T) → SharedSeats T → HubAnswer c → SharedSeats T → Type 0
 SharedFlowHubDoes counts old answer new = CountDoes shared_flow old answer new
 SharedFlowHubDoes (puts x) old answer new = PutBy old.flow.first x old.sending answer new.sending new.emission × OnlySends old new
 SharedFlowHubDoes polls old answer new = PollBy old.flow.first old.emission old.sending answer new.sending new.emission × OnlySends old new
 SharedFlowHubDoes cancels old answer new = CancelBy old.flow.first old.emission old.sending answer new.sending new.emission × OnlySends old new
+SharedFlowHubDoes resets old answer new = ResetBy old.flow.first old.sending answer new.sending new.emission × OnlySends old new

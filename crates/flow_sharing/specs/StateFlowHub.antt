@@ -1,25 +1,25 @@
 -- What each call of a sharing does to a state flow for several threads. Begin with `StateFlowHubDoes`.
-use Rattle.std.specs.Prelude.{◌≡◌, Bool, false, Result, Ok, Err}
+use Rattle.std.specs.Prelude.{◌≡◌, ◌⊎◌, Bool, false, Result, Ok, Err}
 use Rattle.flow_law.specs.declared.fault.FlowFault.{FlowFault}
-use Rattle.flow_law.specs.declared.fault.FlowFault.TheVariants.{Busy}
+use Rattle.flow_law.specs.declared.fault.FlowFault.TheVariants.{OutOfMemory, Busy}
 use Rattle.flow_law.specs.declared.history.Said.{Said}
 use Rattle.flow_law.specs.declared.call.StateCall.{StateCall}
 use Rattle.flow_law.specs.declared.call.StateCall.TheVariants as call
 use Rattle.flow_law.specs.declared.call.StateReply.{StateReply}
 use Rattle.flow_law.specs.declared.call.StateReply.TheVariants as reply
 use Rattle.flow_law.specs.declared.states.StateFlowState.{StateFlowState}
-use Rattle.flow_law.specs.SharingCalls.{HubCall, HubAnswer, counts, puts, polls, cancels}
+use Rattle.flow_law.specs.SharingCalls.{HubCall, HubAnswer, counts, puts, polls, cancels, resets}
 use Rattle.flow_law.specs.StateFlow.{state_flow}
 use Rattle.flow_law.specs.Tokens.{IsBusy, CallsAtOnceIn}
 use Rattle.flow_sharing.specs.SeatedHub.{SeatedHub, OnlySends, CountDoes}
 
 -- nothing waits in a state flow
-abbrev pub nothing_waits : {Id S E : Type 0} → SeatedHub Id S E → Bool
+abbrev pub nothing_waits : {Id S E I : Type 0} → SeatedHub Id S E I → Bool
 nothing_waits hub = false
 
 -- a hub of a state flow; `Id` is what tells one flow from another
 abbrev pub StateSeats : Type 0 → Type 0 → Type 0
-StateSeats Id T = SeatedHub Id (StateFlowState T) (Said (StateCall T) (StateReply T))
+StateSeats Id T = SeatedHub Id (StateFlowState T) (Said (StateCall T) (StateReply T)) T
 
 module _ {Id T : Type 0} where
   -- a put is a `set` under the sending seat; or another caller was inside, and the seat has lost one exchange
@@ -29,6 +29,14 @@ module _ {Id T : Type 0} where
   SetDoes x old (Err fault) new =
       (fault ≡ Busy) × IsBusy old.sending new.sending × OnlySends old new
 
+  -- a reset is a `set` of the initial value under the sending seat; or another caller was inside, and the seat has lost one exchange; or
+  -- there was no memory for a copy of the value, and nothing has changed
+  abbrev pub ResetDoes : StateSeats Id T → Result (Unit {0}) FlowFault → StateSeats Id T → Type 0
+  ResetDoes old (Ok done) new =
+      CallsAtOnceIn state_flow old.flow.first old.sending (call.Set old.initial) reply.Done new.sending × OnlySends old new
+  ResetDoes old (Err fault) new =
+      ((fault ≡ Busy) × IsBusy old.sending new.sending × OnlySends old new) ⊎ ((fault ≡ OutOfMemory) × (new ≡ old))
+
   -- A count is one event under the watching seat. Nothing waits: polls and cancels do nothing. Busy comes exactly where the seat lost
   -- an exchange, and is no event.
   abbrev pub StateFlowHubDoes : (c : HubCall T) → StateSeats Id T → HubAnswer c → StateSeats Id T → Type 0
@@ -36,3 +44,4 @@ module _ {Id T : Type 0} where
   StateFlowHubDoes (puts x) old answer new = SetDoes x old answer new
   StateFlowHubDoes polls old answer new = (answer ≡ Ok false) × (new ≡ old)
   StateFlowHubDoes cancels old answer new = (answer ≡ Ok false) × (new ≡ old)
+  StateFlowHubDoes resets old answer new = ResetDoes old answer new

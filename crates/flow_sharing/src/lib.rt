@@ -26,7 +26,7 @@ mod state_flow_hub;
 mod word_hub;
 
 pub use flow_turns::{
-    Asked, Backwards, ChainFault, Cold, Command, CoreHub, End, Event, Hub, Policy, Report,
+    Asked, Backwards, ChainFault, Cold, Command, CoreHub, End, Event, Hub, NEVER, Policy, Report,
     ShareFault, Sharing, SharingObservation, Started, StateHub, law_turn_over_core,
     law_turn_over_state_core, share_in, state_in,
 };

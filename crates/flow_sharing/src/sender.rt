@@ -4,7 +4,7 @@ ghost use Rattle.flow_law.specs.SharingCalls as calls;
 ghost use Rattle.flow_law.specs.SharingCalls.{waits_after};
 ghost use Rattle.flow_turns.specs.Hub.{put_answer};
 ghost use Rattle.flow_sharing.specs.Sender.{token_of, emission_of};
-ghost use Rattle.flow_sharing.specs.SharedFlowHub.{PutBy, PollBy, CancelBy};
+ghost use Rattle.flow_sharing.specs.SharedFlowHub.{PutBy, PollBy, CancelBy, ResetBy};
 
 use flow_law::{FlowFault, FlowValue, Refused};
 use flow_shared::{Emission, Emitted, PolledNow, Seat, SharedFlow};
@@ -80,5 +80,20 @@ impl<T: FlowValue, A: Allocator + Copy> Sender<T, A> {
                 Err(emission) => (Sender::Waiting(emission), Err(FlowFault::Busy)),
             },
         }
+    }
+    /// Empties the replay cache of the flow.
+    pub(crate) fn reset(self, flow: &SharedFlow<T, A>) -> (Self, Result<(), FlowFault>)
+        requires flow { (token_of self).table_id ≡ flow.now.table_id }
+        requires idle { emission_of self ≡ None }
+        ensures resets { ResetBy flow.now.first (token_of self) result.1
+            (token_of result.0) (emission_of result.0) }
+        ensures waits { is_some (emission_of result.0) ≡ false }
+        ensures flow { (token_of result.0).table_id ≡ (token_of self).table_id }
+    {
+        let Sender::Idle(mut seat) = self else {
+            unreachable!()
+        };
+        let answer = flow.reset_now(&mut seat);
+        (Sender::Idle(seat), answer)
     }
 }

@@ -40,6 +40,7 @@ impl<'a, T: FlowValue, A: Allocator + Copy> Model for SharedFlowHub<'a, T, A> {
       watching = h.watching;
       sending = token_of h.sending;
       emission = emission_of h.sending;
+      initial = tt;
     } };
 
     ghost invariant = { λ h. IsOf h.watching h.flow.now × IsOf (token_of h.sending) h.flow.now };
@@ -49,7 +50,7 @@ impl<'a, T: FlowValue, A: Allocator + Copy> SharedFlowHub<'a, T, A> {
     /// A hub that has emitted nothing yet. Its two seats are made through this one, which stays the caller's.
     pub fn new(flow: &'a SharedFlow<T, A>, seat: &mut Seat<T, A>) -> SharedFlowHub<'a, T, A>
         requires { seat.old.table_id ≡ flow.now.table_id }
-        ensures hub { result ≡ seated flow.entry.now seat.old }
+        ensures hub { result ≡ seated flow.entry.now seat.old tt }
         ensures seat { seat.new ≡ knowing seat.old (makes (makes seat.old.knows)) }
         ensures waits { ⟦<SharedFlowHub<'a, T, A> as Hub>⟧.waits result ≡ false }
     {
@@ -87,5 +88,9 @@ impl<'a, T: FlowValue, A: Allocator + Copy> Hub for SharedFlowHub<'a, T, A> {
 
     fn cancel(&mut self) -> Result<bool, FlowFault> {
         replace_with(&mut self.sending, self.flow, Sender::cancel)
+    }
+
+    fn reset(&mut self) -> Result<(), FlowFault> {
+        replace_with(&mut self.sending, self.flow, Sender::reset)
     }
 }

@@ -12,13 +12,16 @@ use std::marker::Model;
 
 /// A `StateFlow` that is lent, whose value a sharing sets beside other callers. Subscribers use the flow itself.
 ///
-/// No item ever waits, and the only refusal is `Busy`, where another caller is inside the flow. The item is kept then,
-/// and the next turn sets it. A hub that is dropped loses its two seats.
+/// No item ever waits, and it is refused only as `Busy`, where another caller is inside the flow. The item is kept then,
+/// and the next turn sets it. A reset copies the initial value, and is refused where memory is wanting, too. A hub that is
+/// dropped loses its two seats.
 #[derive(Drop)]
 pub struct StateFlowHub<'a, T: FlowValue, A: Allocator + Copy = Global> {
     flow: &'a StateFlow<T, A>,
     watching: StateSeat<T, A>,
     sending: StateSeat<T, A>,
+    /// The value that a reset sets.
+    initial: T,
 }
 
 impl<'a, T: FlowValue, A: Allocator + Copy> Model for StateFlowHub<'a, T, A> {
@@ -35,16 +38,22 @@ impl<'a, T: FlowValue, A: Allocator + Copy> Model for StateFlowHub<'a, T, A> {
       watching = h.watching;
       sending = h.sending;
       emission = None;
+      initial = h.initial;
     } };
 
     ghost invariant = { λ h. IsOf h.watching h.flow.now × IsOf h.sending h.flow.now };
 }
 
 impl<'a, T: FlowValue, A: Allocator + Copy> StateFlowHub<'a, T, A> {
-    /// A hub that has set nothing yet. Its two seats are made through this one, which stays the caller's.
-    pub fn new(flow: &'a StateFlow<T, A>, seat: &mut StateSeat<T, A>) -> StateFlowHub<'a, T, A>
+    /// A hub that has set nothing yet. Its two seats are made through this one, which stays the caller's. `initial` is what
+    /// a reset sets: the value that the flow began with.
+    pub fn new(
+        flow: &'a StateFlow<T, A>,
+        seat: &mut StateSeat<T, A>,
+        initial: T,
+    ) -> StateFlowHub<'a, T, A>
         requires { seat.old.table_id ≡ flow.now.table_id }
-        ensures hub { result ≡ seated flow.entry.now seat.old }
+        ensures hub { result ≡ seated flow.entry.now seat.old initial }
         ensures seat { seat.new ≡ knowing seat.old (makes (makes seat.old.knows)) }
         ensures waits { ⟦<StateFlowHub<'a, T, A> as Hub>⟧.waits result ≡ false }
     {
@@ -54,6 +63,7 @@ impl<'a, T: FlowValue, A: Allocator + Copy> StateFlowHub<'a, T, A> {
             flow,
             watching,
             sending,
+            initial,
         }
     }
 }
@@ -82,5 +92,16 @@ impl<'a, T: FlowValue, A: Allocator + Copy> Hub for StateFlowHub<'a, T, A> {
 
     fn cancel(&mut self) -> Result<bool, FlowFault> {
         Ok(false)
+    }
+
+    fn reset(&mut self) -> Result<(), FlowFault> {
+        let initial = match self.initial.try_copy() {
+            Ok(initial) => initial,
+            Err(fault) => return Err(fault),
+        };
+        match self.flow.set_now(&mut self.sending, initial) {
+            Ok(()) => Ok(()),
+            Err(refused) => Err(refused.fault),
+        }
     }
 }

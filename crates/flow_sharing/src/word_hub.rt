@@ -18,6 +18,8 @@ pub struct WordHub<'a, T: Packed> {
     flow: &'a WordState<T>,
     watching: WordSeat<T>,
     sending: WordSeat<T>,
+    /// The pack of the value that a reset sets.
+    initial: u64,
 }
 
 impl<'a, T: Packed> Model for WordHub<'a, T> {
@@ -34,16 +36,18 @@ impl<'a, T: Packed> Model for WordHub<'a, T> {
       watching = h.watching;
       sending = h.sending;
       emission = None;
+      initial = T.value_of h.initial;
     } };
 
-    ghost invariant = { λ h. IsOf h.watching h.flow.now × IsOf h.sending h.flow.now };
+    ghost invariant = { λ h. IsOf h.watching h.flow.now × IsOf h.sending h.flow.now × T.packs h.initial };
 }
 
 impl<'a, T: Packed> WordHub<'a, T> {
-    /// A hub that has set nothing yet. Its two seats are made through this one, which stays the caller's.
-    pub fn new(flow: &'a WordState<T>, seat: &mut WordSeat<T>) -> WordHub<'a, T>
+    /// A hub that has set nothing yet. Its two seats are made through this one, which stays the caller's. `initial` is what
+    /// a reset sets: the value that the flow began with.
+    pub fn new(flow: &'a WordState<T>, seat: &mut WordSeat<T>, initial: T) -> WordHub<'a, T>
         requires { seat.old.table_id ≡ flow.now.table_id }
-        ensures hub { result ≡ seated flow.entry.now seat.old }
+        ensures hub { result ≡ seated flow.entry.now seat.old initial }
         ensures seat { seat.new ≡ knowing seat.old (makes (makes seat.old.knows)) }
         ensures waits { ⟦<WordHub<'a, T> as Hub>⟧.waits result ≡ false }
     {
@@ -53,6 +57,7 @@ impl<'a, T: Packed> WordHub<'a, T> {
             flow,
             watching,
             sending,
+            initial: initial.pack(),
         }
     }
 }
@@ -82,5 +87,10 @@ impl<'a, T: Packed> Hub for WordHub<'a, T> {
 
     fn cancel(&mut self) -> Result<bool, FlowFault> {
         Ok(false)
+    }
+
+    fn reset(&mut self) -> Result<(), FlowFault> {
+        self.flow.set(&mut self.sending, T::unpack(self.initial));
+        Ok(())
     }
 }

@@ -10,6 +10,7 @@ use Rattle.flow_law.specs.declared.call.SharedReply.TheVariants as reply
 use Rattle.flow_law.specs.declared.call.StateReply.{StateReply}
 use Rattle.flow_law.specs.declared.call.StateReply.TheVariants as state_answer
 use Rattle.flow_law.specs.declared.states.StateFlowState.{StateFlowState}
+use Rattle.flow_law.specs.declared.states.StateAndInitial.{StateAndInitial}
 use Rattle.flow_law.specs.SharedStep as flow
 use Rattle.flow_law.specs.SharedHistory.{reply_by}
 use Rattle.flow_law.specs.Standing.{StandsFor}
@@ -17,14 +18,14 @@ use Rattle.flow_law.specs.Steps.{Takes}
 use Rattle.flow_law.specs.SharingCalls.{HubCall, HubAnswer, counts, puts, polls, cancels, resets, HubStep, CallDoes, with_hub}
 use Rattle.flow_law.specs.SharingTurn.{turn_steps}
 use Rattle.flow_law.specs.declared.states.EmittingFlow.{EmittingFlow}
-use Rattle.flow_law.specs.SharingFlows.{still_waits, cancelled, emitted, SharedDoes, state_reply, StateDoes}
+use Rattle.flow_law.specs.SharingFlows.{still_waits, cancelled, emitted, SharedDoes, with_value, state_reply, StateDoes}
 use Rattle.flow_law.proofs.TurnLemmas.{turn-along}
 use Rattle.flow_law.proofs.SharingFlowLemmas.{shared-turn, state-turn}
 use Rattle.flow_law.proofs.ReplyLemmas.{replies_cases}
 use Rattle.flow_turns.specs.declared.core_hub.CoreHub.{CoreHub}
 use Rattle.flow_turns.specs.declared.state_hub.StateHub.{StateHub}
 use Rattle.flow_turns.specs.CoreHub.{still, PollDoes, CancelDoes, CoreHubDoes, is_waiting}
-use Rattle.flow_turns.specs.StateHub.{StateHubDoes, never_waits}
+use Rattle.flow_turns.specs.StateHub.{StateHubDoes, never_waits, state_flow_of}
 use Rattle.flow_turns.specs.OverCores.{Emits, LawTurnOverCore, LawTurnOverStateCore}
 
 -- ---- a shared flow
@@ -144,67 +145,69 @@ turn-over_core T A started now seen s f old new turned stands h =
 
 -- ---- a state flow
 
-module _ {T A : Type 0} (initial : T) where
-  -- the core is the flow, and a reset sets this value
-  abbrev IsFlow : StateHub T A → StateFlowState T → Type 0
-  IsFlow hub f = (f ≡ hub.core) × (hub.initial ≡ initial)
+module _ {T A : Type 0} where
+  -- the hub is the flow
+  abbrev IsFlow : StateHub T A → StateAndInitial T → Type 0
+  IsFlow hub f = f ≡ state_flow_of hub
 
-  nothing-done : (c : HubCall T) (h k : StateHub T A) (a : HubAnswer c) (f : StateFlowState T) → IsFlow h f → k ≡ h
-      → state_reply initial c h.core ≡ record { result = a; state = h.core }
-      → (g : StateFlowState T) × IsFlow k g × StateDoes initial c f a g
+  nothing-done : (c : HubCall T) (h k : StateHub T A) (a : HubAnswer c) (f : StateAndInitial T) → IsFlow h f → k ≡ h
+      → state_reply c (state_flow_of h) ≡ record { result = a; state = state_flow_of h }
+      → (g : StateAndInitial T) × IsFlow k g × StateDoes c f a g
   nothing-done c h k a f is same does = (
-    k.core,
-    (refl, ap (λ (x : StateHub T A). x.initial) same ∙ is.1),
-    inl (ap (state_reply initial c) is.0 ∙ does ∙ ap (λ (y : StateHub T A). record { result = a; state = y.core }) (sym same)),
+    state_flow_of k,
+    refl,
+    inl (ap (state_reply c) is ∙ does ∙ ap (λ (y : StateHub T A). record { result = a; state = state_flow_of y }) (sym same)),
   )
 
-  state-gives : (c : HubCall T) (h k : StateHub T A) (a : HubAnswer c) (f : StateFlowState T) → IsFlow h f → HubStep StateHubDoes never_waits c h a k
-      → (g : StateFlowState T) × IsFlow k g × StateDoes initial c f a g
+  -- a core that has this value, in a hub with the same initial one
+  sets : (h k : StateHub T A) (core : StateFlowState T) → k.core ≡ core → k.initial ≡ h.initial → record { flow = core; initial = h.initial } ≡ state_flow_of k
+  sets h k core is same =
+      ap (λ (x : StateFlowState T). record { flow = x; initial = h.initial }) (sym is) ∙ ap (λ (x : T). record { flow = k.core; initial = x }) (sym same)
+
+  state-gives : (c : HubCall T) (h k : StateHub T A) (a : HubAnswer c) (f : StateAndInitial T) → IsFlow h f → HubStep StateHubDoes never_waits c h a k
+      → (g : StateAndInitial T) × IsFlow k g × StateDoes c f a g
   state-gives counts h k (Ok count) f is told =
       let did = told.0.0.0 h.core refl in
       let same : ◌≡◌ {A = StateReply T} (state_answer.Counted count) (state_answer.Counted (length h.core.subscribers)) = did.0 in
       let so : length h.core.subscribers ≡ count = cc in (
-        k.core,
-        (refl, told.0.1 ∙ is.1),
+        state_flow_of k,
+        refl,
         inl (
-            ap (state_reply initial counts) is.0 ∙ ap (λ (n : ℕ). record { result = Ok n; state = h.core }) so
-            ∙ ap (λ (x : StateFlowState T). record { result = Ok count; state = x }) (sym did.1)
+            ap (state_reply counts) is ∙ ap (λ (n : ℕ). record { result = Ok n; state = state_flow_of h }) so
+            ∙ ap (λ (x : StateAndInitial T). record { result = Ok count; state = x }) (sets h k h.core did.1 told.0.1)
             ),
       )
   state-gives counts h k (Err fault) f is told = absurd told.0
   state-gives (puts x) h k a f is told =
       let did = told.0.0.0.0 h.core refl in (
-        k.core,
-        (refl, told.0.0.1 ∙ is.1),
+        state_flow_of k,
+        refl,
         inl (
-            ap (state_reply initial (puts x)) is.0 ∙ ap (λ (y : Result Bool FlowFault). record { result = y; state = record h.core { value = x } }) (sym told.0.1)
-            ∙ ap (λ (y : StateFlowState T). record { result = a; state = y }) (sym did.1)
+            ap (state_reply (puts x)) is ∙ ap (λ (y : Result Bool FlowFault). record { result = y; state = with_value x (state_flow_of h) }) (sym told.0.1)
+            ∙ ap (λ (y : StateAndInitial T). record { result = a; state = y }) (sets h k (record h.core { value = x }) did.1 told.0.0.1)
             ),
       )
   state-gives polls h k a f is told =
-      nothing-done polls h k a f is told.0.0 (ap (λ (y : Result Bool FlowFault). record { result = y; state = h.core }) (sym told.0.1))
+      nothing-done polls h k a f is told.0.0 (ap (λ (y : Result Bool FlowFault). record { result = y; state = state_flow_of h }) (sym told.0.1))
   state-gives cancels h k a f is told =
-      nothing-done cancels h k a f is told.0.0 (ap (λ (y : Result Bool FlowFault). record { result = y; state = h.core }) (sym told.0.1))
+      nothing-done cancels h k a f is told.0.0 (ap (λ (y : Result Bool FlowFault). record { result = y; state = state_flow_of h }) (sym told.0.1))
   state-gives resets h k (Ok done) f is told =
       let did = told.0.0.0 h.core refl in (
-        k.core,
-        (refl, told.0.1 ∙ is.1),
+        state_flow_of k,
+        refl,
         inl (
-            ap (state_reply initial resets) is.0 ∙ ap (λ (x : T). record { result = Ok tt; state = record h.core { value = x } }) (sym is.1)
-            ∙ ap (λ (y : StateFlowState T). record { result = Ok tt; state = y }) (sym did.1)
+            ap (state_reply resets) is
+            ∙ ap (λ (y : StateAndInitial T). record { result = Ok tt; state = y }) (sets h k (record h.core { value = h.initial }) did.1 told.0.1)
             ),
       )
   state-gives resets h k (Err fault) f is told = (
     f,
-    (is.0 ∙ ap (λ (x : StateHub T A). x.core) (sym told.0.0), ap (λ (x : StateHub T A). x.initial) told.0.0 ∙ is.1),
+    is ∙ ap (λ (x : StateHub T A). state_flow_of x) (sym told.0.0),
     inr (refl, ap Err told.0.1, refl),
   )
 
 pub turn-over_state_core : (T A : Type 0) → LawTurnOverStateCore T A
 turn-over_state_core T A started now seen s old new turned h =
-    let initial : T = old.hub.initial in
-    let done = turn-along (HubStep StateHubDoes never_waits) (StateDoes initial) (IsFlow initial) (state-gives initial) _ old new old.hub.core turned (refl, refl) h in (
-      done.1.1,
-      state-turn initial started now seen s _ _ turned
-          (subst (λ g. Takes (CallDoes (StateDoes initial)) (turn_steps started now seen s) (with_hub old old.hub.core) turned (with_hub new g)) done.1.0 done.2),
-    )
+    let done = turn-along (HubStep StateHubDoes never_waits) StateDoes IsFlow state-gives _ old new (state_flow_of old.hub) turned refl h in
+    state-turn started now seen s _ _ turned
+    (subst (λ g. Takes (CallDoes StateDoes) (turn_steps started now seen s) (with_hub old (state_flow_of old.hub)) turned (with_hub new g)) done.1 done.2)

@@ -11,7 +11,7 @@ use Rattle.flow_law.specs.SharingFlows.{shared_reply, SharedDoes, state_reply, S
 use Rattle.flow_turns.specs.declared.core_hub.CoreHub.{CoreHub}
 use Rattle.flow_turns.specs.declared.state_hub.StateHub.{StateHub}
 use Rattle.flow_turns.specs.CoreHub.{CoreHubDoes, is_waiting, emission_of, core_of}
-use Rattle.flow_turns.specs.StateHub.{StateHubDoes, never_waits, state_core_of, initial_of}
+use Rattle.flow_turns.specs.StateHub.{StateHubDoes, never_waits, state_flow_of}
 
 module _ {T A : Type 0} where
   -- the hub's core stands for the flow, and its emission is the one that waits there
@@ -28,13 +28,11 @@ LawTurnOverCore T A =
     (g : EmittingFlow T) × Emits new.hub g
     × DocumentedTurn SharedDoes shared_reply IsNotBusy started now seen s (with_hub old f) turned (with_hub new g)
 
--- A turn over a state core is a turn over the documented state flow that it is, with the hub's initial value, which stays. Nothing waits, and
--- nothing is refused but for want of memory.
+-- A turn over a state core is a turn over the documented state flow that it is. Nothing waits, and nothing is refused but for want of memory.
 abbrev pub LawTurnOverStateCore : Type 0 → Type 0 → Type 0
 LawTurnOverStateCore T A =
     (started : Started) (now : ℕ) (seen : List SharingObservation) (s : SharingState T)
     (old new : ChainAndHub T (StateHub T A)) (turned : Turned T) →
     Takes (CallDoes (HubStep StateHubDoes never_waits)) (turn_steps started now seen s) old turned new →
-    (initial_of new.hub ≡ initial_of old.hub)
-    × DocumentedTurn (StateDoes (initial_of old.hub)) (state_reply (initial_of old.hub)) IsAtOnce started now seen s
-    (with_hub old (state_core_of old.hub)) turned (with_hub new (state_core_of new.hub))
+    DocumentedTurn StateDoes state_reply IsAtOnce started now seen s
+    (with_hub old (state_flow_of old.hub)) turned (with_hub new (state_flow_of new.hub))

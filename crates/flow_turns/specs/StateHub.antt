@@ -6,6 +6,7 @@ use Rattle.flow_law.specs.declared.call.StateReply.{StateReply}
 use Rattle.flow_law.specs.declared.call.StateReply.TheVariants as reply
 use Rattle.flow_law.specs.declared.fault.FlowFault.TheVariants.{OutOfMemory}
 use Rattle.flow_law.specs.declared.states.StateFlowState.{StateFlowState}
+use Rattle.flow_law.specs.declared.states.StateAndInitial.{StateAndInitial}
 use Rattle.flow_law.specs.SharingCalls.{HubCall, HubAnswer, counts, puts, polls, cancels, resets}
 use Rattle.flow_law.specs.Standing.{StateConforms}
 use Rattle.flow_turns.specs.declared.state_hub.StateHub.{StateHub}
@@ -18,6 +19,10 @@ module _ {T A : Type 0} where
   -- the value that a reset sets
   abbrev pub initial_of : StateHub T A → T
   initial_of hub = hub.initial
+
+  -- the documented state flow, with the value that a reset sets
+  abbrev pub state_flow_of : StateHub T A → StateAndInitial T
+  state_flow_of hub = record { flow = hub.core; initial = hub.initial }
 
   -- nothing waits in a state flow
   abbrev pub never_waits : StateHub T A → Bool

@@ -1,8 +1,10 @@
-use Rattle.std.proofs.Common.{◌≡◌, ap, subst, ◌∙◌}
+use Rattle.std.proofs.Common.{◌≡◌, ℤ, ap, subst, ◌∙◌}
 use Rattle.std.proofs.Math.Facts.{to_z-of_z}
+use Rattle.flow_law.specs.declared.states.StateAndInitial.{StateAndInitial}
+use Rattle.flow_law.specs.declared.states.StateFlowState.{StateFlowState}
 use Rattle.flow_law.specs.StateFlow.{first_state_flow}
 use Rattle.flow_cold.specs.ScriptChain.{node_rest}
-use Rattle.flow_turns.specs.StateHub.{state_core_of}
+use Rattle.flow_turns.specs.StateHub.{state_core_of, initial_of, state_flow_of}
 use Rattle.flow_format.specs.Heads.{state_chain}
 use Rattle.flow_lines.specs.ScriptMeaning.{player_of, state_in}
 use Rattle.flow_lines.specs.SharingMeaning.{first_sharing}
@@ -13,12 +15,16 @@ pub returns-in-Ok-state_in : goal.returns-in-Ok-state_in
 returns-in-Ok-state_in c =
     let started = c.args.started in
     let built = c.in-Ok.ensures.0 in
-    let flow = first_state_flow c.args.limit c.args.initial in
+    let first = first_state_flow c.args.limit c.args.initial in
+    let flow : StateAndInitial ℤ = record { flow = first; initial = c.args.initial } in
     let sharing = c.in-Ok-state_in.sharing in
     let made = c.in-Ok-state_in.ensures in
     let is = made.chain ∙ ap (λ r. chained r (node_rest c.in-Ok.chain.node) sharing.hub) c.in-Ok.ensures.2 ∙ ap (λ r. chained built.run r sharing.hub) c.in-Ok.ensures.3 in
-    let core = subst (λ v. state_core_of sharing.hub ≡ first_state_flow c.args.limit v) (to_z-of_z c.ranges.initial) made.flow in (
+    let core = subst (λ v. state_core_of sharing.hub ≡ first_state_flow c.args.limit v) (to_z-of_z c.ranges.initial) made.flow in
+    let initial = subst (λ v. initial_of sharing.hub ≡ v) (to_z-of_z c.ranges.initial) made.initial in
+    let shown : state_flow_of sharing.hub ≡ flow =
+    ap (λ (f : StateFlowState ℤ). record { flow = f; initial = sharing.hub.initial }) core ∙ ap (λ (x : ℤ). record { flow = first; initial = x }) initial in (
       state_in (first_sharing built.run started flow),
       ap (λ b. player_of (state_chain b started c.args.initial c.args.limit)) c.in-Ok.ensures.1,
-      begun (λ hub s. state_core_of hub ≡ s) sharing started built.run flow made.nothing made.state is core,
+      begun (λ hub s. state_flow_of hub ≡ s) sharing started built.run flow made.nothing made.state is shown,
     )
