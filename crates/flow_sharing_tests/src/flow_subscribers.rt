@@ -115,15 +115,17 @@ impl<'a, S: Caching, H> Subscribers<H> for FlowSubscribers<'a, S> {
     }
 }
 
-/// Takes the steps of a chain that is shared into a shared flow of 64 values, none of which is replayed.
+/// Takes the steps of a chain that is shared into a shared flow of 64 values, of which so many are replayed.
 pub fn lent_answers<R: Wait + Abort>(
     rt: &R,
     alloc: Global,
     chain: ScriptChain,
     started: Started,
+    replay: u32,
     steps: &[Step],
 ) {
-    let made = SharedFlow::new(alloc, Config::new().extra(64));
+    let config = Config::new().replay(replay).extra(64 - replay.min(64));
+    let made = SharedFlow::new(alloc, config);
     let (flow, mut seat) = made.expect(rt, "a flow");
     let hub = SharedFlowHub::new(&flow, &mut seat);
     let subscribers = FlowSubscribers {
@@ -144,7 +146,7 @@ pub fn lent_state_answers<R: Wait + Abort>(
 ) {
     let made = StateFlow::new(alloc, 0, u64::MAX);
     let (flow, mut seat) = made.expect(rt, "a flow");
-    let hub = StateFlowHub::new(&flow, &mut seat);
+    let hub = StateFlowHub::new(&flow, &mut seat, 0);
     let subscribers = FlowSubscribers {
         flow: &flow,
         seat,

@@ -1,7 +1,7 @@
 //! Policies and hubs by themselves.
 use crate::compare::compare;
 use flow_core::{SharedCore, StateCore};
-use flow_law::{Command, Config, Next, Started};
+use flow_law::{Command, Config, NEVER, Next, Started};
 use flow_shared::{SharedFlow, StateFlow};
 use flow_sharing::{
     Backwards, CoreHub, Hub, Policy, SharedFlowHub, StateFlowHub, StateHub, law_turn_over_core,
@@ -13,7 +13,10 @@ use std::process::Abort;
 /// Moments may stand still, and do not go back.
 #[test]
 fn observes_subscribers(rt: HostRuntime) {
-    let mut policy = Policy::new(Started::WhileSubscribed { stop: 10 });
+    let mut policy = Policy::new(Started::WhileSubscribed {
+        stop: 10,
+        expire: NEVER,
+    });
     for (place, moment, subscribers, command) in [
         (0, 5, 0, Ok(Command::Keep)),
         (1, 5, 2, Ok(Command::Start)),
@@ -72,7 +75,7 @@ fn nothing_waits<H: Hub<Item = i64>>(rt: &impl Abort, hub: &mut H) {
 
 #[test]
 fn nothing_waits_for_a_state_flow(rt: HostRuntime) {
-    let mut hub = StateHub::new(StateCore::new(rt.alloc(), 0i64, u64::MAX));
+    let mut hub = StateHub::new(StateCore::new(rt.alloc(), 0i64, u64::MAX), 0);
     compare(&rt, 0, hub.put(3), Ok(false));
     nothing_waits(&rt, &mut hub);
     compare(&rt, 4, hub.core_mut().value(), Ok(3));
@@ -82,7 +85,7 @@ fn nothing_waits_for_a_state_flow(rt: HostRuntime) {
 fn nothing_waits_for_a_lent_state_flow(rt: HostRuntime) {
     let made = StateFlow::new(rt.alloc(), 0i64, u64::MAX);
     let (flow, mut seat) = made.expect(&rt, "a flow");
-    let mut hub = StateFlowHub::new(&flow, &mut seat);
+    let mut hub = StateFlowHub::new(&flow, &mut seat, 0);
     compare(&rt, 0, hub.put(3), Ok(false));
     nothing_waits(&rt, &mut hub);
     compare(&rt, 4, flow.value(&rt, &mut seat), Ok(3));

@@ -9,6 +9,8 @@ mod compare;
 #[cfg(test)]
 mod core_subscribers;
 #[cfg(test)]
+mod expiry;
+#[cfg(test)]
 mod flow_subscribers;
 #[cfg(test)]
 mod hubs;
@@ -16,6 +18,8 @@ mod hubs;
 mod refusal_steps;
 #[cfg(test)]
 mod refusals;
+#[cfg(test)]
+mod refused_reset;
 #[cfg(test)]
 mod sharing_steps;
 #[cfg(test)]

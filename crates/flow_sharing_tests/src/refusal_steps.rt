@@ -25,9 +25,12 @@ pub enum Step {
     Accepted(&'static [i64]),
     /// How often the chain has been asked.
     Asked(u64),
+    /// How often the flow has been reset.
+    Resets(u64),
 }
 
-/// A sharing of a list over a test flow that has one subscriber. It stops when the flow has none.
+/// A sharing of a list over a test flow that has one subscriber. It stops when the flow has none, and the flow forgets some
+/// time after that.
 #[derive(Drop)]
 struct Shared<'a> {
     sharing: Sharing<Counted<'a>, TestHub>,
@@ -35,7 +38,13 @@ struct Shared<'a> {
 }
 
 impl<'a> Shared<'a> {
-    fn new(rt: &impl Abort, alloc: Global, items: &[i64], asks: &'a Cell<u64>) -> Shared<'a> {
+    fn new(
+        rt: &impl Abort,
+        alloc: Global,
+        expire: u64,
+        items: &[i64],
+        asks: &'a Cell<u64>,
+    ) -> Shared<'a> {
         let chain = Counted {
             list: OfList::new(items.to_vec(alloc).expect(rt, "memory")),
             asks,
@@ -45,8 +54,9 @@ impl<'a> Shared<'a> {
             behaviour: Behaviour::Accepts,
             waits: false,
             accepted: Vec::new(alloc),
+            resets: 0,
         };
-        let sharing = Sharing::new(chain, Started::WhileSubscribed { stop: 0 }, hub);
+        let sharing = Sharing::new(chain, Started::WhileSubscribed { stop: 0, expire }, hub);
         Shared { sharing, asks }
     }
 
@@ -74,15 +84,16 @@ impl<'a> Shared<'a> {
             Step::Waits(waits) => compare(rt, place, self.hub().waits, *waits),
             Step::Accepted(items) => compare(rt, place, self.hub().accepted.as_slice(), *items),
             Step::Asked(count) => compare(rt, place, self.asks.get(), *count),
+            Step::Resets(count) => compare(rt, place, self.hub().resets, *count),
         }
     }
 }
 
-/// Takes the steps of a new sharing of these items, and compares what they answer. A wrong answer is told by the place
-/// of its step, from 0.
-pub fn answers(rt: &impl Abort, alloc: Global, items: &[i64], steps: &[Step]) {
+/// Takes the steps of a new sharing of these items, whose flow forgets so long after a stop, and compares what they answer.
+/// A wrong answer is told by the place of its step, from 0.
+pub fn answers(rt: &impl Abort, alloc: Global, expire: u64, items: &[i64], steps: &[Step]) {
     let asks = Cell::new(0);
-    let mut shared = Shared::new(rt, alloc, items, &asks);
+    let mut shared = Shared::new(rt, alloc, expire, items, &asks);
     for place in 0..steps.len() {
         shared.take(rt, place, &steps[place]);
     }

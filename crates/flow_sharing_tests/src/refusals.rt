@@ -1,10 +1,13 @@
 //! What a flow that refuses, queues or is busy leaves of a turn, and how often a chain is asked. Over a flow for one
 //! thread some of it cannot come: without subscribers nothing waits there, and it is never busy.
-use crate::refusal_steps::Step::{Accepted, Asked, Behave, Refused, Subscribers, Turn, Waits};
+use crate::refusal_steps::Step::{
+    Accepted, Asked, Behave, Refused, Resets, Subscribers, Turn, Waits,
+};
 use crate::refusal_steps::answers;
-use crate::test_hub::Behaviour::{Accepts, KeepsEmissions, Queues, Refuses};
-use flow_law::Command::{Keep, Start, Stop};
+use crate::test_hub::Behaviour::{Accepts, KeepsCache, KeepsEmissions, Queues, Refuses};
+use flow_law::Command::{Keep, Start, Stop, StopAndReset};
 use flow_law::FlowFault::{Busy, OutOfMemory};
+use flow_law::NEVER;
 use flow_law::report::Event::{self, Completed, Idle, Put, Queued, Waiting};
 use flow_law::report::ShareFault::Flow;
 
@@ -14,6 +17,7 @@ fn drops_the_kept_item_at_a_stop(rt: HostRuntime) {
     answers(
         &rt,
         rt.alloc(),
+        NEVER,
         &[1, 2, 3],
         &[
             Turn(0, Start, Put),
@@ -41,6 +45,7 @@ fn cancels_the_waiting_emission_at_a_stop(rt: HostRuntime) {
     answers(
         &rt,
         rt.alloc(),
+        NEVER,
         &[1, 2],
         &[
             Turn(0, Start, Put),
@@ -61,6 +66,7 @@ fn cancels_once_the_flow_is_free(rt: HostRuntime) {
     answers(
         &rt,
         rt.alloc(),
+        NEVER,
         &[1, 2],
         &[
             Turn(0, Start, Put),
@@ -85,6 +91,7 @@ fn asks_a_completed_chain_after_a_start_alone(rt: HostRuntime) {
     answers(
         &rt,
         rt.alloc(),
+        NEVER,
         &[1],
         &[
             Turn(0, Start, Put),
@@ -97,6 +104,39 @@ fn asks_a_completed_chain_after_a_start_alone(rt: HostRuntime) {
             Subscribers(1),
             Turn(4, Start, Put),
             Asked(3),
+        ],
+    );
+}
+
+/// What a busy flow did not do is done once it is free: the cancel first, and then the reset, once. A subscriber who comes
+/// meanwhile starts the chain after it.
+#[test]
+fn resets_once_the_flow_is_free(rt: HostRuntime) {
+    answers(
+        &rt,
+        rt.alloc(),
+        0,
+        &[1, 2],
+        &[
+            Turn(0, Start, Put),
+            Behave(Queues),
+            Turn(1, Keep, Queued),
+            Subscribers(0),
+            Behave(KeepsEmissions),
+            Turn(2, StopAndReset, Event::Busy),
+            Waits(true),
+            Resets(0),
+            Behave(KeepsCache),
+            Turn(3, Keep, Event::Busy),
+            Waits(false),
+            Resets(0),
+            Subscribers(1),
+            Behave(Accepts),
+            Turn(4, Start, Put),
+            Resets(1),
+            Turn(5, Keep, Put),
+            Resets(1),
+            Accepted(&[1, 1, 2]),
         ],
     );
 }

@@ -11,12 +11,15 @@ use flow_law::Command::{Keep, Start, Stop};
 use flow_law::Next::{Empty, Value};
 use flow_law::report::Event::{Completed, Idle, Pending, Put, Queued, Waiting};
 use flow_law::report::ShareFault::{Backwards, Chain, Ended};
-use flow_law::{ChainFault, Started};
+use flow_law::{ChainFault, NEVER, Started};
 
 /// A subscriber at 0 goes, another comes at 149 and goes before 200, a third comes at 301.
 #[test]
 fn stops_some_time_after_the_last_subscriber(rt: HostRuntime) {
-    let started = Started::WhileSubscribed { stop: 100 };
+    let started = Started::WhileSubscribed {
+        stop: 100,
+        expire: NEVER,
+    };
     let items = [10, 20, 30, 40];
     let steps = &[
         Subscribe,
@@ -38,7 +41,7 @@ fn stops_some_time_after_the_last_subscriber(rt: HostRuntime) {
     let chain = list(&rt, rt.alloc(), &items);
     share_answers(&rt, rt.alloc(), chain, started, 0, steps);
     let chain = list(&rt, rt.alloc(), &items);
-    lent_answers(&rt, rt.alloc(), chain, started, steps);
+    lent_answers(&rt, rt.alloc(), chain, started, 0, steps);
 }
 
 /// With a stop that never comes, the greatest moment is no stop.
@@ -49,7 +52,10 @@ fn never_stops(rt: HostRuntime) {
         &rt,
         rt.alloc(),
         chain,
-        Started::WhileSubscribed { stop: u64::MAX },
+        Started::WhileSubscribed {
+            stop: NEVER,
+            expire: NEVER,
+        },
         0,
         &[
             Subscribe,
@@ -74,13 +80,16 @@ fn waits_for_a_slow_subscriber(rt: HostRuntime) {
         Turn(66, Keep, Queued),
     ];
     share_answers(&rt, rt.alloc(), sixty_six(), Started::Eagerly, 0, steps);
-    lent_answers(&rt, rt.alloc(), sixty_six(), Started::Eagerly, steps);
+    lent_answers(&rt, rt.alloc(), sixty_six(), Started::Eagerly, 0, steps);
 }
 
 /// At a stop an emission that waits is cancelled.
 #[test]
 fn cancels_what_waits_at_a_stop(rt: HostRuntime) {
-    let started = Started::WhileSubscribed { stop: 0 };
+    let started = Started::WhileSubscribed {
+        stop: 0,
+        expire: NEVER,
+    };
     let steps = &[
         Subscribe,
         Turn(0, Start, Put),
@@ -92,7 +101,7 @@ fn cancels_what_waits_at_a_stop(rt: HostRuntime) {
         Count(0),
     ];
     share_answers(&rt, rt.alloc(), sixty_six(), started, 0, steps);
-    lent_answers(&rt, rt.alloc(), sixty_six(), started, steps);
+    lent_answers(&rt, rt.alloc(), sixty_six(), started, 0, steps);
 }
 
 /// The fault of a chain is told once, ends the sharing, and leaves the subscribers what they have.

@@ -12,6 +12,8 @@ pub enum Behaviour {
     Refuses(FlowFault),
     /// It is busy whenever an emission is to be cancelled.
     KeepsEmissions,
+    /// It is busy whenever it is to be reset.
+    KeepsCache,
 }
 
 /// A flow that does as it is told, and keeps what it accepted.
@@ -21,6 +23,7 @@ pub struct TestHub {
     pub behaviour: Behaviour,
     pub waits: bool,
     pub accepted: Vec<i64>,
+    pub resets: u64,
 }
 
 impl Hub for TestHub {
@@ -66,6 +69,14 @@ impl Hub for TestHub {
         }
         self.waits = false;
         Ok(waited)
+    }
+
+    fn reset(&mut self) -> Result<(), FlowFault> {
+        if self.behaviour == Behaviour::KeepsCache {
+            return Err(FlowFault::Busy);
+        }
+        self.resets = self.resets.wrapping_add(1);
+        Ok(())
     }
 }
 

@@ -1,7 +1,7 @@
 //! A state flow without a lock, into which a chain is shared.
 use crate::compare::compare;
 use crate::sharing_steps::list;
-use flow_law::report::Event::{Completed, Put};
+use flow_law::report::Event::{Completed, Idle, Put};
 use flow_law::report::{Event, Report, ShareFault};
 use flow_law::{Command, Next, Started};
 use flow_sharing::{Hub, Sharing, WordHub};
@@ -15,7 +15,7 @@ fn reported(command: Command, event: Event) -> Result<Report, ShareFault> {
 fn nothing_waits_for_a_word_state(rt: HostRuntime) {
     let made = WordState::new(rt.alloc(), 0i64, u32::MAX);
     let (flow, mut seat) = made.expect(&rt, "a flow");
-    let mut hub = WordHub::new(&flow, &mut seat);
+    let mut hub = WordHub::new(&flow, &mut seat, 0);
     compare(&rt, 0, hub.put(3), Ok(false));
     compare(&rt, 1, hub.count(), Ok(0));
     compare(&rt, 2, hub.poll(), Ok(false));
@@ -28,7 +28,7 @@ fn nothing_waits_for_a_word_state(rt: HostRuntime) {
 fn a_chain_is_shared_into_a_word_state(rt: HostRuntime) {
     let made = WordState::new(rt.alloc(), 0i64, u32::MAX);
     let (flow, mut seat) = made.expect(&rt, "a flow");
-    let hub = WordHub::new(&flow, &mut seat);
+    let hub = WordHub::new(&flow, &mut seat, 0);
     let chain = list(&rt, rt.alloc(), &[3, 3, 4]);
     let mut sharing = Sharing::new(chain, Started::Eagerly, hub);
     compare(&rt, 0, sharing.turn(0), reported(Command::Start, Put));
@@ -41,4 +41,21 @@ fn a_chain_is_shared_into_a_word_state(rt: HostRuntime) {
     compare(&rt, 6, flow.next(&mut reader), Next::Value(4));
     compare(&rt, 7, sharing.turn(3), reported(Command::Keep, Completed));
     compare(&rt, 8, sharing.turn(4), reported(Command::Keep, Completed));
+}
+
+/// The last subscriber goes, and the state is the initial one again at once.
+#[test]
+fn a_word_state_goes_back_to_its_initial_value(rt: HostRuntime) {
+    let made = WordState::new(rt.alloc(), 0i64, u32::MAX);
+    let (flow, mut seat) = made.expect(&rt, "a flow");
+    let hub = WordHub::new(&flow, &mut seat, 0);
+    let chain = list(&rt, rt.alloc(), &[3, 4]);
+    let started = Started::WhileSubscribed { stop: 0, expire: 0 };
+    let mut sharing = Sharing::new(chain, started, hub);
+    let reader = flow.subscribe(&rt, &mut seat).expect(&rt, "a subscription");
+    compare(&rt, 0, sharing.turn(0), reported(Command::Start, Put));
+    compare(&rt, 1, flow.value(&mut seat), 3);
+    let _seat = flow.unsubscribe(reader);
+    compare(&rt, 2, sharing.turn(1), reported(Command::StopAndReset, Idle));
+    compare(&rt, 3, flow.value(&mut seat), 0);
 }

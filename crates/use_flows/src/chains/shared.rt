@@ -2,12 +2,15 @@
 use anyhow::Result;
 use flow_cold::OfRange;
 use flow_law::report::Report;
-use flow_law::{Next, Started};
+use flow_law::{NEVER, Next, Started};
 use flow_sharing::{CoreHub, Sharing, share_in};
 use std::io;
 
 pub fn show(rt: &HostRuntime) -> Result<()> {
-    let started = Started::WhileSubscribed { stop: 2 };
+    let started = Started::WhileSubscribed {
+        stop: 2,
+        expire: NEVER,
+    };
     let mut sharing = share_in(rt.alloc(), OfRange::new(1, 3), started, 1, u64::MAX)?;
     take_turns(rt, &mut sharing)
 }
