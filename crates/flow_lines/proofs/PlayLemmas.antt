@@ -1,5 +1,5 @@
 -- Small facts on results and lists, and steps on a state flow.
-use Rattle.std.proofs.Common.{◌≡◌, ℤ, Result, Ok, Err, OnOk, String, Global, List, [], ◌∷◌, length, refl, arith}
+use Rattle.std.proofs.Common.{◌≡◌, ℤ, Result, Ok, Err, OnOk, String, Global, List, [], ◌∷◌, length, refl, ap, ◌∙◌, arith}
 use Rattle.flow_lines.specs.ScriptMeaning.{shared, state, share, state_in, state_turn, player_turn}
 use Rattle.flow_lines.specs.Shown.{Follows}
 use Rattle.flow_lines.specs.Players.{Shows}
@@ -7,6 +7,12 @@ use Rattle.flow_lines.specs.declared.numbers.Numbers.{Numbers as Kept}
 use Rattle.flow_lines.specs.declared.player.Player.TheVariants.{State}
 use Rattle.flow_format.specs.declared.script.FlowStep.{FlowStep}
 use Rattle.flow_core.specs.declared.state.StateCore.{StateCore}
+use Rattle.flow_law.specs.declared.states.StateAndInitial.{StateAndInitial}
+use Rattle.flow_law.specs.declared.states.StateFlowState.{StateFlowState}
+use Rattle.flow_lines.specs.Shown.{numbers_of}
+use Rattle.flow_lines.specs.SharingMeaning.{beside_initial}
+use Rattle.flow_turns.specs.declared.state_hub.StateHub.{StateHub}
+use Rattle.flow_turns.specs.StateHub.{state_flow_of}
 
 pub none-left : {X : Type 0} (xs : List X) → length xs ≡ 0 → xs ≡ []
 none-left [] is = refl
@@ -22,3 +28,16 @@ state-follows step old new n m before after follows (shared s) shows = absurd sh
 state-follows step old new n m before after follows (state s) shows = follows s shows
 state-follows step old new n m before after follows (share p) shows = absurd shows
 state-follows step old new n m before after follows (state_in p) shows = absurd shows
+
+-- a step on the flow of a state hub leaves its initial value
+pub hub-follows : (step : FlowStep) (old new : StateHub ℤ Global) (n m : Kept) (before after : String Global)
+    → Follows (λ core s. core ≡ s) (state_turn step) old.core new.core n m before after → new.initial ≡ old.initial
+    → Follows (λ hub s. state_flow_of hub ≡ s) (beside_initial state_turn step) old new n m before after
+hub-follows step old new n m before after follows same p shows =
+    let did = follows p.flow (ap (λ (x : StateAndInitial ℤ). x.flow) shows) in
+    let t = state_turn step p.flow (numbers_of n) in (
+      ap (λ (core : StateFlowState ℤ). record { flow = core; initial = new.initial }) did.0
+          ∙ ap (λ (x : ℤ). record { flow = t.after; initial = x }) (same ∙ ap (λ (x : StateAndInitial ℤ). x.initial) shows),
+      did.1,
+      did.2,
+    )

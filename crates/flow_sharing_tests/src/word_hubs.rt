@@ -56,6 +56,11 @@ fn a_word_state_goes_back_to_its_initial_value(rt: HostRuntime) {
     compare(&rt, 0, sharing.turn(0), reported(Command::Start, Put));
     compare(&rt, 1, flow.value(&mut seat), 3);
     let _seat = flow.unsubscribe(reader);
-    compare(&rt, 2, sharing.turn(1), reported(Command::StopAndReset, Idle));
+    compare(
+        &rt,
+        2,
+        sharing.turn(1),
+        reported(Command::StopAndReset, Idle),
+    );
     compare(&rt, 3, flow.value(&mut seat), 0);
 }
