@@ -6,8 +6,8 @@ pub fn law_turn_over_core<T, A>()
     ensures { LawTurnOverCore T A }
 {}
 
-/// A turn over a `StateCore` is the turn over the documented state flow. Nothing waits, the flow refuses nothing, and it is
-/// never busy.
+/// A turn over a `StateCore` is the turn over the documented state flow. Nothing waits, the flow refuses nothing but a reset
+/// for want of memory, and it is never busy.
 pub fn law_turn_over_state_core<T, A>()
     ensures { LawTurnOverStateCore T A }
 {}
