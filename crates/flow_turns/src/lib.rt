@@ -27,6 +27,7 @@
 //! Where the flow refuses an item, or is busy, the turn says so, and the next one goes on there. The observation stands.
 #![tactic(auto)]
 
+mod answers;
 mod core_hub;
 mod core_lend;
 mod hub;

@@ -1,7 +1,8 @@
 //! When a sharing runs, told from the numbers of subscribers (`SharingStarted`).
 //!
 //! A policy keeps no list of observations: the last moment, the first moment of the zero counts at the end, and whether
-//! it runs are enough, with its own `Started` to tell whether a reset was due. Its clauses speak of every list of observations that leads to what it keeps.
+//! it runs are enough; they tell whether a reset was due, too. Its clauses speak of every list of observations that leads
+//! to what it keeps.
 ghost use Rattle.std.specs.Prelude.{◌≡◌, ◌≤◌, ◌<◌, [], true, false, None, IfOk, OnErr};
 ghost use Rattle.std.specs.Option.{ForSome};
 ghost use Rattle.flow_law.specs.Sharing.{command_of, runs_after, is_past_expiry};

@@ -3,35 +3,18 @@
 ghost use Rattle.std.specs.Prelude.{◌≡◌, ◌≢◌, [], None, IfOk, MatchResult, ◌||◌, false, IsTrue, ◌↔◌, Err};
 ghost use Rattle.flow_law.specs.SharingCalls.{counts, polls, cancels, resets};
 ghost use Rattle.flow_law.specs.SharingTurn as steps;
-ghost use Rattle.flow_law.specs.SharingTurn.{at_rest, refusal, reported};
+ghost use Rattle.flow_law.specs.SharingTurn.{at_rest};
 ghost use Rattle.flow_law.specs.TurnMeaning.{BetweenTurns, IsQuiet};
 ghost use Rattle.flow_turns.specs.SharingViews.{state_of, chain_and_hub, IsSound, HasObserved, has_ended};
 ghost use Rattle.flow_turns.specs.TurnClauses.{CallsHub, ComesTo, Begins, TakesTurn, MeansAnswer, HandlesReset, StaysBetween, StaysQuiet, ended_after};
 
+use crate::answers::{refusal_of, report_of};
 use crate::hub::Hub;
 use crate::policy::Policy;
 use crate::sharing::Sharing;
 use flow_cold::{Asked, Cold};
 use flow_law::report::{Event, Report, ShareFault};
 use flow_law::{Command, FlowFault, Refused, Started};
-
-/// A call of the hub was refused: busy is an event, each other refusal a fault.
-fn refusal_of(fault: FlowFault) -> Result<Event, ShareFault>
-    ensures { result ≡ refusal fault }
-{
-    match fault {
-        FlowFault::Busy => Ok(Event::Busy),
-        other => Err(ShareFault::Flow(other)),
-    }
-}
-
-/// What a turn answers that had this command.
-fn report_of(command: Command, outcome: Result<Event, ShareFault>) -> Result<Report, ShareFault>
-    ensures { result ≡ reported command outcome }
-{
-    let event = outcome?;
-    Ok(Report { command, event })
-}
 
 impl<C: Cold, H: Hub<Item = C::Item>> Sharing<C, H> {
     /// A sharing that has not observed anything. The hub has no emission that waits.
