@@ -1,0 +1,58 @@
+//! Memory of which one allocation is refused.
+use std::alloc::{AllocError, Allocator};
+use std::sync::atomic::{AtomicU64, Ordering};
+
+/// Memory that passes each call on, and refuses one allocation. A `&` to it is an allocator, for one thread or several.
+///
+/// Where a list grows, that is an allocation, too.
+pub struct Refusing<B: Allocator> {
+    inner: B,
+    left: AtomicU64,
+}
+
+impl<B: Allocator> Refusing<B> {
+    /// Memory that refuses nothing yet.
+    pub fn new(inner: B) -> Refusing<B> {
+        Refusing {
+            inner,
+            left: AtomicU64::new(0),
+        }
+    }
+
+    /// The allocation of this number is refused, from 1 on, and no other one. With 0 none of the next 2^63 is.
+    pub fn refuse(&self, number: u64) {
+        self.left.store(number, Ordering::SeqCst);
+    }
+
+    /// Whether the refusal is still to come.
+    pub fn is_waiting(&self) -> bool {
+        let left = self.left.load(Ordering::SeqCst);
+        left > 0 && left <= u64::MAX / 2
+    }
+}
+
+impl<B: Allocator> Drop for Refusing<B> {
+    fn drop(self) {
+        let Self { inner: _, left: _ } = self;
+    }
+}
+
+/// Whether this one is refused.
+fn refuses(left: &AtomicU64) -> bool {
+    left.fetch_sub(1, Ordering::SeqCst) == 1
+}
+
+unsafe impl<B: Allocator> Allocator for Refusing<B> {
+    ghost dealloc_token = { λ memory ty ptr. B.dealloc_token memory.inner ty ptr };
+
+    fn allocate(&self, size: usize, align: usize) -> Result<*mut u8, AllocError> {
+        if refuses(&self.left) {
+            return Err(AllocError);
+        }
+        self.inner.allocate(size, align)
+    }
+
+    unsafe fn deallocate(&self, ptr: *mut u8, size: usize, align: usize) {
+        self.inner.deallocate(ptr, size, align);
+    }
+}
