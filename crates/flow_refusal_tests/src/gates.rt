@@ -1,0 +1,34 @@
+//! A gate, which takes memory when it is made, and never again.
+ghost use Rattle.std.specs.Prelude.{⊤};
+
+use crate::compare::compare;
+use flow_gate::Gate;
+use flow_law::Guarded;
+use flow_testing::Refusing;
+
+/// A state with any history.
+#[derive(Drop)]
+struct Named {
+    name: u64,
+}
+
+impl Guarded for Named {
+    type Said = ();
+
+    ghost stands = { λ _ _ _. ⊤ };
+}
+
+/// A gate takes memory three times. Each refusal hands the state back.
+#[test]
+fn a_new_gate_is_refused(rt: HostRuntime) {
+    let memory = Refusing::new(rt.alloc());
+    for number in 1..4 {
+        memory.refuse(number);
+        match Gate::new(&memory, Named { name: 7 }) {
+            Ok(_made) => panic!(rt; "allocation {number} is refused"),
+            Err(failed) => compare(&rt, 0, failed.value.name, 7),
+        }
+    }
+    let made = Gate::new(&memory, Named { name: 7 });
+    compare(&rt, 1, made.is_ok(), true);
+}

@@ -1,0 +1,75 @@
+//! A sharing whose flow is refused memory. A subscriber that reads nothing has 64 values buffered, and the next one waits, for
+//! which the flow takes memory.
+use crate::compare::compare;
+use flow_cold::OfRange;
+use flow_core::{SharedCore, SubId};
+use flow_law::Command::{self, Keep, Start};
+use flow_law::report::Event::{self, Put, Queued, Waiting};
+use flow_law::report::ShareFault::Flow;
+use flow_law::report::{Report, ShareFault};
+use flow_law::{FlowFault, Next, Started};
+use flow_sharing::{CoreHub, Sharing, share_in};
+use flow_testing::Refusing;
+use std::alloc::{Allocator, Global};
+use std::process::Abort;
+
+fn share<A: Allocator + Copy>(memory: A) -> Result<Sharing<OfRange, CoreHub<i64, A>>, ShareFault> {
+    share_in(memory, OfRange::new(1, 66), Started::Eagerly, 0, u64::MAX)
+}
+
+/// Takes a turn, and compares what it reports.
+fn reports<A: Allocator + Copy>(
+    rt: &impl Abort,
+    sharing: &mut Sharing<OfRange, CoreHub<i64, A>>,
+    now: u64,
+    command: Command,
+    event: Event,
+) {
+    compare(rt, 0, sharing.turn(now), Ok(Report { command, event }));
+}
+
+/// The subscriber receives the numbers from 1 to 65.
+fn receives_all<A: Allocator + Copy>(rt: &impl Abort, core: &mut SharedCore<i64, A>, id: SubId) {
+    for number in 1..66 {
+        compare(rt, 1, core.next(id), Ok(Next::Value(number)));
+    }
+}
+
+/// The item that was refused is put in the next turn.
+fn puts_again<A: Allocator + Copy>(
+    rt: &impl Abort,
+    refusing: &Refusing<Global>,
+    sharing: &mut Sharing<OfRange, CoreHub<i64, A>>,
+) {
+    let id = sharing
+        .hub_mut()
+        .core_mut()
+        .subscribe()
+        .expect(rt, "a subscription");
+    reports(rt, sharing, 0, Start, Put);
+    for now in 1..64 {
+        reports(rt, sharing, now, Keep, Put);
+    }
+    refusing.refuse(1);
+    compare(rt, 2, sharing.turn(64), Err(Flow(FlowFault::OutOfMemory)));
+    reports(rt, sharing, 65, Keep, Queued);
+    reports(rt, sharing, 66, Keep, Waiting);
+    receives_all(rt, sharing.hub_mut().core_mut(), id);
+}
+
+/// The first allocation is refused, and then that of the item that waits.
+fn play<A: Allocator + Copy>(rt: &impl Abort, memory: A, refusing: &Refusing<Global>) {
+    refusing.refuse(1);
+    let refused = share(memory).err();
+    compare(rt, 3, refused, Some(Flow(FlowFault::OutOfMemory)));
+    match share(memory) {
+        Ok(mut sharing) => puts_again(rt, refusing, &mut sharing),
+        Err(fault) => panic!(rt; "{fault}"),
+    }
+}
+
+#[test]
+fn a_refused_item_is_kept(rt: HostRuntime) {
+    let memory = Refusing::new(rt.alloc());
+    play(&rt, &memory, &memory);
+}
