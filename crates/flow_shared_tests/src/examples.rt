@@ -9,6 +9,7 @@ mod futures_by_hand;
 mod gate;
 mod never_copied;
 mod own_values;
+mod races;
 mod state;
 mod subscribers;
 mod threads;

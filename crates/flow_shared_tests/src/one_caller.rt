@@ -37,6 +37,14 @@ impl<'a> OneCaller<'a> {
         OneCaller { flow, seat }
     }
 
+    /// Another caller, for another thread.
+    pub fn another(&mut self) -> OneCaller<'a> {
+        OneCaller {
+            flow: self.flow,
+            seat: self.flow.seat(&mut self.seat),
+        }
+    }
+
     pub fn try_emit<R: Wait>(&mut self, rt: &R, value: i64) -> Result<bool, FlowFault> {
         match self.flow.try_emit(rt, &mut self.seat, value) {
             Ok(answer) => Ok(answer),

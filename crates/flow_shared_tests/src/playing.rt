@@ -37,6 +37,8 @@ pub enum Step {
     Poll(usize, Result<bool, FlowFault>),
     /// An emission, and whether it waited.
     Cancel(usize, Result<bool, FlowFault>),
+    /// An emission, which is dropped.
+    DropEmission(usize),
     Subscribe,
     SubscribeRefused(FlowFault),
     /// The subscriber's own first values.
@@ -45,6 +47,8 @@ pub enum Step {
     SubscribeWithRefused(&'static [i64], FlowFault),
     Next(usize, Next<i64>),
     Unsubscribe(usize),
+    /// A subscription, which is dropped.
+    DropSubscription(usize),
     Cache(&'static [i64]),
     Reset,
     Count(u64),
@@ -164,6 +168,7 @@ impl<'a> Player<'a> {
             Step::Emit(value, waits) => compare(rt, place, self.emit(rt, *value), *waits),
             Step::Poll(index, waits) => compare(rt, place, Ok(self.poll(rt, *index)), *waits),
             Step::Cancel(index, waited) => compare(rt, place, Ok(self.cancel(rt, *index)), *waited),
+            Step::DropEmission(index) => drop(take(rt, &mut self.emissions, *index)),
             Step::Subscribe => compare(rt, place, self.subscribe(rt), Ok(())),
             Step::SubscribeRefused(fault) => compare(rt, place, self.subscribe(rt), Err(*fault)),
             Step::SubscribeWith(first) => {
@@ -184,6 +189,7 @@ impl<'a> Player<'a> {
             }
             Step::Next(index, next) => compare(rt, place, self.next(rt, *index).as_ref(), Ok(next)),
             Step::Unsubscribe(index) => self.unsubscribe(rt, *index),
+            Step::DropSubscription(index) => drop(take(rt, &mut self.readers, *index)),
             Step::Cache(values) => compare(rt, place, self.cache(rt).as_slice(), *values),
             Step::Reset => self.caller.reset_replay_cache(rt),
             Step::Count(count) => compare(rt, place, self.caller.subscription_count(rt), *count),

@@ -37,12 +37,14 @@ fn emit_on_a_thread<R: Threads + Wait + Abort + Sync>(
 fn a_closed_flow_gives_what_two_threads_emitted(rt: HostRuntime) {
     let (flow, seat) = SharedFlow::new(rt.alloc(), Config::new().replay(2)).expect(&rt, "a flow");
     let seat = emit_on_a_thread(&rt, &flow, seat, 1);
-    let seat = emit_on_a_thread(&rt, &flow, seat, 2);
+    let mut seat = emit_on_a_thread(&rt, &flow, seat, 2);
+    let emitted = flow.replay_cache(&rt, &mut seat).expect(&rt, "memory");
     let core = flow.close(seat).expect(&rt, "nobody is inside");
     compare(&rt, 0, core.subscription_count(), 0);
     compare(&rt, 1, core.held(), 2);
     let cache = core.replay_cache().expect(&rt, "memory");
-    compare(&rt, 2, cache.as_slice() == [1, 2].as_slice(), true);
+    compare(&rt, 2, cache.as_slice(), [1, 2].as_slice());
+    compare(&rt, 3, emitted.as_slice(), [1, 2].as_slice());
 }
 
 #[test]

@@ -1,5 +1,8 @@
 //! What becomes of emissions.
-use crate::playing::Step::{Cache, Cancel, Emit, Next, Poll, Subscribe, TryEmit, Unsubscribe};
+use crate::playing::Step::{
+    Cache, Cancel, Count, DropEmission, DropSubscription, Emit, Next, Poll, Subscribe, TryEmit,
+    Unsubscribe,
+};
 use crate::playing::{DONE, Example, UNBUFFERED, WAITS, play};
 use flow_law::Next::{Empty, Value};
 use flow_law::{Config, Overflow};
@@ -158,6 +161,36 @@ const EXAMPLES: &[Example] = &[
             Cancel(3, Ok(true)),
             Unsubscribe(0),
             Cache(&[3]),
+        ],
+    },
+    // A dropped emission stays queued.
+    Example {
+        config: Config {
+            extra: 1,
+            ..UNBUFFERED
+        },
+        steps: &[
+            Subscribe,
+            Emit(1, DONE),
+            Emit(2, WAITS),
+            DropEmission(1),
+            Next(0, Value(1)),
+            Next(0, Value(2)),
+            Next(0, Empty),
+        ],
+    },
+    // A dropped subscription stays, and blocks emitters.
+    Example {
+        config: Config {
+            extra: 1,
+            ..UNBUFFERED
+        },
+        steps: &[
+            Subscribe,
+            DropSubscription(0),
+            TryEmit(1, Ok(true)),
+            TryEmit(2, Ok(false)),
+            Count(1),
         ],
     },
 ];
