@@ -1,0 +1,29 @@
+//! What a thread found.
+
+/// How often something was wrong, and how much it has added to the word state.
+#[derive(Clone, Copy)]
+pub struct Found {
+    pub wrong: u64,
+    pub added: u64,
+}
+
+impl Found {
+    pub fn nothing() -> Found {
+        Found { wrong: 0, added: 0 }
+    }
+
+    /// This has to hold.
+    pub fn check(&mut self, holds: bool) {
+        if !holds {
+            self.wrong = self.wrong.saturating_add(1);
+        }
+    }
+
+    /// What both found.
+    pub fn with(self, other: Found) -> Found {
+        Found {
+            wrong: self.wrong.saturating_add(other.wrong),
+            added: self.added.saturating_add(other.added),
+        }
+    }
+}

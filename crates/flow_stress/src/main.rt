@@ -1,0 +1,63 @@
+//! Puts flows under the calls of many threads, and tells whether all that must hold of every run held:
+//! `flow_stress SEED THREADS ROUNDS`.
+//!
+//! Each thread makes its rounds of calls, as the seed says. In turn they emit into a shared flow that suspends, read from
+//! it, emit and receive by futures over a second one that drops the oldest, and add to a word state. docs/THREADS.md says
+//! what is looked at.
+#![tactic(auto)]
+
+mod adder;
+mod arguments;
+mod emitter;
+mod exchanger;
+mod found;
+mod job;
+mod order;
+mod reader;
+mod stress;
+
+use arguments::{Size, size_of};
+use found::Found;
+use std::env::args;
+use std::io;
+use std::process::ExitCode;
+use stress::stress;
+
+const WRONG: u8 = 1;
+
+const REFUSED: u8 = 2;
+
+const OUT_OF_MEMORY: u8 = 4;
+
+/// Prints what was found, and answers the status.
+fn tell(rt: &HostRuntime, size: Size, found: Option<Found>) -> io::Result<u8> {
+    let Size {
+        seed,
+        threads,
+        rounds,
+    } = size;
+    let Some(Found { wrong, .. }) = found else {
+        println!(rt; "out of memory")?;
+        return Ok(OUT_OF_MEMORY);
+    };
+    println!(rt; "seed {seed}, {threads} threads, {rounds} rounds each: {wrong} wrong")?;
+    Ok(if wrong == 0 { 0 } else { WRONG })
+}
+
+fn read_size(rt: &HostRuntime) -> io::Result<Option<Size>> {
+    let words: Vec<String> = args(rt)?.skip(1).collect(rt.alloc())?;
+    Ok(size_of(words.as_slice()))
+}
+
+fn tell_usage(rt: &HostRuntime) -> io::Result<u8> {
+    println!(rt; "usage: flow_stress SEED THREADS ROUNDS")?;
+    Ok(REFUSED)
+}
+
+fn main(rt: HostRuntime) -> ExitCode {
+    let told = match read_size(&rt) {
+        Ok(Some(size)) => tell(&rt, size, stress(&rt, rt.alloc(), size)),
+        _ => tell_usage(&rt),
+    };
+    ExitCode::from(told.unwrap_or(OUT_OF_MEMORY))
+}
