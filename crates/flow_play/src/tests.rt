@@ -9,6 +9,7 @@ use std::thread::Threads;
 
 mod chains;
 mod crowd;
+mod limits;
 mod refused;
 mod rows;
 mod share;

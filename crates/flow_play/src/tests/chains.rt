@@ -76,56 +76,6 @@ fn a_collection_may_stand_beside_a_flow(rt: HostRuntime) {
     );
 }
 
-/// A script that collects a chain of `count` operators that add 1 to each item of the list 0.
-fn tower(alloc: Global, count: usize) -> Result<String, AllocError> {
-    let mut script = String::from_str(
-        alloc,
-        r#"{"version":1,"flow":{"kind":"none"},"steps":[{"do":"collect","chain":{"from":{"of":[0]},"ops":["#,
-    )?;
-    for index in 0..count {
-        if index > 0 {
-            script.push(',')?;
-        }
-        script.push_str(r#"{"op":"map","by":"add","k":1}"#)?;
-    }
-    script.push_str("]}}]}")?;
-    Ok(script)
-}
-
-#[test]
-fn a_chain_may_be_sixty_four_deep(rt: HostRuntime) {
-    let deepest = tower(rt.alloc(), 63).expect(&rt, "memory");
-    expect(&rt, deepest.as_bytes(), 0, "[63] completed\n");
-    let deeper = tower(rt.alloc(), 64).expect(&rt, "memory");
-    expect(&rt, deeper.as_bytes(), 0, "refused 5 TooDeep\n");
-}
-
-/// A script that collects a list of `count` zeros, of which it takes the first.
-fn list(alloc: Global, count: usize) -> Result<String, AllocError> {
-    let mut script = String::from_str(
-        alloc,
-        r#"{"version":1,"flow":{"kind":"none"},"steps":[{"do":"collect","chain":{"from":{"of":[0"#,
-    )?;
-    for _ in 1..count {
-        script.push_str(",0")?;
-    }
-    script.push_str(r#"]},"ops":[{"op":"take","n":1}]}}]}"#)?;
-    Ok(script)
-}
-
-#[test]
-fn a_list_may_have_ten_thousand_items(rt: HostRuntime) {
-    let longest = list(rt.alloc(), 10_000).expect(&rt, "memory");
-    expect(&rt, longest.as_bytes(), 0, "[0] completed\n");
-    let longer = list(rt.alloc(), 10_001).expect(&rt, "memory");
-    expect(
-        &rt,
-        longer.as_bytes(),
-        2,
-        "script refused 8 TooLarge at step 1\n",
-    );
-}
-
 /// A script that collects a chain.
 fn collection(alloc: Global, chain: &str) -> Result<String, AllocError> {
     let mut script = String::new(alloc);

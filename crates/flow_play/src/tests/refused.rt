@@ -5,7 +5,7 @@ use std::process::Abort;
 use std::sync::Wait;
 use std::thread::Threads;
 
-const REFUSED: [(&str, &str); 7] = [
+const REFUSED: [(&str, &str); 13] = [
     ("", "script refused 3 NotJson\n"),
     ("{", "script refused 3 NotJson\n"),
     (
@@ -27,6 +27,30 @@ const REFUSED: [(&str, &str); 7] = [
     (
         r#"{"version":1,"flow":{"kind":"shared","replay":1,"extra":0,"overflow":"suspend"},"steps":[{"do":"try_emit","value":1.5}]}"#,
         "script refused 5 BadShape at step 1\n",
+    ),
+    (
+        r#"{"version":1,"flow":{"kind":"shared","replay":1,"extra":0,"overflow":"suspend"},"steps":[{"do":"try_emit","value":9223372036854775808}]}"#,
+        "script refused 5 BadShape at step 1\n",
+    ),
+    (
+        r#"{"version":1,"flow":{"kind":"shared","replay":1,"extra":0,"overflow":"suspend"},"steps":[{"do":"try_emit","value":1e0}]}"#,
+        "script refused 5 BadShape at step 1\n",
+    ),
+    (
+        r#"{"version":1,"flow":{"kind":"shared","replay":-1,"extra":0,"overflow":"suspend"},"steps":[]}"#,
+        "script refused 5 BadShape at step 0\n",
+    ),
+    (
+        r#"{"version":1,"flow":{"kind":"shared","replay":4294967296,"extra":0,"overflow":"suspend"},"steps":[]}"#,
+        "script refused 5 BadShape at step 0\n",
+    ),
+    (
+        r#"{"version":1,"flow":{"kind":"shared","replay":1,"extra":0,"overflow":"suspend"},"steps":[{"do":"next","name":"a","at":1}]}"#,
+        "script refused 5 BadShape at step 1\n",
+    ),
+    (
+        r#"{"version":1,"flow":{"kind":"shared","replay":1,"extra":0,"overflow":"suspend"},"steps":[{"do":"next","name":"a"},{"do":"fly"}]}"#,
+        "script refused 6 UnknownName at step 1\n",
     ),
 ];
 
@@ -57,5 +81,5 @@ fn a_script_of_too_many_bytes_is_refused(rt: HostRuntime) {
 #[test]
 fn a_long_text_that_is_no_script_is_refused(rt: HostRuntime) {
     let line = "script refused 3 NotJson\n";
-    spaces_are_refused(&rt, 100_000, line);
+    spaces_are_refused(&rt, 1_048_576, line);
 }

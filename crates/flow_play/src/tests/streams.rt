@@ -8,10 +8,11 @@ use std::process::Abort;
 use std::sync::Wait;
 use std::thread::Threads;
 
-const SCRIPT: &str =
+/// Three values into a flow that replays two, and a subscriber.
+pub const SCRIPT: &str =
     r#"{"version":1,"flow":{"kind":"shared","replay":2,"extra":0,"overflow":"suspend"},"steps":[{"do":"try_emit","value":1},{"do":"try_emit","value":2},{"do":"try_emit","value":3},{"do":"cache"},{"do":"subscribe","name":"a"},{"do":"next","name":"a"},{"do":"next","name":"a"},{"do":"next","name":"a"}]}"#;
 
-const LINES: &str = "true\ntrue\ntrue\n[2, 3]\nsubscribed\nvalue 2\nvalue 3\nempty\n";
+pub const LINES: &str = "true\ntrue\ntrue\n[2, 3]\nsubscribed\nvalue 2\nvalue 3\nempty\n";
 
 /// Gives one byte at a time, and fails once it has given `left` bytes.
 #[derive(Drop)]
