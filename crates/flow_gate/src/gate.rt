@@ -17,7 +17,7 @@ use std::sync::Wait;
 use std::thread;
 
 /// How often `enter` tries before it lets other threads go first.
-const TRIES: u32 = 16;
+const TRIES: u32 = 2;
 
 /// A lock whose state stands for a history, of which each seat has seen a beginning.
 #[derive(Drop)]
@@ -159,6 +159,8 @@ impl<S: Guarded + Drop, A: Allocator + Copy> Gate<S, A> {
     }
 
     /// The state, or `None` where it is out because somebody who entered never left.
+    ///
+    /// Call it where no seat is at hand any more; with a seat `close_with` tells more of the state. It waits for nobody.
     pub fn close(self) -> Option<S>
         ensures { IfSome result (StandsForSome S.stands self) }
     {
