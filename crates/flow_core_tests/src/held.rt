@@ -1,17 +1,19 @@
 //! How many values a shared flow keeps, after each call: those that a new subscriber or an old one may still get.
 use crate::shared_calls::Call::{Emit, Held, Next, Reset, Subscribe, TryEmit};
-use crate::shared_calls::answers;
+use crate::shared_calls::{Example, UNBUFFERED, play};
 use flow_law::Config;
 use flow_law::Emit::Queued;
 use flow_law::Next::Value;
 
-#[test]
-fn a_value_is_kept_for_the_cache_or_a_subscriber(rt: HostRuntime) {
-    answers(
-        &rt,
-        rt.alloc(),
-        Config::new().replay(1).extra(1),
-        &[
+const EXAMPLES: &[Example] = &[
+    // A value is kept for the cache or a subscriber.
+    Example {
+        config: Config {
+            replay: 1,
+            extra: 1,
+            ..UNBUFFERED
+        },
+        calls: &[
             Held(0),
             Subscribe(1),
             Held(0),
@@ -30,16 +32,11 @@ fn a_value_is_kept_for_the_cache_or_a_subscriber(rt: HostRuntime) {
             Reset,
             Held(0),
         ],
-    );
-}
-
-#[test]
-fn without_a_buffer_only_an_offered_value_is_kept(rt: HostRuntime) {
-    answers(
-        &rt,
-        rt.alloc(),
-        Config::new(),
-        &[
+    },
+    // Without a buffer only an offered value is kept.
+    Example {
+        config: UNBUFFERED,
+        calls: &[
             TryEmit(5, true),
             Held(0),
             Subscribe(2),
@@ -48,5 +45,10 @@ fn without_a_buffer_only_an_offered_value_is_kept(rt: HostRuntime) {
             Next(0, Value(7)),
             Held(0),
         ],
-    );
+    },
+];
+
+#[test]
+fn values_are_kept_as_long_as_needed(rt: HostRuntime) {
+    play(&rt, rt.alloc(), EXAMPLES);
 }

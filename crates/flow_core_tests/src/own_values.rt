@@ -1,31 +1,27 @@
 //! Worked examples of subscribers with first values of their own (`onSubscription`).
-use crate::compare::compare;
-use crate::limited::{emit_each, list_of, number_of};
 use crate::shared_calls::Call::{
-    Cache, Cancel, Emit, Next, Poll, SubscribeWith, SubscribeWithRefused, TryEmit,
+    Cache, Cancel, Emit, Next, NextRefused, Poll, RefuseCopy, SubscribeWith, TryEmit,
 };
-use crate::shared_calls::answers;
-use flow_core::{SharedCore, SubId};
+use crate::shared_calls::{Example, UNBUFFERED, play};
 use flow_law::Emit::{Done, Queued};
 use flow_law::Next::{Empty, Value};
 use flow_law::{Config, FlowFault, Overflow};
-use flow_testing::CopyLimited;
-use std::alloc::Global;
-use std::cell::Cell;
-use std::process::Abort;
 
-#[test]
-fn own_values_come_before_the_cache_and_are_never_dropped(rt: HostRuntime) {
-    answers(
-        &rt,
-        rt.alloc(),
-        Config::new()
-            .replay(1)
-            .extra(1)
-            .overflow(Overflow::DropOldest),
-        &[
+/// A cache of one value, and room for one more.
+const ROOM_FOR_TWO: Config = Config {
+    replay: 1,
+    extra: 1,
+    overflow: Overflow::DropOldest,
+    ..UNBUFFERED
+};
+
+const EXAMPLES: &[Example] = &[
+    // Own values come before the cache, and are never dropped.
+    Example {
+        config: ROOM_FOR_TWO,
+        calls: &[
             TryEmit(1, true),
-            SubscribeWith(&[8, 9], 2),
+            SubscribeWith(&[8, 9], Ok(2)),
             Emit(2, Done),
             Emit(3, Done),
             Emit(4, Done),
@@ -36,92 +32,75 @@ fn own_values_come_before_the_cache_and_are_never_dropped(rt: HostRuntime) {
             Next(0, Empty),
             Cache(&[4]),
         ],
-    );
-}
-
-#[test]
-fn an_own_value_lets_an_emission_wait(rt: HostRuntime) {
-    answers(
-        &rt,
-        rt.alloc(),
-        Config::new(),
-        &[
-            SubscribeWith(&[8], 1),
+    },
+    // An own value lets an emission wait.
+    Example {
+        config: UNBUFFERED,
+        calls: &[
+            SubscribeWith(&[8], Ok(1)),
             Emit(7, Queued(2)),
             Next(0, Value(8)),
             Poll(2, true),
             Next(0, Value(7)),
             Poll(2, false),
         ],
-    );
-}
-
-#[test]
-fn a_cancel_leaves_an_own_value(rt: HostRuntime) {
-    answers(
-        &rt,
-        rt.alloc(),
-        Config::new(),
-        &[
-            SubscribeWith(&[8], 1),
+    },
+    // A cancel leaves an own value.
+    Example {
+        config: UNBUFFERED,
+        calls: &[
+            SubscribeWith(&[8], Ok(1)),
             Emit(7, Queued(2)),
             Cancel(2, true),
             Next(0, Value(8)),
             Next(0, Empty),
         ],
-    );
-}
+    },
+    // A refused subscription hands its values back.
+    Example {
+        config: Config {
+            limit: 0,
+            ..UNBUFFERED
+        },
+        calls: &[SubscribeWith(&[1, 2], Err(FlowFault::Exhausted))],
+    },
+    // An own value is not copied: the copy that is refused is the first one, that of a value of the flow.
+    Example {
+        config: ROOM_FOR_TWO,
+        calls: &[
+            Emit(1, Done),
+            SubscribeWith(&[8, 9], Ok(2)),
+            Emit(2, Done),
+            Emit(3, Done),
+            Emit(4, Done),
+            RefuseCopy(1),
+            Next(0, Value(8)),
+            Next(0, Value(9)),
+            NextRefused(0),
+            Next(0, Value(3)),
+            Next(0, Value(4)),
+        ],
+    },
+    // The same, where it is the second one.
+    Example {
+        config: ROOM_FOR_TWO,
+        calls: &[
+            Emit(1, Done),
+            SubscribeWith(&[8, 9], Ok(2)),
+            Emit(2, Done),
+            Emit(3, Done),
+            Emit(4, Done),
+            RefuseCopy(2),
+            Next(0, Value(8)),
+            Next(0, Value(9)),
+            Next(0, Value(3)),
+            NextRefused(0),
+            Next(0, Value(4)),
+        ],
+    },
+];
 
 #[test]
-fn a_refused_subscription_hands_its_values_back(rt: HostRuntime) {
-    answers(
-        &rt,
-        rt.alloc(),
-        Config::new().limit(0),
-        &[SubscribeWithRefused(&[1, 2], FlowFault::Exhausted)],
-    );
-}
-
-/// A flow with room for two values that took 1 to 4, and a subscriber from after the 1, with 8 and 9 of its own.
-fn with_own_values<'a>(
-    rt: &impl Abort,
-    alloc: Global,
-    copies: &'a Cell<u64>,
-) -> (SharedCore<CopyLimited<'a>>, SubId) {
-    let config = Config::new()
-        .replay(1)
-        .extra(1)
-        .overflow(Overflow::DropOldest);
-    let mut flow = SharedCore::new(alloc, config).expect(rt, "a flow");
-    emit_each(rt, &mut flow, copies, 1..2);
-    let Ok(a) = flow.subscribe_with(list_of(rt, alloc, copies, 8..10)) else {
-        panic!(rt; "a subscription")
-    };
-    emit_each(rt, &mut flow, copies, 2..5);
-    (flow, a)
-}
-
-/// What the subscriber receives, where this copy is refused. Only the values of the flow are copied.
-fn receives(
-    rt: &impl Abort,
-    alloc: Global,
-    refused: u64,
-    wanted: &[Result<Option<i64>, FlowFault>],
-) {
-    let copies = Cell::new(0);
-    let (mut flow, a) = with_own_values(rt, alloc, &copies);
-    copies.set(refused);
-    for place in 0..wanted.len() {
-        compare(rt, place, number_of(flow.next(a)), wanted[place]);
-    }
-}
-
-/// The copy that is refused is the first or the second one.
-#[test]
-fn an_own_value_is_not_copied(rt: HostRuntime) {
-    let wanting = Err(FlowFault::OutOfMemory);
-    let first = [Ok(Some(8)), Ok(Some(9)), wanting, Ok(Some(3)), Ok(Some(4))];
-    receives(&rt, rt.alloc(), 1, &first);
-    let second = [Ok(Some(8)), Ok(Some(9)), Ok(Some(3)), wanting, Ok(Some(4))];
-    receives(&rt, rt.alloc(), 2, &second);
+fn own_values_come_first(rt: HostRuntime) {
+    play(&rt, rt.alloc(), EXAMPLES);
 }

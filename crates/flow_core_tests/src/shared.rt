@@ -3,19 +3,20 @@ use crate::compare::compare;
 use crate::shared_calls::Call::{
     Cache, Cancel, Count, Emit, Next, Poll, Reset, Subscribe, TryEmit, Unsubscribe,
 };
-use crate::shared_calls::answers;
+use crate::shared_calls::{Example, UNBUFFERED, play};
 use flow_core::SharedCore;
 use flow_law::Emit::{Done, Queued};
 use flow_law::Next::{Empty, Gone, Value};
 use flow_law::{Config, FlowFault, Overflow};
 
-#[test]
-fn a_new_subscriber_gets_the_cache(rt: HostRuntime) {
-    answers(
-        &rt,
-        rt.alloc(),
-        Config::new().replay(2),
-        &[
+const EXAMPLES: &[Example] = &[
+    // A new subscriber gets the cache.
+    Example {
+        config: Config {
+            replay: 2,
+            ..UNBUFFERED
+        },
+        calls: &[
             TryEmit(1, true),
             TryEmit(2, true),
             TryEmit(3, true),
@@ -30,16 +31,11 @@ fn a_new_subscriber_gets_the_cache(rt: HostRuntime) {
             Unsubscribe(0, true),
             Next(0, Gone),
         ],
-    );
-}
-
-#[test]
-fn two_emissions_without_a_buffer_wait_for_each_other(rt: HostRuntime) {
-    answers(
-        &rt,
-        rt.alloc(),
-        Config::new(),
-        &[
+    },
+    // Two emissions without a buffer wait for each other.
+    Example {
+        config: UNBUFFERED,
+        calls: &[
             Subscribe(1),
             Emit(7, Queued(2)),
             Emit(8, Queued(3)),
@@ -51,16 +47,14 @@ fn two_emissions_without_a_buffer_wait_for_each_other(rt: HostRuntime) {
             Poll(3, false),
             Next(0, Empty),
         ],
-    );
-}
-
-#[test]
-fn a_cancelled_emission_leaves_the_middle_of_the_queue(rt: HostRuntime) {
-    answers(
-        &rt,
-        rt.alloc(),
-        Config::new().replay(1),
-        &[
+    },
+    // A cancelled emission leaves the middle of the queue.
+    Example {
+        config: Config {
+            replay: 1,
+            ..UNBUFFERED
+        },
+        calls: &[
             Subscribe(1),
             Emit(1, Done),
             Emit(2, Queued(3)),
@@ -73,17 +67,15 @@ fn a_cancelled_emission_leaves_the_middle_of_the_queue(rt: HostRuntime) {
             Next(0, Value(4)),
             Next(0, Empty),
         ],
-    );
-}
-
-/// The second subscriber stands where the first one stood.
-#[test]
-fn a_place_that_is_used_again_does_not_answer_for_who_left(rt: HostRuntime) {
-    answers(
-        &rt,
-        rt.alloc(),
-        Config::new().replay(1).extra(1),
-        &[
+    },
+    // A place that is used again does not answer for who left: the second subscriber stands where the first one stood.
+    Example {
+        config: Config {
+            replay: 1,
+            extra: 1,
+            ..UNBUFFERED
+        },
+        calls: &[
             Subscribe(1),
             Unsubscribe(0, true),
             Subscribe(2),
@@ -92,7 +84,12 @@ fn a_place_that_is_used_again_does_not_answer_for_who_left(rt: HostRuntime) {
             Unsubscribe(0, false),
             Next(1, Value(7)),
         ],
-    );
+    },
+];
+
+#[test]
+fn calls_of_a_shared_flow(rt: HostRuntime) {
+    play(&rt, rt.alloc(), EXAMPLES);
 }
 
 #[test]

@@ -1,10 +1,27 @@
 //! Calls on a shared flow, each with what it is to answer.
 use crate::compare::compare;
-use crate::many::Series;
+use crate::limited::{are, list_of, number_of};
+use crate::many::Repeated;
 use flow_core::{SharedCore, SubId};
-use flow_law::{Config, Drained, Emit, FlowFault, Next, Refused};
+use flow_law::{Config, Drained, Emit, FlowFault, Next, Overflow, Refused};
+use flow_testing::CopyLimited;
 use std::alloc::Global;
+use std::cell::Cell;
 use std::process::Abort;
+
+/// The configuration of a flow without a buffer (`MutableSharedFlow()`).
+pub const UNBUFFERED: Config = Config {
+    replay: 0,
+    extra: 0,
+    overflow: Overflow::Suspend,
+    limit: u64::MAX,
+};
+
+/// A worked example: the configuration of a flow, and calls on it.
+pub struct Example {
+    pub config: Config,
+    pub calls: &'static [Call],
+}
 
 /// A call, and what it answers. Subscribers are named by the order in which they came, from 0.
 pub enum Call {
@@ -17,11 +34,11 @@ pub enum Call {
     Cancel(u64, bool),
     /// The number of the new subscription.
     Subscribe(u64),
-    /// The subscriber's own first values, and the number of the new subscription.
-    SubscribeWith(&'static [i64], u64),
-    /// The own first values, which are handed back, and why the subscription is refused.
-    SubscribeWithRefused(&'static [i64], FlowFault),
+    /// The subscriber's own first values, and the number of the new subscription. Where it is refused the values come back.
+    SubscribeWith(&'static [i64], Result<u64, FlowFault>),
     Next(usize, Next<i64>),
+    /// It is refused for want of memory.
+    NextRefused(usize),
     /// A subscriber, and whether the subscription was there.
     Unsubscribe(usize, bool),
     Cache(&'static [i64]),
@@ -31,45 +48,33 @@ pub enum Call {
     Count(u64),
     /// How many values the flow keeps.
     Held(usize),
-    /// A subscriber, how many values it takes at most, and why it stopped.
-    Drain(usize, usize, Drained),
+    /// A subscriber, how many values it takes at most, and why it stopped, or was refused.
+    Drain(usize, usize, Result<Drained, FlowFault>),
     /// All that was drained so far.
     Values(&'static [i64]),
-    /// Calls that differ by their values.
-    Series(Series),
+    /// Of the copies that are made from now on, this one is refused, from 1.
+    RefuseCopy(u64),
+    /// The same call with each value from the first to the last.
+    Each(Repeated, i64, i64),
 }
 
-/// A flow and its subscribers. Its calls have no clauses: a test compares what they answer.
+/// A flow of values that hold more than they mean, and its subscribers.
 #[derive(Drop)]
-pub struct Caller {
-    flow: SharedCore<i64>,
+pub struct Caller<'a> {
+    pub flow: SharedCore<CopyLimited<'a>>,
+    pub copies: &'a Cell<u64>,
     subscribers: Vec<SubId>,
-    drained: Vec<i64>,
+    drained: Vec<CopyLimited<'a>>,
 }
 
-impl Caller {
-    fn new(rt: &impl Abort, alloc: Global, config: Config) -> Caller {
+impl<'a> Caller<'a> {
+    fn new(rt: &impl Abort, alloc: Global, config: Config, copies: &'a Cell<u64>) -> Caller<'a> {
         Caller {
             flow: SharedCore::new(alloc, config).expect(rt, "a flow"),
+            copies,
             subscribers: Vec::new(alloc),
             drained: Vec::new(alloc),
         }
-    }
-
-    pub fn try_emit(&mut self, value: i64) -> Result<bool, Refused<i64>> {
-        self.flow.try_emit(value)
-    }
-
-    pub fn emit(&mut self, value: i64) -> Result<Emit, Refused<i64>> {
-        self.flow.emit(value)
-    }
-
-    fn poll(&self, number: u64) -> bool {
-        self.flow.poll(number)
-    }
-
-    fn cancel(&mut self, number: u64) -> bool {
-        self.flow.cancel(number)
     }
 
     /// Names the next subscriber, and tells its number.
@@ -78,116 +83,109 @@ impl Caller {
         id.number()
     }
 
-    fn subscribe(&mut self, rt: &impl Abort) -> u64 {
-        let id = self.flow.subscribe().expect(rt, "a subscription");
-        self.add(rt, id)
-    }
-
     fn subscribe_with(
         &mut self,
         rt: &impl Abort,
         alloc: Global,
+        place: usize,
         first: &[i64],
-    ) -> Result<u64, Refused<Vec<i64>>> {
-        match self.flow.subscribe_with(list(rt, alloc, first)) {
+    ) -> Result<u64, FlowFault> {
+        let values = list_of(rt, alloc, self.copies, first);
+        match self.flow.subscribe_with(values) {
             Ok(id) => Ok(self.add(rt, id)),
-            Err(refused) => Err(refused),
+            Err(Refused { value, fault }) => {
+                are(rt, place, value.as_slice(), first);
+                Err(fault)
+            }
         }
     }
 
-    fn subscriber(&self, rt: &impl Abort, index: usize) -> SubId {
+    pub fn subscriber(&self, rt: &impl Abort, index: usize) -> SubId {
         *self.subscribers.get(index).expect(rt, "a subscriber")
     }
 
-    pub fn next(&mut self, rt: &impl Abort, index: usize) -> Result<Next<i64>, FlowFault> {
-        let id = self.subscriber(rt, index);
-        self.flow.next(id)
+    fn cache(&self, rt: &impl Abort) -> Vec<CopyLimited<'a>> {
+        let Ok(values) = self.flow.replay_cache() else {
+            panic!(rt; "memory")
+        };
+        values
     }
 
-    fn unsubscribe(&mut self, rt: &impl Abort, index: usize) -> bool {
-        let id = self.subscriber(rt, index);
-        self.flow.unsubscribe(id)
-    }
-
-    fn cache(&self, rt: &impl Abort) -> Vec<i64> {
-        self.flow.replay_cache().expect(rt, "memory")
-    }
-
-    fn reset(&mut self) {
-        self.flow.reset_replay_cache();
-    }
-
-    fn count(&self) -> u64 {
-        self.flow.subscription_count()
-    }
-
-    fn held(&self) -> usize {
-        self.flow.held()
-    }
-
-    fn drain(&mut self, rt: &impl Abort, index: usize, most: usize) -> Result<Drained, FlowFault> {
-        let id = self.subscriber(rt, index);
-        self.flow.drain(id, most, &mut self.drained)
+    /// Makes a call that changes nothing, and compares what it answers.
+    fn ask(&self, rt: &impl Abort, place: usize, call: &Call) {
+        match call {
+            Call::Poll(number, waits) => compare(rt, place, self.flow.poll(*number), *waits),
+            Call::Cache(values) => are(rt, place, self.cache(rt).as_slice(), values),
+            Call::CacheLength(length) => compare(rt, place, self.cache(rt).len(), *length),
+            Call::Count(count) => compare(rt, place, self.flow.subscription_count(), *count),
+            Call::Held(held) => compare(rt, place, self.flow.held(), *held),
+            Call::Values(values) => are(rt, place, self.drained.as_slice(), values),
+            Call::RefuseCopy(copy) => self.copies.set(*copy),
+            _ => panic!(rt; "call {place} is no such call"),
+        }
     }
 
     /// Makes a call, and compares what it answers.
     fn make(&mut self, rt: &impl Abort, alloc: Global, place: usize, call: &Call) {
         match call {
-            Call::TryEmit(value, taken) => compare(rt, place, self.try_emit(*value), Ok(*taken)),
-            Call::Emit(value, emission) => compare(rt, place, self.emit(*value), Ok(*emission)),
-            Call::Poll(number, waits) => compare(rt, place, self.poll(*number), *waits),
-            Call::Cancel(number, waited) => compare(rt, place, self.cancel(*number), *waited),
-            Call::Subscribe(number) => compare(rt, place, self.subscribe(rt), *number),
-            Call::SubscribeWith(first, number) => {
-                compare(
-                    rt,
-                    place,
-                    self.subscribe_with(rt, alloc, first),
-                    Ok(*number),
-                );
+            Call::TryEmit(value, taken) => {
+                let value = CopyLimited::new(*value, self.copies);
+                compare(rt, place, self.flow.try_emit(value).ok(), Some(*taken));
             }
-            Call::SubscribeWithRefused(first, fault) => {
-                let wanted = refusal(rt, alloc, first, *fault);
-                compare(
-                    rt,
-                    place,
-                    self.subscribe_with(rt, alloc, first),
-                    Err(wanted),
-                );
+            Call::Emit(value, emission) => {
+                let value = CopyLimited::new(*value, self.copies);
+                compare(rt, place, self.flow.emit(value).ok(), Some(*emission));
             }
-            Call::Next(index, next) => compare(rt, place, self.next(rt, *index).as_ref(), Ok(next)),
+            Call::Cancel(number, waited) => compare(rt, place, self.flow.cancel(*number), *waited),
+            Call::Subscribe(number) => {
+                let id = self.flow.subscribe().expect(rt, "a subscription");
+                compare(rt, place, self.add(rt, id), *number);
+            }
+            Call::SubscribeWith(first, wanted) => {
+                let answer = self.subscribe_with(rt, alloc, place, first);
+                compare(rt, place, answer, *wanted);
+            }
+            Call::Next(index, next) => {
+                let id = self.subscriber(rt, *index);
+                let answer = number_of(self.flow.next(id));
+                compare(rt, place, answer.as_ref(), Ok(next));
+            }
+            Call::NextRefused(index) => {
+                let id = self.subscriber(rt, *index);
+                let answer = number_of(self.flow.next(id));
+                compare(rt, place, answer, Err(FlowFault::OutOfMemory));
+            }
             Call::Unsubscribe(index, was_there) => {
-                compare(rt, place, self.unsubscribe(rt, *index), *was_there);
+                let id = self.subscriber(rt, *index);
+                compare(rt, place, self.flow.unsubscribe(id), *was_there);
             }
-            Call::Cache(values) => compare(rt, place, self.cache(rt).as_slice(), *values),
-            Call::CacheLength(length) => compare(rt, place, self.cache(rt).len(), *length),
-            Call::Reset => self.reset(),
-            Call::Count(count) => compare(rt, place, self.count(), *count),
-            Call::Held(held) => compare(rt, place, self.held(), *held),
-            Call::Drain(index, most, ended) => {
-                compare(rt, place, self.drain(rt, *index, *most), Ok(*ended));
+            Call::Reset => self.flow.reset_replay_cache(),
+            Call::Drain(index, most, wanted) => {
+                let id = self.subscriber(rt, *index);
+                let answer = self.flow.drain(id, *most, &mut self.drained);
+                compare(rt, place, answer, *wanted);
             }
-            Call::Values(values) => compare(rt, place, self.drained.as_slice(), *values),
-            Call::Series(series) => self.make_each(rt, place, series),
+            Call::Each(repeated, first, last) => {
+                self.make_each(rt, place, repeated, *first, *last);
+            }
+            _ => self.ask(rt, place, call),
         }
     }
 }
 
-fn list(rt: &impl Abort, alloc: Global, values: &[i64]) -> Vec<i64> {
-    values.to_vec(alloc).expect(rt, "memory")
+fn play_one(rt: &impl Abort, alloc: Global, place: usize, example: &Example) {
+    let copies = Cell::new(0);
+    let mut caller = Caller::new(rt, alloc, example.config, &copies);
+    for number in 0..example.calls.len() {
+        let place = place.saturating_add(number);
+        caller.make(rt, alloc, place, &example.calls[number]);
+    }
 }
 
-/// A refusal that hands these values back.
-fn refusal(rt: &impl Abort, alloc: Global, values: &[i64], fault: FlowFault) -> Refused<Vec<i64>> {
-    let value = list(rt, alloc, values);
-    Refused { value, fault }
-}
-
-/// Makes the calls on a new flow, and compares what they answer. A wrong answer is told by the place of its call,
-/// from 0.
-pub fn answers(rt: &impl Abort, alloc: Global, config: Config, calls: &[Call]) {
-    let mut caller = Caller::new(rt, alloc, config);
-    for place in 0..calls.len() {
-        caller.make(rt, alloc, place, &calls[place]);
+/// Makes the calls of each example on a new flow, and compares what they answer. Call 7 of the example 3 has the place
+/// 307, both counted from 0.
+pub fn play(rt: &impl Abort, alloc: Global, examples: &[Example]) {
+    for number in 0..examples.len() {
+        play_one(rt, alloc, number.saturating_mul(100), &examples[number]);
     }
 }

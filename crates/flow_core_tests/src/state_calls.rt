@@ -1,22 +1,30 @@
-//! Calls on a state flow that has one subscriber, each with what it is to answer.
+//! Calls on a state flow, each with what it is to answer.
 use crate::compare::compare;
 use crate::limited::{are, number_of};
 use flow_core::{StateCore, SubId};
-use flow_law::{Drained, FlowFault};
+use flow_law::{Drained, FlowFault, Next};
 use flow_testing::CopyLimited;
 use std::alloc::Global;
 use std::cell::Cell;
 use std::process::Abort;
 
-/// A call, and what it answers.
+/// A worked example: the value of a flow, how many subscriptions it takes, and calls on it.
+pub struct Example {
+    pub initial: i64,
+    pub limit: u64,
+    pub calls: &'static [Call],
+}
+
+/// A call, and what it answers. Only the last subscriber receives.
 pub enum Call {
-    Value(i64),
+    /// The current value.
+    Current(i64),
     Set(i64),
     TryEmit(i64, bool),
     /// The value that is expected, the update, and whether it was set.
     CompareAndSet(i64, i64, bool),
-    /// The value that the subscriber receives, if there is one.
-    Next(Option<i64>),
+    Subscribe,
+    Next(Next<i64>),
     /// Whether the subscription was there.
     Unsubscribe(bool),
     Cache(&'static [i64]),
@@ -29,61 +37,22 @@ pub enum Call {
     Values(&'static [i64]),
 }
 
-/// A flow of values that hold more than they mean, and its subscriber. Its calls have no clauses: a test compares what
-/// they answer.
+/// A flow of values that hold more than they mean, and its subscriber.
 #[derive(Drop)]
 struct Caller<'a> {
     flow: StateCore<CopyLimited<'a>>,
-    subscriber: SubId,
+    subscriber: Option<SubId>,
     drained: Vec<CopyLimited<'a>>,
     memory: &'a Cell<u64>,
 }
 
 impl<'a> Caller<'a> {
-    fn new(rt: &impl Abort, alloc: Global, initial: i64, memory: &'a Cell<u64>) -> Caller<'a> {
-        let mut flow = StateCore::new(alloc, CopyLimited::new(initial, memory), u64::MAX);
-        let subscriber = flow.subscribe().expect(rt, "a subscription");
-        Caller {
-            flow,
-            subscriber,
-            drained: Vec::new(alloc),
-            memory,
-        }
-    }
-
     fn value_of(&self, number: i64) -> CopyLimited<'a> {
         CopyLimited::new(number, self.memory)
     }
 
-    fn value(&self, rt: &impl Abort) -> i64 {
-        match self.flow.value() {
-            Ok(value) => value.number(),
-            Err(fault) => panic!(rt; "{fault}"),
-        }
-    }
-
-    fn set(&mut self, number: i64) {
-        let value = self.value_of(number);
-        self.flow.set(value);
-    }
-
-    fn try_emit(&mut self, number: i64) -> bool {
-        let value = self.value_of(number);
-        self.flow.try_emit(value)
-    }
-
-    fn compare_and_set(&mut self, expect: i64, update: i64) -> bool {
-        let expect = self.value_of(expect);
-        let update = self.value_of(update);
-        self.flow.compare_and_set(&expect, update)
-    }
-
-    fn next(&mut self) -> Result<Option<i64>, FlowFault> {
-        number_of(self.flow.next(self.subscriber))
-    }
-
-    fn unsubscribe(&mut self) -> bool {
-        self.flow.unsubscribe(self.subscriber)
+    fn subscriber(&self, rt: &impl Abort) -> SubId {
+        self.subscriber.expect(rt, "a subscriber")
     }
 
     fn cache(&self, rt: &impl Abort) -> Vec<CopyLimited<'a>> {
@@ -93,44 +62,82 @@ impl<'a> Caller<'a> {
         values
     }
 
-    fn drain(&mut self, most: usize) -> Result<Drained, FlowFault> {
-        self.flow.drain(self.subscriber, most, &mut self.drained)
-    }
-
-    fn reset(&mut self) -> Option<FlowFault> {
-        self.flow.reset_replay_cache().err()
-    }
-
-    fn count(&self) -> u64 {
-        self.flow.subscription_count()
+    /// Makes a call that changes nothing, and compares what it answers.
+    fn ask(&self, rt: &impl Abort, place: usize, call: &Call) {
+        match call {
+            Call::Current(number) => {
+                let answer = self.flow.value().map(Next::Value);
+                compare(rt, place, number_of(answer), Ok(Next::Value(*number)));
+            }
+            Call::Cache(numbers) => are(rt, place, self.cache(rt).as_slice(), numbers),
+            Call::Count(count) => compare(rt, place, self.flow.subscription_count(), *count),
+            Call::Values(numbers) => are(rt, place, self.drained.as_slice(), numbers),
+            _ => panic!(rt; "call {place} is no such call"),
+        }
     }
 
     /// Makes a call, and compares what it answers.
     fn make(&mut self, rt: &impl Abort, place: usize, call: &Call) {
         match call {
-            Call::Value(number) => compare(rt, place, self.value(rt), *number),
-            Call::Set(number) => self.set(*number),
-            Call::TryEmit(number, taken) => compare(rt, place, self.try_emit(*number), *taken),
-            Call::CompareAndSet(expect, update, is_set) => {
-                compare(rt, place, self.compare_and_set(*expect, *update), *is_set);
+            Call::Set(number) => {
+                let value = self.value_of(*number);
+                self.flow.set(value);
             }
-            Call::Next(number) => compare(rt, place, self.next(), Ok(*number)),
-            Call::Unsubscribe(was_there) => compare(rt, place, self.unsubscribe(), *was_there),
-            Call::Cache(numbers) => are(rt, place, self.cache(rt).as_slice(), numbers),
-            Call::Reset => compare(rt, place, self.reset(), Some(FlowFault::Unsupported)),
-            Call::Count(count) => compare(rt, place, self.count(), *count),
-            Call::Drain(most, ended) => compare(rt, place, self.drain(*most), Ok(*ended)),
-            Call::Values(numbers) => are(rt, place, self.drained.as_slice(), numbers),
+            Call::TryEmit(number, taken) => {
+                let value = self.value_of(*number);
+                compare(rt, place, self.flow.try_emit(value), *taken);
+            }
+            Call::CompareAndSet(expect, update, is_set) => {
+                let expect = self.value_of(*expect);
+                let update = self.value_of(*update);
+                let answer = self.flow.compare_and_set(&expect, update);
+                compare(rt, place, answer, *is_set);
+            }
+            Call::Subscribe => {
+                self.subscriber = Some(self.flow.subscribe().expect(rt, "a subscription"));
+            }
+            Call::Next(next) => {
+                let id = self.subscriber(rt);
+                let answer = number_of(self.flow.next(id));
+                compare(rt, place, answer.as_ref(), Ok(next));
+            }
+            Call::Unsubscribe(was_there) => {
+                let id = self.subscriber(rt);
+                compare(rt, place, self.flow.unsubscribe(id), *was_there);
+            }
+            Call::Reset => {
+                let answer = self.flow.reset_replay_cache();
+                compare(rt, place, answer, Err(FlowFault::Unsupported));
+            }
+            Call::Drain(most, ended) => {
+                let id = self.subscriber(rt);
+                let answer = self.flow.drain(id, *most, &mut self.drained);
+                compare(rt, place, answer, Ok(*ended));
+            }
+            _ => self.ask(rt, place, call),
         }
     }
 }
 
-/// Makes the calls on a new flow with this value, and compares what they answer. A wrong answer is told by the place
-/// of its call, from 0.
-pub fn answers(rt: &impl Abort, alloc: Global, initial: i64, calls: &[Call]) {
+fn play_one(rt: &impl Abort, alloc: Global, place: usize, example: &Example) {
     let memory = Cell::new(0);
-    let mut caller = Caller::new(rt, alloc, initial, &memory);
-    for place in 0..calls.len() {
-        caller.make(rt, place, &calls[place]);
+    let initial = CopyLimited::new(example.initial, &memory);
+    let mut caller = Caller {
+        flow: StateCore::new(alloc, initial, example.limit),
+        subscriber: None,
+        drained: Vec::new(alloc),
+        memory: &memory,
+    };
+    for number in 0..example.calls.len() {
+        let place = place.saturating_add(number);
+        caller.make(rt, place, &example.calls[number]);
+    }
+}
+
+/// Makes the calls of each example on a new flow, and compares what they answer. Call 7 of the example 3 has the place
+/// 307, both counted from 0.
+pub fn play(rt: &impl Abort, alloc: Global, examples: &[Example]) {
+    for number in 0..examples.len() {
+        play_one(rt, alloc, number.saturating_mul(100), &examples[number]);
     }
 }

@@ -8,66 +8,78 @@ use std::alloc::Global;
 use std::cell::Cell;
 use std::process::Abort;
 
-/// The value that a subscriber receives.
-fn received<T: FlowValue>(rt: &impl Abort, flow: &mut StateCore<T>, reader: SubId) -> T {
+/// Sets the value, and answers what the subscriber receives then, if that is a new value.
+fn set_and_receive<T: FlowValue>(flow: &mut StateCore<T>, reader: SubId, value: T) -> Option<T> {
+    flow.set(value);
     match flow.next(reader) {
-        Ok(Next::Value(value)) => value,
-        _ => panic!(rt; "a value is there"),
+        Ok(Next::Value(value)) => Some(value),
+        _ => None,
     }
 }
 
-/// Nothing new is there.
-fn receives_nothing<T: FlowValue>(flow: &mut StateCore<T>, reader: SubId) -> bool {
-    matches!(flow.next(reader), Ok(Next::Empty))
-}
-
-fn items(rt: &impl Abort, alloc: Global, values: &[i64]) -> Items<i64> {
-    Items::new(values.to_vec(alloc).expect(rt, "memory"))
-}
-
-/// The list 1 and 2, with more room.
-fn roomy(rt: &impl Abort, alloc: Global) -> Items<i64> {
-    let mut values = Vec::with_capacity(alloc, 100).expect(rt, "memory");
-    for value in 1..3 {
-        values.push(value).expect(rt, "memory");
+/// The list of these values, with room for so many.
+fn items(rt: &impl Abort, alloc: Global, capacity: usize, values: &[i64]) -> Items<i64> {
+    let mut list = Vec::with_capacity(alloc, capacity).expect(rt, "memory");
+    for value in values {
+        list.push(*value).expect(rt, "memory");
     }
-    Items::new(values)
+    Items::new(list)
 }
 
-fn is_list(rt: &impl Abort, list: Items<i64>, values: &[i64]) {
-    compare(rt, 0, list.as_slice(), values);
-    compare(rt, 1, list.into_inner().as_slice(), values);
+/// The list has these values, if it is there.
+fn is_list(rt: &impl Abort, place: usize, list: Option<Items<i64>>, values: Option<&[i64]>) {
+    match list {
+        Some(list) => {
+            compare(rt, place, Some(list.as_slice()), values);
+            compare(rt, place, Some(list.into_inner().as_slice()), values);
+        }
+        None => compare(rt, place, None, values),
+    }
 }
 
-/// The same values in a list with more room are no new value.
+/// For how many values a list that is set has room, its values, and what the subscriber receives then. The same values in a
+/// list with more room are no new value.
+const LISTS: [(usize, &[i64], Option<&[i64]>); 3] = [
+    (2, &[1, 2], Some(&[1, 2])),
+    (100, &[1, 2], None),
+    (1, &[1], Some(&[1])),
+];
+
 #[test]
 fn a_list_is_its_values(rt: HostRuntime) {
-    let alloc = rt.alloc();
-    let mut flow = StateCore::new(alloc, items(&rt, alloc, &[1, 2]), u64::MAX);
+    let mut flow = StateCore::new(rt.alloc(), items(&rt, rt.alloc(), 2, &[1, 2]), u64::MAX);
     let reader = flow.subscribe().expect(&rt, "a subscription");
-    is_list(&rt, received(&rt, &mut flow, reader), &[1, 2]);
-    flow.set(roomy(&rt, alloc));
-    compare(&rt, 2, receives_nothing(&mut flow, reader), true);
-    flow.set(items(&rt, alloc, &[1]));
-    is_list(&rt, received(&rt, &mut flow, reader), &[1]);
+    for place in 0..LISTS.len() {
+        let (capacity, values, wanted) = LISTS[place];
+        let list = items(&rt, rt.alloc(), capacity, values);
+        is_list(&rt, place, set_and_receive(&mut flow, reader, list), wanted);
+    }
 }
 
 fn boxed(rt: &impl Abort, alloc: Global, number: i64) -> Boxed<i64> {
     Boxed::new(Box::new(alloc, number).expect(rt, "memory"))
 }
 
+/// The number in the box, if it is there.
+fn number_in(rt: &impl Abort, place: usize, boxed: Option<Boxed<i64>>) -> Option<i64> {
+    let boxed = boxed?;
+    let number = *boxed.value();
+    compare(rt, place, Box::into_inner(boxed.into_inner()), number);
+    Some(number)
+}
+
+/// The number in a box that is set, and the one that the subscriber receives then.
+const BOXES: [(i64, Option<i64>); 3] = [(7, Some(7)), (7, None), (8, Some(8))];
+
 #[test]
 fn a_boxed_value_is_what_the_box_contains(rt: HostRuntime) {
-    let alloc = rt.alloc();
-    let mut flow = StateCore::new(alloc, boxed(&rt, alloc, 7), u64::MAX);
+    let mut flow = StateCore::new(rt.alloc(), boxed(&rt, rt.alloc(), 7), u64::MAX);
     let reader = flow.subscribe().expect(&rt, "a subscription");
-    let seven = received(&rt, &mut flow, reader);
-    compare(&rt, 0, *seven.value(), 7);
-    flow.set(seven);
-    compare(&rt, 1, receives_nothing(&mut flow, reader), true);
-    flow.set(boxed(&rt, alloc, 8));
-    let eight = received(&rt, &mut flow, reader);
-    compare(&rt, 2, Box::into_inner(eight.into_inner()), 8);
+    for place in 0..BOXES.len() {
+        let (number, wanted) = BOXES[place];
+        let received = set_and_receive(&mut flow, reader, boxed(&rt, rt.alloc(), number));
+        compare(&rt, place, number_in(&rt, place, received), wanted);
+    }
 }
 
 /// The next copy is refused, and the one after it is not.
@@ -79,7 +91,7 @@ fn is_copied_again<T: FlowValue>(rt: &impl Abort, value: &T) {
 #[test]
 fn a_list_is_not_copied_where_a_part_is_not(rt: HostRuntime) {
     let copies = Cell::new(0);
-    let list = Items::new(list_of(&rt, rt.alloc(), &copies, 1..3));
+    let list = Items::new(list_of(&rt, rt.alloc(), &copies, &[1, 2]));
     copies.set(2);
     is_copied_again(&rt, &list);
 }
