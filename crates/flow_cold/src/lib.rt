@@ -7,11 +7,10 @@
 mod script_chain;
 
 pub use flow_operators::{
-    Asked, Chain, ChainFault, Cold, Collected, Distinct, DropFirst, DropWhile, DropWhileBy, End,
-    Entry, Even, Filter, FilterBy, FlatMapConcat, Greater, InnerMeaning, ItemComputation,
-    ItemMeaning, ItemTest, Less, ListMeaning, Map, MapBy, Not, Odd, OfList, OfRange,
-    PairComputation, PairMeaning, Plus, RunningReduce, RunningReduceBy, Scan, ScanBy, Scripted,
-    Streamed, Take, TakeWhile, TakeWhileBy, Terminal, TestMeaning, Times, Transform, Zip, ZipBy,
-    collect_all,
+    Asked, Chain, ChainFault, Cold, Collected, Distinct, DropFirst, DropWhile, End, Entry, Even,
+    Filter, FlatMapConcat, Greater, InnerMeaning, ItemComputation, ItemMeaning, ItemTest, Less,
+    ListMeaning, Map, Not, Odd, OfList, OfRange, PairComputation, PairMeaning, Plus, RunningReduce,
+    Scan, Scripted, Streamed, Take, TakeWhile, Terminal, TestMeaning, Times, Transform,
+    WithMeaning, Zip, collect_all,
 };
 pub use script_chain::{Arithmetic, Joining, Op, ScriptChain, Source, Spread, Test};

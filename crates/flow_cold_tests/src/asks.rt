@@ -3,7 +3,7 @@
 use crate::compare::compare;
 use crate::gives::gives;
 use crate::operators::{Add, sum};
-use flow_cold::{Asked, Cold, End, OfRange, Scan, Take};
+use flow_cold::{Asked, Chain, Cold, End, OfRange, Take};
 use std::cell::Cell;
 
 /// Counts how often a chain is asked.
@@ -46,9 +46,9 @@ fn one_to_five(asks: &Cell<u32>) -> Counted<'_, OfRange> {
 #[test]
 fn a_scan_and_a_take_ask_twice(rt: HostRuntime) {
     let asks = Cell::new(0);
-    let scan = Scan::new(one_to_five(&asks), 0, Add, sum);
+    let scan = one_to_five(&asks).scan(0, Add, sum);
     let mut chain = Take::new(scan, 3).expect(&rt, "a take");
-    gives(&rt, rt.alloc(), &mut chain, &[0, 1, 3], End::Completed);
+    gives(&rt, rt.alloc(), &mut chain, 0, &[0, 1, 3], End::Completed);
     compare(&rt, 0, asks.get(), 2);
 }
 
@@ -56,7 +56,7 @@ fn a_scan_and_a_take_ask_twice(rt: HostRuntime) {
 fn a_take_asks_no_more_than_it_gives(rt: HostRuntime) {
     let asks = Cell::new(0);
     let mut chain = Take::new(one_to_five(&asks), 2).expect(&rt, "a take");
-    gives(&rt, rt.alloc(), &mut chain, &[1, 2], End::Completed);
+    gives(&rt, rt.alloc(), &mut chain, 0, &[1, 2], End::Completed);
     assert!(rt; matches!(chain.ask(), Asked::End));
     compare(&rt, 0, asks.get(), 2);
 }

@@ -4,7 +4,7 @@ ghost use Rattle.flow_law.specs.ChainRun.{Collects, list_run};
 ghost use Rattle.flow_law.specs.OperatorRuns.{map_run};
 ghost use Rattle.flow_cold.specs.Numbers.{ranged};
 
-use flow_cold::{ChainFault, Collected, ItemMeaning, Map, OfList, collect_all};
+use flow_cold::{Chain, ChainFault, Collected, ItemMeaning, OfList, collect_all};
 use std::alloc::Global;
 
 /// Adds `k`.
@@ -22,13 +22,9 @@ pub fn collect_plus(alloc: Global, items: Vec<i64>, k: i64) -> Result<Collected<
     ensures collects { IfOk result (λ r. Collects (map_run (λ x. ranged (x +ℤ k)) (list_run items.items)) r.items.items r.end) }
     ensures memory { IfErr result (λ fault. fault ≡ ChainFault.OutOfMemory) }
 {
-    let mut chain = Map::new(
-        OfList::new(items),
-        Plus { k },
-        |x: i64| match x.checked_add(k) {
-            Some(sum) => Ok(sum),
-            None => Err(ChainFault::Overflow),
-        },
-    );
+    let mut chain = OfList::new(items).map(Plus { k }, |x: i64| match x.checked_add(k) {
+        Some(sum) => Ok(sum),
+        None => Err(ChainFault::Overflow),
+    });
     collect_all(alloc, &mut chain)
 }

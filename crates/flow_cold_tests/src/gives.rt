@@ -1,14 +1,15 @@
 //! What a chain gives, beside what it is to give.
 use crate::compare::compare;
-use flow_cold::{Cold, End, Entry, OfList, Scripted, collect_all};
+use flow_cold::{Cold, End, Entry, OfList, ScriptChain, Scripted, Source, collect_all};
 use std::alloc::Global;
 use std::process::Abort;
 
-/// Collects the chain, and compares its items and its end.
+/// Collects the chain at this place, and compares its items and its end.
 pub fn gives<C: Cold<Item = i64>>(
     rt: &impl Abort,
     alloc: Global,
     chain: &mut C,
+    place: usize,
     items: &[i64],
     end: End,
 )
@@ -16,25 +17,29 @@ pub fn gives<C: Cold<Item = i64>>(
     ensures { C.sound chain.new }
 {
     let got = collect_all(alloc, chain).expect(rt, "memory");
-    compare(rt, 0, got.items.as_slice(), items);
-    compare(rt, 1, got.end, end);
+    compare(rt, place, got.items.as_slice(), items);
+    compare(rt, place, got.end, end);
 }
 
 /// The chain of a list.
-pub fn list(rt: &impl Abort, alloc: Global, items: &[i64]) -> OfList<i64> {
-    OfList::new(items.to_vec(alloc).expect(rt, "memory"))
+pub fn list(rt: &impl Abort, alloc: Global, items: &[i64]) -> ScriptChain {
+    let items = items.to_vec(alloc).expect(rt, "memory");
+    ScriptChain::source(Source::List(OfList::new(items)))
 }
 
 /// The chain of a script.
-pub fn script<const N: usize>(
-    rt: &impl Abort,
-    alloc: Global,
-    entries: [Entry<i64>; N],
-) -> Scripted<i64> {
-    let Ok(entries) = Vec::from_array(alloc, entries) else {
-        panic!(rt; "memory")
-    };
-    Scripted::new(entries)
+pub fn script(rt: &impl Abort, alloc: Global, entries: &[Entry<i64>]) -> Scripted<i64> {
+    let mut copies = Vec::new(alloc);
+    for entry in entries {
+        let copy = match entry {
+            Entry::Item(item) => Entry::Item(*item),
+            Entry::Pending => Entry::Pending,
+            Entry::Fault(number) => Entry::Fault(*number),
+        };
+        let pushed = copies.push(copy);
+        assert!(rt; pushed.is_ok());
+    }
+    Scripted::new(copies)
 }
 
 /// It gives 5, pends, gives 6 and fails.
@@ -45,5 +50,5 @@ pub fn fails_after_two(rt: &impl Abort, alloc: Global) -> Scripted<i64> {
         Entry::Item(6),
         Entry::Fault(7),
     ];
-    script(rt, alloc, entries)
+    script(rt, alloc, &entries)
 }

@@ -2,9 +2,7 @@
 
 use crate::compare::compare;
 use crate::gives::{fails_after_two, gives, list};
-use crate::operators::{
-    Add, AddOne, IsAboveOne, Twice, TwiceRun, above_one, increased, listed, opened, sum,
-};
+use crate::operators::{Add, AddOne, IsAboveOne, above_one, increased, sum};
 use flow_cold::{
     Chain, ChainFault, End, Even, Greater, Less, Not, Odd, OfRange, Plus, Terminal, Times,
 };
@@ -15,19 +13,19 @@ fn operators_are_methods(rt: HostRuntime) {
         .distinct()
         .drop_first(1)
         .map(AddOne, increased)
-        .filter(IsAboveOne, |x| *x > 1);
-    gives(&rt, rt.alloc(), &mut chain, &[3, 4, 10], End::Completed);
+        .filter(IsAboveOne, above_one);
+    gives(&rt, rt.alloc(), &mut chain, 0, &[3, 4, 10], End::Completed);
 }
 
 #[test]
 fn operators_on_pairs_are_methods(rt: HostRuntime) {
     let mut chain = OfRange::new(2, 5)
-        .take_while(IsAboveOne, |x| *x > 1)
+        .take_while(IsAboveOne, above_one)
         .zip(OfRange::new(10, 12), Add, sum)
         .scan(0, Add, sum)
         .take(3)
         .expect(&rt, "a take");
-    gives(&rt, rt.alloc(), &mut chain, &[0, 12, 26], End::Completed);
+    gives(&rt, rt.alloc(), &mut chain, 0, &[0, 12, 26], End::Completed);
 }
 
 /// Collected twice: each collection drops the first items anew, and begins the sums anew.
@@ -37,22 +35,8 @@ fn a_drop_while_and_a_running_reduce_are_methods(rt: HostRuntime) {
         .drop_while(IsAboveOne, above_one)
         .running_reduce(Add, sum);
     for _ in 0..2 {
-        gives(&rt, rt.alloc(), &mut chain, &[1, 6, 8], End::Completed);
+        gives(&rt, rt.alloc(), &mut chain, 0, &[1, 6, 8], End::Completed);
     }
-}
-
-#[test]
-fn a_transform_is_a_method(rt: HostRuntime) {
-    let alloc = rt.alloc();
-    let mut chain = OfRange::new(1, 2).transform(Twice, |x: i64| listed(alloc, x));
-    gives(&rt, alloc, &mut chain, &[1, 1, 2, 2], End::Completed);
-}
-
-#[test]
-fn a_concatenation_is_a_method(rt: HostRuntime) {
-    let alloc = rt.alloc();
-    let mut chain = OfRange::new(1, 2).flat_map_concat(TwiceRun, |x: i64| opened(alloc, x));
-    gives(&rt, alloc, &mut chain, &[1, 1, 2, 2], End::Completed);
 }
 
 #[test]
@@ -64,7 +48,7 @@ fn ready_computations_need_no_closure(rt: HostRuntime) {
         .take_while_by(Less { k: 8 })
         .map_by(Times { k: 2 })
         .map_by(Plus { k: -1 });
-    gives(&rt, rt.alloc(), &mut chain, &[3, 7, 11], End::Completed);
+    gives(&rt, rt.alloc(), &mut chain, 0, &[3, 7, 11], End::Completed);
 }
 
 const OVERFLOW: End = End::Failed(ChainFault::Overflow);
@@ -72,26 +56,23 @@ const OVERFLOW: End = End::Failed(ChainFault::Overflow);
 #[test]
 fn a_ready_computation_overflows(rt: HostRuntime) {
     let mut chain = OfRange::new(i64::MAX - 1, i64::MAX).map_by(Plus { k: 1 });
-    gives(&rt, rt.alloc(), &mut chain, &[i64::MAX], OVERFLOW);
+    gives(&rt, rt.alloc(), &mut chain, 0, &[i64::MAX], OVERFLOW);
 }
 
-/// `runningFold` gives the initial value, and then the sums of the first items.
+/// An initial value, and what the sums of 1 to 3 give with it. `runningFold` gives the initial value, and then the sums of
+/// the first items.
+const SCANS: [(i64, &[i64], End); 2] = [
+    (0, &[0, 1, 3, 6], End::Completed),
+    (i64::MAX - 1, &[i64::MAX - 1, i64::MAX], OVERFLOW),
+];
+
 #[test]
 fn a_scan_needs_no_closure(rt: HostRuntime) {
-    let mut chain = OfRange::new(1, 3).scan_by(0, Add);
-    gives(&rt, rt.alloc(), &mut chain, &[0, 1, 3, 6], End::Completed);
-}
-
-#[test]
-fn a_scan_without_a_closure_overflows(rt: HostRuntime) {
-    let mut chain = OfRange::new(1, 3).scan_by(i64::MAX - 1, Add);
-    gives(
-        &rt,
-        rt.alloc(),
-        &mut chain,
-        &[i64::MAX - 1, i64::MAX],
-        OVERFLOW,
-    );
+    for place in 0..SCANS.len() {
+        let (from, items, end) = SCANS[place];
+        let mut chain = OfRange::new(1, 3).scan_by(from, Add);
+        gives(&rt, rt.alloc(), &mut chain, place, items, end);
+    }
 }
 
 /// 2 is below 3, but comes after 5, which is not.
@@ -100,7 +81,7 @@ fn a_drop_while_and_a_running_reduce_need_no_closure(rt: HostRuntime) {
     let mut chain = list(&rt, rt.alloc(), &[1, 5, 2])
         .drop_while_by(Less { k: 3 })
         .running_reduce_by(Add);
-    gives(&rt, rt.alloc(), &mut chain, &[5, 7], End::Completed);
+    gives(&rt, rt.alloc(), &mut chain, 0, &[5, 7], End::Completed);
 }
 
 /// `zip` completes as soon as one of its sides does: the item 40 has no partner.
@@ -108,7 +89,14 @@ fn a_drop_while_and_a_running_reduce_need_no_closure(rt: HostRuntime) {
 fn a_zip_needs_no_closure(rt: HostRuntime) {
     let tens = list(&rt, rt.alloc(), &[10, 20, 30, 40]);
     let mut chain = OfRange::new(1, 3).zip_by(tens, Add);
-    gives(&rt, rt.alloc(), &mut chain, &[11, 22, 33], End::Completed);
+    gives(
+        &rt,
+        rt.alloc(),
+        &mut chain,
+        0,
+        &[11, 22, 33],
+        End::Completed,
+    );
 }
 
 #[test]

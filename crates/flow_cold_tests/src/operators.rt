@@ -6,9 +6,9 @@ ghost use Rattle.flow_cold_tests.specs.Meanings.{GivesTwice, OpensTwice, add, ad
 use crate::compare::compare;
 use crate::gives::{gives, list};
 use flow_cold::{
-    ChainFault, Distinct, DropFirst, DropWhile, End, Entry, Filter, FlatMapConcat, InnerMeaning,
-    ItemMeaning, ListMeaning, Map, OfRange, PairComputation, PairMeaning, RunningReduce, Scripted,
-    Take, TakeWhile, TestMeaning, Transform, Zip,
+    Chain, ChainFault, Distinct, DropFirst, DropWhile, End, Entry, Filter, FlatMapConcat,
+    InnerMeaning, ItemMeaning, ListMeaning, Map, OfRange, PairComputation, PairMeaning,
+    RunningReduce, Scripted, Take, TakeWhile, TestMeaning, Transform, WithMeaning, Zip,
 };
 use std::alloc::Global;
 
@@ -42,14 +42,14 @@ impl TestMeaning<i64> for IsAboveOne {
 }
 
 #[derive(Drop)]
-pub struct Twice;
+struct Twice;
 
 impl ListMeaning<i64, i64> for Twice {
     ghost images = { λ _. twice };
 }
 
 #[derive(Drop)]
-pub struct TwiceRun;
+struct TwiceRun;
 
 impl InnerMeaning<i64, i64> for TwiceRun {
     ghost inner = { λ _. twice_run };
@@ -73,18 +73,19 @@ pub fn sum(x: i64, y: i64) -> Result<i64, ChainFault>
 #[test]
 fn items_are_mapped_and_tested(rt: HostRuntime) {
     let source = list(&rt, rt.alloc(), &[0, 1, i64::MAX, 2]);
-    let mut chain = Filter::new(Map::new(source, AddOne, increased), IsAboveOne, |x| *x > 1);
+    let mapped = Map::new(source, WithMeaning::new(AddOne, increased));
+    let mut chain = Filter::new(mapped, WithMeaning::new(IsAboveOne, above_one));
     let overflow = End::Failed(ChainFault::Overflow);
-    gives(&rt, rt.alloc(), &mut chain, &[2], overflow);
+    gives(&rt, rt.alloc(), &mut chain, 0, &[2], overflow);
 }
 
 #[test]
 fn items_are_taken_and_dropped(rt: HostRuntime) {
     let source = list(&rt, rt.alloc(), &[7, 3, 3, 2, 1, 5]);
     let dropped = DropFirst::new(Distinct::new(source), 1);
-    let above = TakeWhile::new(dropped, IsAboveOne, |x| *x > 1);
+    let above = TakeWhile::new(dropped, WithMeaning::new(IsAboveOne, above_one));
     let mut chain = Take::new(above, 5).expect(&rt, "a take");
-    gives(&rt, rt.alloc(), &mut chain, &[3, 2], End::Completed);
+    gives(&rt, rt.alloc(), &mut chain, 0, &[3, 2], End::Completed);
 }
 
 pub fn above_one(x: &i64) -> bool
@@ -97,9 +98,9 @@ pub fn above_one(x: &i64) -> bool
 #[test]
 fn first_items_are_dropped_and_the_others_added_up(rt: HostRuntime) {
     let source = list(&rt, rt.alloc(), &[7, 3, 1, 5, 2]);
-    let dropped = DropWhile::new(source, IsAboveOne, above_one);
-    let mut chain = RunningReduce::new(dropped, Add, sum);
-    gives(&rt, rt.alloc(), &mut chain, &[1, 6, 8], End::Completed);
+    let dropped = DropWhile::new(source, WithMeaning::new(IsAboveOne, above_one));
+    let mut chain = RunningReduce::new(dropped, WithMeaning::new(Add, sum));
+    gives(&rt, rt.alloc(), &mut chain, 0, &[1, 6, 8], End::Completed);
 }
 
 #[test]
@@ -112,11 +113,11 @@ fn a_take_of_nothing_is_refused(rt: HostRuntime) {
 fn pairs_are_made(rt: HostRuntime) {
     let left = list(&rt, rt.alloc(), &[1, 2]);
     let right = list(&rt, rt.alloc(), &[10, 20, 30]);
-    let mut chain = Zip::new(left, right, Add, sum);
-    gives(&rt, rt.alloc(), &mut chain, &[11, 22], End::Completed);
+    let mut chain = Zip::new(left, right, WithMeaning::new(Add, sum));
+    gives(&rt, rt.alloc(), &mut chain, 0, &[11, 22], End::Completed);
 }
 
-pub fn listed(alloc: Global, x: i64) -> Result<Vec<i64>, ChainFault>
+fn listed(alloc: Global, x: i64) -> Result<Vec<i64>, ChainFault>
     ensures { GivesTwice x result }
 {
     let mut items = Vec::new(alloc);
@@ -129,7 +130,7 @@ pub fn listed(alloc: Global, x: i64) -> Result<Vec<i64>, ChainFault>
     Ok(items)
 }
 
-pub fn opened(alloc: Global, x: i64) -> Result<Scripted<i64>, ChainFault>
+fn opened(alloc: Global, x: i64) -> Result<Scripted<i64>, ChainFault>
     ensures { OpensTwice x result }
 {
     let mut entries = Vec::new(alloc);
@@ -142,18 +143,26 @@ pub fn opened(alloc: Global, x: i64) -> Result<Scripted<i64>, ChainFault>
     Ok(Scripted::new(entries))
 }
 
+/// By the constructor, and by the method.
 #[test]
 fn items_become_several(rt: HostRuntime) {
     let alloc = rt.alloc();
+    let twice = |x: i64| listed(alloc, x);
     let source = list(&rt, alloc, &[1, 2]);
-    let mut chain = Transform::new(source, Twice, |x: i64| listed(alloc, x));
-    gives(&rt, alloc, &mut chain, &[1, 1, 2, 2], End::Completed);
+    let mut made = Transform::new(source, Twice, &twice);
+    gives(&rt, alloc, &mut made, 0, &[1, 1, 2, 2], End::Completed);
+    let mut chain = OfRange::new(1, 2).transform(Twice, &twice);
+    gives(&rt, alloc, &mut chain, 1, &[1, 1, 2, 2], End::Completed);
 }
 
+/// By the constructor, and by the method.
 #[test]
 fn items_become_chains(rt: HostRuntime) {
     let alloc = rt.alloc();
+    let twice = |x: i64| opened(alloc, x);
     let source = list(&rt, alloc, &[1, 2]);
-    let mut chain = FlatMapConcat::new(source, TwiceRun, |x: i64| opened(alloc, x));
-    gives(&rt, alloc, &mut chain, &[1, 1, 2, 2], End::Completed);
+    let mut made = FlatMapConcat::new(source, TwiceRun, &twice);
+    gives(&rt, alloc, &mut made, 0, &[1, 1, 2, 2], End::Completed);
+    let mut chain = OfRange::new(1, 2).flat_map_concat(TwiceRun, &twice);
+    gives(&rt, alloc, &mut chain, 1, &[1, 1, 2, 2], End::Completed);
 }

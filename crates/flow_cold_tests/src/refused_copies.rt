@@ -7,19 +7,11 @@ use std::alloc::Global;
 use std::cell::Cell;
 use std::process::Abort;
 
-/// The number of the item at a place, if there is one.
-fn number_at(items: &[CopyLimited<'_>], place: usize) -> Option<i64> {
-    match items.get(place) {
-        Some(item) => Some(item.number()),
-        None => None,
-    }
-}
-
 /// The numbers of the items are these.
 fn are(rt: &impl Abort, items: &[CopyLimited<'_>], numbers: &[i64]) {
     compare(rt, 0, items.len(), numbers.len());
-    for place in 0..numbers.len() {
-        compare(rt, place, number_at(items, place), Some(numbers[place]));
+    for (item, number) in items.iter().zip(numbers) {
+        compare(rt, 0, item.number(), *number);
     }
 }
 

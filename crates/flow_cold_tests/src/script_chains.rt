@@ -1,255 +1,344 @@
 //! Worked examples of chains that are built at run time.
 
 use crate::compare::compare;
-use crate::gives::{gives, list as of_list, script};
+use crate::gives::{gives, list, script};
 use flow_cold::{
     Arithmetic, ChainFault, End, Entry, Joining, OfRange, Op, ScriptChain, Source, Spread, Test,
 };
 use std::alloc::Global;
 use std::process::Abort;
 
-fn list(rt: &impl Abort, alloc: Global, items: &[i64]) -> ScriptChain {
-    ScriptChain::source(Source::List(of_list(rt, alloc, items)))
+/// Where a chain begins.
+enum Start {
+    /// The numbers from the first to the last.
+    Range(i64, i64),
+    List(&'static [i64]),
+    Script(&'static [Entry<i64>]),
 }
 
-fn scripted<const N: usize>(
-    rt: &impl Abort,
-    alloc: Global,
-    entries: [Entry<i64>; N],
-) -> ScriptChain {
-    ScriptChain::source(Source::Scripted(script(rt, alloc, entries)))
+/// An operator of a chain.
+enum Stage {
+    Map(Arithmetic, i64),
+    Filter(Test),
+    TakeWhile(Test),
+    /// Each item plus each of these.
+    Sums(&'static [i64]),
+    Take(u64),
+    DropFirst(u64),
+    DropWhile(Test),
+    /// The sums so far, from 0.
+    Scan,
+    RunningReduce(Arithmetic),
+    /// Each item, and the next number.
+    Spread,
+    Zip(Start, Joining),
+    Distinct,
 }
 
-/// The chain with one more operator.
-fn then(rt: &impl Abort, alloc: Global, chain: ScriptChain, op: Op) -> ScriptChain {
-    match chain.then(alloc, op) {
-        Ok(chain) => chain,
-        Err(fault) => panic!(rt; "refused: {fault}"),
-    }
+/// A chain, what it gives, and how it ends.
+struct Example {
+    start: Start,
+    stages: &'static [Stage],
+    items: &'static [i64],
+    end: End,
 }
 
-/// The list, with one operator.
-fn list_then(rt: &impl Abort, alloc: Global, items: &[i64], op: Op) -> ScriptChain {
-    then(rt, alloc, list(rt, alloc, items), op)
-}
-
-fn add_one() -> Op {
-    Op::Map {
-        by: Arithmetic::Add,
-        k: 1,
-    }
-}
-
-/// The sums so far, from 0.
-fn scan() -> Op {
-    Op::Scan {
-        from: 0,
-        by: Arithmetic::Add,
-    }
-}
-
-/// Each item, and the next number.
-fn spread() -> Op {
-    Op::FlatMap {
-        to: Spread::Range,
-        count: 2,
-    }
-}
-
-/// Each item plus each of these.
-fn sums(rt: &impl Abort, alloc: Global, add: &[i64]) -> Op {
-    Op::Transform(add.to_vec(alloc).expect(rt, "memory"))
-}
-
-/// Collects the chain twice: both times it gives the items and the end.
-fn gives_twice(rt: &impl Abort, alloc: Global, chain: ScriptChain, items: &[i64], end: End) {
-    let mut chain = chain;
-    gives(rt, alloc, &mut chain, items, end);
-    gives(rt, alloc, &mut chain, items, end);
-}
-
-#[test]
-fn a_range_is_scanned(rt: HostRuntime) {
-    let alloc = rt.alloc();
-    let range = ScriptChain::source(Source::Range(OfRange::new(1, 5)));
-    let scanned = then(&rt, alloc, range, scan());
-    let chain = then(&rt, alloc, scanned, Op::Take(3));
-    gives_twice(&rt, alloc, chain, &[0, 1, 3], End::Completed);
-}
-
-#[test]
-fn lists_are_zipped(rt: HostRuntime) {
-    let alloc = rt.alloc();
-    let zip = Op::Zip {
-        with: list(&rt, alloc, &[10, 20, 30]),
-        by: Joining::Add,
-    };
-    let chain = list_then(&rt, alloc, &[1, 2], zip);
-    gives_twice(&rt, alloc, chain, &[11, 22], End::Completed);
-}
-
-#[test]
-fn a_take_of_nothing_is_refused(rt: HostRuntime) {
-    let refused = list(&rt, rt.alloc(), &[1]).then(rt.alloc(), Op::Take(0));
-    compare(&rt, 0, refused.err(), Some(ChainFault::NotPositive));
-}
-
-#[test]
-fn an_empty_list_completes(rt: HostRuntime) {
-    let chain = list(&rt, rt.alloc(), &[]);
-    gives_twice(&rt, rt.alloc(), chain, &[], End::Completed);
-}
-
-/// A test, the items of a list, and those from the first that does not pass.
-const DROPPED: [(Test, &[i64], &[i64]); 5] = [
-    (Test::Less(3), &[1, 5, 2], &[5, 2]),
-    (Test::Less(3), &[2, 1], &[]),
-    (Test::Greater(3), &[1, 5], &[1, 5]),
-    (Test::Odd, &[1, 3, 2, 4], &[2, 4]),
-    (Test::Even, &[], &[]),
-];
-
-#[test]
-fn first_items_are_dropped_while_they_pass(rt: HostRuntime) {
-    for place in 0..DROPPED.len() {
-        let (test, items, wanted) = DROPPED[place];
-        let chain = list_then(&rt, rt.alloc(), items, Op::DropWhile(test));
-        gives_twice(&rt, rt.alloc(), chain, wanted, End::Completed);
-    }
-}
-
-/// How results are made, the items of a list, what they give, and the end.
-const REDUCED: [(Arithmetic, &[i64], &[i64], End); 4] = [
-    (Arithmetic::Add, &[5, 2], &[5, 7], End::Completed),
-    (Arithmetic::Mul, &[2, 3, 4], &[2, 6, 24], End::Completed),
-    (Arithmetic::Add, &[], &[], End::Completed),
-    (
-        Arithmetic::Mul,
-        &[i64::MAX, 1, 2],
-        &[i64::MAX, i64::MAX],
-        OVERFLOW,
-    ),
-];
-
-#[test]
-fn each_result_is_given_after_the_first_item(rt: HostRuntime) {
-    for place in 0..REDUCED.len() {
-        let (by, items, wanted, end) = REDUCED[place];
-        let chain = list_then(&rt, rt.alloc(), items, Op::RunningReduce(by));
-        gives_twice(&rt, rt.alloc(), chain, wanted, end);
-    }
-}
-
-/// Of 1 to 9 the first five, of these 3, 4 and 5, which are added to 10, 20 and 30.
-#[test]
-fn what_is_left_of_a_take_is_zipped_and_reduced(rt: HostRuntime) {
-    let alloc = rt.alloc();
-    let range = ScriptChain::source(Source::Range(OfRange::new(1, 9)));
-    let taken = then(&rt, alloc, range, Op::Take(5));
-    let left = then(&rt, alloc, taken, Op::DropWhile(Test::Less(3)));
-    let zip = Op::Zip {
-        with: list(&rt, alloc, &[10, 20, 30]),
-        by: Joining::Add,
-    };
-    let zipped = then(&rt, alloc, left, zip);
-    let chain = then(&rt, alloc, zipped, Op::RunningReduce(Arithmetic::Add));
-    gives_twice(&rt, alloc, chain, &[13, 37, 72], End::Completed);
-}
+const ADD_ONE: Stage = Stage::Map(Arithmetic::Add, 1);
 
 const FAILED: End = End::Failed(ChainFault::Source(7));
 
-#[test]
-fn a_script_pends_and_fails(rt: HostRuntime) {
-    let entries = [
-        Entry::Pending,
-        Entry::Item(5),
-        Entry::Pending,
-        Entry::Fault(7),
-    ];
-    let chain = scripted(&rt, rt.alloc(), entries);
-    gives_twice(&rt, rt.alloc(), chain, &[5], FAILED);
+const OVERFLOW: End = End::Failed(ChainFault::Overflow);
+
+/// A list in which the greatest number comes second.
+const GREATEST: Start = Start::List(&[1, i64::MAX, 2]);
+
+const WHOLE: &[Example] = &[
+    // A range is scanned.
+    Example {
+        start: Start::Range(1, 5),
+        stages: &[Stage::Scan, Stage::Take(3)],
+        items: &[0, 1, 3],
+        end: End::Completed,
+    },
+    // Lists are zipped.
+    Example {
+        start: Start::List(&[1, 2]),
+        stages: &[Stage::Zip(Start::List(&[10, 20, 30]), Joining::Add)],
+        items: &[11, 22],
+        end: End::Completed,
+    },
+    // An empty list completes.
+    Example {
+        start: Start::List(&[]),
+        stages: &[],
+        items: &[],
+        end: End::Completed,
+    },
+    // Of 1 to 9 the first five, of these 3, 4 and 5, which are added to 10, 20 and 30.
+    Example {
+        start: Start::Range(1, 9),
+        stages: &[
+            Stage::Take(5),
+            Stage::DropWhile(Test::Less(3)),
+            Stage::Zip(Start::List(&[10, 20, 30]), Joining::Add),
+            Stage::RunningReduce(Arithmetic::Add),
+        ],
+        items: &[13, 37, 72],
+        end: End::Completed,
+    },
+    // A script pends and fails.
+    Example {
+        start: Start::Script(&[
+            Entry::Pending,
+            Entry::Item(5),
+            Entry::Pending,
+            Entry::Fault(7),
+        ]),
+        stages: &[],
+        items: &[5],
+        end: FAILED,
+    },
+    // The left side is asked first: it is over before the right one fails.
+    Example {
+        start: Start::List(&[1]),
+        stages: &[Stage::Zip(
+            Start::Script(&[Entry::Item(5), Entry::Fault(7)]),
+            Joining::Add,
+        )],
+        items: &[6],
+        end: End::Completed,
+    },
+    // It has another item, and the right side fails.
+    Example {
+        start: Start::List(&[1, 2]),
+        stages: &[Stage::Zip(
+            Start::Script(&[Entry::Item(5), Entry::Fault(7)]),
+            Joining::Add,
+        )],
+        items: &[6],
+        end: FAILED,
+    },
+    // Repeated items are dropped, and the others spread.
+    Example {
+        start: Start::List(&[1, 2, 2]),
+        stages: &[
+            Stage::Distinct,
+            Stage::Spread,
+            Stage::Filter(Test::Greater(1)),
+        ],
+        items: &[2, 2, 3],
+        end: End::Completed,
+    },
+    // Sums are dropped and taken.
+    Example {
+        start: Start::List(&[1, 2]),
+        stages: &[
+            Stage::Sums(&[0, 10]),
+            Stage::DropFirst(1),
+            Stage::TakeWhile(Test::NotEqual(12)),
+        ],
+        items: &[11, 2],
+        end: End::Completed,
+    },
+];
+
+/// The first items are dropped while they pass.
+const DROPPED: &[Example] = &[
+    Example {
+        start: Start::List(&[1, 5, 2]),
+        stages: &[Stage::DropWhile(Test::Less(3))],
+        items: &[5, 2],
+        end: End::Completed,
+    },
+    Example {
+        start: Start::List(&[2, 1]),
+        stages: &[Stage::DropWhile(Test::Less(3))],
+        items: &[],
+        end: End::Completed,
+    },
+    Example {
+        start: Start::List(&[1, 5]),
+        stages: &[Stage::DropWhile(Test::Greater(3))],
+        items: &[1, 5],
+        end: End::Completed,
+    },
+    Example {
+        start: Start::List(&[1, 3, 2, 4]),
+        stages: &[Stage::DropWhile(Test::Odd)],
+        items: &[2, 4],
+        end: End::Completed,
+    },
+    Example {
+        start: Start::List(&[]),
+        stages: &[Stage::DropWhile(Test::Even)],
+        items: &[],
+        end: End::Completed,
+    },
+];
+
+/// Each result is given after the first item.
+const REDUCED: &[Example] = &[
+    Example {
+        start: Start::List(&[5, 2]),
+        stages: &[Stage::RunningReduce(Arithmetic::Add)],
+        items: &[5, 7],
+        end: End::Completed,
+    },
+    Example {
+        start: Start::List(&[2, 3, 4]),
+        stages: &[Stage::RunningReduce(Arithmetic::Mul)],
+        items: &[2, 6, 24],
+        end: End::Completed,
+    },
+    Example {
+        start: Start::List(&[]),
+        stages: &[Stage::RunningReduce(Arithmetic::Add)],
+        items: &[],
+        end: End::Completed,
+    },
+    Example {
+        start: Start::List(&[i64::MAX, 1, 2]),
+        stages: &[Stage::RunningReduce(Arithmetic::Mul)],
+        items: &[i64::MAX, i64::MAX],
+        end: OVERFLOW,
+    },
+];
+
+/// A result that is out of range is an overflow, in each operator that computes.
+const OVERFLOWING: &[Example] = &[
+    Example {
+        start: GREATEST,
+        stages: &[ADD_ONE],
+        items: &[2],
+        end: OVERFLOW,
+    },
+    Example {
+        start: GREATEST,
+        stages: &[Stage::Sums(&[0, 1])],
+        items: &[1, 2],
+        end: OVERFLOW,
+    },
+    Example {
+        start: GREATEST,
+        stages: &[Stage::Scan],
+        items: &[0, 1],
+        end: OVERFLOW,
+    },
+    Example {
+        start: GREATEST,
+        stages: &[Stage::RunningReduce(Arithmetic::Add)],
+        items: &[1],
+        end: OVERFLOW,
+    },
+    Example {
+        start: GREATEST,
+        stages: &[Stage::Spread],
+        items: &[1, 2],
+        end: OVERFLOW,
+    },
+    Example {
+        start: GREATEST,
+        stages: &[Stage::Map(Arithmetic::Mul, 2)],
+        items: &[2],
+        end: OVERFLOW,
+    },
+    Example {
+        start: GREATEST,
+        stages: &[Stage::Zip(Start::List(&[1, 2]), Joining::Mul)],
+        items: &[1],
+        end: OVERFLOW,
+    },
+];
+
+fn begun(rt: &impl Abort, alloc: Global, start: &Start) -> ScriptChain {
+    match start {
+        Start::Range(first, last) => ScriptChain::source(Source::Range(OfRange::new(
+            *first, *last,
+        ))),
+        Start::List(items) => list(rt, alloc, items),
+        Start::Script(entries) => ScriptChain::source(Source::Scripted(script(rt, alloc, entries))),
+    }
 }
 
-/// The sums with 5 and then a fault are 6 and this end.
-fn zipped_with_a_fault(rt: &impl Abort, alloc: Global, items: &[i64], end: End) {
-    let zip = Op::Zip {
-        with: scripted(rt, alloc, [Entry::Item(5), Entry::Fault(7)]),
-        by: Joining::Add,
-    };
-    let chain = list_then(rt, alloc, items, zip);
-    gives_twice(rt, alloc, chain, &[6], end);
+fn operator(rt: &impl Abort, alloc: Global, stage: &Stage) -> Op {
+    match stage {
+        Stage::Map(by, k) => Op::Map { by: *by, k: *k },
+        Stage::Filter(test) => Op::Filter(*test),
+        Stage::TakeWhile(test) => Op::TakeWhile(*test),
+        Stage::Sums(add) => Op::Transform(add.to_vec(alloc).expect(rt, "memory")),
+        Stage::Take(count) => Op::Take(*count),
+        Stage::DropFirst(count) => Op::DropFirst(*count),
+        Stage::DropWhile(test) => Op::DropWhile(*test),
+        Stage::Scan => Op::Scan {
+            from: 0,
+            by: Arithmetic::Add,
+        },
+        Stage::RunningReduce(by) => Op::RunningReduce(*by),
+        Stage::Spread => Op::FlatMap {
+            to: Spread::Range,
+            count: 2,
+        },
+        Stage::Zip(with, by) => Op::Zip {
+            with: begun(rt, alloc, with),
+            by: *by,
+        },
+        Stage::Distinct => Op::Distinct,
+    }
+}
+
+/// The chain with these operators.
+fn then(rt: &impl Abort, alloc: Global, chain: ScriptChain, stages: &[Stage]) -> ScriptChain {
+    let mut chain = chain;
+    for stage in stages {
+        match chain.then(alloc, operator(rt, alloc, stage)) {
+            Ok(longer) => chain = longer,
+            Err(_) => panic!(rt; "an operator is refused"),
+        }
+    }
+    chain
+}
+
+/// Collects the chain of each example twice: both times it gives the items and the end.
+fn give_twice(rt: &impl Abort, alloc: Global, examples: &[Example]) {
+    for place in 0..examples.len() {
+        let example = &examples[place];
+        let start = begun(rt, alloc, &example.start);
+        let mut chain = then(rt, alloc, start, example.stages);
+        gives(rt, alloc, &mut chain, place, example.items, example.end);
+        gives(rt, alloc, &mut chain, place, example.items, example.end);
+    }
 }
 
 #[test]
-fn the_left_side_is_asked_first(rt: HostRuntime) {
-    zipped_with_a_fault(&rt, rt.alloc(), &[1], End::Completed);
-    zipped_with_a_fault(&rt, rt.alloc(), &[1, 2], FAILED);
+fn chains_are_built_and_collected_twice(rt: HostRuntime) {
+    for examples in [WHOLE, DROPPED, REDUCED, OVERFLOWING] {
+        give_twice(&rt, rt.alloc(), examples);
+    }
 }
 
 /// 0 plus 1 so many times.
 fn tower(rt: &impl Abort, alloc: Global, count: u64) -> ScriptChain {
-    let mut chain = list(rt, alloc, &[0]);
+    let mut chain = begun(rt, alloc, &Start::List(&[0]));
     for _ in 0..count {
-        chain = then(rt, alloc, chain, add_one());
+        chain = then(rt, alloc, chain, &[ADD_ONE]);
     }
     chain
 }
 
 #[test]
 fn a_chain_may_be_64_deep(rt: HostRuntime) {
-    let deepest = tower(&rt, rt.alloc(), 63);
-    gives_twice(&rt, rt.alloc(), deepest, &[63], End::Completed);
-    let refused = tower(&rt, rt.alloc(), 63).then(rt.alloc(), add_one());
-    compare(&rt, 0, refused.err(), Some(ChainFault::TooDeep));
+    let mut deepest = tower(&rt, rt.alloc(), 63);
+    for _ in 0..2 {
+        gives(&rt, rt.alloc(), &mut deepest, 0, &[63], End::Completed);
+    }
 }
 
+/// An operator more than a chain may have, and a take of nothing.
 #[test]
-fn repeated_items_are_dropped_and_spread(rt: HostRuntime) {
+fn operators_are_refused(rt: HostRuntime) {
     let alloc = rt.alloc();
-    let distinct = list_then(&rt, alloc, &[1, 2, 2], Op::Distinct);
-    let more = then(&rt, alloc, distinct, spread());
-    let chain = then(&rt, alloc, more, Op::Filter(Test::Greater(1)));
-    gives_twice(&rt, alloc, chain, &[2, 2, 3], End::Completed);
-}
-
-#[test]
-fn sums_are_dropped_and_taken(rt: HostRuntime) {
-    let alloc = rt.alloc();
-    let sums = list_then(&rt, alloc, &[1, 2], sums(&rt, alloc, &[0, 10]));
-    let dropped = then(&rt, alloc, sums, Op::DropFirst(1));
-    let chain = then(&rt, alloc, dropped, Op::TakeWhile(Test::NotEqual(12)));
-    gives_twice(&rt, alloc, chain, &[11, 2], End::Completed);
-}
-
-const OVERFLOW: End = End::Failed(ChainFault::Overflow);
-
-/// The greatest number comes second, and the operator fails there.
-fn overflows(rt: &impl Abort, alloc: Global, op: Op, items: &[i64]) {
-    let chain = list_then(rt, alloc, &[1, i64::MAX, 2], op);
-    gives_twice(rt, alloc, chain, items, OVERFLOW);
-}
-
-#[test]
-fn results_out_of_range_are_overflow(rt: HostRuntime) {
-    let alloc = rt.alloc();
-    overflows(&rt, alloc, add_one(), &[2]);
-    overflows(&rt, alloc, sums(&rt, alloc, &[0, 1]), &[1, 2]);
-    overflows(&rt, alloc, scan(), &[0, 1]);
-    overflows(&rt, alloc, Op::RunningReduce(Arithmetic::Add), &[1]);
-    overflows(&rt, alloc, spread(), &[1, 2]);
-}
-
-#[test]
-fn products_out_of_range_are_overflow(rt: HostRuntime) {
-    let alloc = rt.alloc();
-    let double = Op::Map {
-        by: Arithmetic::Mul,
-        k: 2,
-    };
-    overflows(&rt, alloc, double, &[2]);
-    let zip = Op::Zip {
-        with: list(&rt, alloc, &[1, 2]),
-        by: Joining::Mul,
-    };
-    overflows(&rt, alloc, zip, &[1]);
+    let too_deep = tower(&rt, alloc, 63).then(alloc, operator(&rt, alloc, &ADD_ONE));
+    compare(&rt, 0, too_deep.err(), Some(ChainFault::TooDeep));
+    let nothing = tower(&rt, alloc, 0).then(alloc, Op::Take(0));
+    compare(&rt, 1, nothing.err(), Some(ChainFault::NotPositive));
 }

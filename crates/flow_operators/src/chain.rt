@@ -14,17 +14,17 @@ use crate::cold::Cold;
 use crate::computation::{ItemComputation, ItemTest, PairComputation};
 use crate::meaning::{InnerMeaning, ItemMeaning, ListMeaning, PairMeaning, TestMeaning};
 use crate::operators::{
-    Distinct, DropFirst, DropWhile, DropWhileBy, Filter, FilterBy, FlatMapConcat, Map, MapBy,
-    RunningReduce, RunningReduceBy, Scan, ScanBy, Take, TakeWhile, TakeWhileBy, Transform, Zip,
-    ZipBy,
+    Distinct, DropFirst, DropWhile, Filter, FlatMapConcat, Map, RunningReduce, Scan, Take,
+    TakeWhile, Transform, Zip,
 };
 use crate::sources::Scripted;
+use crate::with_meaning::WithMeaning;
 use flow_law::{ChainFault, FlowValue};
 
 /// Operators on any chain.
 pub trait Chain: Cold {
     /// Gives what the closure makes of each item. See `Map::new`.
-    final fn map<U, M, F>(self, meaning: M, closure: F) -> Map<Self, U, M, F>
+    final fn map<U, M, F>(self, meaning: M, closure: F) -> Map<Self, U, WithMeaning<M, F>>
     where
         Self: Sized,
         U: FlowValue,
@@ -33,37 +33,38 @@ pub trait Chain: Cold {
         requires sound { Self.sound self }
         requires callable { F.IsAlwaysCallable closure }
         requires computes { Computes (F.post closure) (M.image meaning) }
-        ensures sound { ⟦<Map<Self, U, M, F> as Cold>⟧.sound result }
-        ensures whole { ⟦<Map<Self, U, M, F> as Cold>⟧.whole result
+        ensures sound { ⟦<Map<Self, U, WithMeaning<M, F>> as Cold>⟧.sound result }
+        ensures whole { ⟦<Map<Self, U, WithMeaning<M, F>> as Cold>⟧.whole result
             ≡ runs.map_run (M.image meaning) (Self.whole self) }
-        ensures meaning { meaning_of (⟦<Map<Self, U, M, F> as Cold>⟧.whole result)
+        ensures meaning { meaning_of (⟦<Map<Self, U, WithMeaning<M, F>> as Cold>⟧.whole result)
             ≡ means.map_meaning (M.image meaning) (meaning_of (Self.whole self)) }
-        ensures rest { ⟦<Map<Self, U, M, F> as Cold>⟧.rest result
+        ensures rest { ⟦<Map<Self, U, WithMeaning<M, F>> as Cold>⟧.rest result
             ≡ runs.map_run (M.image meaning) (Self.rest self) }
     {
-        Map::new(self, meaning, closure)
+        Map::new(self, WithMeaning { meaning, closure })
     }
 
-    /// Gives what the computation makes of each item, as `Plus { k: 1 }` does. See `MapBy::new`.
-    final fn map_by<U, M>(self, computation: M) -> MapBy<Self, U, M>
+    /// Gives what the computation makes of each item, as `Plus { k: 1 }` does. See `Map::new`.
+    final fn map_by<U, M>(self, computation: M) -> Map<Self, U, M>
     where
         Self: Sized,
         U: FlowValue,
         M: ItemComputation<Self::Item, U>,
-        requires { Self.sound self }
-        ensures sound { ⟦<MapBy<Self, U, M> as Cold>⟧.sound result }
-        ensures whole { ⟦<MapBy<Self, U, M> as Cold>⟧.whole result
+        requires sound { Self.sound self }
+        requires computes { M.sound computation }
+        ensures sound { ⟦<Map<Self, U, M> as Cold>⟧.sound result }
+        ensures whole { ⟦<Map<Self, U, M> as Cold>⟧.whole result
             ≡ runs.map_run (M.image computation) (Self.whole self) }
-        ensures meaning { meaning_of (⟦<MapBy<Self, U, M> as Cold>⟧.whole result)
+        ensures meaning { meaning_of (⟦<Map<Self, U, M> as Cold>⟧.whole result)
             ≡ means.map_meaning (M.image computation) (meaning_of (Self.whole self)) }
-        ensures rest { ⟦<MapBy<Self, U, M> as Cold>⟧.rest result
+        ensures rest { ⟦<Map<Self, U, M> as Cold>⟧.rest result
             ≡ runs.map_run (M.image computation) (Self.rest self) }
     {
-        MapBy::new(self, computation)
+        Map::new(self, computation)
     }
 
     /// Gives the items that pass the test. See `Filter::new`.
-    final fn filter<M, F>(self, meaning: M, closure: F) -> Filter<Self, M, F>
+    final fn filter<M, F>(self, meaning: M, closure: F) -> Filter<Self, WithMeaning<M, F>>
     where
         Self: Sized,
         M: TestMeaning<Self::Item>,
@@ -71,32 +72,33 @@ pub trait Chain: Cold {
         requires sound { Self.sound self }
         requires callable { F.IsAlwaysCallable closure }
         requires computes { Decides (λ x b. FnReturnsAt F.Fn closure x b) (M.passes meaning) }
-        ensures sound { ⟦<Filter<Self, M, F> as Cold>⟧.sound result }
-        ensures whole { ⟦<Filter<Self, M, F> as Cold>⟧.whole result
+        ensures sound { ⟦<Filter<Self, WithMeaning<M, F>> as Cold>⟧.sound result }
+        ensures whole { ⟦<Filter<Self, WithMeaning<M, F>> as Cold>⟧.whole result
             ≡ runs.filter_run (M.passes meaning) (Self.whole self) }
-        ensures meaning { meaning_of (⟦<Filter<Self, M, F> as Cold>⟧.whole result)
+        ensures meaning { meaning_of (⟦<Filter<Self, WithMeaning<M, F>> as Cold>⟧.whole result)
             ≡ means.filter_meaning (M.passes meaning) (meaning_of (Self.whole self)) }
-        ensures rest { ⟦<Filter<Self, M, F> as Cold>⟧.rest result
+        ensures rest { ⟦<Filter<Self, WithMeaning<M, F>> as Cold>⟧.rest result
             ≡ runs.filter_run (M.passes meaning) (Self.rest self) }
     {
-        Filter::new(self, meaning, closure)
+        Filter::new(self, WithMeaning { meaning, closure })
     }
 
-    /// Gives the items that pass the test, as `Even` is one. See `FilterBy::new`.
-    final fn filter_by<M>(self, test: M) -> FilterBy<Self, M>
+    /// Gives the items that pass the test, as `Even` is one. See `Filter::new`.
+    final fn filter_by<M>(self, test: M) -> Filter<Self, M>
     where
         Self: Sized,
         M: ItemTest<Self::Item>,
-        requires { Self.sound self }
-        ensures sound { ⟦<FilterBy<Self, M> as Cold>⟧.sound result }
-        ensures whole { ⟦<FilterBy<Self, M> as Cold>⟧.whole result
+        requires sound { Self.sound self }
+        requires decides { M.sound test }
+        ensures sound { ⟦<Filter<Self, M> as Cold>⟧.sound result }
+        ensures whole { ⟦<Filter<Self, M> as Cold>⟧.whole result
             ≡ runs.filter_run (M.passes test) (Self.whole self) }
-        ensures meaning { meaning_of (⟦<FilterBy<Self, M> as Cold>⟧.whole result)
+        ensures meaning { meaning_of (⟦<Filter<Self, M> as Cold>⟧.whole result)
             ≡ means.filter_meaning (M.passes test) (meaning_of (Self.whole self)) }
-        ensures rest { ⟦<FilterBy<Self, M> as Cold>⟧.rest result
+        ensures rest { ⟦<Filter<Self, M> as Cold>⟧.rest result
             ≡ runs.filter_run (M.passes test) (Self.rest self) }
     {
-        FilterBy::new(self, test)
+        Filter::new(self, test)
     }
 
     /// Gives the first `count` items; a count of 0 is refused. See `Take::new`.
@@ -133,7 +135,7 @@ pub trait Chain: Cold {
     }
 
     /// Gives the items before the first that does not pass the test. See `TakeWhile::new`.
-    final fn take_while<M, F>(self, meaning: M, closure: F) -> TakeWhile<Self, M, F>
+    final fn take_while<M, F>(self, meaning: M, closure: F) -> TakeWhile<Self, WithMeaning<M, F>>
     where
         Self: Sized,
         M: TestMeaning<Self::Item>,
@@ -141,36 +143,37 @@ pub trait Chain: Cold {
         requires sound { Self.sound self }
         requires callable { F.IsAlwaysCallable closure }
         requires computes { Decides (λ x b. FnReturnsAt F.Fn closure x b) (M.passes meaning) }
-        ensures sound { ⟦<TakeWhile<Self, M, F> as Cold>⟧.sound result }
-        ensures whole { ⟦<TakeWhile<Self, M, F> as Cold>⟧.whole result
+        ensures sound { ⟦<TakeWhile<Self, WithMeaning<M, F>> as Cold>⟧.sound result }
+        ensures whole { ⟦<TakeWhile<Self, WithMeaning<M, F>> as Cold>⟧.whole result
             ≡ runs.take_while_run (M.passes meaning) (Self.whole self) }
-        ensures meaning { meaning_of (⟦<TakeWhile<Self, M, F> as Cold>⟧.whole result)
+        ensures meaning { meaning_of (⟦<TakeWhile<Self, WithMeaning<M, F>> as Cold>⟧.whole result)
             ≡ means.take_while_meaning (M.passes meaning) (meaning_of (Self.whole self)) }
-        ensures rest { ⟦<TakeWhile<Self, M, F> as Cold>⟧.rest result
+        ensures rest { ⟦<TakeWhile<Self, WithMeaning<M, F>> as Cold>⟧.rest result
             ≡ runs.take_while_run (M.passes meaning) (Self.rest self) }
     {
-        TakeWhile::new(self, meaning, closure)
+        TakeWhile::new(self, WithMeaning { meaning, closure })
     }
 
-    /// Gives the items before the first that does not pass the test. See `TakeWhileBy::new`.
-    final fn take_while_by<M>(self, test: M) -> TakeWhileBy<Self, M>
+    /// Gives the items before the first that does not pass the test. See `TakeWhile::new`.
+    final fn take_while_by<M>(self, test: M) -> TakeWhile<Self, M>
     where
         Self: Sized,
         M: ItemTest<Self::Item>,
-        requires { Self.sound self }
-        ensures sound { ⟦<TakeWhileBy<Self, M> as Cold>⟧.sound result }
-        ensures whole { ⟦<TakeWhileBy<Self, M> as Cold>⟧.whole result
+        requires sound { Self.sound self }
+        requires decides { M.sound test }
+        ensures sound { ⟦<TakeWhile<Self, M> as Cold>⟧.sound result }
+        ensures whole { ⟦<TakeWhile<Self, M> as Cold>⟧.whole result
             ≡ runs.take_while_run (M.passes test) (Self.whole self) }
-        ensures meaning { meaning_of (⟦<TakeWhileBy<Self, M> as Cold>⟧.whole result)
+        ensures meaning { meaning_of (⟦<TakeWhile<Self, M> as Cold>⟧.whole result)
             ≡ means.take_while_meaning (M.passes test) (meaning_of (Self.whole self)) }
-        ensures rest { ⟦<TakeWhileBy<Self, M> as Cold>⟧.rest result
+        ensures rest { ⟦<TakeWhile<Self, M> as Cold>⟧.rest result
             ≡ runs.take_while_run (M.passes test) (Self.rest self) }
     {
-        TakeWhileBy::new(self, test)
+        TakeWhile::new(self, test)
     }
 
     /// Drops the first items while they pass the test, and gives all others. See `DropWhile::new`.
-    final fn drop_while<M, F>(self, meaning: M, closure: F) -> DropWhile<Self, M, F>
+    final fn drop_while<M, F>(self, meaning: M, closure: F) -> DropWhile<Self, WithMeaning<M, F>>
     where
         Self: Sized,
         M: TestMeaning<Self::Item>,
@@ -178,36 +181,42 @@ pub trait Chain: Cold {
         requires sound { Self.sound self }
         requires callable { F.IsAlwaysCallable closure }
         requires computes { Decides (λ x b. FnReturnsAt F.Fn closure x b) (M.passes meaning) }
-        ensures sound { ⟦<DropWhile<Self, M, F> as Cold>⟧.sound result }
-        ensures whole { ⟦<DropWhile<Self, M, F> as Cold>⟧.whole result
+        ensures sound { ⟦<DropWhile<Self, WithMeaning<M, F>> as Cold>⟧.sound result }
+        ensures whole { ⟦<DropWhile<Self, WithMeaning<M, F>> as Cold>⟧.whole result
             ≡ runs.drop_while_run (M.passes meaning) (Self.whole self) }
-        ensures meaning { meaning_of (⟦<DropWhile<Self, M, F> as Cold>⟧.whole result)
+        ensures meaning { meaning_of (⟦<DropWhile<Self, WithMeaning<M, F>> as Cold>⟧.whole result)
             ≡ means.drop_while_meaning (M.passes meaning) (meaning_of (Self.whole self)) }
-        ensures rest { ⟦<DropWhile<Self, M, F> as Cold>⟧.rest result
+        ensures rest { ⟦<DropWhile<Self, WithMeaning<M, F>> as Cold>⟧.rest result
             ≡ runs.drop_while_run (M.passes meaning) (Self.rest self) }
     {
-        DropWhile::new(self, meaning, closure)
+        DropWhile::new(self, WithMeaning { meaning, closure })
     }
 
-    /// Drops the first items while they pass the test, and gives all others. See `DropWhileBy::new`.
-    final fn drop_while_by<M>(self, test: M) -> DropWhileBy<Self, M>
+    /// Drops the first items while they pass the test, and gives all others. See `DropWhile::new`.
+    final fn drop_while_by<M>(self, test: M) -> DropWhile<Self, M>
     where
         Self: Sized,
         M: ItemTest<Self::Item>,
-        requires { Self.sound self }
-        ensures sound { ⟦<DropWhileBy<Self, M> as Cold>⟧.sound result }
-        ensures whole { ⟦<DropWhileBy<Self, M> as Cold>⟧.whole result
+        requires sound { Self.sound self }
+        requires decides { M.sound test }
+        ensures sound { ⟦<DropWhile<Self, M> as Cold>⟧.sound result }
+        ensures whole { ⟦<DropWhile<Self, M> as Cold>⟧.whole result
             ≡ runs.drop_while_run (M.passes test) (Self.whole self) }
-        ensures meaning { meaning_of (⟦<DropWhileBy<Self, M> as Cold>⟧.whole result)
+        ensures meaning { meaning_of (⟦<DropWhile<Self, M> as Cold>⟧.whole result)
             ≡ means.drop_while_meaning (M.passes test) (meaning_of (Self.whole self)) }
-        ensures rest { ⟦<DropWhileBy<Self, M> as Cold>⟧.rest result
+        ensures rest { ⟦<DropWhile<Self, M> as Cold>⟧.rest result
             ≡ runs.drop_while_run (M.passes test) (Self.rest self) }
     {
-        DropWhileBy::new(self, test)
+        DropWhile::new(self, test)
     }
 
     /// Gives `initial`, then what the closure makes of the last result and each item. See `Scan::new`.
-    final fn scan<U, M, F>(self, initial: U, meaning: M, closure: F) -> Scan<Self, U, M, F>
+    final fn scan<U, M, F>(
+        self,
+        initial: U,
+        meaning: M,
+        closure: F,
+    ) -> Scan<Self, U, WithMeaning<M, F>>
     where
         Self: Sized,
         U: FlowValue,
@@ -216,38 +225,43 @@ pub trait Chain: Cold {
         requires sound { Self.sound self }
         requires callable { F.IsAlwaysCallable closure }
         requires computes { Computes (λ x r. F.post closure x.0 x.1 r) (M.image meaning) }
-        ensures sound { ⟦<Scan<Self, U, M, F> as Cold>⟧.sound result }
-        ensures whole { ⟦<Scan<Self, U, M, F> as Cold>⟧.whole result
+        ensures sound { ⟦<Scan<Self, U, WithMeaning<M, F>> as Cold>⟧.sound result }
+        ensures whole { ⟦<Scan<Self, U, WithMeaning<M, F>> as Cold>⟧.whole result
             ≡ gives initial (runs.scan_run (M.image meaning) initial (Self.whole self)) }
-        ensures meaning { meaning_of (⟦<Scan<Self, U, M, F> as Cold>⟧.whole result)
+        ensures meaning { meaning_of (⟦<Scan<Self, U, WithMeaning<M, F>> as Cold>⟧.whole result)
             ≡ means.scan_meaning (M.image meaning) initial (meaning_of (Self.whole self)) }
-        ensures rest { ⟦<Scan<Self, U, M, F> as Cold>⟧.rest result
+        ensures rest { ⟦<Scan<Self, U, WithMeaning<M, F>> as Cold>⟧.rest result
             ≡ gives initial (runs.scan_run (M.image meaning) initial (Self.rest self)) }
     {
-        Scan::new(self, initial, meaning, closure)
+        Scan::new(self, initial, WithMeaning { meaning, closure })
     }
 
-    /// Gives `initial`, then what the computation makes of the last result and each item. See `ScanBy::new`.
-    final fn scan_by<U, M>(self, initial: U, computation: M) -> ScanBy<Self, U, M>
+    /// Gives `initial`, then what the computation makes of the last result and each item. See `Scan::new`.
+    final fn scan_by<U, M>(self, initial: U, computation: M) -> Scan<Self, U, M>
     where
         Self: Sized,
         U: FlowValue,
         M: PairComputation<U, Self::Item, U>,
-        requires { Self.sound self }
-        ensures sound { ⟦<ScanBy<Self, U, M> as Cold>⟧.sound result }
-        ensures whole { ⟦<ScanBy<Self, U, M> as Cold>⟧.whole result
+        requires sound { Self.sound self }
+        requires computes { M.sound computation }
+        ensures sound { ⟦<Scan<Self, U, M> as Cold>⟧.sound result }
+        ensures whole { ⟦<Scan<Self, U, M> as Cold>⟧.whole result
             ≡ gives initial (runs.scan_run (M.image computation) initial (Self.whole self)) }
-        ensures meaning { meaning_of (⟦<ScanBy<Self, U, M> as Cold>⟧.whole result)
+        ensures meaning { meaning_of (⟦<Scan<Self, U, M> as Cold>⟧.whole result)
             ≡ means.scan_meaning (M.image computation) initial (meaning_of (Self.whole self)) }
-        ensures rest { ⟦<ScanBy<Self, U, M> as Cold>⟧.rest result
+        ensures rest { ⟦<Scan<Self, U, M> as Cold>⟧.rest result
             ≡ gives initial (runs.scan_run (M.image computation) initial (Self.rest self)) }
     {
-        ScanBy::new(self, initial, computation)
+        Scan::new(self, initial, computation)
     }
 
     /// Gives the first item, then what the closure makes of the last result and each further item. See
     /// `RunningReduce::new`.
-    final fn running_reduce<M, F>(self, meaning: M, closure: F) -> RunningReduce<Self, M, F>
+    final fn running_reduce<M, F>(
+        self,
+        meaning: M,
+        closure: F,
+    ) -> RunningReduce<Self, WithMeaning<M, F>>
     where
         Self: Sized,
         M: PairMeaning<Self::Item, Self::Item, Self::Item>,
@@ -255,33 +269,34 @@ pub trait Chain: Cold {
         requires sound { Self.sound self }
         requires callable { F.IsAlwaysCallable closure }
         requires computes { Computes (λ x r. F.post closure x.0 x.1 r) (M.image meaning) }
-        ensures sound { ⟦<RunningReduce<Self, M, F> as Cold>⟧.sound result }
-        ensures whole { ⟦<RunningReduce<Self, M, F> as Cold>⟧.whole result
+        ensures sound { ⟦<RunningReduce<Self, WithMeaning<M, F>> as Cold>⟧.sound result }
+        ensures whole { ⟦<RunningReduce<Self, WithMeaning<M, F>> as Cold>⟧.whole result
             ≡ runs.running_reduce_run (M.image meaning) None (Self.whole self) }
-        ensures meaning { meaning_of (⟦<RunningReduce<Self, M, F> as Cold>⟧.whole result)
+        ensures meaning { meaning_of (⟦<RunningReduce<Self, WithMeaning<M, F>> as Cold>⟧.whole result)
             ≡ means.running_reduce_meaning (M.image meaning) (meaning_of (Self.whole self)) }
-        ensures rest { ⟦<RunningReduce<Self, M, F> as Cold>⟧.rest result
+        ensures rest { ⟦<RunningReduce<Self, WithMeaning<M, F>> as Cold>⟧.rest result
             ≡ runs.running_reduce_run (M.image meaning) None (Self.rest self) }
     {
-        RunningReduce::new(self, meaning, closure)
+        RunningReduce::new(self, WithMeaning { meaning, closure })
     }
 
     /// Gives the first item, then what the computation makes of the last result and each further item. See
-    /// `RunningReduceBy::new`.
-    final fn running_reduce_by<M>(self, computation: M) -> RunningReduceBy<Self, M>
+    /// `RunningReduce::new`.
+    final fn running_reduce_by<M>(self, computation: M) -> RunningReduce<Self, M>
     where
         Self: Sized,
         M: PairComputation<Self::Item, Self::Item, Self::Item>,
-        requires { Self.sound self }
-        ensures sound { ⟦<RunningReduceBy<Self, M> as Cold>⟧.sound result }
-        ensures whole { ⟦<RunningReduceBy<Self, M> as Cold>⟧.whole result
+        requires sound { Self.sound self }
+        requires computes { M.sound computation }
+        ensures sound { ⟦<RunningReduce<Self, M> as Cold>⟧.sound result }
+        ensures whole { ⟦<RunningReduce<Self, M> as Cold>⟧.whole result
             ≡ runs.running_reduce_run (M.image computation) None (Self.whole self) }
-        ensures meaning { meaning_of (⟦<RunningReduceBy<Self, M> as Cold>⟧.whole result)
+        ensures meaning { meaning_of (⟦<RunningReduce<Self, M> as Cold>⟧.whole result)
             ≡ means.running_reduce_meaning (M.image computation) (meaning_of (Self.whole self)) }
-        ensures rest { ⟦<RunningReduceBy<Self, M> as Cold>⟧.rest result
+        ensures rest { ⟦<RunningReduce<Self, M> as Cold>⟧.rest result
             ≡ runs.running_reduce_run (M.image computation) None (Self.rest self) }
     {
-        RunningReduceBy::new(self, computation)
+        RunningReduce::new(self, computation)
     }
 
     /// Drops each item that is the same as the one before. See `Distinct::new`.
@@ -344,7 +359,12 @@ pub trait Chain: Cold {
     }
 
     /// Gives what the closure makes of each pair; this chain is the left side. See `Zip::new`.
-    final fn zip<R, U, M, F>(self, right: R, meaning: M, closure: F) -> Zip<Self, R, U, M, F>
+    final fn zip<R, U, M, F>(
+        self,
+        right: R,
+        meaning: M,
+        closure: F,
+    ) -> Zip<Self, R, U, WithMeaning<M, F>>
     where
         Self: Sized,
         R: Cold,
@@ -355,20 +375,20 @@ pub trait Chain: Cold {
         requires right { R.sound right }
         requires callable { F.IsAlwaysCallable closure }
         requires computes { Computes (λ x r. F.post closure x.0 x.1 r) (M.image meaning) }
-        ensures sound { ⟦<Zip<Self, R, U, M, F> as Cold>⟧.sound result }
-        ensures whole { ⟦<Zip<Self, R, U, M, F> as Cold>⟧.whole result
+        ensures sound { ⟦<Zip<Self, R, U, WithMeaning<M, F>> as Cold>⟧.sound result }
+        ensures whole { ⟦<Zip<Self, R, U, WithMeaning<M, F>> as Cold>⟧.whole result
             ≡ runs.zip_run (M.image meaning) (Self.whole self) (R.whole right) }
-        ensures meaning { meaning_of (⟦<Zip<Self, R, U, M, F> as Cold>⟧.whole result)
+        ensures meaning { meaning_of (⟦<Zip<Self, R, U, WithMeaning<M, F>> as Cold>⟧.whole result)
             ≡ means.zip_meaning (M.image meaning) (meaning_of (Self.whole self))
             (meaning_of (R.whole right)) }
-        ensures rest { ⟦<Zip<Self, R, U, M, F> as Cold>⟧.rest result
+        ensures rest { ⟦<Zip<Self, R, U, WithMeaning<M, F>> as Cold>⟧.rest result
             ≡ runs.zip_run (M.image meaning) (Self.rest self) (R.rest right) }
     {
-        Zip::new(self, right, meaning, closure)
+        Zip::new(self, right, WithMeaning { meaning, closure })
     }
 
-    /// Gives what the computation makes of each pair; this chain is the left side. See `ZipBy::new`.
-    final fn zip_by<R, U, M>(self, right: R, computation: M) -> ZipBy<Self, R, U, M>
+    /// Gives what the computation makes of each pair; this chain is the left side. See `Zip::new`.
+    final fn zip_by<R, U, M>(self, right: R, computation: M) -> Zip<Self, R, U, M>
     where
         Self: Sized,
         R: Cold,
@@ -376,16 +396,17 @@ pub trait Chain: Cold {
         M: PairComputation<Self::Item, R::Item, U>,
         requires left { Self.sound self }
         requires right { R.sound right }
-        ensures sound { ⟦<ZipBy<Self, R, U, M> as Cold>⟧.sound result }
-        ensures whole { ⟦<ZipBy<Self, R, U, M> as Cold>⟧.whole result
+        requires computes { M.sound computation }
+        ensures sound { ⟦<Zip<Self, R, U, M> as Cold>⟧.sound result }
+        ensures whole { ⟦<Zip<Self, R, U, M> as Cold>⟧.whole result
             ≡ runs.zip_run (M.image computation) (Self.whole self) (R.whole right) }
-        ensures meaning { meaning_of (⟦<ZipBy<Self, R, U, M> as Cold>⟧.whole result)
+        ensures meaning { meaning_of (⟦<Zip<Self, R, U, M> as Cold>⟧.whole result)
             ≡ means.zip_meaning (M.image computation) (meaning_of (Self.whole self))
             (meaning_of (R.whole right)) }
-        ensures rest { ⟦<ZipBy<Self, R, U, M> as Cold>⟧.rest result
+        ensures rest { ⟦<Zip<Self, R, U, M> as Cold>⟧.rest result
             ≡ runs.zip_run (M.image computation) (Self.rest self) (R.rest right) }
     {
-        ZipBy::new(self, right, computation)
+        Zip::new(self, right, computation)
     }
 }
 

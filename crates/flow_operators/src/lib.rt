@@ -15,8 +15,8 @@
 //! starts the producer anew. No operator asks ahead: an ask takes off what stands behind just what its answer needs.
 //!
 //! # Closures
-//! An operator takes the caller's closure, and beside it a value that tells its meaning: the function that it computes.
-//! That value is for contracts alone, and a unit struct will do.
+//! A method as `map` takes the caller's closure, and beside it a value that tells its meaning: the function that it
+//! computes. That value is for contracts alone, and a unit struct will do. `WithMeaning` is both together.
 //!
 //! A meaning with code of its own (`ItemComputation`, `PairComputation`, `ItemTest`) is taken alone, by `map_by`,
 //! `scan_by`, `running_reduce_by`, `zip_by`, `filter_by`, `take_while_by` and `drop_while_by`. Ready ones on whole
@@ -46,11 +46,11 @@ pub use computation::{ItemComputation, ItemTest, PairComputation};
 pub use flow_law::{ChainFault, End};
 pub use meaning::{InnerMeaning, ItemMeaning, ListMeaning, PairMeaning, TestMeaning};
 pub use operators::{
-    Distinct, DropFirst, DropWhile, DropWhileBy, Filter, FilterBy, FlatMapConcat, Map, MapBy,
-    RunningReduce, RunningReduceBy, Scan, ScanBy, Take, TakeWhile, TakeWhileBy, Transform, Zip,
-    ZipBy,
+    Distinct, DropFirst, DropWhile, Filter, FlatMapConcat, Map, RunningReduce, Scan, Take,
+    TakeWhile, Transform, Zip,
 };
 pub use ready::{Even, Greater, Less, Not, Odd, Plus, Times};
 pub use sources::{Entry, OfList, OfRange, Scripted};
 pub use streamed::Streamed;
 pub use terminal::Terminal;
+pub use with_meaning::WithMeaning;

@@ -120,6 +120,8 @@ impl<A, M: TestMeaning<A>> TestMeaning<A> for Not<M> {
 }
 
 impl<A, M: ItemTest<A>> ItemTest<A> for Not<M> {
+    ghost sound = { λ s. M.sound s.test };
+
     fn test(&self, item: &A) -> bool {
         !self.test.test(item)
     }

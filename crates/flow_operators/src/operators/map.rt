@@ -1,41 +1,37 @@
 //! `map`: what a closure makes of each item.
-ghost use Rattle.std.specs.Prelude.{◌≡◌, true, Result};
+ghost use Rattle.std.specs.Prelude.{◌≡◌, true};
 ghost use Rattle.flow_law.specs.Chain.{map_meaning, meaning_of};
 ghost use Rattle.flow_law.specs.OperatorRuns.{map_run};
 ghost use Rattle.flow_operators.specs.Behind.{AsksOnce};
 ghost use Rattle.flow_operators.specs.Upstreams.{chain_of, is_ended, left_of};
-ghost use Rattle.flow_operators.specs.Closures.{Computes};
 
 use crate::cold::{Asked, Cold};
-use crate::meaning::ItemMeaning;
+use crate::computation::ItemComputation;
 use crate::upstream::Upstream;
-use crate::with_meaning::WithMeaning;
-use flow_law::{ChainFault, FlowValue};
+use flow_law::FlowValue;
 use std::marker::PhantomData;
 
-/// Gives what a closure makes of each item.
+/// Gives what a computation makes of each item: a closure beside its meaning (`WithMeaning`), or one with code of its own.
 #[derive(Drop)]
-pub struct Map<C, U, M, F> {
+pub struct Map<C, U, M> {
     upstream: Upstream<C>,
-    given: WithMeaning<M, F>,
+    computation: M,
     of: PhantomData<U>,
 }
 
-impl<C, U, M, F> Cold for Map<C, U, M, F>
+impl<C, U, M> Cold for Map<C, U, M>
 where
     C: Cold,
     U: FlowValue,
-    M: ItemMeaning<C::Item, U>,
-    F: Fn(C::Item) -> Result<U, ChainFault>,
+    M: ItemComputation<C::Item, U>,
 {
     type Item = U;
 
-    ghost sound = { λ s. C.sound (chain_of s.upstream)
-        × F.IsAlwaysCallable s.given.closure × Computes (F.post s.given.closure) (M.image s.given.meaning) };
+    ghost sound = { λ s. C.sound (chain_of s.upstream) × M.sound s.computation };
 
-    ghost whole = { λ s. map_run (M.image s.given.meaning) (C.whole (chain_of s.upstream)) };
+    ghost whole = { λ s. map_run (M.image s.computation) (C.whole (chain_of s.upstream)) };
 
-    ghost rest = { λ s. map_run (M.image s.given.meaning) (left_of C.rest s.upstream) };
+    ghost rest = { λ s. map_run (M.image s.computation) (left_of C.rest s.upstream) };
 
     ghost IsOver = { λ s. is_ended s.upstream ≡ true };
 
@@ -44,7 +40,7 @@ where
 
     fn ask(&mut self) -> Asked<U> {
         match self.upstream.next() {
-            Ok(item) => self.upstream.answer(self.given.image(item)),
+            Ok(item) => self.upstream.answer(self.computation.compute(item)),
             Err(asked) => asked,
         }
     }
@@ -54,30 +50,28 @@ where
     }
 }
 
-impl<C, U, M, F> Map<C, U, M, F>
+impl<C, U, M> Map<C, U, M>
 where
     C: Cold,
     U: FlowValue,
-    M: ItemMeaning<C::Item, U>,
-    F: Fn(C::Item) -> Result<U, ChainFault>,
+    M: ItemComputation<C::Item, U>,
 {
-    /// A fault that the closure answers ends the chain; of that item nothing is given. `meaning` is for contracts:
-    /// its type says what the closure computes.
+    /// A fault that the computation answers ends the chain; of that item nothing is given.
     #[tactic(auto, using(flow_law::proofs::ChainLemmas::map_means))]
-    pub fn new(upstream: C, meaning: M, closure: F) -> Self
+    pub fn new(upstream: C, computation: M) -> Self
         requires sound { C.sound upstream }
-        requires callable { F.IsAlwaysCallable closure }
-        requires computes { Computes (F.post closure) (M.image meaning) }
-        ensures sound { ⟦<Map<C, U, M, F> as Cold>⟧.sound result }
-        ensures whole { ⟦<Map<C, U, M, F> as Cold>⟧.whole result
-            ≡ map_run (M.image meaning) (C.whole upstream) }
-        ensures meaning { meaning_of (⟦<Map<C, U, M, F> as Cold>⟧.whole result)
-            ≡ map_meaning (M.image meaning) (meaning_of (C.whole upstream)) }
-        ensures rest { ⟦<Map<C, U, M, F> as Cold>⟧.rest result ≡ map_run (M.image meaning) (C.rest upstream) }
+        requires computes { M.sound computation }
+        ensures sound { ⟦<Map<C, U, M> as Cold>⟧.sound result }
+        ensures whole { ⟦<Map<C, U, M> as Cold>⟧.whole result
+            ≡ map_run (M.image computation) (C.whole upstream) }
+        ensures meaning { meaning_of (⟦<Map<C, U, M> as Cold>⟧.whole result)
+            ≡ map_meaning (M.image computation) (meaning_of (C.whole upstream)) }
+        ensures rest { ⟦<Map<C, U, M> as Cold>⟧.rest result
+            ≡ map_run (M.image computation) (C.rest upstream) }
     {
         Map {
             upstream: Upstream::new(upstream),
-            given: WithMeaning { meaning, closure },
+            computation,
             of: PhantomData,
         }
     }

@@ -3,40 +3,34 @@ ghost use Rattle.std.specs.Prelude.{◌≡◌, true};
 ghost use Rattle.flow_law.specs.ChainRun.{gives};
 ghost use Rattle.flow_law.specs.Chain.{scan_meaning, meaning_of};
 ghost use Rattle.flow_law.specs.OperatorRuns.{scan_run};
-ghost use Rattle.flow_operators.specs.Closures.{Computes};
 ghost use Rattle.flow_operators.specs.Results.{AsksScanned, initial_of, is_over, results_rest, scanned};
 
 use crate::cold::{Asked, Cold};
-use crate::meaning::PairMeaning;
+use crate::computation::PairComputation;
 use crate::operators::results::Results;
-use crate::with_meaning::WithMeaning;
-use flow_law::{ChainFault, FlowValue};
+use flow_law::FlowValue;
 
-/// Gives a first value, then what a closure makes of the last result and each item.
+/// Gives a first value, then what a computation makes of the last result and each item.
 #[derive(Drop)]
-pub struct Scan<C, U, M, F> {
+pub struct Scan<C, U, M> {
     results: Results<C, U>,
-    given: WithMeaning<M, F>,
+    computation: M,
 }
 
-impl<C, U, M, F> Cold for Scan<C, U, M, F>
+impl<C, U, M> Cold for Scan<C, U, M>
 where
     C: Cold,
     U: FlowValue,
-    M: PairMeaning<U, C::Item, U>,
-    F: Fn(U, C::Item) -> Result<U, ChainFault>,
+    M: PairComputation<U, C::Item, U>,
 {
     type Item = U;
 
-    ghost sound = { λ s. C.sound (scanned s.results)
-        × F.IsAlwaysCallable s.given.closure
-        × Computes (λ x r. F.post s.given.closure x.0 x.1 r) (M.image s.given.meaning) };
+    ghost sound = { λ s. C.sound (scanned s.results) × M.sound s.computation };
 
-    ghost whole = { λ s.
-        gives (initial_of s.results)
-        (scan_run (M.image s.given.meaning) (initial_of s.results) (C.whole (scanned s.results))) };
+    ghost whole = { λ s. gives (initial_of s.results)
+        (scan_run (M.image s.computation) (initial_of s.results) (C.whole (scanned s.results))) };
 
-    ghost rest = { λ s. results_rest C.rest (M.image s.given.meaning) s.results };
+    ghost rest = { λ s. results_rest C.rest (M.image s.computation) s.results };
 
     ghost IsOver = { λ s. is_over s.results ≡ true };
 
@@ -45,7 +39,7 @@ where
     fn ask(&mut self) -> Asked<U> {
         match self.results.next() {
             Ok((last, item)) => {
-                let made = self.given.image_of_pair(last, item);
+                let made = self.computation.compute(last, item);
                 self.results.keep(made)
             }
             Err(asked) => asked,
@@ -57,31 +51,28 @@ where
     }
 }
 
-impl<C, U, M, F> Scan<C, U, M, F>
+impl<C, U, M> Scan<C, U, M>
 where
     C: Cold,
     U: FlowValue,
-    M: PairMeaning<U, C::Item, U>,
-    F: Fn(U, C::Item) -> Result<U, ChainFault>,
+    M: PairComputation<U, C::Item, U>,
 {
-    /// The initial value is given without asking the upstream. A fault that the closure answers ends the chain.
-    /// `meaning` is for contracts: its type says what the closure computes.
+    /// The initial value is given without asking the upstream. A fault that the computation answers ends the chain.
     #[tactic(auto, using(flow_law::proofs::ChainLemmas::scan_means))]
-    pub fn new(upstream: C, initial: U, meaning: M, closure: F) -> Self
+    pub fn new(upstream: C, initial: U, computation: M) -> Self
         requires sound { C.sound upstream }
-        requires callable { F.IsAlwaysCallable closure }
-        requires computes { Computes (λ x r. F.post closure x.0 x.1 r) (M.image meaning) }
-        ensures sound { ⟦<Scan<C, U, M, F> as Cold>⟧.sound result }
-        ensures whole { ⟦<Scan<C, U, M, F> as Cold>⟧.whole result
-            ≡ gives initial (scan_run (M.image meaning) initial (C.whole upstream)) }
-        ensures meaning { meaning_of (⟦<Scan<C, U, M, F> as Cold>⟧.whole result)
-            ≡ scan_meaning (M.image meaning) initial (meaning_of (C.whole upstream)) }
-        ensures rest { ⟦<Scan<C, U, M, F> as Cold>⟧.rest result
-            ≡ gives initial (scan_run (M.image meaning) initial (C.rest upstream)) }
+        requires computes { M.sound computation }
+        ensures sound { ⟦<Scan<C, U, M> as Cold>⟧.sound result }
+        ensures whole { ⟦<Scan<C, U, M> as Cold>⟧.whole result
+            ≡ gives initial (scan_run (M.image computation) initial (C.whole upstream)) }
+        ensures meaning { meaning_of (⟦<Scan<C, U, M> as Cold>⟧.whole result)
+            ≡ scan_meaning (M.image computation) initial (meaning_of (C.whole upstream)) }
+        ensures rest { ⟦<Scan<C, U, M> as Cold>⟧.rest result
+            ≡ gives initial (scan_run (M.image computation) initial (C.rest upstream)) }
     {
         Scan {
             results: Results::new(upstream, initial),
-            given: WithMeaning { meaning, closure },
+            computation,
         }
     }
 }
