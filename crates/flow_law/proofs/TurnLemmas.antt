@@ -61,6 +61,15 @@ module _ {T H : Type 0} (does : (c : HubCall T) → H → HubAnswer c → H → 
   leads-so so (calls asks next) both is = λ a rest told. leads-so so (next a) (record both { rest = rest }) (is a rest told)
   leads-so so (calls rewinds next) both is = leads-so so (next tt) (record both { rest = both.whole }) is
 
+module _ {T H : Type 0} (does : (c : HubCall T) → H → HubAnswer c → H → Type 0) (Is Also So : Turned T → ChainAndHub T H → Type 0) where
+  -- where the turn ends in two ways at once
+  pub leads-both : ((r : Turned T) (new : ChainAndHub T H) → Is r new → Also r new → So r new) → (steps : TurnSteps T) (both : ChainAndHub T H)
+      → Leads does Is steps both → Leads does Also steps both → Leads does So steps both
+  leads-both so (answers r) both is also = so r both is also
+  leads-both so (calls (to_hub c) next) both is also = λ a h told. leads-both so (next a) (record both { hub = h }) (is a h told) (also a h told)
+  leads-both so (calls asks next) both is also = λ a rest told. leads-both so (next a) (record both { rest = rest }) (is a rest told) (also a rest told)
+  leads-both so (calls rewinds next) both is also = leads-both so (next tt) (record both { rest = both.whole }) is also
+
 -- ---- another hub
 
 module _ {T H F : Type 0} (does : (c : HubCall T) → H → HubAnswer c → H → Type 0) (does' : (c : HubCall T) → F → HubAnswer c → F → Type 0) (Stands : H → F → Type 0) where

@@ -129,4 +129,4 @@ pub record DocumentedTurn {T F : Type 0} (does : (c : HubCall T) → F → HubAn
   pub means : s.runs ≡ is_running started seen → BetweenTurns s old → (accepted : List T) → HasAccount accepted s old
       → TurnMeans does accepted s old turned.answer turned.state new
   -- what becomes of a reset
-  pub reset : TurnResets does s turned.answer turned.state
+  pub reset : TurnResets does s old.hub turned.answer turned.state new.hub

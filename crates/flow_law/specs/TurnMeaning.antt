@@ -72,10 +72,6 @@ module _ {T H : Type 0} (does : (c : HubCall T) → H → HubAnswer c → H → 
   abbrev pub WasRefused : FlowFault → ChainAndHub T H → Type 0
   WasRefused fault new = (h : H) × ((call : HubCall T) × does call h (Err fault) new.hub)
 
-  -- the hub took its emission back, and then made the reset
-  abbrev pub WasReset : Type 0
-  WasReset = (g : H) × ((h : H) × ((waited : Bool) × does cancels g (Ok waited) h) × ((k : H) × does resets h (Ok tt) k))
-
   -- what an event or a fault means, where the hub had accepted these items since the last start, and the chain had still to give `before`
   abbrev pub OutcomeMeans : ChainRun T → List T → Result Event ShareFault → SharingState T → ChainAndHub T H → Type 0
   OutcomeMeans before accepted (Ok Put) t new = AcceptsOne accepted false t new
@@ -117,12 +113,30 @@ abbrev pub HadCommand : Command → Result Report ShareFault → Type 0
 HadCommand command (Ok report) = report.command ≡ command
 HadCommand command (Err fault) = Unit {0}
 
+-- `does` says what a call of the hub does
 module _ {T H : Type 0} (does : (c : HubCall T) → H → HubAnswer c → H → Type 0) where
-  -- a reset that is to be done has been made, or stays due; and where none is to be done none is due after the turn
-  abbrev pub ResetMeans : Bool → Result Report ShareFault → SharingState T → Type 0
-  ResetMeans true answer t = ((t.reset_due ≡ false) × WasReset does) ⊎ ((t.reset_due ≡ true) × MayLeaveDue answer)
-  ResetMeans false answer t = t.reset_due ≡ false
+  -- these calls of the hub, one after the other, lead from the one to the other
+  abbrev pub CallsLead : List (HubCall T) → H → H → Type 0
+  CallsLead [] old new = new ≡ old
+  CallsLead (call ∷ later) old new = (answer : HubAnswer call) × ((h : H) × does call old answer h × CallsLead later h new)
 
-  -- what a turn that answers so has done about a reset
-  abbrev pub TurnResets : SharingState T → Result Report ShareFault → SharingState T → Type 0
-  TurnResets s answer t = (command : Command) × HadCommand command answer × ResetMeans (resets_at command s.reset_due) answer t
+  -- Between the hub before a turn and the hub after it: the subscribers were counted, the emission was taken back, and then the reset was
+  -- made; whatever was called after that led to the hub after the turn.
+  pub record WasReset (old new : H) : Type 0 where
+    pub counted : H
+    pub cancelled : H
+    pub reset : H
+    pub later : List (HubCall T)
+    pub counts_first : (count : ℕ) × does counts old (Ok count) counted
+    pub cancels_next : (waited : Bool) × does cancels counted (Ok waited) cancelled
+    pub resets_then : does resets cancelled (Ok tt) reset
+    pub leads_on : CallsLead later reset new
+
+  -- a reset that is to be done has been made, or stays due; and where none is to be done none is due after the turn
+  abbrev pub ResetMeans : Bool → H → Result Report ShareFault → SharingState T → H → Type 0
+  ResetMeans true old answer t new = ((t.reset_due ≡ false) × WasReset old new) ⊎ ((t.reset_due ≡ true) × MayLeaveDue answer)
+  ResetMeans false old answer t new = t.reset_due ≡ false
+
+  -- what a turn that answers so has done about a reset, from the one hub to the other
+  abbrev pub TurnResets : SharingState T → H → Result Report ShareFault → SharingState T → H → Type 0
+  TurnResets s old answer t new = (command : Command) × HadCommand command answer × ResetMeans (resets_at command s.reset_due) old answer t new

@@ -9,6 +9,9 @@ use Rattle.flow_law.specs.SharedHistory.{shared_flow}
 use Rattle.flow_law.specs.StateFlow.{state_flow}
 use Rattle.flow_law.specs.History.{Kind}
 use Rattle.flow_law.specs.SharingCalls.{HubCall, HubAnswer, HubStep, counts, puts, polls, cancels, resets, ChainAndHub, CallDoes}
+use Rattle.flow_law.specs.declared.report.Report.{Report}
+use Rattle.flow_law.specs.declared.report.ShareFault.{ShareFault}
+use Rattle.flow_law.specs.SharingFlows.{IsNotBusy}
 use Rattle.flow_law.specs.SharingTurn.{SharingState, Turned, turn_steps}
 use Rattle.flow_law.specs.Steps.{Takes}
 use Rattle.flow_law.specs.declared.sharing.Started.{Started}
@@ -20,7 +23,7 @@ use Rattle.flow_sharing.specs.SeatedHub.{SeatedHub, has_emission, OnlySends, Cou
 use Rattle.flow_sharing.specs.SharedFlowHub.{SharedSeats, PutBy, PollBy, CancelBy, ResetBy, SharedFlowHubDoes}
 use Rattle.flow_sharing.specs.StateFlowHub.{StateSeats, nothing_waits, StateFlowHubDoes}
 use Rattle.flow_sharing.specs.WordHub.{WordHubDoes}
-use Rattle.flow_sharing.specs.OverThreads.{exchanges_lost, lost_at, lost_in, HasSeenMore, Follows, IsNotBusy}
+use Rattle.flow_sharing.specs.OverThreads.{exchanges_lost, lost_at, lost_in, HasSeenMore, Follows}
 use Rattle.flow_sharing.proofs.SeatLemmas.{seen-here, seen-busy, seen-called}
 use Rattle.flow_sharing.proofs.TurnBySeatsLemmas.{BySeats, lost_for, lost_by, turn-by-seats}
 use Rattle.flow_law.proofs.TurnLemmas.{turn-along}
@@ -184,6 +187,14 @@ word-by-seats Id T = record {
   follows = λ c h k a told. (state-steps c h k a told.0.1).1;
 }
 
+-- an answer that lost nothing is not Busy
+not-busy : (answer : Result Report ShareFault) → lost_in answer ≡ 0 → IsNotBusy answer
+not-busy (Ok report) none = λ is.
+    let zero : lost_at report.event ≡ 0 = none in
+    let one : lost_at report.event ≡ 1 = ap lost_at is in
+    absurd (omega arith)
+not-busy (Err fault) none = tt
+
 module _ {Id T : Type 0} (started : Started) (now : ℕ) (seen : List SharingObservation) (s : SharingState T) (old new : ChainAndHub T (StateSeats Id T)) (turned : Turned T) where
   -- no call of it loses an exchange
   keeps-count : (c : HubCall T) (h k : StateSeats Id T) (a : HubAnswer c) (f : Unit {0}) → exchanges_lost h ≡ exchanges_lost old.hub → HubStep WordHubDoes nothing_waits c h a k
@@ -195,8 +206,7 @@ module _ {Id T : Type 0} (started : Started) (now : ℕ) (seen : List SharingObs
   )
 
   pub word-not-busy : Takes (CallDoes (HubStep WordHubDoes nothing_waits)) (turn_steps started now seen s) old turned new → IsNotBusy turned.answer
-  word-not-busy takes report is is_busy =
+  word-not-busy takes =
       let same : exchanges_lost new.hub ≡ exchanges_lost old.hub = (turn-along (HubStep WordHubDoes nothing_waits) (λ c f a g. Unit {0}) (λ h f. exchanges_lost h ≡ exchanges_lost old.hub) keeps-count (turn_steps started now seen s) old new tt turned refl takes).1 in
       let lost : exchanges_lost new.hub ≡ exchanges_lost old.hub + lost_in turned.answer = (turn-by-seats state_flow _ (word-by-seats Id T) started now seen s old new turned takes).lost in
-      let one : lost_in turned.answer ≡ 1 = ap lost_in is ∙ ap lost_at is_busy in
-      absurd (omega arith)
+      not-busy turned.answer (omega arith)

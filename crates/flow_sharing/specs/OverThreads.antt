@@ -1,5 +1,5 @@
 -- What a turn over a flow for several threads is for that flow's history. Begin with `TurnBySeats`.
-use Rattle.std.specs.Prelude.{◌≡◌, ◌≢◌, ◌⊎◌, ℕ, ◌+◌, List, ◌∷◌, ◌++◌, Result, Ok, Err}
+use Rattle.std.specs.Prelude.{◌≡◌, ◌⊎◌, ℕ, ◌+◌, List, ◌∷◌, ◌++◌, Result, Ok, Err}
 use Rattle.atomic_table.specs.Seated.{TableId}
 use Rattle.flow_law.specs.declared.sharing.Started.{Started}
 use Rattle.flow_law.specs.declared.sharing.SharingObservation.{SharingObservation}
@@ -13,6 +13,7 @@ use Rattle.flow_law.specs.History.{Kind}
 use Rattle.flow_law.specs.Sharing.{is_running}
 use Rattle.flow_law.specs.SharedHistory.{shared_flow}
 use Rattle.flow_law.specs.SharingCalls.{HubCall, HubAnswer, ChainAndHub, CallDoes, HubStep}
+use Rattle.flow_law.specs.SharingFlows.{IsNotBusy}
 use Rattle.flow_law.specs.SharingTurn.{SharingState, Turned, turn_steps}
 use Rattle.flow_law.specs.StateFlow.{state_flow}
 use Rattle.flow_law.specs.Steps.{Takes}
@@ -74,7 +75,7 @@ pub record TurnBySeats {Id T S C R I : Type 0} (kind : Kind T S C R) (step : (c 
   pub means : s.runs ≡ is_running started seen → BetweenTurns s old → (accepted : List T) → HasAccount accepted s old
       → TurnMeans (InTurn step old.hub) accepted s old turned.answer turned.state new
   -- A reset that was made is an event of the sending seat in this turn, after the cancel.
-  pub reset : TurnResets (InTurn step old.hub) s turned.answer turned.state
+  pub reset : TurnResets (InTurn step old.hub) s old.hub turned.answer turned.state new.hub
   -- The hub is of the same flow, by the same two seats.
   pub follows : Follows old.hub new.hub
 
@@ -84,10 +85,6 @@ LawTurnOverSharedFlow T =
     (started : Started) (now : ℕ) (seen : List SharingObservation) (s : SharingState T) (old new : ChainAndHub T (SharedSeats T)) (turned : Turned T) →
     Takes (CallDoes (HubStep SharedFlowHubDoes has_emission)) (turn_steps started now seen s) old turned new →
     TurnBySeats shared_flow (HubStep SharedFlowHubDoes has_emission) started now seen s old turned new
-
--- the turn was not Busy
-abbrev pub IsNotBusy : Result Report ShareFault → Type 0
-IsNotBusy answer = (report : Report) → answer ≡ Ok report → report.event ≢ Busy
 
 -- A turn over a state flow for several threads.
 abbrev pub LawTurnOverStateFlow : Type 0 → Type 0

@@ -1,5 +1,5 @@
 -- What each call of a sharing does to a shared flow for several threads. Begin with `SharedFlowHubDoes`.
-use Rattle.std.specs.Prelude.{◌≡◌, ℕ, Bool, true, false, if◌then◌else◌, Option, Some, None, Result, Ok, Err}
+use Rattle.std.specs.Prelude.{◌≡◌, ℕ, Bool, true, false, Option, Some, None, Result, Ok, Err}
 use Rattle.flow_law.specs.declared.fault.FlowFault.{FlowFault}
 use Rattle.flow_law.specs.declared.fault.FlowFault.TheVariants.{Busy}
 use Rattle.flow_law.specs.declared.history.Said.{Said}
@@ -14,15 +14,12 @@ use Rattle.flow_law.specs.SharingCalls.{HubCall, HubAnswer, counts, puts, polls,
 use Rattle.flow_law.specs.Tokens.{IsBusy, CallsAtOnceIn}
 use Rattle.flow_shared.specs.SharedReplies.{SharedToken}
 use Rattle.atomic_table.specs.Seated.{TableId}
+use Rattle.flow_turns.specs.CoreHub.{still}
 use Rattle.flow_sharing.specs.SeatedHub.{SeatedHub, OnlySends, CountDoes}
 
 -- a hub of a shared flow
 abbrev pub SharedSeats : Type 0 → Type 0
 SharedSeats T = SeatedHub TableId (SharedFlowState T) (Said (SharedCall T) (SharedReply T)) (Unit {0})
-
--- an emission that waits no more is forgotten
-abbrev pub still : Bool → ℕ → Option ℕ
-still waits number = if waits then Some number else None
 
 -- ---- what the sending seat does: what its flow began with, the token before, what is answered, and the token and the emission after
 

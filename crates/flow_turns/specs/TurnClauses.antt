@@ -1,5 +1,6 @@
--- What is promised of each turn of a sharing: its steps, what its answer means, and what stays true between turns.
--- Each is said for every list of observations that leads to what the sharing's policy keeps. The turn itself is `turn_steps` of flow_law.
+-- What is promised of each turn of a sharing: its steps, what its answer means, what becomes of a reset, and what stays true between turns.
+-- What depends on the observations is said for every list of them that leads to what the sharing's policy keeps. The turn itself is
+-- `turn_steps` of flow_law.
 use Rattle.std.specs.Prelude.{◌≡◌, ℕ, Bool, true, false, List, Result, Ok, Err}
 use Rattle.flow_law.specs.declared.sharing.Started.{Started}
 use Rattle.flow_law.specs.declared.sharing.Command.{Command}
@@ -48,18 +49,16 @@ module _ {C H T : Type 0} (whole rest : C → ChainRun T) (does : (c : HubCall T
       (record { answer = reported command outcome; seen = seen; state = state_of new }) (chain_and_hub whole rest new)
 
   -- a command and what follows it come to this outcome, whatever the observations, where the policy runs as the command says
-  abbrev pub Begins : Command → Sharing C H T → Result Event ShareFault → Sharing C H T → Type 0
-  Begins command old outcome new =
+  abbrev pub CommandComesTo : Command → Sharing C H T → Result Event ShareFault → Sharing C H T → Type 0
+  CommandComesTo command old outcome new =
       (all : List SharingObservation) (ran : Bool) → (state_of old).runs ≡ runs_after command ran →
       Takes (CallDoes (HubStep does waits)) (begin all command (record (state_of old) { runs = ran })) (chain_and_hub whole rest old)
       (record { answer = reported command outcome; seen = all; state = state_of new }) (chain_and_hub whole rest new)
 
 module _ {C H T : Type 0} (does : (c : HubCall T) → H → HubAnswer c → H → Type 0) (waits : H → Bool) where
-  -- a reset that was due, or that the command asked for, has been made or stays due
+  -- a reset that was due, or that the command asked for, has been made in this turn or stays due
   abbrev pub HandlesReset : Sharing C H T → Result Report ShareFault → Sharing C H T → Type 0
-  HandlesReset old result new =
-      (started : Started) (seen : List SharingObservation) → HasObserved started old seen →
-      TurnResets (HubStep does waits) (state_of old) result (state_of new)
+  HandlesReset old result new = TurnResets (HubStep does waits) (state_of old) (hub_of old) result (state_of new) (hub_of new)
 
 module _ {C H T : Type 0} (whole rest : C → ChainRun T) where
   -- what is true between turns is true again after the turn

@@ -6,7 +6,7 @@ ghost use Rattle.flow_law.specs.SharingTurn as steps;
 ghost use Rattle.flow_law.specs.SharingTurn.{at_rest};
 ghost use Rattle.flow_law.specs.TurnMeaning.{BetweenTurns, IsQuiet};
 ghost use Rattle.flow_turns.specs.SharingViews.{state_of, chain_and_hub, IsSound, HasObserved, has_ended};
-ghost use Rattle.flow_turns.specs.TurnClauses.{CallsHub, ComesTo, Begins, TakesTurn, MeansAnswer, HandlesReset, StaysBetween, StaysQuiet, ended_after};
+ghost use Rattle.flow_turns.specs.TurnClauses.{CallsHub, ComesTo, CommandComesTo, TakesTurn, MeansAnswer, HandlesReset, StaysBetween, StaysQuiet, ended_after};
 
 use crate::answers::{refusal_of, report_of};
 use crate::hub::Hub;
@@ -220,7 +220,7 @@ impl<C: Cold, H: Hub<Item = C::Item>> Sharing<C, H> {
         ensures policy { self.new.policy ≡ self.old.policy }
         ensures ended { has_ended self.new ≡ ended_after result (has_ended self.old) }
         ensures not_ended { result ≢ Err ShareFault.Ended }
-        ensures steps { Begins C.whole C.rest H.does H.waits command self.old result self.new }
+        ensures steps { CommandComesTo C.whole C.rest H.does H.waits command self.old result self.new }
     {
         match command {
             Command::Start => {

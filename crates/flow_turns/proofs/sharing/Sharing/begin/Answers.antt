@@ -5,14 +5,14 @@ use Rattle.flow_law.specs.Steps.{Takes}
 use Rattle.flow_law.specs.SharingCalls.{CallDoes, HubStep}
 use Rattle.flow_law.specs.SharingTurn.{reported, work}
 use Rattle.flow_turns.specs.SharingViews.{state_of, chain_and_hub}
-use Rattle.flow_turns.specs.TurnClauses.{Begins}
+use Rattle.flow_turns.specs.TurnClauses.{CommandComesTo}
 use Rattle.flow_turns.proofs.StepLemmas.{same-parts}
 use Rattle.flow_turns.proofs.sharing.Sharing.begin.Goals as goal
 
 pub returns-in-Start-clause-steps : goal.returns-in-Start-clause-steps
 returns-in-Start-clause-steps g c =
     let mid = record c.args.self.now { chain = c.rewind.new.self; completed = false } in
-    let G : Command → Type 0 = λ command. Begins g.C.Cold.whole g.C.Cold.rest g.H.Hub.does g.H.Hub.waits command c.args.self.now c.work.result c.work.new.self in
+    let G : Command → Type 0 = λ command. CommandComesTo g.C.Cold.whole g.C.Cold.rest g.H.Hub.does g.H.Hub.waits command c.args.self.now c.work.result c.work.new.self in
     let begun : G Start = λ all ran is.
     let P : Bool → Type 0 = λ runs.
     Takes (CallDoes (HubStep g.H.Hub.does g.H.Hub.waits)) (work Start all (record (state_of mid) { runs = runs })) (chain_and_hub g.C.Cold.whole g.C.Cold.rest mid)
@@ -23,7 +23,7 @@ returns-in-Start-clause-steps g c =
 pub returns-in-Stop-clause-steps : goal.returns-in-Stop-clause-steps
 returns-in-Stop-clause-steps g c =
     let mid = record c.args.self.now { kept = None; cancel_due = true } in
-    let G : Command → Type 0 = λ command. Begins g.C.Cold.whole g.C.Cold.rest g.H.Hub.does g.H.Hub.waits command c.args.self.now c.work-in-Stop.result c.work-in-Stop.new.self in
+    let G : Command → Type 0 = λ command. CommandComesTo g.C.Cold.whole g.C.Cold.rest g.H.Hub.does g.H.Hub.waits command c.args.self.now c.work-in-Stop.result c.work-in-Stop.new.self in
     let begun : G Stop = λ all ran is.
     let P : Bool → Type 0 = λ runs.
     Takes (CallDoes (HubStep g.H.Hub.does g.H.Hub.waits)) (work Stop all (record (state_of mid) { runs = runs })) (chain_and_hub g.C.Cold.whole g.C.Cold.rest mid)
@@ -34,7 +34,7 @@ returns-in-Stop-clause-steps g c =
 pub returns-in-StopAndReset-clause-steps : goal.returns-in-StopAndReset-clause-steps
 returns-in-StopAndReset-clause-steps g c =
     let mid = record c.args.self.now { kept = None; cancel_due = true; reset_due = true } in
-    let G : Command → Type 0 = λ command. Begins g.C.Cold.whole g.C.Cold.rest g.H.Hub.does g.H.Hub.waits command c.args.self.now c.work-in-StopAndReset.result c.work-in-StopAndReset.new.self in
+    let G : Command → Type 0 = λ command. CommandComesTo g.C.Cold.whole g.C.Cold.rest g.H.Hub.does g.H.Hub.waits command c.args.self.now c.work-in-StopAndReset.result c.work-in-StopAndReset.new.self in
     let begun : G StopAndReset = λ all ran is.
     let P : Bool → Type 0 = λ runs.
     Takes (CallDoes (HubStep g.H.Hub.does g.H.Hub.waits)) (work StopAndReset all (record (state_of mid) { runs = runs })) (chain_and_hub g.C.Cold.whole g.C.Cold.rest mid)
@@ -45,7 +45,7 @@ returns-in-StopAndReset-clause-steps g c =
 pub returns-in-Keep-clause-steps : goal.returns-in-Keep-clause-steps
 returns-in-Keep-clause-steps g c =
     let mid = c.args.self.now in
-    let G : Command → Type 0 = λ command. Begins g.C.Cold.whole g.C.Cold.rest g.H.Hub.does g.H.Hub.waits command c.args.self.now c.work-in-Keep.result c.work-in-Keep.new.self in
+    let G : Command → Type 0 = λ command. CommandComesTo g.C.Cold.whole g.C.Cold.rest g.H.Hub.does g.H.Hub.waits command c.args.self.now c.work-in-Keep.result c.work-in-Keep.new.self in
     let begun : G Keep = λ all ran is.
     let P : Bool → Type 0 = λ runs.
     Takes (CallDoes (HubStep g.H.Hub.does g.H.Hub.waits)) (work Keep all (record (state_of mid) { runs = runs })) (chain_and_hub g.C.Cold.whole g.C.Cold.rest mid)

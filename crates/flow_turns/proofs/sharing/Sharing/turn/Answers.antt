@@ -1,14 +1,17 @@
-use Rattle.std.proofs.Common.{[], ◌∷◌, List, Ok, Err, refl, sym, ap, ◌∙◌, subst}
+use Rattle.std.proofs.Common.{[], ◌∷◌, List, Result, Ok, Err, refl, sym, ap, ◌∙◌, subst}
 use Rattle.flow_law.specs.declared.sharing.Command.{Command}
 use Rattle.flow_law.specs.declared.sharing.Command.TheVariants.{Keep}
 use Rattle.flow_law.specs.declared.sharing.SharingObservation.{SharingObservation}
+use Rattle.flow_law.specs.declared.report.Report.{Report}
+use Rattle.flow_law.specs.declared.report.ShareFault.{ShareFault}
 use Rattle.flow_law.specs.declared.report.ShareFault.TheVariants.{Backwards}
 use Rattle.flow_law.specs.Sharing.{newest_command}
 use Rattle.flow_law.specs.Steps.{Takes}
 use Rattle.flow_law.specs.SharingCalls.{CallDoes, HubStep}
 use Rattle.flow_law.specs.SharingTurn.{SharingState, Turned, reported, begin}
+use Rattle.flow_law.specs.TurnMeaning.{TurnResets}
 use Rattle.flow_law.proofs.TurnMeaningLemmas.{turn-means}
-use Rattle.flow_law.proofs.TurnResetLemmas.{turn-resets}
+use Rattle.flow_law.proofs.TurnResetLemmas.{begun-resets}
 use Rattle.flow_law.proofs.TurnQuietLemmas.{turn-quiet}
 use Rattle.flow_turns.specs.Policy.{HasSeen}
 use Rattle.flow_turns.specs.SharingViews.{state_of, chain_and_hub}
@@ -74,5 +77,16 @@ returns-clause-quiet g c = λ started seen stands quiet.
     let turn = returns-clause-turn g c started seen stands in turn-quiet g.H.Hub.does g.H.Hub.waits started c.args.now seen _ _ _ _ quiet turn.2
 
 pub returns-clause-resets : goal.returns-clause-resets
-returns-clause-resets g c = λ started seen stands.
-    let turn = returns-clause-turn g c started seen stands in turn-resets (HubStep g.H.Hub.does g.H.Hub.waits) _ started c.args.now seen _ _ _ turn.2
+returns-clause-resets g c =
+    let D = HubStep g.H.Hub.does g.H.Hub.waits in
+    let mid = chain_and_hub g.C.Cold.whole g.C.Cold.rest c.counted.new.self in
+    let last = chain_and_hub g.C.Cold.whole g.C.Cold.rest c.begin-outcome.new.self in
+    let P : SharingState g.row.C-Item.Denot → Type 0 = λ s.
+    TurnResets D s c.args.self.now.hub (reported c.in-Ok-observe.command c.begin-outcome.result) (state_of c.begin-outcome.new.self) c.begin-outcome.new.self.hub in
+    let Q : Result Report ShareFault → Type 0 = λ answer.
+    TurnResets D (state_of c.args.self.now) c.args.self.now.hub answer (state_of c.begin-outcome.new.self) c.begin-outcome.new.self.hub in
+    subst Q (sym c.report_of-2.ensures) (subst P c.in-Ok.ensures.state
+    (begun-resets D c.args.self.now.hub (state_of c.counted.new.self) [] c.in-Ok-observe.command mid last
+    (record { answer = reported c.in-Ok-observe.command c.begin-outcome.result; seen = []; state = state_of c.begin-outcome.new.self })
+    (c.in-Ok.count, c.in-Ok.ensures.counts.0)
+    (c.begin-outcome.ensures.steps [] c.counted.new.self.policy.running c.in-Ok-observe.ensures.runs)))
