@@ -238,7 +238,8 @@ impl<T: FlowValue, A: Allocator + Copy> SharedCore<T, A> {
 
     /// What a subscriber receives next: its own first values, and then what was emitted.
     ///
-    /// An emitted value that is received makes room, so queued values may be emitted by it.
+    /// An emitted value that is received makes room, so queued values may be emitted by it. `Err` is want of memory for a
+    /// copy of the value: a later call gives that value.
     pub fn next(&mut self, id: SubId) -> Result<Next<T>, FlowFault>
         ensures documented { Conforms self.old (call.TakeNext (number_of id)) (next_reply result) self.new }
     {
@@ -264,7 +265,8 @@ impl<T: FlowValue, A: Allocator + Copy> SharedCore<T, A> {
         was_there
     }
 
-    /// What a new subscriber would get first, where nothing is offered: copies of at most `replay` values.
+    /// What a new subscriber would get first, where nothing is offered: copies of at most `replay` values. `Err` is want
+    /// of memory.
     pub fn replay_cache(&self) -> Result<Vec<T, A>, FlowFault>
         ensures documented { Conforms self.now call.ReplayCache (cache_reply result) self.now }
     {

@@ -67,7 +67,7 @@ impl<T: FlowValue, A: Allocator + Copy> StateCore<T, A> {
         }
     }
 
-    /// A copy of the current value.
+    /// A copy of the current value. `Err` is want of memory.
     pub fn value(&self) -> Result<T, FlowFault>
         ensures documented { StateConforms self.now call.GetValue (value_reply result) self.now }
     {
@@ -106,7 +106,8 @@ impl<T: FlowValue, A: Allocator + Copy> StateCore<T, A> {
         }
     }
 
-    /// A new subscriber, who gets the current value first.
+    /// A new subscriber, who gets the current value first. `Err` is `Exhausted`, where the flow has issued as many numbers
+    /// as its limit allows, and else want of memory.
     pub fn subscribe(&mut self) -> Result<SubId, FlowFault>
         ensures documented { (name : List ℕ)
             → StateConforms self.old (call.Subscribe name) (subscribe_reply result) self.new }
@@ -124,7 +125,8 @@ impl<T: FlowValue, A: Allocator + Copy> StateCore<T, A> {
         }
     }
 
-    /// The current value, if it is not the one that the subscriber got last.
+    /// The current value, if it is not the one that the subscriber got last, and `Empty` if it is. Values that were set
+    /// in between are skipped. `Err` is want of memory for a copy: a later call gives the value.
     pub fn next(&mut self, id: SubId) -> Result<Next<T>, FlowFault>
         ensures documented { StateConforms self.old (call.TakeNext (number_of id))
             (next_reply result) self.new }
@@ -155,7 +157,7 @@ impl<T: FlowValue, A: Allocator + Copy> StateCore<T, A> {
         self.subscribers.remove(id).is_some()
     }
 
-    /// The current value alone: that is a state flow's replay cache.
+    /// The current value alone: that is a state flow's replay cache. `Err` is want of memory.
     pub fn replay_cache(&self) -> Result<Vec<T, A>, FlowFault>
         ensures documented { StateConforms self.now call.ReplayCache (cache_reply result) self.now }
     {

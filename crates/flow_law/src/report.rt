@@ -30,13 +30,14 @@ pub enum Event {
 pub struct Report {
     /// What the number of subscribers asked for.
     pub command: Command,
+    /// What came of it.
     pub event: Event,
 }
 
 /// Why a turn was refused, or no sharing was made.
 #[derive(Clone, Copy, Debug, PartialEq, Eq, Error)]
 pub enum ShareFault {
-    /// The moment is before the last one, which it carries. Nothing has changed.
+    /// The moment is before the last one, which it carries. The subscribers were counted, and nothing was observed.
     #[error("the moment is before the last one, {0}")]
     Backwards(u64),
     /// A turn before has answered a fault of the chain. Nothing has changed.

@@ -27,6 +27,7 @@ pub enum Command {
     Stop,
     /// The time has come to forget what the flow replays. The sharing does not run: it stops now, or has stopped before.
     StopAndReset,
+    /// It goes on running, or goes on resting.
     Keep,
 }
 
@@ -34,5 +35,6 @@ pub enum Command {
 #[derive(Clone, Copy, Debug, PartialEq, Eq)]
 pub struct SharingObservation {
     pub moment: u64,
+    /// How many subscribers there were.
     pub count: u64,
 }

@@ -1,4 +1,4 @@
-//! A value on its way into a shared flow, as a future..
+//! A value on its way into a shared flow, as a future.
 ghost use Rattle.std.specs.Prelude.{◌≡◌, ⊤, true};
 ghost use Rattle.futures.specs.Task.{Covers, Keeps};
 ghost use Rattle.futures.specs.Poll.{IfReady, OnPending};

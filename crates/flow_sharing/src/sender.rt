@@ -81,6 +81,7 @@ impl<T: FlowValue, A: Allocator + Copy> Sender<T, A> {
             },
         }
     }
+
     /// Empties the replay cache of the flow.
     pub(crate) fn reset(self, flow: &SharedFlow<T, A>) -> (Self, Result<(), FlowFault>)
         requires flow { (token_of self).table_id ≡ flow.now.table_id }

@@ -18,7 +18,10 @@ pub struct Backwards {
     pub last: u64,
 }
 
-/// Says at each observation whether the sharing is to start or to stop.
+/// Says at each observation whether the sharing is to start or to stop, and whether its flow is to forget what it
+/// replays.
+///
+/// A `Sharing` has one of its own; alone it serves who drives a chain by other means.
 #[derive(Drop)]
 pub struct Policy {
     started: Started,
@@ -111,7 +114,7 @@ impl Policy {
     }
 
     /// Whether the reset is due at a moment, where the counts are zero since that one.
-    fn is_expired(&self, since: Option<u64>, now: u64) -> bool
+    fn is_past_expiry(&self, since: Option<u64>, now: u64) -> bool
         requires { ForSome since (λ moment. moment ≤ now) }
         ensures { result ≡ is_past_expiry self.now.started now since }
     {
@@ -126,7 +129,8 @@ impl Policy {
         }
     }
 
-    /// Accepts the number of subscribers at a moment, in milliseconds, and says what it asks for.
+    /// Accepts the number of subscribers at a moment, in milliseconds, and says what it asks for. A moment before the last
+    /// one is refused, and nothing has changed then.
     pub fn observe(&mut self, now: u64, count: u64) -> Result<Command, Backwards>
         // Whatever was observed before, the command is the one of those observations and the new one.
         ensures observes { Observes self.old (record { moment = now; count = count }) result self.new }
@@ -138,8 +142,8 @@ impl Policy {
         }
         let since = self.since_after(now, count);
         let runs = self.runs_after(since, now, count);
-        let was_expired = self.is_expired(self.since, self.last);
-        let expired = self.is_expired(since, now);
+        let was_expired = self.is_past_expiry(self.since, self.last);
+        let expired = self.is_past_expiry(since, now);
         let command = change(self.running, runs, was_expired, expired);
         self.since = since;
         self.running = runs;

@@ -25,7 +25,8 @@ const LEAST_BUFFER: u32 = 64;
 
 /// Shares a chain by a shared flow of its own (`shareIn`). The flow keeps `replay` values for new subscribers, and at
 /// least 64 for slow ones; where a subscriber is further behind, the chain waits. `limit` is the most numbers that the
-/// flow issues.
+/// flow issues. It is refused as `Flow(TooLarge)` where `replay` is over 65,536, and else for want of memory; the chain is
+/// dropped then.
 pub fn share_in<C: Cold, A: Allocator + Copy>(
     alloc: A,
     chain: C,

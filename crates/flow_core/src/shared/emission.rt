@@ -122,7 +122,8 @@ impl<T: FlowValue, A: Allocator + Copy> SharedCore<T, A> {
 
     /// Emits a value, if it need not wait: `true` where the flow took it or, under `DropLatest`, dropped it.
     ///
-    /// At `false` an `emit` would wait. The value is dropped then, and nothing has changed. It takes no memory.
+    /// At `false` an `emit` would wait. The value is dropped then, and nothing has changed. It takes no memory, and is
+    /// refused as `Exhausted` alone.
     pub fn try_emit(&mut self, value: T) -> Result<bool, Refused<T>>
         ensures documented { Conforms self.old (call.TryEmit value) (try_emit_reply result) self.new }
         ensures handed_back { IfErr result (λ refused. refused.value ≡ value) }
@@ -145,7 +146,7 @@ impl<T: FlowValue, A: Allocator + Copy> SharedCore<T, A> {
     ///
     /// At `Queued` the emitter is to wait: `poll` tells by the number for how long, and `cancel` ends the wait. An
     /// emission that is neither polled nor cancelled stays, and is emitted when room comes. Memory is taken only for a
-    /// value that is put into the queue.
+    /// value that is put into the queue. A refusal, `Exhausted` before want of memory, hands the value back.
     pub fn emit(&mut self, value: T) -> Result<Emit, Refused<T>>
         ensures documented { Conforms self.old (call.Emit value) (emit_reply result) self.new }
         ensures handed_back { IfErr result (λ refused. refused.value ≡ value) }

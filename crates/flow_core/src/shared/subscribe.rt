@@ -13,7 +13,8 @@ use std::alloc::Allocator;
 impl<T: FlowValue, A: Allocator + Copy> SharedCore<T, A> {
     /// A new subscriber, who gets the replay cache first, or the value that is offered, and then what is emitted.
     ///
-    /// A subscriber who does not read blocks emitters or loses values, as the strategy says, until `unsubscribe`.
+    /// A subscriber who does not read blocks emitters or loses values, as the strategy says, until `unsubscribe`. `Err` is
+    /// `Exhausted`, where the flow has issued as many numbers as its limit allows, and else want of memory.
     pub fn subscribe(&mut self) -> Result<SubId, FlowFault>
         ensures documented { (name : List ℕ)
             → Conforms self.old (call.Subscribe name []) (subscribe_reply result) self.new }
