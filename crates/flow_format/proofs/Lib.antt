@@ -1,3 +1,4 @@
 pub mod NameLemmas
 pub mod ReadLemmas
 pub mod ChainLemmas
+pub mod FlowsLemmas

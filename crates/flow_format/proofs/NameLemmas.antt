@@ -1,5 +1,5 @@
 -- Names as the reader keeps them, and as the definitions list them.
-use Rattle.std.proofs.Common.{◌≡◌, ℕ, zero, suc, ◌+◌, ◌<◌, ◌≤◌, Bool, true, false, cond, ◌||◌, if◌then◌else◌, List, [], ◌∷◌, ◌++◌, map, length, get_or, drop, Some, Ok, Err, Bor, refl, sym, ap, ◌∙◌, arith}
+use Rattle.std.proofs.Common.{◌≡◌, ℕ, zero, suc, ◌+◌, ◌<◌, ◌≤◌, Bool, true, false, cond, ◌||◌, if◌then◌else◌, List, [], ◌∷◌, ◌++◌, map, length, get_or, drop, Option, None, Some, Ok, Err, Bor, refl, sym, ap, ◌∙◌, arith}
 use Rattle.std.proofs.Math.ListN.{set, drop_of_length-le}
 use Rattle.std.proofs.lemmas.List.{map-set}
 use Rattle.std.specs.List.{list_any, position, position_from}
@@ -21,6 +21,21 @@ position_from-map p f k (x ∷ xs) = ap (λ r. cond (p (f x)) (Some k) r) (posit
 
 pub position-map : {X Y : Type 0} (p : Y → Bool) (f : X → Y) (xs : List X) → position p (map f xs) ≡ position (λ x. p (f x)) xs
 position-map p f xs = position_from-zero p (map f xs) ∙ position_from-map p f 0 xs ∙ sym (position_from-zero (λ x. p (f x)) xs)
+
+-- ---- the place of the first element that passes
+
+pub position-here : {X Y : Type 0} (p : Y → Bool) (f : X → Y) (xs : List X) (i : ℕ) (x : X) (whole : Option ℕ) → i < length xs → x ≡ get_or xs i x → p (f x) ≡ true
+    → position_from p i (map f (drop i xs)) ≡ whole → Some i ≡ whole
+position-here p f xs i x whole here is passes before =
+    sym (ap (λ t. cond t (Some i) (position_from p (i + 1) (map f (drop (i + 1) xs)))) passes) ∙ ap (λ l. position_from p i (map f l)) (sym (rest_from xs i x here is)) ∙ before
+
+pub position-next : {X Y : Type 0} (p : Y → Bool) (f : X → Y) (xs : List X) (i : ℕ) (x : X) (whole : Option ℕ) → i < length xs → x ≡ get_or xs i x → p (f x) ≡ false
+    → position_from p i (map f (drop i xs)) ≡ whole → position_from p (i + 1) (map f (drop (i + 1) xs)) ≡ whole
+position-next p f xs i x whole here is fails before =
+    sym (ap (λ t. cond t (Some i) (position_from p (i + 1) (map f (drop (i + 1) xs)))) fails) ∙ ap (λ l. position_from p i (map f l)) (sym (rest_from xs i x here is)) ∙ before
+
+pub position-over : {X Y : Type 0} (p : Y → Bool) (f : X → Y) (xs : List X) (i : ℕ) (whole : Option ℕ) → length xs ≤ i → position_from p i (map f (drop i xs)) ≡ whole → None ≡ whole
+position-over p f xs i whole over before = ap (λ l. position_from p i (map f l)) (sym (drop_of_length-le xs {i = i} over)) ∙ before
 
 -- the names that borrowed texts are
 abbrev pub texts : List (Bor (List ℕ)) → List (List ℕ)

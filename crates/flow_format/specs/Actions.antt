@@ -1,5 +1,5 @@
 -- The steps of a script, as its meaning has them: a name by its place among the names of its kind, a chain by what it gives.
-use Rattle.std.specs.Prelude.{ℕ, List, map, option_map, string_bytes}
+use Rattle.std.specs.Prelude.{ℕ, ℤ, List, map, option_map, string_bytes}
 use Rattle.flow_format.specs.declared.script.FlowStep.{FlowStep}
 use Rattle.flow_format.specs.declared.script.Step.{Step}
 use Rattle.flow_format.specs.declared.script.Step.TheVariants as step
@@ -13,11 +13,14 @@ use Rattle.flow_format.specs.Chains.{build_of}
 pub data Action : Type 0 where
   -- with the place of the flow
   on_flow : ℕ → FlowStep → Action
+  -- with the place of the flow, and the subscriber's own first values
+  subscribe_with : ℕ → List ℤ → Action
   collect : Build → Action
 
 -- what a step that was read is
 abbrev pub action_of : Step → Action
 action_of (step.Flow flow s) = on_flow flow s
+action_of (step.SubscribeWith flow first) = subscribe_with flow first.items
 action_of (step.Collect build) = collect (build_of build)
 
 abbrev pub actions_of : List Step → List Action

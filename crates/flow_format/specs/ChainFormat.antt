@@ -10,7 +10,7 @@ use Rattle.serde_json.specs.Find.{get, as_array}
 use Rattle.flow_law.specs.declared.chain.ChainFault.{ChainFault}
 use Rattle.flow_law.specs.declared.chain.ChainFault.TheVariants.{NotPositive, TooDeep}
 use Rattle.flow_law.specs.ChainRun.{ChainRun, gives}
-use Rattle.flow_law.specs.OperatorRuns.{map_run, filter_run, take_while_run, transform_run, take_run, drop_run, scan_run, flat_map_run, zip_run, distinct_run}
+use Rattle.flow_law.specs.OperatorRuns.{map_run, filter_run, take_while_run, transform_run, take_run, drop_run, drop_while_run, scan_run, running_reduce_run, flat_map_run, zip_run, distinct_run}
 use Rattle.flow_cold.specs.declared.script_chain.op.Arithmetic.{Arithmetic}
 use Rattle.flow_cold.specs.declared.script_chain.op.Arithmetic.TheVariants as arithmetic
 use Rattle.flow_cold.specs.declared.script_chain.op.Joining.{Joining}
@@ -23,9 +23,11 @@ use Rattle.flow_cold.specs.Numbers.{computed, joined, passes, sums, spread_run}
 use Rattle.flow_format.specs.declared.fault.ScriptFault.{ScriptFault}
 use Rattle.flow_format.specs.declared.fault.ScriptFault.TheVariants.{BadShape, TooLarge}
 use Rattle.flow_format.specs.declared.chain_words.OpName.{OpName}
-use Rattle.flow_format.specs.declared.chain_words.OpName.TheVariants.{Map, Filter, TakeWhile, Transform, Take, DropFirst, Scan, FlatMap, Zip, Distinct}
+use Rattle.flow_format.specs.declared.chain_words.OpName.TheVariants.{Map, Filter, TakeWhile, Transform, Take, DropFirst, DropWhile, Scan, RunningReduce, FlatMap, Zip, Distinct}
+use Rattle.flow_format.specs.declared.version.Version.{Version}
+use Rattle.flow_format.specs.declared.version.Version.TheVariants.{One, Two}
 use Rattle.flow_format.specs.Format.{u64_at, i64_at, text_at, has_members, where_true}
-use Rattle.flow_format.specs.Results.{result_then, result_map, or_fault}
+use Rattle.flow_format.specs.Results.{result_then, result_map, or_fault, first_fault}
 use Rattle.flow_format.specs.SourceFormat.{within, numbers_in, source_in}
 
 -- ---- limits
@@ -38,8 +40,13 @@ most_spread = 1000
 
 -- ---- words
 
-abbrev pub op_named : List ℕ → Option OpName
-op_named text =
+-- the operators of version 2 alone
+abbrev pub later_op_named : Version → List ℕ → Option OpName
+later_op_named One text = None
+later_op_named Two text = if bytes_eq text (codes "drop_while") then Some DropWhile else (if bytes_eq text (codes "running_reduce") then Some RunningReduce else None)
+
+abbrev pub op_named : Version → List ℕ → Option OpName
+op_named version text =
     if bytes_eq text (codes "map") then Some Map
     else (if bytes_eq text (codes "filter") then Some Filter
     else (if bytes_eq text (codes "take_while") then Some TakeWhile
@@ -49,10 +56,10 @@ op_named text =
     else (if bytes_eq text (codes "scan") then Some Scan
     else (if bytes_eq text (codes "flat_map") then Some FlatMap
     else (if bytes_eq text (codes "zip") then Some Zip
-    else (if bytes_eq text (codes "distinct") then Some Distinct else None)))))))))
+    else (if bytes_eq text (codes "distinct") then Some Distinct else later_op_named version text)))))))))
 
-abbrev pub op_name_of : Data → Option OpName
-op_name_of d = option_and_then op_named (text_at (codes "op") d)
+abbrev pub op_name_of : Version → Data → Option OpName
+op_name_of version d = option_and_then (op_named version) (text_at (codes "op") d)
 
 abbrev pub arithmetic_named : List ℕ → Option Arithmetic
 arithmetic_named text = if bytes_eq text (codes "add") then Some arithmetic.Add else (if bytes_eq text (codes "mul") then Some arithmetic.Mul else None)
@@ -123,6 +130,9 @@ filter_of d = option_map (λ test. one_deeper (filter_run (passes test))) (test_
 abbrev pub take_while_of : Data → Option Operator
 take_while_of d = option_map (λ test. one_deeper (take_while_run (passes test))) (test_of d)
 
+abbrev pub drop_while_of : Data → Option Operator
+drop_while_of d = option_map (λ test. one_deeper (drop_while_run (passes test))) (test_of d)
+
 abbrev pub take_of : Data → Option Operator
 take_of d = where_true (has_members 2 d) (option_map take_operator (u64_at (codes "n") d))
 
@@ -131,6 +141,9 @@ drop_of d = where_true (has_members 2 d) (option_map (λ n. one_deeper (λ r. dr
 
 abbrev pub scan_of : Data → Option Operator
 scan_of d = where_true (has_members 3 d) (option_and_then (λ by. option_map (λ from. one_deeper (λ r. gives from (scan_run (computed by) from r))) (i64_at (codes "from") d)) (arithmetic_at d))
+
+abbrev pub running_reduce_of : Data → Option Operator
+running_reduce_of d = where_true (has_members 2 d) (option_map (λ by. one_deeper (running_reduce_run (computed by) None)) (arithmetic_at d))
 
 abbrev pub distinct_of : Data → Option Operator
 distinct_of d = where_true (has_members 1 d) (Some (one_deeper (distinct_run int_eq None)))
@@ -157,21 +170,23 @@ operator_named TakeWhile at d = or_fault (BadShape at) (take_while_of d)
 operator_named Transform at d = transform_in at d
 operator_named Take at d = or_fault (BadShape at) (take_of d)
 operator_named DropFirst at d = or_fault (BadShape at) (drop_of d)
+operator_named DropWhile at d = or_fault (BadShape at) (drop_while_of d)
 operator_named Scan at d = or_fault (BadShape at) (scan_of d)
+operator_named RunningReduce at d = or_fault (BadShape at) (running_reduce_of d)
 operator_named FlatMap at d = flat_map_in at d
 operator_named Zip at d = Err (BadShape at)
 operator_named Distinct at d = or_fault (BadShape at) (distinct_of d)
 
-abbrev pub operator_in : ℕ → Data → Result Operator ScriptFault
-operator_in at d = result_then (λ name. operator_named name at d) (or_fault (BadShape at) (op_name_of d))
+abbrev pub operator_in : Version → ℕ → Data → Result Operator ScriptFault
+operator_in version at d = result_then (λ name. operator_named name at d) (or_fault (BadShape at) (op_name_of version d))
 
 -- the joining and the other chain of an operator that is a zip
 abbrev pub zip_by : OpName → Data → Option (Joining × Data)
 zip_by Zip d = zip_of d
 zip_by _ d = None
 
-abbrev pub zip_parts : Data → Option (Joining × Data)
-zip_parts d = option_and_then (λ name. zip_by name d) (op_name_of d)
+abbrev pub zip_parts : Version → Data → Option (Joining × Data)
+zip_parts version d = option_and_then (λ name. zip_by name d) (op_name_of version d)
 
 -- ---- building
 
@@ -195,10 +210,6 @@ built_on (Ok chain) (Err fault) = Err fault
 built_on (Ok chain) (Ok o) = with_operator o chain
 
 -- a bad form anywhere in the chain comes before a limit
-abbrev pub first_fault : ScriptFault → Result (Result Operator ChainFault) ScriptFault → ScriptFault
-first_fault (TooLarge at) (Err (BadShape k)) = BadShape k
-first_fault fault _ = fault
-
 abbrev pub joined_to : Result Build ScriptFault → Result (Result Operator ChainFault) ScriptFault → Result Build ScriptFault
 joined_to (Ok chain) o = result_map (built_on chain) o
 joined_to (Err fault) o = Err (first_fault fault o)
@@ -221,25 +232,25 @@ abbrev pub plain : Result Operator ScriptFault → Result (Result Operator Chain
 plain r = result_map (λ o. Ok o) r
 
 -- an operator, where `chain_by` reads the other chain of a zip
-abbrev pub operator_where : (Data → Result Build ScriptFault) → ℕ → Data → Result (Result Operator ChainFault) ScriptFault
-operator_where chain_by at d = option_map_or (λ zip. zipped zip.0 (chain_by zip.1)) (zip_parts d) (plain (operator_in at d))
+abbrev pub operator_where : (Data → Result Build ScriptFault) → Version → ℕ → Data → Result (Result Operator ChainFault) ScriptFault
+operator_where chain_by version at d = option_map_or (λ zip. zipped zip.0 (chain_by zip.1)) (zip_parts version d) (plain (operator_in version at d))
 
 abbrev pub ops_on : (Data → Result (Result Operator ChainFault) ScriptFault) → Result Build ScriptFault → Items → Result Build ScriptFault
 ops_on operator_by chain no_items = chain
 ops_on operator_by chain (item d ds) = ops_on operator_by (joined_to chain (operator_by d)) ds
 
 -- the chain of a text, where zips may nest so deep in it
-abbrev pub chain_at : ℕ → ℕ → Data → Result Build ScriptFault
-chain_at zero at d = Err (BadShape at)
-chain_at (suc levels) at d =
-    result_then (λ parts. ops_on (operator_where (chain_at levels at) at) (start_of (source_in at parts.0)) parts.1) (or_fault (BadShape at) (parts_of d))
+abbrev pub chain_at : Version → ℕ → ℕ → Data → Result Build ScriptFault
+chain_at version zero at d = Err (BadShape at)
+chain_at version (suc levels) at d =
+    result_then (λ parts. ops_on (operator_where (chain_at version levels at) version at) (start_of (source_in at parts.0)) parts.1) (or_fault (BadShape at) (parts_of d))
 
-abbrev pub operator_at : ℕ → ℕ → Data → Result (Result Operator ChainFault) ScriptFault
-operator_at levels at d = operator_where (chain_at levels at) at d
+abbrev pub operator_at : Version → ℕ → ℕ → Data → Result (Result Operator ChainFault) ScriptFault
+operator_at version levels at d = operator_where (chain_at version levels at) version at d
 
 -- more than any text nests: JSON nests at most 127 deep, and three deeper with each zip
 unfoldable pub most_levels : ℕ
 most_levels = 127
 
-abbrev pub chain_in : ℕ → Data → Result Build ScriptFault
-chain_in at d = chain_at most_levels at d
+abbrev pub chain_in : Version → ℕ → Data → Result Build ScriptFault
+chain_in version at d = chain_at version most_levels at d

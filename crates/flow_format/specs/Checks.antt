@@ -1,6 +1,6 @@
 -- Why a script is refused, and in which order: the first fault that is found is the script's.
 -- Begin with `read_script`. The forms are in Format.
-use Rattle.std.specs.Prelude.{◌≡◌, ℕ, ◌+◌, Bool, not, ◌||◌, nat_lt, if◌then◌else◌, ℤ, codes, List, [], ◌∷◌, ◌++◌, length, slice_get, slice_set, replicate, position, Option, Some, is_some, Result, Ok, Err, Vec}
+use Rattle.std.specs.Prelude.{◌≡◌, ℕ, ◌+◌, Bool, false, not, ◌||◌, nat_lt, if◌then◌else◌, ℤ, codes, List, [], ◌∷◌, ◌++◌, length, slice_get, slice_set, replicate, position, Option, Some, is_some, Result, Ok, Err, Vec}
 use Rattle.std.specs.Prelude.{option_map, option_and_then}
 use Rattle.std.specs.Option.{option_map_or}
 use Rattle.std.specs.List.{list_any}
@@ -9,7 +9,7 @@ use Rattle.std.specs.declared.alloc.Global.{Global}
 use Rattle.serde_json.specs.Data.{Data, Items, no_items, item}
 use Rattle.serde_json.specs.Read.{read}
 use Rattle.serde_json.specs.Events.{items_len}
-use Rattle.serde_json.specs.Find.{get, as_object}
+use Rattle.serde_json.specs.Find.{get, as_array, as_object}
 use Rattle.serde_json.specs.View.{view}
 use Rattle.serde_json.specs.declared.value.Value.{Value as JsonValue}
 use Rattle.flow_format.specs.declared.fault.ScriptFault.{ScriptFault}
@@ -20,13 +20,18 @@ use Rattle.flow_format.specs.declared.script.FlowStep.{FlowStep}
 use Rattle.flow_format.specs.declared.script.FlowStep.TheVariants as step
 use Rattle.flow_format.specs.declared.script.Step.{Step}
 use Rattle.flow_format.specs.Actions.{Action, on_flow, collect, action_of, actions_of, heads_of}
+use Rattle.flow_format.specs.Actions as action
 use Rattle.flow_format.specs.ChainFormat.{Build, chain_in}
 use Rattle.flow_format.specs.declared.verb.Verb.{Verb}
 use Rattle.flow_format.specs.declared.verb.Verb.TheVariants.{Flow, Collect}
 use Rattle.flow_format.specs.declared.verb.FlowVerb.{FlowVerb}
-use Rattle.flow_format.specs.declared.verb.FlowVerb.TheVariants.{TryEmit, Emit, Poll, Cancel, Subscribe, Next, Unsubscribe, Cache, Count, Reset, Value, Set, CompareAndSet, Turn}
-use Rattle.flow_format.specs.Format.{u64_at, i64_at, name_at, allows, verb_of, has_version}
-use Rattle.flow_format.specs.Heads.{NamedHead, kind_at, head_in}
+use Rattle.flow_format.specs.declared.verb.FlowVerb.TheVariants.{TryEmit, Emit, Poll, Cancel, Subscribe, SubscribeWith, Next, Unsubscribe, Cache, Count, Reset, Value, Set, CompareAndSet, Turn}
+use Rattle.flow_format.specs.Format.{u64_at, i64_at, name_at, where_true, allows, verb_of, version_of}
+use Rattle.flow_format.specs.Flows.{head_in}
+use Rattle.flow_format.specs.Heads.{NamedHead, kind_at}
+use Rattle.flow_format.specs.SourceFormat.{numbers_of, whole_numbers}
+use Rattle.flow_format.specs.declared.version.Version.{Version}
+use Rattle.flow_format.specs.declared.version.Version.TheVariants.{One, Two}
 
 -- the most bytes, and the most steps
 abbrev pub most_bytes : ℕ
@@ -87,8 +92,14 @@ pub data Written : Type 0 where
   poll : List ℕ → Written
   cancel : List ℕ → Written
   subscribe : List ℕ → Written
+  -- with the subscriber's own first values, which are whole numbers
+  subscribe_with : List ℕ → Items → Written
   next : List ℕ → Written
   unsubscribe : List ℕ → Written
+
+-- a subscriber's own first values
+abbrev pub first_at : Data → Option Items
+first_at d = option_and_then (λ values. where_true (is_some (whole_numbers values)) (Some values)) (option_and_then as_array (get (codes "first") d))
 
 -- what is expected, and what it is replaced by
 abbrev pub pair_of : Data → Option (ℤ × ℤ)
@@ -96,12 +107,13 @@ pair_of d = option_and_then (λ expect. option_map (λ update. (expect, update))
 
 abbrev pub written_by : FlowVerb → Data → Option Written
 written_by TryEmit d = option_map (λ value. plain (step.TryEmit value)) (i64_at (codes "value") d)
-written_by Emit d = option_and_then (λ value. option_map (λ name. emit name value) (name_at d)) (i64_at (codes "value") d)
-written_by Poll d = option_map poll (name_at d)
-written_by Cancel d = option_map cancel (name_at d)
-written_by Subscribe d = option_map subscribe (name_at d)
-written_by Next d = option_map next (name_at d)
-written_by Unsubscribe d = option_map unsubscribe (name_at d)
+written_by Emit d = option_and_then (λ value. option_map (λ name. emit name value) (name_at (codes "name") d)) (i64_at (codes "value") d)
+written_by Poll d = option_map poll (name_at (codes "name") d)
+written_by Cancel d = option_map cancel (name_at (codes "name") d)
+written_by Subscribe d = option_map subscribe (name_at (codes "name") d)
+written_by SubscribeWith d = option_and_then (λ values. option_map (λ name. subscribe_with name values) (name_at (codes "name") d)) (first_at d)
+written_by Next d = option_map next (name_at (codes "name") d)
+written_by Unsubscribe d = option_map unsubscribe (name_at (codes "name") d)
 written_by Cache d = Some (plain step.Cache)
 written_by Count d = Some (plain step.Count)
 written_by Reset d = Some (plain step.Reset)
@@ -109,24 +121,6 @@ written_by Value d = Some (plain step.Value)
 written_by Set d = option_map (λ value. plain (step.Set value)) (i64_at (codes "value") d)
 written_by CompareAndSet d = option_map (λ pair. plain (step.CompareAndSet pair.0 pair.1)) (pair_of d)
 written_by Turn d = option_map (λ now. plain (step.Turn now)) (u64_at (codes "at") d)
-
--- a step on a flow, and the names that were introduced up to it
-pub record Stepped : Type 0 where
-  pub step : FlowStep
-  pub names : List NameLists
-
-abbrev pub stepped : List NameLists → FlowStep → Stepped
-stepped names step = record { step = step; names = names }
-
--- the step on the flow at a place, its name looked up among those that were introduced before it
-abbrev pub named_step : ℕ → ℕ → List NameLists → Written → Result Stepped ScriptFault
-named_step flow at names (plain s) = Ok (stepped names s)
-named_step flow at names (emit name value) = result_map (λ after. stepped after (step.Emit value)) (introduces_emission flow at name names)
-named_step flow at names (poll name) = result_map (λ place. stepped names (step.Poll place)) (emission_at flow at name names)
-named_step flow at names (cancel name) = result_map (λ place. stepped names (step.Cancel place)) (emission_at flow at name names)
-named_step flow at names (subscribe name) = result_map (λ after. stepped after step.Subscribe) (introduces_subscriber flow at name names)
-named_step flow at names (next name) = result_map (λ place. stepped names (step.Next place)) (subscriber_at flow at name names)
-named_step flow at names (unsubscribe name) = result_map (λ place. stepped names (step.Unsubscribe place)) (subscriber_at flow at name names)
 
 -- a step, and the names that were introduced up to it
 pub record Named : Type 0 where
@@ -136,27 +130,54 @@ pub record Named : Type 0 where
 abbrev pub named : List NameLists → Action → Named
 named names step = record { step = step; names = names }
 
--- its form, then whether its flow has such a step, then its name. Each step is about the flow at place 0
-abbrev pub flow_step_by : List NamedHead → FlowVerb → ℕ → List NameLists → Data → Result Named ScriptFault
-flow_step_by flows verb at names d =
-    result_then (λ written.
-    if allows verb (kind_at 0 flows) then result_map (λ s. named s.names (on_flow 0 s.step)) (named_step 0 at names written) else Err (BadShape at))
-    (or_fault (BadShape at) (written_by verb d))
+-- the most first values of a subscriber's own
+abbrev pub most_first : ℕ
+most_first = 10000
 
-abbrev pub collected_in : ℕ → Data → Result Build ScriptFault
-collected_in at d = result_then (chain_in at) (or_fault (BadShape at) (get (codes "chain") d))
+-- the step on the flow at a place: its limit, then its name, looked up among those that were introduced before it
+abbrev pub named_step : ℕ → ℕ → List NameLists → Written → Result Named ScriptFault
+named_step flow at names (plain s) = Ok (named names (on_flow flow s))
+named_step flow at names (emit name value) = result_map (λ after. named after (on_flow flow (step.Emit value))) (introduces_emission flow at name names)
+named_step flow at names (poll name) = result_map (λ place. named names (on_flow flow (step.Poll place))) (emission_at flow at name names)
+named_step flow at names (cancel name) = result_map (λ place. named names (on_flow flow (step.Cancel place))) (emission_at flow at name names)
+named_step flow at names (subscribe name) = result_map (λ after. named after (on_flow flow step.Subscribe)) (introduces_subscriber flow at name names)
+named_step flow at names (subscribe_with name values) =
+    result_then (λ first. result_map (λ after. named after (action.subscribe_with flow first)) (introduces_subscriber flow at name names)) (numbers_of at most_first values)
+named_step flow at names (next name) = result_map (λ place. named names (on_flow flow (step.Next place))) (subscriber_at flow at name names)
+named_step flow at names (unsubscribe name) = result_map (λ place. named names (on_flow flow (step.Unsubscribe place))) (subscriber_at flow at name names)
 
-abbrev pub step_by : List NamedHead → Verb → ℕ → List NameLists → Data → Result Named ScriptFault
-step_by flows (Flow verb) at names d = flow_step_by flows verb at names d
-step_by flows Collect at names d = result_map (λ build. named names (collect build)) (collected_in at d)
+abbrev pub is_named : List ℕ → NamedHead → Bool
+is_named name flow = option_map_or (λ known. bytes_eq name known) flow.name false
 
-abbrev pub step_of : List NamedHead → ℕ → List NameLists → Data → Result Named ScriptFault
-step_of flows at names d = result_then (λ verb. step_by flows verb at names d) (or_fault (BadShape at) (verb_of d))
+abbrev pub place_named : List ℕ → List NamedHead → Option ℕ
+place_named name flows = position (λ flow. is_named name flow) flows
+
+-- the place of the flow that a step names; in version 1 it names none, and is about the only one
+abbrev pub place_at : Version → List NamedHead → ℕ → Data → Result ℕ ScriptFault
+place_at One flows at d = Ok 0
+place_at Two flows at d = result_then (λ name. or_fault (UnknownName at) (place_named name flows)) (or_fault (BadShape at) (name_at (codes "flow") d))
+
+-- the form of its keys, then its flow, then whether that has such a step, then limits and names
+abbrev pub flow_step_by : Version → List NamedHead → FlowVerb → ℕ → List NameLists → Data → Result Named ScriptFault
+flow_step_by version flows verb at names d =
+    result_then (λ written. result_then (λ place. if allows verb (kind_at place flows) then named_step place at names written else Err (BadShape at))
+    (place_at version flows at d)) (or_fault (BadShape at) (written_by verb d))
+
+abbrev pub collected_in : Version → ℕ → Data → Result Build ScriptFault
+collected_in version at d = result_then (chain_in version at) (or_fault (BadShape at) (get (codes "chain") d))
+
+abbrev pub step_by : Version → List NamedHead → Verb → ℕ → List NameLists → Data → Result Named ScriptFault
+step_by version flows (Flow verb) at names d = flow_step_by version flows verb at names d
+step_by version flows Collect at names d = result_map (λ build. named names (collect build)) (collected_in version at d)
+
+abbrev pub step_of : Version → List NamedHead → ℕ → List NameLists → Data → Result Named ScriptFault
+step_of version flows at names d = result_then (λ verb. step_by version flows verb at names d) (or_fault (BadShape at) (verb_of version d))
 
 -- the steps in order, up to the first one that is refused
-abbrev pub steps_of : List NamedHead → ℕ → List NameLists → Items → Result (List Action) ScriptFault
-steps_of flows at names no_items = Ok []
-steps_of flows at names (item d ds) = result_then (λ named. result_map (λ steps. named.step ∷ steps) (steps_of flows (at + 1) named.names ds)) (step_of flows at names d)
+abbrev pub steps_of : Version → List NamedHead → ℕ → List NameLists → Items → Result (List Action) ScriptFault
+steps_of version flows at names no_items = Ok []
+steps_of version flows at names (item d ds) =
+    result_then (λ named. result_map (λ steps. named.step ∷ steps) (steps_of version flows (at + 1) named.names ds)) (step_of version flows at names d)
 
 -- before the first step
 abbrev pub nothing_named : List NamedHead → List NameLists
@@ -170,16 +191,16 @@ pub record Checked : Type 0 where
   pub steps : List Action
 
 -- the number of steps, then the steps
-abbrev pub checked : List NamedHead × Items → Result Checked ScriptFault
-checked head =
+abbrev pub checked : Version → List NamedHead × Items → Result Checked ScriptFault
+checked version head =
     if nat_lt most_steps (items_len head.1) then Err (TooLarge 0)
-    else result_map (λ steps. record { flows = head.0; steps = steps }) (steps_of head.0 1 (nothing_named head.0) head.1)
+    else result_map (λ steps. record { flows = head.0; steps = steps }) (steps_of version head.0 1 (nothing_named head.0) head.1)
 
 -- an object first, then its version, then its shape, then what it says
 abbrev pub script_of : Data → Result Checked ScriptFault
 script_of d =
     if not (is_some (as_object d)) then Err (BadShape 0)
-    else (if not (has_version d) then Err BadVersion else result_then checked (head_in d))
+    else result_then (λ version. result_then (checked version) (head_in version d)) (or_fault BadVersion (version_of d))
 
 -- the data that the bytes are the JSON text of
 abbrev pub json_of : List ℕ → Result Data ScriptFault
@@ -209,9 +230,6 @@ then_names r names = result_map (λ _. names) r
 
 abbrev pub value_result : Result JsonValue ScriptFault → Result Data ScriptFault
 value_result r = result_map view r
-
-abbrev pub stepped_result : Result FlowStep ScriptFault → List NameLists → Result Stepped ScriptFault
-stepped_result r names = result_map (stepped names) r
 
 abbrev pub named_result : Result Step ScriptFault → List NameLists → Result Named ScriptFault
 named_result r names = result_map (λ step. named names (action_of step)) r

@@ -13,8 +13,10 @@ use Rattle.flow_law.specs.declared.config.Overflow.TheVariants.{Suspend, DropOld
 use Rattle.flow_format.specs.declared.verb.Verb.{Verb}
 use Rattle.flow_format.specs.declared.verb.Verb.TheVariants.{Flow, Collect}
 use Rattle.flow_format.specs.declared.verb.FlowVerb.{FlowVerb}
-use Rattle.flow_format.specs.declared.verb.FlowVerb.TheVariants.{TryEmit, Emit, Poll, Cancel, Subscribe, Next, Unsubscribe, Cache, Count, Reset, Value, Set, CompareAndSet, Turn}
+use Rattle.flow_format.specs.declared.verb.FlowVerb.TheVariants.{TryEmit, Emit, Poll, Cancel, Subscribe, SubscribeWith, Next, Unsubscribe, Cache, Count, Reset, Value, Set, CompareAndSet, Turn}
 use Rattle.flow_format.specs.declared.verb.Rule.{Rule}
+use Rattle.flow_format.specs.declared.version.Version.{Version}
+use Rattle.flow_format.specs.declared.version.Version.TheVariants.{One, Two}
 use Rattle.flow_format.specs.declared.verb.Kind.{Kind}
 use Rattle.flow_format.specs.declared.verb.Kind.TheVariants as kind
 
@@ -47,8 +49,8 @@ is_name_byte b = (nat_le 97 b && nat_le b 122) || (nat_le 48 b && nat_le b 57) |
 abbrev pub is_name : List ℕ → Bool
 is_name bs = nat_lt 0 (length bs) && nat_le (length bs) 32 && list_all is_name_byte bs
 
-abbrev pub name_at : Data → Option (List ℕ)
-name_at d = option_and_then (λ name. where_true (is_name name) (Some name)) (text_at (codes "name") d)
+abbrev pub name_at : List ℕ → Data → Option (List ℕ)
+name_at key d = option_and_then (λ name. where_true (is_name name) (Some name)) (text_at key d)
 
 -- ---- the head
 
@@ -73,8 +75,11 @@ config_of d =
     (Some (record { replay = replay; extra = extra; overflow = overflow; limit = limit })))
     (limit_at d)) (option_and_then overflow_named (text_at (codes "overflow") d))) (u32_at (codes "extra") d)) (u32_at (codes "replay") d)
 
-abbrev pub has_version : Data → Bool
-has_version d = option_map_or (λ version. version == 1) (u64_at (codes "version") d) false
+abbrev pub version_numbered : ℕ → Option Version
+version_numbered number = if number == 1 then Some One else (if number == 2 then Some Two else None)
+
+abbrev pub version_of : Data → Option Version
+version_of d = option_and_then version_numbered (u64_at (codes "version") d)
 
 -- ---- steps
 
@@ -115,6 +120,7 @@ allows Emit kind = is_shared kind
 allows Poll kind = is_shared kind
 allows Cancel kind = is_shared kind
 allows Subscribe kind = is_flow kind
+allows SubscribeWith kind = is_shared kind
 allows Next kind = is_flow kind
 allows Unsubscribe kind = is_flow kind
 allows Cache kind = is_flow kind
@@ -128,14 +134,18 @@ allows Turn kind = is_sharing kind
 abbrev pub rule_of : FlowVerb → ℕ → Option Rule
 rule_of verb keys = Some (record { verb = Flow verb; keys = keys })
 
--- what a step does by the text of its key `do`, and how many keys it has, `do` among them
-abbrev pub rule_named : List ℕ → Option Rule
-rule_named text =
+-- a subscription, which may have first values of its own
+abbrev pub subscription_rule : Bool → Option Rule
+subscription_rule has_first = if has_first then rule_of SubscribeWith 3 else rule_of Subscribe 2
+
+-- what a step does by the text of its key `do`, and how many keys it has, `do` among them, but for that of its flow
+abbrev pub rule_named : List ℕ → Bool → Option Rule
+rule_named text has_first =
     if bytes_eq text (codes "try_emit") then rule_of TryEmit 2
     else (if bytes_eq text (codes "emit") then rule_of Emit 3
     else (if bytes_eq text (codes "poll") then rule_of Poll 2
     else (if bytes_eq text (codes "cancel") then rule_of Cancel 2
-    else (if bytes_eq text (codes "subscribe") then rule_of Subscribe 2
+    else (if bytes_eq text (codes "subscribe") then subscription_rule has_first
     else (if bytes_eq text (codes "next") then rule_of Next 2
     else (if bytes_eq text (codes "unsubscribe") then rule_of Unsubscribe 2
     else (if bytes_eq text (codes "cache") then rule_of Cache 1
@@ -147,6 +157,19 @@ rule_named text =
     else (if bytes_eq text (codes "turn") then rule_of Turn 2
     else (if bytes_eq text (codes "collect") then Some (record { verb = Collect; keys = 2 }) else None))))))))))))))
 
+-- whether a subscription has first values of its own, which are known from version 2 on
+abbrev pub has_first : Version → Data → Bool
+has_first One d = false
+has_first Two d = is_some (get (codes "first") d)
+
+-- how many keys name the flow of a step
+abbrev pub flow_keys : Version → Verb → ℕ
+flow_keys One verb = 0
+flow_keys Two (Flow verb) = 1
+flow_keys Two Collect = 0
+
 -- what a step does, if it has as many keys as it needs
-abbrev pub verb_of : Data → Option Verb
-verb_of d = option_and_then (λ rule. where_true (has_members rule.keys d) (Some rule.verb)) (option_and_then rule_named (text_at (codes "do") d))
+abbrev pub verb_of : Version → Data → Option Verb
+verb_of version d =
+    option_and_then (λ rule. where_true (has_members (rule.keys + flow_keys version rule.verb) d) (Some rule.verb))
+    (option_and_then (λ text. rule_named text (has_first version d)) (text_at (codes "do") d))

@@ -11,7 +11,7 @@ use Rattle.flow_format.specs.declared.script.ScriptFlow.{ScriptFlow}
 use Rattle.flow_format.specs.declared.read_share.ShareParts.{ShareParts}
 use Rattle.flow_format.specs.declared.read_share.StateInParts.{StateInParts}
 use Rattle.flow_format.specs.Results.{result_map}
-use Rattle.flow_format.specs.Actions.{head_of_flow, heads_of}
+use Rattle.flow_format.specs.Actions.{head_of_flow, named_head, heads_of}
 use Rattle.flow_format.specs.Heads.{Head, NamedHead}
 use Rattle.flow_format.specs.Heads as heads
 
@@ -23,6 +23,9 @@ state_in_parts_of parts = record { chain = view parts.chain.now; started = parts
 
 abbrev pub flow_result : Result ScriptFlow ScriptFault → Result Head ScriptFault
 flow_result r = result_map head_of_flow r
+
+abbrev pub named_flow_result : Result NamedFlow ScriptFault → Result NamedHead ScriptFault
+named_flow_result r = result_map named_head r
 
 abbrev pub flows_result : Result (Vec NamedFlow Global) ScriptFault → Result (List NamedHead) ScriptFault
 flows_result r = result_map (λ flows. heads_of flows.items) r

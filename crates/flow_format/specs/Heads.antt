@@ -1,16 +1,18 @@
--- What the head of a script says of its flows.
--- Begin with `head_in`. A bad form anywhere in the head comes before a limit of its chain.
+-- What a script says of one flow.
+-- Begin with `flow_in`. A bad form anywhere in a flow comes before a limit of its chain. The flows of a script are in Flows.
 use Rattle.std.specs.Prelude.{ℕ, if◌then◌else◌, ℤ, List, [], ◌∷◌, slice_get, Option, Some, None, option_map, option_and_then, Result, Err, codes}
 use Rattle.std.specs.Option.{option_map_or}
 use Rattle.std.specs.Str.{bytes_eq}
-use Rattle.serde_json.specs.Data.{Data, Items}
-use Rattle.serde_json.specs.Find.{get, as_str, as_array}
+use Rattle.serde_json.specs.Data.{Data}
+use Rattle.serde_json.specs.Find.{get, as_number, as_u64, as_str}
 use Rattle.flow_law.specs.declared.config.Config.{Config}
 use Rattle.flow_law.specs.Sharing.{never}
 use Rattle.flow_law.specs.declared.sharing.Started.{Started}
 use Rattle.flow_law.specs.declared.sharing.Started.TheVariants.{Eagerly, Lazily, WhileSubscribed}
 use Rattle.flow_format.specs.declared.fault.ScriptFault.{ScriptFault}
 use Rattle.flow_format.specs.declared.fault.ScriptFault.TheVariants.{BadShape}
+use Rattle.flow_format.specs.declared.version.Version.{Version}
+use Rattle.flow_format.specs.declared.version.Version.TheVariants.{One, Two}
 use Rattle.flow_format.specs.declared.verb.Kind.{Kind}
 use Rattle.flow_format.specs.declared.verb.Kind.TheVariants as kind
 use Rattle.flow_format.specs.Results.{result_then, result_map, or_fault}
@@ -49,12 +51,24 @@ state_of d = option_and_then (λ initial. option_and_then (λ limit. where_true 
 abbrev pub started_named : List ℕ → Option Started
 started_named text = if bytes_eq text (codes "eagerly") then Some Eagerly else (if bytes_eq text (codes "lazily") then Some Lazily else None)
 
--- a word, or an object with the key `stop` alone, after which nothing is forgotten
-abbrev pub started_of : Data → Option Started
-started_of d = option_map_or started_named (as_str d) (where_true (has_members 1 d) (option_map (λ stop. WhileSubscribed stop never) (u64_at (codes "stop") d)))
+-- without the key `expire` nothing is forgotten
+abbrev pub never_in : Data → Option ℕ
+never_in d = where_true (has_members 1 d) (Some never)
 
-abbrev pub started_at : Data → Option Started
-started_at d = option_and_then started_of (get (codes "started") d)
+-- how long after its stop a flow forgets what it replays: the key `expire` is known from version 2 on
+abbrev pub expire_in : Version → Data → Option ℕ
+expire_in One d = never_in d
+expire_in Two d = option_map_or (λ expire. where_true (has_members 2 d) (option_and_then as_u64 (as_number expire))) (get (codes "expire") d) (never_in d)
+
+abbrev pub while_subscribed : Version → Data → Option Started
+while_subscribed version d = option_and_then (λ stop. option_map (λ expire. WhileSubscribed stop expire) (expire_in version d)) (u64_at (codes "stop") d)
+
+-- a word, or an object
+abbrev pub started_of : Version → Data → Option Started
+started_of version d = option_map_or started_named (as_str d) (while_subscribed version d)
+
+abbrev pub started_at : Version → Data → Option Started
+started_at version d = option_and_then (started_of version) (get (codes "started") d)
 
 pub record ShareParts : Type 0 where
   pub chain : Data
@@ -62,14 +76,14 @@ pub record ShareParts : Type 0 where
   pub replay : ℕ
   pub limit : ℕ
 
-abbrev pub share_parts : Data → Option ShareParts
-share_parts d =
+abbrev pub share_parts : Version → Data → Option ShareParts
+share_parts version d =
     option_and_then (λ chain. option_and_then (λ started. option_and_then (λ replay. option_and_then (λ limit.
     where_true (has_members (with_limit 4 d) d) (Some (record { chain = chain; started = started; replay = replay; limit = limit })))
-    (limit_at d)) (u32_at (codes "replay") d)) (started_at d)) (get (codes "chain") d)
+    (limit_at d)) (u32_at (codes "replay") d)) (started_at version d)) (get (codes "chain") d)
 
-abbrev pub share_in : Data → Result Head ScriptFault
-share_in d = result_then (λ parts. result_map (λ build. shared_chain build parts.started parts.replay parts.limit) (chain_in 0 parts.chain)) (or_fault (BadShape 0) (share_parts d))
+abbrev pub share_in : Version → Data → Result Head ScriptFault
+share_in version d = result_then (λ parts. result_map (λ build. shared_chain build parts.started parts.replay parts.limit) (chain_in version 0 parts.chain)) (or_fault (BadShape 0) (share_parts version d))
 
 pub record StateInParts : Type 0 where
   pub chain : Data
@@ -77,21 +91,25 @@ pub record StateInParts : Type 0 where
   pub initial : ℤ
   pub limit : ℕ
 
-abbrev pub state_in_parts : Data → Option StateInParts
-state_in_parts d =
+abbrev pub state_in_parts : Version → Data → Option StateInParts
+state_in_parts version d =
     option_and_then (λ chain. option_and_then (λ started. option_and_then (λ initial. option_and_then (λ limit.
     where_true (has_members (with_limit 4 d) d) (Some (record { chain = chain; started = started; initial = initial; limit = limit })))
-    (limit_at d)) (i64_at (codes "initial") d)) (started_at d)) (get (codes "chain") d)
+    (limit_at d)) (i64_at (codes "initial") d)) (started_at version d)) (get (codes "chain") d)
 
-abbrev pub state_in : Data → Result Head ScriptFault
-state_in d = result_then (λ parts. result_map (λ build. state_chain build parts.started parts.initial parts.limit) (chain_in 0 parts.chain)) (or_fault (BadShape 0) (state_in_parts d))
+abbrev pub state_in : Version → Data → Result Head ScriptFault
+state_in version d = result_then (λ parts. result_map (λ build. state_chain build parts.started parts.initial parts.limit) (chain_in version 0 parts.chain)) (or_fault (BadShape 0) (state_in_parts version d))
 
-abbrev pub flow_named : List ℕ → Data → Result Head ScriptFault
-flow_named kind d =
+abbrev pub flow_named : Version → List ℕ → Data → Result Head ScriptFault
+flow_named version kind d =
     if bytes_eq kind (codes "shared") then or_fault (BadShape 0) (option_map shared_flow (config_of d))
     else (if bytes_eq kind (codes "state") then or_fault (BadShape 0) (state_of d)
-    else (if bytes_eq kind (codes "share") then share_in d
-    else (if bytes_eq kind (codes "state_in") then state_in d else Err (BadShape 0))))
+    else (if bytes_eq kind (codes "share") then share_in version d
+    else (if bytes_eq kind (codes "state_in") then state_in version d else Err (BadShape 0))))
+
+-- a flow of a script of this version
+abbrev pub flow_in : Version → Data → Result Head ScriptFault
+flow_in version d = result_then (λ kind. flow_named version kind d) (or_fault (BadShape 0) (text_at (codes "kind") d))
 
 abbrev pub no_flows : Data → Result (List NamedHead) ScriptFault
 no_flows d = or_fault (BadShape 0) (where_true (has_members 1 d) (Some []))
@@ -101,15 +119,8 @@ abbrev pub only : Head → List NamedHead
 only flow = record { name = None; flow = flow } ∷ []
 
 abbrev pub only_named : List ℕ → Data → Result (List NamedHead) ScriptFault
-only_named kind d = if bytes_eq kind (codes "none") then no_flows d else result_map only (flow_named kind d)
+only_named kind d = if bytes_eq kind (codes "none") then no_flows d else result_map only (flow_named One kind d)
 
--- a row of one flow, or of none
+-- a row of the only flow of a script of version 1, or of none
 abbrev pub only_in : Data → Result (List NamedHead) ScriptFault
 only_in d = result_then (λ kind. only_named kind d) (or_fault (BadShape 0) (text_at (codes "kind") d))
-
-abbrev pub steps_in : Data → Option Items
-steps_in d = where_true (has_members 3 d) (option_and_then as_array (get (codes "steps") d))
-
-abbrev pub head_in : Data → Result (List NamedHead × Items) ScriptFault
-head_in d =
-    result_then (λ steps. result_map (λ flows. (flows, steps)) (result_then only_in (or_fault (BadShape 0) (get (codes "flow") d)))) (or_fault (BadShape 0) (steps_in d))

@@ -3,6 +3,7 @@ pub mod Format
 pub mod SourceFormat
 pub mod ChainFormat
 pub mod Heads
+pub mod Flows
 pub mod Actions
 pub mod Checks
 pub mod Names

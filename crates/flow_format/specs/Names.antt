@@ -1,10 +1,11 @@
 -- What the reader's names and steps are in the definitions' terms. No public clause cites this module.
 use Rattle.std.specs.Prelude.{List, map}
+use Rattle.serde_json.specs.View.{items_view}
 use Rattle.flow_format.specs.declared.names.FlowNames.{FlowNames}
 use Rattle.flow_format.specs.declared.names.Names.{Names}
 use Rattle.flow_format.specs.declared.written.Written.{Written}
 use Rattle.flow_format.specs.declared.written.Written.TheVariants as kept
-use Rattle.flow_format.specs.Checks.{NameLists, plain, emit, poll, cancel, subscribe, next, unsubscribe}
+use Rattle.flow_format.specs.Checks.{NameLists, plain, emit, poll, cancel, subscribe, subscribe_with, next, unsubscribe}
 use Rattle.flow_format.specs.Checks as checks
 
 abbrev pub lists_of : FlowNames → NameLists
@@ -19,5 +20,6 @@ written_of (kept.Emit name value) = emit name.now value
 written_of (kept.Poll name) = poll name.now
 written_of (kept.Cancel name) = cancel name.now
 written_of (kept.Subscribe name) = subscribe name.now
+written_of (kept.SubscribeWith name values) = subscribe_with name.now (items_view values.now)
 written_of (kept.Next name) = next name.now
 written_of (kept.Unsubscribe name) = unsubscribe name.now

@@ -44,9 +44,13 @@ entry_of d =
 abbrev pub entries_of : Items → Option (List (Entry ℤ))
 entries_of ds = all_of entry_of ds
 
+-- these whole numbers, at most so many
+abbrev pub numbers_of : ℕ → ℕ → Items → Result (List ℤ) ScriptFault
+numbers_of at most ds = result_then (λ xs. within at most (length xs) xs) (or_fault (BadShape at) (whole_numbers ds))
+
 -- a list of whole numbers, at most so many
 abbrev pub numbers_in : ℕ → ℕ → Data → Result (List ℤ) ScriptFault
-numbers_in at most d = result_then (λ xs. within at most (length xs) xs) (or_fault (BadShape at) (option_and_then whole_numbers (as_array d)))
+numbers_in at most d = result_then (numbers_of at most) (or_fault (BadShape at) (as_array d))
 
 abbrev pub list_source : ℕ → Data → Result (ChainRun ℤ) ScriptFault
 list_source at d = result_map list_run (numbers_in at most_items d)
@@ -62,8 +66,12 @@ is_too_long first last = nat_lt most_items (span first last)
 abbrev pub range_source : ℕ → Data → Result (ChainRun ℤ) ScriptFault
 range_source at d = result_then (λ b. if is_too_long b.0 b.1 then Err (TooLarge at) else Ok (range_run b.0 b.1)) (or_fault (BadShape at) (option_and_then bounds_of (as_array d)))
 
+-- no more entries than a source may have
+abbrev pub entries_in : ℕ → Items → Result (List (Entry ℤ)) ScriptFault
+entries_in at ds = result_then (λ es. within at most_items (length es) es) (or_fault (BadShape at) (entries_of ds))
+
 abbrev pub scripted_source : ℕ → Data → Result (ChainRun ℤ) ScriptFault
-scripted_source at d = result_then (λ es. within at most_items (length es) (scripted_run es)) (or_fault (BadShape at) (option_and_then entries_of (as_array d)))
+scripted_source at d = result_map scripted_run (result_then (entries_in at) (or_fault (BadShape at) (as_array d)))
 
 -- an object with one key, which says what kind of source it is
 abbrev pub source_in : ℕ → Data → Result (ChainRun ℤ) ScriptFault

@@ -4,6 +4,7 @@ ghost use Rattle.serde_json.specs.View.{view};
 ghost use Rattle.flow_format.specs.ChainFormat as chains;
 
 use crate::members::{has_members, i64_at, text_at};
+use crate::version::Version;
 use flow_cold::{Arithmetic, Joining, Spread, Test};
 use serde_json::Value;
 
@@ -16,14 +17,34 @@ pub enum OpName {
     Transform,
     Take,
     DropFirst,
+    DropWhile,
     Scan,
+    RunningReduce,
     FlatMap,
     Zip,
     Distinct,
 }
 
-fn op_named(text: &str) -> Option<OpName>
-    ensures { result ≡ chains.op_named text.now }
+/// The operators of version 2 alone.
+fn later_op_named(version: Version, text: &str) -> Option<OpName>
+    ensures { result ≡ chains.later_op_named version text.now }
+{
+    match version {
+        Version::One => None,
+        Version::Two => {
+            if text == "drop_while" {
+                Some(OpName::DropWhile)
+            } else if text == "running_reduce" {
+                Some(OpName::RunningReduce)
+            } else {
+                None
+            }
+        }
+    }
+}
+
+fn op_named(version: Version, text: &str) -> Option<OpName>
+    ensures { result ≡ chains.op_named version text.now }
 {
     if text == "map" {
         Some(OpName::Map)
@@ -46,14 +67,14 @@ fn op_named(text: &str) -> Option<OpName>
     } else if text == "distinct" {
         Some(OpName::Distinct)
     } else {
-        None
+        later_op_named(version, text)
     }
 }
 
-pub fn op_name_of(op: &Value) -> Option<OpName>
-    ensures { result ≡ chains.op_name_of (view op.now) }
+pub fn op_name_of(version: Version, op: &Value) -> Option<OpName>
+    ensures { result ≡ chains.op_name_of version (view op.now) }
 {
-    op_named(text_at(op, "op")?)
+    op_named(version, text_at(op, "op")?)
 }
 
 fn arithmetic_named(text: &str) -> Option<Arithmetic>
@@ -125,7 +146,7 @@ fn compared_with(op: &Value) -> Option<i64>
     }
 }
 
-/// The test of a `filter` or a `take_while`: even and odd stand alone, the others have a number beside them.
+/// The test of a `filter`, a `take_while` or a `drop_while`: even and odd stand alone, the others have a number beside them.
 pub fn test_of(op: &Value) -> Option<Test>
     ensures { result ≡ chains.test_of (view op.now) }
 {

@@ -1,5 +1,6 @@
 //! Why a script was not played.
 ghost use Rattle.std.specs.Prelude.{◌≡◌};
+ghost use Rattle.flow_format.specs.Results as results;
 
 use std::alloc::AllocError;
 use thiserror::Error;
@@ -14,8 +15,8 @@ pub enum ScriptFault {
     /// The bytes are no JSON text.
     #[error("the script is no JSON text")]
     NotJson,
-    /// `version` is missing, or is not the whole number 1.
-    #[error("the script's version is not 1")]
+    /// `version` is missing, or is neither of the whole numbers 1 and 2.
+    #[error("the script's version is neither 1 nor 2")]
     BadVersion,
     /// A key is missing, is not known there, or has a value of the wrong form; or the flow does not allow the step.
     #[error("a key or a value of step {0} has the wrong form")]
@@ -31,6 +32,53 @@ pub enum ScriptFault {
     TooLarge(u64),
     #[error("the lines could not be written")]
     WriteFailed,
+}
+
+impl ScriptFault {
+    /// Whether no fault that is found later in the same part of a script comes before it.
+    fn comes_first(self) -> bool
+        ensures { result ≡ results.comes_first self }
+    {
+        match self {
+            ScriptFault::TooLarge(_) => false,
+            _ => true,
+        }
+    }
+}
+
+/// Whether no later fault of the same part of a script comes before what was read of it.
+pub(crate) fn is_final<T>(read: &Result<T, ScriptFault>) -> bool
+    ensures { result ≡ results.is_final read.now }
+{
+    match read {
+        Ok(_) => false,
+        Err(fault) => fault.comes_first(),
+    }
+}
+
+/// Of two faults, found one after the other in the same part of a script, the one that refuses it: a bad form comes
+/// before a limit.
+fn first_of(fault: ScriptFault, next: ScriptFault) -> ScriptFault
+    ensures { result ≡ results.first_of fault next }
+{
+    let ScriptFault::TooLarge(_) = fault else {
+        return fault;
+    };
+    match next {
+        ScriptFault::BadShape(at) => ScriptFault::BadShape(at),
+        ScriptFault::OutOfMemory => ScriptFault::OutOfMemory,
+        _ => fault,
+    }
+}
+
+/// The same, where what is found next may be no fault.
+pub(crate) fn first_fault<T>(fault: ScriptFault, next: &Result<T, ScriptFault>) -> ScriptFault
+    ensures { result ≡ results.first_fault fault next.now }
+{
+    match next {
+        Ok(_) => fault,
+        Err(next) => first_of(fault, *next),
+    }
 }
 
 impl From<AllocError> for ScriptFault {

@@ -9,13 +9,16 @@ mod members;
 mod names;
 mod read;
 mod read_chain;
+mod read_flows;
 mod read_head;
 mod read_op;
+mod read_place;
 mod read_share;
 mod read_source;
 mod read_step;
 mod script;
 mod verb;
+mod version;
 mod written;
 
 pub use fault::ScriptFault;

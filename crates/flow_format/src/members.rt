@@ -57,17 +57,18 @@ fn are_name_bytes(bytes: &[u8]) -> bool
     bytes.iter().all(|byte| is_name_byte(*byte))
 }
 
-fn is_name(name: &str) -> bool
+/// Whether a text has the form of a name.
+pub fn is_name(name: &str) -> bool
     ensures { result ≡ format.is_name name.now }
 {
     !name.is_empty() && name.len() <= 32 && are_name_bytes(name.as_bytes())
 }
 
-/// The name of an emission or a subscriber.
-pub fn name_at<'a>(value: &'a Value) -> Option<&'a str>
-    ensures { option_map (λ t. t.now) result ≡ format.name_at (view value.now) }
+/// A name: of an emission, a subscriber or a flow.
+pub fn name_at<'a>(value: &'a Value, key: &str) -> Option<&'a str>
+    ensures { option_map (λ t. t.now) result ≡ format.name_at key.now (view value.now) }
 {
-    let name = text_at(value, "name")?;
+    let name = text_at(value, key)?;
     if is_name(name) { Some(name) } else { None }
 }
 

@@ -7,9 +7,10 @@ ghost use Rattle.flow_format.specs.Actions.{heads_of};
 
 use crate::fault::ScriptFault;
 use crate::names::Names;
-use crate::read_head::{has_version, head_in};
+use crate::read_head::head_in;
 use crate::read_step::step_of;
 use crate::script::{NamedFlow, Script, Step};
+use crate::version::{Version, version_of};
 use serde_json::Value;
 use std::alloc::Global;
 
@@ -18,9 +19,14 @@ pub const MOST_BYTES: usize = 1_048_576;
 
 const MOST_STEPS: usize = 10_000;
 
-fn steps_of(alloc: Global, flows: &[NamedFlow], steps: &[Value]) -> Result<Vec<Step>, ScriptFault>
+fn steps_of(
+    alloc: Global,
+    version: Version,
+    flows: &[NamedFlow],
+    steps: &[Value],
+) -> Result<Vec<Step>, ScriptFault>
     ensures { let heads = heads_of flows.now in checks.Gives
-        (checks.steps_of heads 1 (checks.nothing_named heads) (items_view steps.now))
+        (checks.steps_of version heads 1 (checks.nothing_named heads) (items_view steps.now))
         (checks.steps_result result) }
 {
     let mut names = match Names::new(alloc, flows.len()) {
@@ -29,7 +35,7 @@ fn steps_of(alloc: Global, flows: &[NamedFlow], steps: &[Value]) -> Result<Vec<S
     };
     let mut checked = Vec::new(alloc);
     for (index, step) in steps.iter().enumerate() {
-        let step = match step_of(alloc, flows, &mut names, index as u64 + 1, step) {
+        let step = match step_of(alloc, version, flows, &mut names, index as u64 + 1, step) {
             Ok(step) => step,
             Err(fault) => return Err(fault),
         };
@@ -41,14 +47,19 @@ fn steps_of(alloc: Global, flows: &[NamedFlow], steps: &[Value]) -> Result<Vec<S
 }
 
 /// The script of a head of the right shape.
-fn checked(alloc: Global, flows: Vec<NamedFlow>, steps: &[Value]) -> Result<Script, ScriptFault>
-    ensures { checks.Gives (checks.checked (heads_of flows.items, items_view steps.now))
+fn checked(
+    alloc: Global,
+    version: Version,
+    flows: Vec<NamedFlow>,
+    steps: &[Value],
+) -> Result<Script, ScriptFault>
+    ensures { checks.Gives (checks.checked version (heads_of flows.items, items_view steps.now))
         (checks.script_result result) }
 {
     if steps.len() > MOST_STEPS {
         return Err(ScriptFault::TooLarge(0));
     }
-    match steps_of(alloc, flows.as_slice(), steps) {
+    match steps_of(alloc, version, flows.as_slice(), steps) {
         Ok(steps) => Ok(Script { flows, steps }),
         Err(fault) => Err(fault),
     }
@@ -60,11 +71,11 @@ fn script_of(alloc: Global, value: &Value) -> Result<Script, ScriptFault>
     if !value.is_object() {
         return Err(ScriptFault::BadShape(0));
     }
-    if !has_version(value) {
+    let Some(version) = version_of(value) else {
         return Err(ScriptFault::BadVersion);
-    }
-    match head_in(alloc, value) {
-        Ok((flows, steps)) => checked(alloc, flows, steps.as_slice()),
+    };
+    match head_in(alloc, version, value) {
+        Ok((flows, steps)) => checked(alloc, version, flows, steps.as_slice()),
         Err(fault) => Err(fault),
     }
 }

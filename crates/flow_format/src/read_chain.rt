@@ -8,11 +8,12 @@ ghost use Rattle.flow_format.specs.Checks.{Gives};
 ghost use Rattle.flow_format.specs.ChainFormat as chains;
 ghost use Rattle.flow_format.specs.Chains.{build_of, build_result, built_of, operator_build, operator_build_result, operator_of, operator_result, source_result};
 
-use crate::fault::ScriptFault;
+use crate::fault::{ScriptFault, first_fault, is_final};
 use crate::members::has_members;
 use crate::read_op::{operator_in, zip_parts};
 use crate::read_source::source_in;
 use crate::script::Build;
+use crate::version::Version;
 use flow_cold::{ChainFault, Joining, Op, ScriptChain, Source};
 use serde_json::Value;
 use std::alloc::Global;
@@ -124,29 +125,13 @@ fn joined_to(
         → Gives m (build_result chain) → Gives o (operator_build_result op)
         → Gives (chains.joined_to m o) (build_result result) }
 {
-    match chain {
-        Ok(chain) => match op {
-            Ok(op) => built_on(alloc, chain, op),
-            Err(fault) => Err(fault),
-        },
-        Err(fault) => Err(first_fault(fault, op)),
-    }
-}
-
-/// The fault that comes first: one of a chain's source and operators so far, or one of the operator after them.
-fn first_fault(fault: ScriptFault, op: Result<Result<Op, ChainFault>, ScriptFault>) -> ScriptFault
-    ensures { (m : Result chains.Build TheScriptFault)
-        (o : Result (Result chains.Operator TheChainFault) TheScriptFault)
-        → Gives m (Err fault) → Gives o (operator_build_result op)
-        → Gives (chains.joined_to m o) (Err result) }
-{
-    let ScriptFault::TooLarge(_) = fault else {
-        return fault;
+    let chain = match chain {
+        Ok(chain) => chain,
+        Err(fault) => return Err(first_fault(fault, &op)),
     };
     match op {
-        Err(ScriptFault::BadShape(at)) => ScriptFault::BadShape(at),
-        Err(ScriptFault::OutOfMemory) => ScriptFault::OutOfMemory,
-        _ => fault,
+        Ok(op) => built_on(alloc, chain, op),
+        Err(fault) => Err(fault),
     }
 }
 
@@ -154,22 +139,29 @@ fn first_fault(fault: ScriptFault, op: Result<Result<Op, ChainFault>, ScriptFaul
 #[cycle(chain)]
 fn operator_at(
     alloc: Global,
+    version: Version,
     at: u64,
     levels: u32,
     op: &Value,
 ) -> Result<Result<Op, ChainFault>, ScriptFault>
-    ensures { Gives (chains.operator_at levels at (view op.now)) (operator_build_result result) }
+    ensures { Gives (chains.operator_at version levels at (view op.now)) (operator_build_result result) }
 {
-    match zip_parts(op) {
-        Some((by, with)) => zipped(by, chain_at(alloc, at, levels, with)),
-        None => plain(operator_in(alloc, at, op)),
+    match zip_parts(version, op) {
+        Some((by, with)) => zipped(by, chain_at(alloc, version, at, levels, with)),
+        None => plain(operator_in(alloc, version, at, op)),
     }
 }
 
 /// The chain of a text, where zips may nest so deep in it.
 #[cycle(chain)]
-fn chain_at(alloc: Global, at: u64, levels: u32, chain: &Value) -> Result<Build, ScriptFault>
-    ensures { Gives (chains.chain_at levels at (view chain.now)) (build_result result) }
+fn chain_at(
+    alloc: Global,
+    version: Version,
+    at: u64,
+    levels: u32,
+    chain: &Value,
+) -> Result<Build, ScriptFault>
+    ensures { Gives (chains.chain_at version levels at (view chain.now)) (build_result result) }
 {
     if levels == 0 {
         return Err(ScriptFault::BadShape(at));
@@ -179,15 +171,23 @@ fn chain_at(alloc: Global, at: u64, levels: u32, chain: &Value) -> Result<Build,
     };
     let mut build = start_of(source_in(alloc, at, from));
     for op in ops {
-        let operator = operator_at(alloc, at, levels - 1, op);
+        if is_final(&build) {
+            return build;
+        }
+        let operator = operator_at(alloc, version, at, levels - 1, op);
         build = joined_to(alloc, build, operator);
     }
     build
 }
 
 /// The chain of a text.
-pub fn chain_in(alloc: Global, at: u64, chain: &Value) -> Result<Build, ScriptFault>
-    ensures { Gives (chains.chain_in at (view chain.now)) (build_result result) }
+pub fn chain_in(
+    alloc: Global,
+    version: Version,
+    at: u64,
+    chain: &Value,
+) -> Result<Build, ScriptFault>
+    ensures { Gives (chains.chain_in version at (view chain.now)) (build_result result) }
 {
-    chain_at(alloc, at, MOST_LEVELS, chain)
+    chain_at(alloc, version, at, MOST_LEVELS, chain)
 }

@@ -3,16 +3,19 @@ ghost use Rattle.std.specs.Prelude.{◌≡◌, codes, Ok, Err, option_map, optio
 ghost use Rattle.serde_json.specs.View.{view, items_view};
 ghost use Rattle.flow_format.specs.Format as format;
 ghost use Rattle.flow_format.specs.Actions.{head_of_flow, heads_of};
+ghost use Rattle.flow_format.specs.Flows as row;
 ghost use Rattle.flow_format.specs.Heads as heads;
 ghost use Rattle.flow_format.specs.Results.{or_fault};
 ghost use Rattle.flow_format.specs.Checks.{Gives};
 ghost use Rattle.flow_format.specs.HeadViews.{flow_result, flows_result, head_result};
 
 use crate::fault::ScriptFault;
-use crate::members::{has_members, i64_at, limit_at, text_at, u32_at, u64_at, with_limit};
+use crate::members::{has_members, i64_at, limit_at, text_at, u32_at, with_limit};
+use crate::read_flows::named_flows;
 use crate::read_share::{share_in, state_in};
 use crate::script::{NamedFlow, ScriptFlow};
 use crate::verb::Kind;
+use crate::version::Version;
 use flow_law::{Config, Overflow};
 use serde_json::Value;
 use std::alloc::Global;
@@ -88,8 +91,13 @@ fn formed(flow: Option<ScriptFlow>) -> Result<ScriptFlow, ScriptFault>
 }
 
 /// The flow that a head names by its kind.
-fn flow_named(alloc: Global, kind: &str, flow: &Value) -> Result<ScriptFlow, ScriptFault>
-    ensures { Gives (heads.flow_named kind.now (view flow.now)) (flow_result result) }
+fn flow_named(
+    alloc: Global,
+    version: Version,
+    kind: &str,
+    flow: &Value,
+) -> Result<ScriptFlow, ScriptFault>
+    ensures { Gives (heads.flow_named version kind.now (view flow.now)) (flow_result result) }
 {
     if kind == "shared" {
         return formed(shared_of(flow));
@@ -98,12 +106,22 @@ fn flow_named(alloc: Global, kind: &str, flow: &Value) -> Result<ScriptFlow, Scr
         return formed(state_of(flow));
     }
     if kind == "share" {
-        return share_in(alloc, flow);
+        return share_in(alloc, version, flow);
     }
     if kind == "state_in" {
-        return state_in(alloc, flow);
+        return state_in(alloc, version, flow);
     }
     Err(ScriptFault::BadShape(0))
+}
+
+/// A flow of a script of this version.
+pub fn flow_in(alloc: Global, version: Version, flow: &Value) -> Result<ScriptFlow, ScriptFault>
+    ensures { Gives (heads.flow_in version (view flow.now)) (flow_result result) }
+{
+    match text_at(flow, "kind") {
+        Some(kind) => flow_named(alloc, version, kind, flow),
+        None => Err(ScriptFault::BadShape(0)),
+    }
 }
 
 fn no_flows(alloc: Global, flow: &Value) -> Result<Vec<NamedFlow>, ScriptFault>
@@ -127,13 +145,14 @@ fn only(alloc: Global, flow: ScriptFlow) -> Result<Vec<NamedFlow>, ScriptFault>
     }
 }
 
+/// A row of the only flow of a script of version 1, or of none.
 fn only_named(alloc: Global, kind: &str, flow: &Value) -> Result<Vec<NamedFlow>, ScriptFault>
     ensures { Gives (heads.only_named kind.now (view flow.now)) (flows_result result) }
 {
     if kind == "none" {
         return no_flows(alloc, flow);
     }
-    match flow_named(alloc, kind, flow) {
+    match flow_named(alloc, Version::One, kind, flow) {
         Ok(flow) => only(alloc, flow),
         Err(fault) => Err(fault),
     }
@@ -171,17 +190,8 @@ pub fn kind_at(flows: &[NamedFlow], place: usize) -> Kind
     }
 }
 
-pub fn has_version(value: &Value) -> bool
-    ensures { result ≡ format.has_version (view value.now) }
-{
-    match u64_at(value, "version") {
-        Some(version) => version == 1,
-        None => false,
-    }
-}
-
 fn steps_in(value: &Value) -> Option<&Vec<Value>>
-    ensures { option_map (λ steps. items_view steps.now.items) result ≡ heads.steps_in (view value.now) }
+    ensures { option_map (λ steps. items_view steps.now.items) result ≡ row.steps_in (view value.now) }
 {
     if !has_members(value, 3) {
         return None;
@@ -189,17 +199,34 @@ fn steps_in(value: &Value) -> Option<&Vec<Value>>
     value.get("steps").and_then(Value::as_array)
 }
 
+/// The flows of a script: one without a name or none in version 1, and each with its name in version 2.
+fn flows_in(alloc: Global, version: Version, value: &Value) -> Result<Vec<NamedFlow>, ScriptFault>
+    ensures { Gives (row.flows_in version (view value.now)) (flows_result result) }
+{
+    match version {
+        Version::One => match value.get("flow") {
+            Some(flow) => only_in(alloc, flow),
+            None => Err(ScriptFault::BadShape(0)),
+        },
+        Version::Two => match value.get("flows").and_then(Value::as_object) {
+            Some(members) => named_flows(alloc, members),
+            None => Err(ScriptFault::BadShape(0)),
+        },
+    }
+}
+
 /// The flows and the steps of a head. A bad form comes before a limit, so the steps are looked at first.
-pub fn head_in(alloc: Global, value: &Value) -> Result<(Vec<NamedFlow>, &Vec<Value>), ScriptFault>
-    ensures { Gives (heads.head_in (view value.now)) (head_result result) }
+pub fn head_in(
+    alloc: Global,
+    version: Version,
+    value: &Value,
+) -> Result<(Vec<NamedFlow>, &Vec<Value>), ScriptFault>
+    ensures { Gives (row.head_in version (view value.now)) (head_result result) }
 {
     let Some(steps) = steps_in(value) else {
         return Err(ScriptFault::BadShape(0));
     };
-    let Some(flow) = value.get("flow") else {
-        return Err(ScriptFault::BadShape(0));
-    };
-    match only_in(alloc, flow) {
+    match flows_in(alloc, version, value) {
         Ok(flows) => Ok((flows, steps)),
         Err(fault) => Err(fault),
     }

@@ -10,6 +10,7 @@ use crate::chain_words::{OpName, arithmetic_at, joining_at, op_name_of, spread_a
 use crate::fault::ScriptFault;
 use crate::members::{has_members, i64_at, u64_at};
 use crate::read_source::numbers_in;
+use crate::version::Version;
 use flow_cold::{Joining, Op, Spread};
 use serde_json::Value;
 use std::alloc::Global;
@@ -43,6 +44,13 @@ fn take_while_of(op: &Value) -> Option<Op>
     Some(Op::TakeWhile(test))
 }
 
+fn drop_while_of(op: &Value) -> Option<Op>
+    ensures { option_map operator_of result ≡ chains.drop_while_of (view op.now) }
+{
+    let test = test_of(op)?;
+    Some(Op::DropWhile(test))
+}
+
 fn take_of(op: &Value) -> Option<Op>
     ensures { option_map operator_of result ≡ chains.take_of (view op.now) }
 {
@@ -72,6 +80,16 @@ fn scan_of(op: &Value) -> Option<Op>
     let by = arithmetic_at(op)?;
     let from = i64_at(op, "from")?;
     Some(Op::Scan { from, by })
+}
+
+fn running_reduce_of(op: &Value) -> Option<Op>
+    ensures { option_map operator_of result ≡ chains.running_reduce_of (view op.now) }
+{
+    if !has_members(op, 2) {
+        return None;
+    }
+    let by = arithmetic_at(op)?;
+    Some(Op::RunningReduce(by))
 }
 
 fn distinct_of(op: &Value) -> Option<Op>
@@ -133,10 +151,10 @@ fn formed(at: u64, op: Option<Op>) -> Result<Op, ScriptFault>
 }
 
 /// An operator that is no zip.
-pub fn operator_in(alloc: Global, at: u64, op: &Value) -> Result<Op, ScriptFault>
-    ensures { Gives (chains.operator_in at (view op.now)) (operator_result result) }
+pub fn operator_in(alloc: Global, version: Version, at: u64, op: &Value) -> Result<Op, ScriptFault>
+    ensures { Gives (chains.operator_in version at (view op.now)) (operator_result result) }
 {
-    let Some(name) = op_name_of(op) else {
+    let Some(name) = op_name_of(version, op) else {
         return Err(ScriptFault::BadShape(at));
     };
     match name {
@@ -146,7 +164,9 @@ pub fn operator_in(alloc: Global, at: u64, op: &Value) -> Result<Op, ScriptFault
         OpName::Transform => transform_in(alloc, at, op),
         OpName::Take => formed(at, take_of(op)),
         OpName::DropFirst => formed(at, drop_of(op)),
+        OpName::DropWhile => formed(at, drop_while_of(op)),
         OpName::Scan => formed(at, scan_of(op)),
+        OpName::RunningReduce => formed(at, running_reduce_of(op)),
         OpName::FlatMap => flat_map_in(at, op),
         OpName::Zip => Err(ScriptFault::BadShape(at)),
         OpName::Distinct => formed(at, distinct_of(op)),
@@ -166,10 +186,10 @@ fn zip_of(op: &Value) -> Option<(Joining, &Value)>
 }
 
 /// The same, of an operator that is a zip.
-pub fn zip_parts(op: &Value) -> Option<(Joining, &Value)>
-    ensures { option_map (λ zip. (zip.0, view zip.1.now)) result ≡ chains.zip_parts (view op.now) }
+pub fn zip_parts(version: Version, op: &Value) -> Option<(Joining, &Value)>
+    ensures { option_map (λ zip. (zip.0, view zip.1.now)) result ≡ chains.zip_parts version (view op.now) }
 {
-    let name = op_name_of(op)?;
+    let name = op_name_of(version, op)?;
     match name {
         OpName::Zip => zip_of(op),
         _ => None,

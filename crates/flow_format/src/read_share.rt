@@ -9,6 +9,7 @@ use crate::fault::ScriptFault;
 use crate::members::{has_members, i64_at, limit_at, u32_at, u64_at, with_limit};
 use crate::read_chain::chain_in;
 use crate::script::ScriptFlow;
+use crate::version::Version;
 use flow_law::{NEVER, Started};
 use serde_json::Value;
 use std::alloc::Global;
@@ -25,28 +26,60 @@ fn started_named(text: &str) -> Option<Started>
     }
 }
 
-/// A word, or an object with the key `stop` alone.
-fn started_of(value: &Value) -> Option<Started>
-    ensures { result ≡ heads.started_of (view value.now) }
+/// Without the key `expire` nothing is forgotten.
+fn never_in(started: &Value) -> Option<u64>
+    ensures { result ≡ heads.never_in (view started.now) }
 {
-    if let Some(text) = value.as_str() {
-        return started_named(text);
+    if has_members(started, 1) {
+        Some(NEVER)
+    } else {
+        None
     }
-    if !has_members(value, 1) {
-        return None;
-    }
-    let stop = u64_at(value, "stop")?;
-    Some(Started::WhileSubscribed {
-        stop,
-        expire: NEVER,
-    })
 }
 
-fn started_at(flow: &Value) -> Option<Started>
-    ensures { result ≡ heads.started_at (view flow.now) }
+/// How long after its stop a flow forgets what it replays: the key `expire` is known from version 2 on.
+fn expire_in(version: Version, started: &Value) -> Option<u64>
+    ensures { result ≡ heads.expire_in version (view started.now) }
+{
+    match version {
+        Version::One => never_in(started),
+        Version::Two => match started.get("expire") {
+            Some(expire) => {
+                if has_members(started, 2) {
+                    expire.as_u64()
+                } else {
+                    None
+                }
+            }
+            None => never_in(started),
+        },
+    }
+}
+
+/// An object with the key `stop`.
+fn while_subscribed(version: Version, started: &Value) -> Option<Started>
+    ensures { result ≡ heads.while_subscribed version (view started.now) }
+{
+    let stop = u64_at(started, "stop")?;
+    let expire = expire_in(version, started)?;
+    Some(Started::WhileSubscribed { stop, expire })
+}
+
+/// A word, or an object.
+fn started_of(version: Version, value: &Value) -> Option<Started>
+    ensures { result ≡ heads.started_of version (view value.now) }
+{
+    match value.as_str() {
+        Some(text) => started_named(text),
+        None => while_subscribed(version, value),
+    }
+}
+
+fn started_at(version: Version, flow: &Value) -> Option<Started>
+    ensures { result ≡ heads.started_at version (view flow.now) }
 {
     match flow.get("started") {
-        Some(value) => started_of(value),
+        Some(value) => started_of(version, value),
         None => None,
     }
 }
@@ -60,11 +93,11 @@ struct ShareParts<'a> {
     limit: u64,
 }
 
-fn share_parts(flow: &Value) -> Option<ShareParts<'_>>
-    ensures { option_map parts_of result ≡ heads.share_parts (view flow.now) }
+fn share_parts(version: Version, flow: &Value) -> Option<ShareParts<'_>>
+    ensures { option_map parts_of result ≡ heads.share_parts version (view flow.now) }
 {
     let chain = flow.get("chain")?;
-    let started = started_at(flow)?;
+    let started = started_at(version, flow)?;
     let replay = u32_at(flow, "replay")?;
     let limit = limit_at(flow)?;
     if !has_members(flow, with_limit(4, flow)) {
@@ -79,13 +112,13 @@ fn share_parts(flow: &Value) -> Option<ShareParts<'_>>
 }
 
 /// A chain that is shared by a shared flow.
-pub fn share_in(alloc: Global, flow: &Value) -> Result<ScriptFlow, ScriptFault>
-    ensures { Gives (heads.share_in (view flow.now)) (flow_result result) }
+pub fn share_in(alloc: Global, version: Version, flow: &Value) -> Result<ScriptFlow, ScriptFault>
+    ensures { Gives (heads.share_in version (view flow.now)) (flow_result result) }
 {
-    let Some(parts) = share_parts(flow) else {
+    let Some(parts) = share_parts(version, flow) else {
         return Err(ScriptFault::BadShape(0));
     };
-    let chain = chain_in(alloc, 0, parts.chain)?;
+    let chain = chain_in(alloc, version, 0, parts.chain)?;
     Ok(ScriptFlow::Share {
         chain,
         started: parts.started,
@@ -103,11 +136,11 @@ struct StateInParts<'a> {
     limit: u64,
 }
 
-fn state_in_parts(flow: &Value) -> Option<StateInParts<'_>>
-    ensures { option_map state_in_parts_of result ≡ heads.state_in_parts (view flow.now) }
+fn state_in_parts(version: Version, flow: &Value) -> Option<StateInParts<'_>>
+    ensures { option_map state_in_parts_of result ≡ heads.state_in_parts version (view flow.now) }
 {
     let chain = flow.get("chain")?;
-    let started = started_at(flow)?;
+    let started = started_at(version, flow)?;
     let initial = i64_at(flow, "initial")?;
     let limit = limit_at(flow)?;
     if !has_members(flow, with_limit(4, flow)) {
@@ -122,13 +155,13 @@ fn state_in_parts(flow: &Value) -> Option<StateInParts<'_>>
 }
 
 /// A chain that is shared by a state flow.
-pub fn state_in(alloc: Global, flow: &Value) -> Result<ScriptFlow, ScriptFault>
-    ensures { Gives (heads.state_in (view flow.now)) (flow_result result) }
+pub fn state_in(alloc: Global, version: Version, flow: &Value) -> Result<ScriptFlow, ScriptFault>
+    ensures { Gives (heads.state_in version (view flow.now)) (flow_result result) }
 {
-    let Some(parts) = state_in_parts(flow) else {
+    let Some(parts) = state_in_parts(version, flow) else {
         return Err(ScriptFault::BadShape(0));
     };
-    let chain = chain_in(alloc, 0, parts.chain)?;
+    let chain = chain_in(alloc, version, 0, parts.chain)?;
     Ok(ScriptFlow::StateIn {
         chain,
         started: parts.started,

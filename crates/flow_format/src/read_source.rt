@@ -1,5 +1,5 @@
 //! Reading the source of a chain.
-ghost use Rattle.std.specs.Prelude.{◌≡◌, Ok, Err, ℤ, List, option_map};
+ghost use Rattle.std.specs.Prelude.{◌≡◌, Ok, Err, ℤ, List, option_map, is_some};
 ghost use Rattle.serde_json.specs.View.{view, items_view};
 ghost use Rattle.flow_format.specs.Checks.{Gives};
 ghost use Rattle.flow_format.specs.Results.{result_map, or_fault};
@@ -23,14 +23,40 @@ pub fn numbers_in(
 ) -> Result<Vec<i64>, ScriptFault>
     ensures { Gives (sources.numbers_in at most (view list.now)) (numbers_result result) }
 {
-    let Some(values) = list.as_array() else {
-        return Err(ScriptFault::BadShape(at));
-    };
-    let numbers = whole_numbers(alloc, at, values.as_slice())?;
-    if numbers.len() > most {
-        return Err(ScriptFault::TooLarge(at));
+    match list.as_array() {
+        Some(values) => numbers_of(alloc, at, most, values.as_slice()),
+        None => Err(ScriptFault::BadShape(at)),
     }
-    Ok(numbers)
+}
+
+/// These whole numbers, at most so many. No list is made of more.
+pub fn numbers_of(
+    alloc: Global,
+    at: u64,
+    most: usize,
+    values: &[Value],
+) -> Result<Vec<i64>, ScriptFault>
+    ensures { Gives (sources.numbers_of at most (items_view values.now)) (numbers_result result) }
+{
+    if values.len() <= most {
+        return whole_numbers(alloc, at, values);
+    }
+    if are_whole_numbers(values) {
+        Err(ScriptFault::TooLarge(at))
+    } else {
+        Err(ScriptFault::BadShape(at))
+    }
+}
+
+pub fn are_whole_numbers(values: &[Value]) -> bool
+    ensures { result ≡ is_some (sources.whole_numbers (items_view values.now)) }
+{
+    for value in values {
+        let Some(_) = value.as_i64() else {
+            return false;
+        };
+    }
+    true
 }
 
 fn whole_numbers(alloc: Global, at: u64, values: &[Value]) -> Result<Vec<i64>, ScriptFault>
@@ -86,6 +112,31 @@ fn entries_of(alloc: Global, at: u64, values: &[Value]) -> Result<Vec<Entry<i64>
     Ok(entries)
 }
 
+fn are_entries(values: &[Value]) -> bool
+    ensures { result ≡ is_some (sources.entries_of (items_view values.now)) }
+{
+    for value in values {
+        let Some(_) = entry_of(value) else {
+            return false;
+        };
+    }
+    true
+}
+
+/// The entries of a source, no more than it may have. No list is made of more.
+fn entries_in(alloc: Global, at: u64, values: &[Value]) -> Result<Vec<Entry<i64>>, ScriptFault>
+    ensures { Gives (sources.entries_in at (items_view values.now)) (entries_result result) }
+{
+    if values.len() <= MOST_ITEMS {
+        return entries_of(alloc, at, values);
+    }
+    if are_entries(values) {
+        Err(ScriptFault::TooLarge(at))
+    } else {
+        Err(ScriptFault::BadShape(at))
+    }
+}
+
 fn list_source(alloc: Global, at: u64, list: &Value) -> Result<Source, ScriptFault>
     ensures { Gives (sources.list_source at (view list.now)) (source_result result) }
 {
@@ -133,10 +184,7 @@ fn scripted_source(alloc: Global, at: u64, script: &Value) -> Result<Source, Scr
     let Some(values) = script.as_array() else {
         return Err(ScriptFault::BadShape(at));
     };
-    let entries = entries_of(alloc, at, values.as_slice())?;
-    if entries.len() > MOST_ITEMS {
-        return Err(ScriptFault::TooLarge(at));
-    }
+    let entries = entries_in(alloc, at, values.as_slice())?;
     Ok(Source::Scripted(Scripted::new(entries)))
 }
 

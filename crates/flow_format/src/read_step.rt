@@ -12,19 +12,48 @@ use crate::members::{has_members, text_at};
 use crate::names::Names;
 use crate::read_chain::chain_in;
 use crate::read_head::kind_at;
+use crate::read_place::place_at;
+use crate::read_source::numbers_of;
 use crate::script::{Build, FlowStep, NamedFlow, Step};
 use crate::verb::{FlowVerb, Verb, rule_named};
+use crate::version::Version;
 use crate::written::{Written, written_by};
 use serde_json::Value;
 use std::alloc::Global;
 
+const MOST_FIRST: usize = 10_000;
+
+/// Whether a subscription has first values of its own, which are known from version 2 on.
+fn has_first(version: Version, step: &Value) -> bool
+    ensures { result ≡ format.has_first version (view step.now) }
+{
+    match version {
+        Version::One => false,
+        Version::Two => step.get("first").is_some(),
+    }
+}
+
+/// How many keys name the flow of a step.
+fn flow_keys(version: Version, verb: Verb) -> u8
+    ensures { result ≡ format.flow_keys version verb }
+{
+    match version {
+        Version::One => 0,
+        Version::Two => match verb {
+            Verb::Flow(_) => 1,
+            Verb::Collect => 0,
+        },
+    }
+}
+
 /// What a step does, if it has as many keys as it needs.
-fn verb_of(step: &Value) -> Option<Verb>
-    ensures { result ≡ format.verb_of (view step.now) }
+fn verb_of(version: Version, step: &Value) -> Option<Verb>
+    ensures { result ≡ format.verb_of version (view step.now) }
 {
     let text = text_at(step, "do")?;
-    let rule = rule_named(text)?;
-    if has_members(step, rule.keys) {
+    let rule = rule_named(text, has_first(version, step))?;
+    let keys = rule.keys as usize + flow_keys(version, rule.verb) as usize;
+    if has_members(step, keys) {
         Some(rule.verb)
     } else {
         None
@@ -33,58 +62,84 @@ fn verb_of(step: &Value) -> Option<Verb>
 
 /// The step on the flow at a place, where the names are those of the steps before it.
 fn named_step<'a>(
+    alloc: Global,
     names: &mut Names<'a>,
     flow: usize,
     at: u64,
     written: Written<'a>,
-) -> Result<FlowStep, ScriptFault>
+) -> Result<Step, ScriptFault>
     ensures { checks.Gives (checks.named_step flow at (row_of names.old) (written_of written.entry))
-        (checks.stepped_result result (row_of names.new)) }
+        (checks.named_result result (row_of names.new)) }
 {
     match written {
-        Written::Plain(step) => Ok(step),
+        Written::Plain(step) => Ok(Step::Flow(flow, step)),
         Written::Emit(name, value) => {
             names.add_emission(flow, at, name)?;
-            Ok(FlowStep::Emit(value))
+            Ok(Step::Flow(flow, FlowStep::Emit(value)))
         }
-        Written::Poll(name) => Ok(FlowStep::Poll(names.emission(flow, at, name)?)),
-        Written::Cancel(name) => Ok(FlowStep::Cancel(names.emission(flow, at, name)?)),
+        Written::Poll(name) => {
+            let emission = names.emission(flow, at, name)?;
+            Ok(Step::Flow(flow, FlowStep::Poll(emission)))
+        }
+        Written::Cancel(name) => {
+            let emission = names.emission(flow, at, name)?;
+            Ok(Step::Flow(flow, FlowStep::Cancel(emission)))
+        }
         Written::Subscribe(name) => {
             names.add_subscriber(flow, at, name)?;
-            Ok(FlowStep::Subscribe)
+            Ok(Step::Flow(flow, FlowStep::Subscribe))
         }
-        Written::Next(name) => Ok(FlowStep::Next(names.subscriber(flow, at, name)?)),
-        Written::Unsubscribe(name) => Ok(FlowStep::Unsubscribe(names.subscriber(flow, at, name)?)),
+        Written::SubscribeWith(name, values) => {
+            let first = numbers_of(alloc, at, MOST_FIRST, values)?;
+            names.add_subscriber(flow, at, name)?;
+            Ok(Step::SubscribeWith(flow, first))
+        }
+        Written::Next(name) => {
+            let subscriber = names.subscriber(flow, at, name)?;
+            Ok(Step::Flow(flow, FlowStep::Next(subscriber)))
+        }
+        Written::Unsubscribe(name) => {
+            let subscriber = names.subscriber(flow, at, name)?;
+            Ok(Step::Flow(flow, FlowStep::Unsubscribe(subscriber)))
+        }
     }
 }
 
 /// A step on a flow, where the names are those of the steps before it.
 fn flow_step<'a>(
+    alloc: Global,
+    version: Version,
     flows: &[NamedFlow],
     verb: FlowVerb,
     names: &mut Names<'a>,
     at: u64,
     step: &'a Value,
 ) -> Result<Step, ScriptFault>
-    ensures { checks.Gives (checks.flow_step_by (heads_of flows.now) verb at (row_of names.old) (view step.now))
+    ensures { checks.Gives
+        (checks.flow_step_by version (heads_of flows.now) verb at (row_of names.old) (view step.now))
         (checks.named_result result (row_of names.new)) }
 {
     let Some(written) = written_by(verb, step) else {
         return Err(ScriptFault::BadShape(at));
     };
-    if !kind_at(flows, 0).allows(verb) {
+    let place = place_at(version, flows, at, step)?;
+    if !kind_at(flows, place).allows(verb) {
         return Err(ScriptFault::BadShape(at));
     }
-    let step = named_step(names, 0, at, written)?;
-    Ok(Step::Flow(0, step))
+    named_step(alloc, names, place, at, written)
 }
 
 /// The chain of a step that collects it.
-fn collected_in(alloc: Global, at: u64, step: &Value) -> Result<Build, ScriptFault>
-    ensures { checks.Gives (checks.collected_in at (view step.now)) (build_result result) }
+fn collected_in(
+    alloc: Global,
+    version: Version,
+    at: u64,
+    step: &Value,
+) -> Result<Build, ScriptFault>
+    ensures { checks.Gives (checks.collected_in version at (view step.now)) (build_result result) }
 {
     match step.get("chain") {
-        Some(chain) => chain_in(alloc, at, chain),
+        Some(chain) => chain_in(alloc, version, at, chain),
         None => Err(ScriptFault::BadShape(at)),
     }
 }
@@ -92,19 +147,20 @@ fn collected_in(alloc: Global, at: u64, step: &Value) -> Result<Build, ScriptFau
 /// The step, where the names are those of the steps before it.
 pub fn step_of<'a>(
     alloc: Global,
+    version: Version,
     flows: &[NamedFlow],
     names: &mut Names<'a>,
     at: u64,
     step: &'a Value,
 ) -> Result<Step, ScriptFault>
-    ensures { checks.Gives (checks.step_of (heads_of flows.now) at (row_of names.old) (view step.now))
+    ensures { checks.Gives (checks.step_of version (heads_of flows.now) at (row_of names.old) (view step.now))
         (checks.named_result result (row_of names.new)) }
 {
-    let Some(verb) = verb_of(step) else {
+    let Some(verb) = verb_of(version, step) else {
         return Err(ScriptFault::BadShape(at));
     };
     match verb {
-        Verb::Flow(verb) => flow_step(flows, verb, names, at, step),
-        Verb::Collect => Ok(Step::Collect(collected_in(alloc, at, step)?)),
+        Verb::Flow(verb) => flow_step(alloc, version, flows, verb, names, at, step),
+        Verb::Collect => Ok(Step::Collect(collected_in(alloc, version, at, step)?)),
     }
 }

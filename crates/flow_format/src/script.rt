@@ -38,6 +38,8 @@ pub enum FlowStep {
 pub enum Step {
     /// With the place of the flow among those of the script.
     Flow(usize, FlowStep),
+    /// With the place of the flow, and the subscriber's own first values. It introduces a subscriber.
+    SubscribeWith(usize, Vec<i64>),
     Collect(Build),
 }
 

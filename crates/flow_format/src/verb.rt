@@ -21,6 +21,8 @@ pub enum FlowVerb {
     Poll,
     Cancel,
     Subscribe,
+    /// With first values of its own.
+    SubscribeWith,
     Next,
     Unsubscribe,
     Cache,
@@ -43,11 +45,11 @@ pub enum Verb {
 #[derive(Clone, Copy)]
 pub struct Rule {
     pub verb: Verb,
-    /// How many keys it has, `do` among them.
-    pub keys: usize,
+    /// How many keys it has, `do` among them, but for that of its flow.
+    pub keys: u8,
 }
 
-fn rule_of(verb: FlowVerb, keys: usize) -> Option<Rule>
+fn rule_of(verb: FlowVerb, keys: u8) -> Option<Rule>
     ensures { result ≡ format.rule_of verb keys }
 {
     Some(Rule {
@@ -56,16 +58,27 @@ fn rule_of(verb: FlowVerb, keys: usize) -> Option<Rule>
     })
 }
 
-/// What a step is, by the text of its key `do`.
-pub fn rule_named(text: &str) -> Option<Rule>
-    ensures { result ≡ format.rule_named text.now }
+/// A subscription, which may have first values of its own.
+fn subscription_rule(has_first: bool) -> Option<Rule>
+    ensures { result ≡ format.subscription_rule has_first }
+{
+    if has_first {
+        rule_of(FlowVerb::SubscribeWith, 3)
+    } else {
+        rule_of(FlowVerb::Subscribe, 2)
+    }
+}
+
+/// What a step is, by the text of its key `do`, and whether it has first values of its own.
+pub fn rule_named(text: &str, has_first: bool) -> Option<Rule>
+    ensures { result ≡ format.rule_named text.now has_first }
 {
     match text {
         "try_emit" => rule_of(FlowVerb::TryEmit, 2),
         "emit" => rule_of(FlowVerb::Emit, 3),
         "poll" => rule_of(FlowVerb::Poll, 2),
         "cancel" => rule_of(FlowVerb::Cancel, 2),
-        "subscribe" => rule_of(FlowVerb::Subscribe, 2),
+        "subscribe" => subscription_rule(has_first),
         "next" => rule_of(FlowVerb::Next, 2),
         "unsubscribe" => rule_of(FlowVerb::Unsubscribe, 2),
         "cache" => rule_of(FlowVerb::Cache, 1),
@@ -94,6 +107,7 @@ impl Kind {
             FlowVerb::Poll => self.is_shared(),
             FlowVerb::Cancel => self.is_shared(),
             FlowVerb::Subscribe => self.is_flow(),
+            FlowVerb::SubscribeWith => self.is_shared(),
             FlowVerb::Next => self.is_flow(),
             FlowVerb::Unsubscribe => self.is_flow(),
             FlowVerb::Cache => self.is_flow(),

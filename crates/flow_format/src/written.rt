@@ -1,10 +1,11 @@
 //! A step on a flow as it is written, before its flow and its name are looked up.
 ghost use Rattle.std.specs.Prelude.{◌≡◌, option_map};
-ghost use Rattle.serde_json.specs.View.{view};
+ghost use Rattle.serde_json.specs.View.{view, items_view};
 ghost use Rattle.flow_format.specs.Checks as checks;
 ghost use Rattle.flow_format.specs.Names.{written_of};
 
 use crate::members::{i64_at, name_at, u64_at};
+use crate::read_source::are_whole_numbers;
 use crate::script::FlowStep;
 use crate::verb::FlowVerb;
 use serde_json::Value;
@@ -18,6 +19,8 @@ pub enum Written<'a> {
     Poll(&'a str),
     Cancel(&'a str),
     Subscribe(&'a str),
+    /// With first values of its own, which are whole numbers.
+    SubscribeWith(&'a str, &'a [Value]),
     Next(&'a str),
     Unsubscribe(&'a str),
 }
@@ -26,8 +29,28 @@ fn emit_of(step: &Value) -> Option<Written<'_>>
     ensures { option_map written_of result ≡ checks.written_by FlowVerb.Emit (view step.now) }
 {
     let value = i64_at(step, "value")?;
-    let name = name_at(step)?;
+    let name = name_at(step, "name")?;
     Some(Written::Emit(name, value))
+}
+
+/// The subscriber's own first values.
+fn first_at(step: &Value) -> Option<&[Value]>
+    ensures { option_map (λ values. items_view values.now) result ≡ checks.first_at (view step.now) }
+{
+    let values = step.get("first").and_then(Value::as_array)?;
+    if are_whole_numbers(values.as_slice()) {
+        Some(values.as_slice())
+    } else {
+        None
+    }
+}
+
+fn subscribe_with_of(step: &Value) -> Option<Written<'_>>
+    ensures { option_map written_of result ≡ checks.written_by FlowVerb.SubscribeWith (view step.now) }
+{
+    let values = first_at(step)?;
+    let name = name_at(step, "name")?;
+    Some(Written::SubscribeWith(name, values))
 }
 
 /// What is expected, and what it is replaced by.
@@ -53,11 +76,12 @@ pub fn written_by(verb: FlowVerb, step: &Value) -> Option<Written<'_>>
     match verb {
         FlowVerb::TryEmit => Some(Written::Plain(FlowStep::TryEmit(i64_at(step, "value")?))),
         FlowVerb::Emit => emit_of(step),
-        FlowVerb::Poll => Some(Written::Poll(name_at(step)?)),
-        FlowVerb::Cancel => Some(Written::Cancel(name_at(step)?)),
-        FlowVerb::Subscribe => Some(Written::Subscribe(name_at(step)?)),
-        FlowVerb::Next => Some(Written::Next(name_at(step)?)),
-        FlowVerb::Unsubscribe => Some(Written::Unsubscribe(name_at(step)?)),
+        FlowVerb::Poll => Some(Written::Poll(name_at(step, "name")?)),
+        FlowVerb::Cancel => Some(Written::Cancel(name_at(step, "name")?)),
+        FlowVerb::Subscribe => Some(Written::Subscribe(name_at(step, "name")?)),
+        FlowVerb::SubscribeWith => subscribe_with_of(step),
+        FlowVerb::Next => Some(Written::Next(name_at(step, "name")?)),
+        FlowVerb::Unsubscribe => Some(Written::Unsubscribe(name_at(step, "name")?)),
         FlowVerb::Cache => Some(Written::Plain(FlowStep::Cache)),
         FlowVerb::Count => Some(Written::Plain(FlowStep::Count)),
         FlowVerb::Reset => Some(Written::Plain(FlowStep::Reset)),

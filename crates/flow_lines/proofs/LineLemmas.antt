@@ -1,5 +1,5 @@
 -- What holds of shared flows and of state flows, so that scripts play on them alike.
-use Rattle.std.proofs.Common.{◌≡◌, ℤ, Bool, true, false, None, refl}
+use Rattle.std.proofs.Common.{◌≡◌, ℕ, ℤ, List, [], Bool, true, false, None, codes, refl}
 use Rattle.flow_law.specs.declared.fault.FlowFault.{FlowFault}
 use Rattle.flow_law.specs.declared.fault.FlowFault.TheVariants.{OutOfMemory}
 use Rattle.flow_law.specs.declared.call.SharedCall.{SharedCall}
@@ -53,6 +53,11 @@ shared-lines = record {
   gives = λ u. refl;
   refused_gives = none-shared;
 }
+
+-- a subscription with first values of its own has the line of any subscription
+pub subscribed-with : (first : List ℤ) (u : ℕ) → IsLine shared.shared_flow plays_shared shared-lines.is_told (shared_call.Subscribe [] first) (shared_reply.Subscribed u) (codes "subscribed")
+unfolding shared-lines
+subscribed-with first u = (refl, refl)
 
 -- ---- state flows
 

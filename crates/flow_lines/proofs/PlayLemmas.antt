@@ -1,11 +1,14 @@
 -- Small facts on results and lists, and steps on a state flow.
-use Rattle.std.proofs.Common.{◌≡◌, ℤ, Result, Ok, Err, OnOk, String, Global, List, [], ◌∷◌, length, refl, ap, ◌∙◌, arith}
-use Rattle.flow_lines.specs.ScriptMeaning.{shared, state, share, state_in, state_turn, player_turn}
+use Rattle.std.proofs.Common.{◌≡◌, ℤ, Result, Ok, Err, OnOk, String, Global, List, [], ◌∷◌, ◌++◌, length, string_bytes, refl, ap, ◌∙◌, arith}
+use Rattle.flow_lines.specs.Lines.{lined, not_allowed}
+use Rattle.flow_lines.specs.ScriptMeaning.{shared, state, share, state_in, state_turn, player_turn, player_subscribes_with}
 use Rattle.flow_lines.specs.Shown.{Follows}
 use Rattle.flow_lines.specs.Players.{Shows}
 use Rattle.flow_lines.specs.declared.numbers.Numbers.{Numbers as Kept}
-use Rattle.flow_lines.specs.declared.player.Player.TheVariants.{State}
+use Rattle.flow_lines.specs.declared.player.Player.{Player as KeptPlayer}
+use Rattle.flow_lines.specs.declared.player.Player.TheVariants.{Shared, State, Share, StateIn}
 use Rattle.flow_format.specs.declared.script.FlowStep.{FlowStep}
+use Rattle.flow_core.specs.declared.shared.SharedCore.{SharedCore}
 use Rattle.flow_core.specs.declared.state.StateCore.{StateCore}
 use Rattle.flow_law.specs.declared.states.StateAndInitial.{StateAndInitial}
 use Rattle.flow_law.specs.declared.states.StateFlowState.{StateFlowState}
@@ -41,3 +44,20 @@ hub-follows step old new n m before after follows same p shows =
       did.1,
       did.2,
     )
+
+-- a subscription with own first values that the flow does not have: nothing changes
+pub others-follow : (first : List ℤ) (player : KeptPlayer) (n : Kept) (before after : String Global) → ((core : SharedCore ℤ Global) → player ≡ Shared core → ⊥)
+    → string_bytes after ≡ string_bytes before ++ lined not_allowed → Follows Shows (player_subscribes_with first) player player n n before after
+others-follow first (Shared core) n before after other line p shows = absurd (other core refl)
+others-follow first (State core) n before after other line (shared s) shows = absurd shows
+others-follow first (State core) n before after other line (state s) shows = (shows, refl, line)
+others-follow first (State core) n before after other line (share p) shows = absurd shows
+others-follow first (State core) n before after other line (state_in p) shows = absurd shows
+others-follow first (Share sharing) n before after other line (shared s) shows = absurd shows
+others-follow first (Share sharing) n before after other line (state s) shows = absurd shows
+others-follow first (Share sharing) n before after other line (share p) shows = (shows, refl, line)
+others-follow first (Share sharing) n before after other line (state_in p) shows = absurd shows
+others-follow first (StateIn sharing) n before after other line (shared s) shows = absurd shows
+others-follow first (StateIn sharing) n before after other line (state s) shows = absurd shows
+others-follow first (StateIn sharing) n before after other line (share p) shows = absurd shows
+others-follow first (StateIn sharing) n before after other line (state_in p) shows = (shows, refl, line)

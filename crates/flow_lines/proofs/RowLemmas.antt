@@ -1,7 +1,6 @@
 -- Rows of flows that are made and played.
 use Rattle.std.proofs.Common.{◌≡◌, ℕ, zero, suc, ◌<◌, ◌≤◌, true, String, Global, List, [], ◌∷◌, ◌++◌, length, get_or, Option, Some, None, Ok, Err, string_bytes, codes, refl, sym, ap, subst, ◌∙◌, append_assoc, arith}
 use Rattle.std.proofs.Math.ListN.{set}
-use Rattle.flow_format.specs.declared.script.FlowStep.{FlowStep}
 use Rattle.flow_format.specs.declared.script.Step.{Step}
 use Rattle.flow_format.specs.Actions.{action_of, actions_of}
 use Rattle.flow_format.specs.Heads.{Head}
@@ -11,7 +10,7 @@ use Rattle.flow_lines.specs.declared.row.PlayedFlow.{PlayedFlow as Kept}
 use Rattle.flow_lines.specs.Lines.{lined}
 use Rattle.flow_lines.specs.Players.{IsTold, Makes, Shows, refused_text}
 use Rattle.flow_lines.specs.Rows.{AddsFlow, FollowsPlace, FollowsRow, ShowsFlow, ShowsPlace, ShowsRow}
-use Rattle.flow_lines.specs.ScriptMeaning.{Player, PlayedFlow, first_played, flow_at, lines_from, place_turn, turn, turn_at, with_flow}
+use Rattle.flow_lines.specs.ScriptMeaning.{Play, Player, PlayedFlow, first_played, flow_at, lines_from, place_turn, turn, turn_at, with_flow}
 
 -- ---- places of a row
 
@@ -50,16 +49,16 @@ set-past (x ∷ xs) (y ∷ ys) (suc i) p shows past = ap (λ l. y ∷ l) (set-pa
 
 -- ---- steps
 
-pub follows-at : (step : FlowStep) (i : ℕ) (kept : List (Option Kept)) (k new : Option Kept) (text after : String Global)
-    → i < length kept → k ≡ get_or kept i k → FollowsPlace step k new text after → FollowsRow (turn_at i step) kept (set kept i new) text after
-follows-at step i kept k new text after here is follows row shows =
+pub follows-at : (play : Play) (i : ℕ) (kept : List (Option Kept)) (k new : Option Kept) (text after : String Global)
+    → i < length kept → k ≡ get_or kept i k → FollowsPlace play k new text after → FollowsRow (turn_at i play) kept (set kept i new) text after
+follows-at play i kept k new text after here is follows row shows =
     let done = follows (flow_at i row) (shown-at kept row i k shows here is) in
-    (shown-set kept row i new (place_turn step (flow_at i row)).after shows done.0, done.1)
+    (shown-set kept row i new (place_turn play (flow_at i row)).after shows done.0, done.1)
 
-pub follows-past : (step : FlowStep) (i : ℕ) (kept : List (Option Kept)) (text after : String Global)
-    → length kept ≤ i → string_bytes after ≡ string_bytes text ++ lined (codes "no flow") → FollowsRow (turn_at i step) kept kept text after
-follows-past step i kept text after past line row shows =
-    let over = λ (p : Option PlayedFlow). ShowsRow kept (set row i (place_turn step p).after) × (string_bytes after ≡ string_bytes text ++ lined (place_turn step p).line) in
+pub follows-past : (play : Play) (i : ℕ) (kept : List (Option Kept)) (text after : String Global)
+    → length kept ≤ i → string_bytes after ≡ string_bytes text ++ lined (codes "no flow") → FollowsRow (turn_at i play) kept kept text after
+follows-past play i kept text after past line row shows =
+    let over = λ (p : Option PlayedFlow). ShowsRow kept (set row i (place_turn play p).after) × (string_bytes after ≡ string_bytes text ++ lined (place_turn play p).line) in
     subst over (sym (none-past kept row i shows past)) (subst (λ r. ShowsRow kept r) (sym (set-past kept row i None shows past)) shows, line)
 
 -- where what is written so far and what the rest will write is all, so it is one step later

@@ -2,13 +2,12 @@
 use Rattle.std.specs.Prelude.{◌≡◌, ◌++◌, ℕ, Bool, true, false, List, Option, Some, None, Vec, String, string_bytes}
 use Rattle.std.specs.List.{AllZip}
 use Rattle.std.specs.declared.alloc.Global.{Global}
-use Rattle.flow_format.specs.declared.script.FlowStep.{FlowStep}
 use Rattle.flow_format.specs.Actions.{Action}
 use Rattle.flow_format.specs.Heads.{NamedHead}
 use Rattle.flow_lines.specs.declared.row.PlayedFlow.{PlayedFlow as Kept}
 use Rattle.flow_lines.specs.Lines.{lined}
 use Rattle.flow_lines.specs.Players.{Shows}
-use Rattle.flow_lines.specs.ScriptMeaning.{PlayedFlow, RowTurn, lines_from, place_turn, player_of, text_of, with_flow}
+use Rattle.flow_lines.specs.ScriptMeaning.{Play, PlayedFlow, RowTurn, lines_from, place_turn, player_of, text_of, with_flow}
 use Rattle.flow_lines.specs.Shown.{numbers_of}
 
 abbrev pub ShowsFlow : Kept → PlayedFlow → Type 0
@@ -23,10 +22,10 @@ abbrev pub ShowsRow : List (Option Kept) → List (Option PlayedFlow) → Type 0
 ShowsRow kept row = AllZip ShowsPlace kept row
 
 -- a step is played on what is at a place, and its line is written
-abbrev pub FollowsPlace : FlowStep → Option Kept → Option Kept → String Global → String Global → Type 0
-FollowsPlace step old new text text_after =
+abbrev pub FollowsPlace : Play → Option Kept → Option Kept → String Global → String Global → Type 0
+FollowsPlace play old new text text_after =
     (place : Option PlayedFlow) → ShowsPlace old place →
-    ShowsPlace new (place_turn step place).after × (string_bytes text_after ≡ string_bytes text ++ lined (place_turn step place).line)
+    ShowsPlace new (place_turn play place).after × (string_bytes text_after ≡ string_bytes text ++ lined (place_turn play place).line)
 
 -- a step is played on a row of flows, and its line is written
 abbrev pub FollowsRow : (List (Option PlayedFlow) → RowTurn) → List (Option Kept) → List (Option Kept) → String Global → String Global → Type 0

@@ -6,7 +6,7 @@ use Rattle.flow_law.specs.SharedFlow.{config_fault, first_state}
 use Rattle.flow_format.specs.declared.fault.ScriptFault.{ScriptFault}
 use Rattle.flow_format.specs.Heads.{Head, NamedHead, shared_chain, state_chain}
 use Rattle.flow_format.specs.Heads as head
-use Rattle.flow_format.specs.Actions.{Action, on_flow, collect}
+use Rattle.flow_format.specs.Actions.{Action, on_flow, subscribe_with, collect}
 use Rattle.flow_format.specs.Checks.{result_map, read_script}
 use Rattle.flow_lines.specs.Lines.{lined, refusal_text, share_fault_text, collection_text}
 use Rattle.flow_law.specs.declared.report.ShareFault.TheVariants.{Chain, Flow}
@@ -19,9 +19,10 @@ use Rattle.flow_law.specs.SharedHistory.{shared_flow}
 use Rattle.flow_law.specs.SharingFlows.{shared_reply, state_reply}
 use Rattle.flow_law.specs.StateFlow.{first_state_flow, state_flow}
 use Rattle.flow_format.specs.declared.script.FlowStep.{FlowStep}
-use Rattle.flow_lines.specs.FlowMeaning.{Turn, flow_turn}
+use Rattle.flow_format.specs.declared.script.FlowStep.TheVariants as step
+use Rattle.flow_lines.specs.FlowMeaning.{Turn, flow_turn, without_call}
 use Rattle.flow_lines.specs.Numbers.{Numbers, no_numbers}
-use Rattle.flow_lines.specs.SharedMeaning.{plays_shared}
+use Rattle.flow_lines.specs.SharedMeaning.{plays_shared, subscribes_with}
 use Rattle.flow_lines.specs.SharingMeaning.{SharingPlay, first_sharing, beside_emission, beside_initial, sharing_step}
 use Rattle.flow_lines.specs.StateMeaning.{plays_state}
 
@@ -51,6 +52,13 @@ player_turn step (state s) n = played_as state (state_turn step s n)
 player_turn step (share p) n = played_as share (sharing_step (beside_emission shared_turn) shared_reply step p n)
 player_turn step (state_in p) n = played_as state_in (sharing_step (beside_initial state_turn) state_reply step p n)
 
+-- a subscription with first values of its own; only a shared flow that is no chain's has it
+abbrev pub player_subscribes_with : List ℤ → Player → Numbers → Turn Player
+player_subscribes_with first (shared s) n = played_as shared (subscribes_with first s n)
+player_subscribes_with first (state s) n = without_call step.Subscribe (state s) n
+player_subscribes_with first (share p) n = without_call step.Subscribe (share p) n
+player_subscribes_with first (state_in p) n = without_call step.Subscribe (state_in p) n
+
 -- ---- rows of flows
 
 -- a flow that was made, and what the names of its steps stand for
@@ -62,15 +70,19 @@ pub record PlayedFlow : Type 0 where
 abbrev pub first_played : Player → PlayedFlow
 first_played p = record { player = p; numbers = no_numbers }
 
+-- what a step does on a flow
+abbrev pub Play : Type 0
+Play = Player → Numbers → Turn Player
+
 -- a step's line, and what is at its place afterwards. A flow that was refused when it was made has left its place empty
 pub record PlaceTurn : Type 0 where
   pub line : List ℕ
   pub after : Option PlayedFlow
 
-abbrev pub place_turn : FlowStep → Option PlayedFlow → PlaceTurn
-place_turn step None = record { line = codes "no flow"; after = None }
-place_turn step (Some flow) =
-    let t = player_turn step flow.player flow.numbers in
+abbrev pub place_turn : Play → Option PlayedFlow → PlaceTurn
+place_turn play None = record { line = codes "no flow"; after = None }
+place_turn play (Some flow) =
+    let t = play flow.player flow.numbers in
     record { line = t.line; after = Some (record { player = t.after; numbers = t.numbers }) }
 
 -- a step's line, and the row afterwards
@@ -82,14 +94,15 @@ abbrev pub flow_at : ℕ → List (Option PlayedFlow) → Option PlayedFlow
 flow_at place row = option_and_then (λ flow. flow) (slice_get row place)
 
 -- a step at a place leaves all others as they were
-abbrev pub turn_at : ℕ → FlowStep → List (Option PlayedFlow) → RowTurn
-turn_at place step row =
-    let t = place_turn step (flow_at place row) in
+abbrev pub turn_at : ℕ → Play → List (Option PlayedFlow) → RowTurn
+turn_at place play row =
+    let t = place_turn play (flow_at place row) in
     record { line = t.line; after = slice_set row place t.after }
 
 -- a collection is about no flow
 abbrev pub turn : Action → List (Option PlayedFlow) → RowTurn
-turn (on_flow place step) row = turn_at place step row
+turn (on_flow place step) row = turn_at place (player_turn step) row
+turn (subscribe_with place first) row = turn_at place (player_subscribes_with first) row
 turn (collect build) row = record { line = collection_text build; after = row }
 
 abbrev pub lines_from : List (Option PlayedFlow) → List Action → List ℕ

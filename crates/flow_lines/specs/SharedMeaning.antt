@@ -1,15 +1,15 @@
 -- Shared flows, as scripts play on them.
-use Rattle.std.specs.Prelude.{ℕ, ℤ, List, Option, Some, None, option_map}
+use Rattle.std.specs.Prelude.{ℕ, ℤ, List, [], Option, Some, None, option_map}
 use Rattle.flow_law.specs.declared.call.SharedCall.{SharedCall}
 use Rattle.flow_law.specs.declared.call.SharedCall.TheVariants as call
 use Rattle.flow_law.specs.declared.call.SharedReply.{SharedReply}
 use Rattle.flow_law.specs.declared.states.SharedFlowState.{SharedFlowState}
-use Rattle.flow_law.specs.SharedHistory.{answer_to}
+use Rattle.flow_law.specs.SharedHistory.{answer_to, shared_flow}
 use Rattle.flow_format.specs.declared.script.FlowStep.{FlowStep}
 use Rattle.flow_format.specs.declared.script.FlowStep.TheVariants as step
-use Rattle.flow_lines.specs.FlowMeaning.{Played}
+use Rattle.flow_lines.specs.FlowMeaning.{Played, Turn, called}
 use Rattle.flow_lines.specs.Lines.{line_of}
-use Rattle.flow_lines.specs.Numbers.{number_at}
+use Rattle.flow_lines.specs.Numbers.{Numbers, number_at}
 
 abbrev pub shared_reply : SharedCall ℤ → SharedFlowState ℤ → SharedReply ℤ
 shared_reply call s = (answer_to call s).reply
@@ -24,3 +24,7 @@ shared_own_call _ emissions = None
 
 abbrev pub plays_shared : Played (SharedFlowState ℤ) (SharedCall ℤ) (SharedReply ℤ)
 plays_shared = record { try_emit = call.TryEmit; own_call = shared_own_call; reply_to = shared_reply; line = line_of }
+
+-- A subscription with first values of its own: its line, and what its name stands for, are those of any subscription
+abbrev pub subscribes_with : List ℤ → SharedFlowState ℤ → Numbers → Turn (SharedFlowState ℤ)
+subscribes_with first s n = called shared_flow plays_shared step.Subscribe s n (call.Subscribe [] first)

@@ -8,8 +8,10 @@ ghost use Rattle.flow_lines.specs.Players.{Makes, MakesSharing, Rewinds, Shows};
 ghost use Rattle.flow_lines.specs.Shown.{Follows};
 
 use crate::flow_steps::flow_step;
+use crate::lines::add_line_without_call;
 use crate::numbers::Numbers;
 use crate::refusal::Refusal;
+use crate::shared_calls::subscribe_with;
 use crate::sharing_steps::sharing_step;
 use flow_cold::{Cold, ScriptChain};
 use flow_core::{SharedCore, StateCore};
@@ -113,6 +115,23 @@ impl Player {
                 initial,
                 limit,
             } => Player::sharing(Player::state_in(alloc, chain, started, initial, limit)),
+        }
+    }
+
+    /// A subscription with first values of its own. Only a shared flow that is not a chain's has it.
+    pub fn subscribe_with(
+        &mut self,
+        numbers: &mut Numbers,
+        text: &mut String,
+        first: Vec<i64>,
+    ) -> Result<(), ScriptFault>
+        ensures plays { OnOk result (Follows Shows (meaning.player_subscribes_with first.items)
+            self.old self.new numbers.old numbers.new text.old text.new) }
+        ensures fault { IfErr result (λ fault. fault ≡ ScriptFault.OutOfMemory) }
+    {
+        match self {
+            Player::Shared(core) => subscribe_with(core, numbers, text, first),
+            _ => add_line_without_call(text, FlowStep::Subscribe),
         }
     }
 

@@ -120,7 +120,8 @@ fn place_step(
     text: &mut String,
     step: FlowStep,
 ) -> Result<(), ScriptFault>
-    ensures plays { OnOk result (FollowsPlace step place.old place.new text.old text.new) }
+    ensures plays { OnOk result
+        (FollowsPlace (meaning.player_turn step) place.old place.new text.old text.new) }
     ensures fault { IfErr result (λ fault. fault ≡ ScriptFault.OutOfMemory) }
 {
     match place {
@@ -136,11 +137,46 @@ fn step_at(
     place: usize,
     step: FlowStep,
 ) -> Result<(), ScriptFault>
-    ensures plays { OnOk result (FollowsRow (meaning.turn_at place step) row.old row.new text.old text.new) }
+    ensures plays { OnOk result
+        (FollowsRow (meaning.turn_at place (meaning.player_turn step)) row.old row.new text.old text.new) }
     ensures fault { IfErr result (λ fault. fault ≡ ScriptFault.OutOfMemory) }
 {
     if place < row.len() {
         return place_step(&mut row[place], text, step);
+    }
+    add_no_flow(text)
+}
+
+/// Subscribes to what is at a place, with first values of the subscriber's own.
+fn place_subscribe(
+    place: &mut Option<PlayedFlow>,
+    text: &mut String,
+    first: Vec<i64>,
+) -> Result<(), ScriptFault>
+    ensures plays { OnOk result
+        (FollowsPlace (meaning.player_subscribes_with first.items) place.old place.new text.old text.new) }
+    ensures fault { IfErr result (λ fault. fault ≡ ScriptFault.OutOfMemory) }
+{
+    match place {
+        Some(flow) => flow.player.subscribe_with(&mut flow.numbers, text, first),
+        None => add_no_flow(text),
+    }
+}
+
+/// Subscribes to the flow at a place, with first values of the subscriber's own.
+fn subscribe_at(
+    row: &mut [Option<PlayedFlow>],
+    text: &mut String,
+    place: usize,
+    first: Vec<i64>,
+) -> Result<(), ScriptFault>
+    ensures plays { OnOk result
+        (FollowsRow (meaning.turn_at place (meaning.player_subscribes_with first.items))
+        row.old row.new text.old text.new) }
+    ensures fault { IfErr result (λ fault. fault ≡ ScriptFault.OutOfMemory) }
+{
+    if place < row.len() {
+        return place_subscribe(&mut row[place], text, first);
     }
     add_no_flow(text)
 }
@@ -158,6 +194,7 @@ pub fn row_step(
 {
     match step {
         Step::Flow(place, step) => step_at(row.as_mut_slice(), text, place, step),
+        Step::SubscribeWith(place, first) => subscribe_at(row.as_mut_slice(), text, place, first),
         Step::Collect(build) => add_collection(alloc, text, build),
     }
 }

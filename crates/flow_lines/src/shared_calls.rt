@@ -3,7 +3,7 @@ ghost use Rattle.std.specs.Prelude.{◌≡◌, OnOk, IfErr};
 ghost use Rattle.flow_law.specs.Standing.{StandsFor};
 ghost use Rattle.flow_law.specs.SharedHistory.{shared_flow};
 ghost use Rattle.flow_lines.specs.FlowMeaning.{own_turn};
-ghost use Rattle.flow_lines.specs.SharedMeaning.{plays_shared};
+ghost use Rattle.flow_lines.specs.SharedMeaning.{plays_shared, subscribes_with};
 ghost use Rattle.flow_lines.specs.Shown.{Follows};
 
 use crate::lines::{add_line, add_line_without_call, add_refusal, add_test, add_wait};
@@ -85,6 +85,30 @@ fn reset(
 {
     core.reset_replay_cache();
     add_line(text, "reset")?;
+    Ok(())
+}
+
+/// A subscription with first values of its own.
+pub fn subscribe_with(
+    core: &mut SharedCore<i64>,
+    numbers: &mut Numbers,
+    text: &mut String,
+    first: Vec<i64>,
+) -> Result<(), ScriptFault>
+    ensures plays { OnOk result (Follows StandsFor (subscribes_with first.items)
+        core.old core.new numbers.old numbers.new text.old text.new) }
+    ensures fault { IfErr result (λ fault. fault ≡ ScriptFault.OutOfMemory) }
+{
+    match core.subscribe_with(first) {
+        Ok(id) => {
+            add_line(text, "subscribed")?;
+            numbers.add_subscriber(Some(id))?;
+        }
+        Err(refused) => {
+            add_refusal(text, refused.fault)?;
+            numbers.add_subscriber(None)?;
+        }
+    }
     Ok(())
 }
 

@@ -10,7 +10,7 @@ use Rattle.flow_format.proofs.read_chain.+chain.Given as goal
 abbrev pub invariant-chain_at-loop-op : goal.invariant-chain_at-loop-op
 invariant-chain_at-loop-op l =
     (m : Result Build ScriptFault) × Gives m (build_result l.build)
-    × (ops_on (operator_at (l.levels - 1) l.at) m (items_view (drop l.op-index l.op-items)) ≡ chain_at l.levels l.at (view l.chain))
+    × (ops_on (operator_at l.version (l.levels - 1) l.at) m (items_view (drop l.op-index l.op-items)) ≡ chain_at l.version l.levels l.at (view l.chain))
 
 abbrev pub decreases-chain_at : goal.decreases-chain_at
 decreases-chain_at l = 2 * l.levels

@@ -1,0 +1,53 @@
+-- What the head of a script says of its flows.
+-- Begin with `head_in`. A bad form anywhere in the head comes before a limit of any flow, and before their number's.
+use Rattle.std.specs.Prelude.{ℕ, nat_lt, if◌then◌else◌, List, [], ◌∷◌, ◌++◌, Some, Option, option_and_then, Result, Ok, Err, codes}
+use Rattle.serde_json.specs.Data.{Data, Items, Members, no_members, member, put}
+use Rattle.serde_json.specs.Events.{members_len}
+use Rattle.serde_json.specs.Find.{get, as_array, as_object}
+use Rattle.flow_format.specs.declared.fault.ScriptFault.{ScriptFault}
+use Rattle.flow_format.specs.declared.fault.ScriptFault.TheVariants.{BadShape, TooLarge}
+use Rattle.flow_format.specs.declared.version.Version.{Version}
+use Rattle.flow_format.specs.declared.version.Version.TheVariants.{One, Two}
+use Rattle.flow_format.specs.Format.{has_members, is_name, where_true}
+use Rattle.flow_format.specs.Heads.{NamedHead, flow_in, only_in}
+use Rattle.flow_format.specs.Results.{result_then, result_map, or_fault, first_fault}
+
+abbrev pub most_flows : ℕ
+most_flows = 64
+
+-- the members in the byte order of their keys
+abbrev pub in_key_order : Members → Members
+in_key_order no_members = no_members
+in_key_order (member key d ms) = put key d (in_key_order ms)
+
+-- a flow and its name
+abbrev pub named_flow : List ℕ → Data → Result NamedHead ScriptFault
+named_flow name d = if is_name name then result_map (λ flow. record { name = Some name; flow = flow }) (flow_in Two d) else Err (BadShape 0)
+
+-- one flow more: a bad form of any of them comes before a limit of any
+abbrev pub with_flow : Result (List NamedHead) ScriptFault → Result NamedHead ScriptFault → Result (List NamedHead) ScriptFault
+with_flow (Ok flows) flow = result_map (λ f. flows ++ f ∷ []) flow
+with_flow (Err fault) flow = Err (first_fault fault flow)
+
+abbrev pub flows_after : Result (List NamedHead) ScriptFault → Members → Result (List NamedHead) ScriptFault
+flows_after flows no_members = flows
+flows_after flows (member name d ms) = flows_after (with_flow flows (named_flow name d)) ms
+
+-- before the first of so many flows
+abbrev pub no_flows_of : ℕ → Result (List NamedHead) ScriptFault
+no_flows_of count = if nat_lt most_flows count then Err (TooLarge 0) else Ok []
+
+-- flows are made in the byte order of their names
+abbrev pub named_flows : Members → Result (List NamedHead) ScriptFault
+named_flows ms = flows_after (no_flows_of (members_len ms)) (in_key_order ms)
+
+-- one flow without a name, or none, in version 1, and each with its name in version 2
+abbrev pub flows_in : Version → Data → Result (List NamedHead) ScriptFault
+flows_in One d = result_then only_in (or_fault (BadShape 0) (get (codes "flow") d))
+flows_in Two d = result_then named_flows (or_fault (BadShape 0) (option_and_then as_object (get (codes "flows") d)))
+
+abbrev pub steps_in : Data → Option Items
+steps_in d = where_true (has_members 3 d) (option_and_then as_array (get (codes "steps") d))
+
+abbrev pub head_in : Version → Data → Result (List NamedHead × Items) ScriptFault
+head_in version d = result_then (λ steps. result_map (λ flows. (flows, steps)) (flows_in version d)) (or_fault (BadShape 0) (steps_in d))

@@ -1,0 +1,90 @@
+//! Reading the flows of a script of version 2, each with its name.
+ghost use Rattle.std.specs.Prelude.{◌≡◌, ◌++◌, [], ◌∷◌, Ok, Result, List};
+ghost use Rattle.serde_json.specs.View.{view, members_view};
+ghost use Rattle.flow_format.specs.declared.fault.ScriptFault.{ScriptFault as TheScriptFault};
+ghost use Rattle.flow_format.specs.Actions.{heads_of, named_head};
+ghost use Rattle.flow_format.specs.Checks.{Gives};
+ghost use Rattle.flow_format.specs.Flows as row;
+ghost use Rattle.flow_format.specs.Heads.{NamedHead};
+ghost use Rattle.flow_format.specs.HeadViews.{flows_result, named_flow_result};
+
+use crate::fault::{ScriptFault, first_fault, is_final};
+use crate::members::is_name;
+use crate::read_head::flow_in;
+use crate::script::NamedFlow;
+use crate::version::Version;
+use serde_json::{Map, Value};
+use std::alloc::Global;
+
+const MOST_FLOWS: usize = 64;
+
+/// A flow and its name.
+fn named_flow(alloc: Global, name: &str, flow: &Value) -> Result<NamedFlow, ScriptFault>
+    ensures { Gives (row.named_flow name.now (view flow.now)) (named_flow_result result) }
+{
+    if !is_name(name) {
+        return Err(ScriptFault::BadShape(0));
+    }
+    let flow = flow_in(alloc, Version::Two, flow)?;
+    let name = String::from_str(alloc, name)?;
+    Ok(NamedFlow {
+        name: Some(name),
+        flow,
+    })
+}
+
+fn pushed(mut flows: Vec<NamedFlow>, flow: NamedFlow) -> Result<Vec<NamedFlow>, ScriptFault>
+    ensures { Gives (Ok (heads_of flows.items ++ named_head flow ∷ [])) (flows_result result) }
+{
+    match flows.push(flow) {
+        Ok(()) => Ok(flows),
+        Err(_) => Err(ScriptFault::OutOfMemory),
+    }
+}
+
+/// The flows that were read, and one more. A bad form of any of them comes before a limit of any.
+fn with_flow(
+    flows: Result<Vec<NamedFlow>, ScriptFault>,
+    flow: Result<NamedFlow, ScriptFault>,
+) -> Result<Vec<NamedFlow>, ScriptFault>
+    ensures { (m : Result (List NamedHead) TheScriptFault) (o : Result NamedHead TheScriptFault)
+        → Gives m (flows_result flows) → Gives o (named_flow_result flow)
+        → Gives (row.with_flow m o) (flows_result result) }
+{
+    let flows = match flows {
+        Ok(flows) => flows,
+        Err(fault) => return Err(first_fault(fault, &flow)),
+    };
+    match flow {
+        Ok(flow) => pushed(flows, flow),
+        Err(fault) => Err(fault),
+    }
+}
+
+/// Before the first of so many flows.
+fn no_flows_of(alloc: Global, count: usize) -> Result<Vec<NamedFlow>, ScriptFault>
+    ensures { Gives (row.no_flows_of count) (flows_result result) }
+{
+    if count > MOST_FLOWS {
+        Err(ScriptFault::TooLarge(0))
+    } else {
+        Ok(Vec::new(alloc))
+    }
+}
+
+/// The flows of a script, in the byte order of their names, which is the one in which an object has its members.
+pub fn named_flows(
+    alloc: Global,
+    members: &Map<String, Value>,
+) -> Result<Vec<NamedFlow>, ScriptFault>
+    ensures { Gives (row.named_flows (members_view members.now.entries)) (flows_result result) }
+{
+    let mut flows = no_flows_of(alloc, members.len());
+    for (name, flow) in members.iter() {
+        if is_final(&flows) {
+            return flows;
+        }
+        flows = with_flow(flows, named_flow(alloc, name.as_str(), flow));
+    }
+    flows
+}
