@@ -1,35 +1,41 @@
-//! Whole runs of the program over memory: worked examples of the documented flows, refused scripts, and streams that
-//! give or take little.
+//! Whole runs of the program over memory: worked examples of the documented flows, refused scripts, limits, and
+//! streams that give or take little. Each script is a row of a table, and those of one flow play in both versions.
 use crate::program::run;
 use flow_script::Watched;
-use std::alloc::{AllocError, AllocGlobal, Global};
+use std::alloc::AllocGlobal;
 use std::process::Abort;
 use std::sync::Wait;
 use std::thread::Threads;
 
 mod chains;
 mod crowd;
+mod draft;
+mod examples;
 mod limits;
+mod many;
 mod refused;
-mod rows;
+mod several;
+mod several_refused;
 mod share;
 mod shared;
 mod state;
 mod streams;
+mod texts;
+
+/// What a run of the program takes, and a test that fails.
+pub trait Host: Abort + Threads + Wait + Sync + AllocGlobal {}
+
+impl<H: Abort + Threads + Wait + Sync + AllocGlobal> Host for H {}
 
 /// Plays a text, and compares the status and what was printed.
-pub fn expect<H: Abort + Threads + Wait + Sync + AllocGlobal>(
-    rt: &H,
-    script: &[u8],
-    status: u8,
-    lines: &str,
-) {
-    expect_of(rt, &[], script, status, lines);
+pub fn expect<H: Host>(rt: &H, name: &str, script: &[u8], status: u8, lines: &str) {
+    expect_of(rt, name, &[], script, status, lines);
 }
 
 /// Runs the program with these arguments on a text, and compares the status and what was printed.
-pub fn expect_of<H: Abort + Threads + Wait + Sync + AllocGlobal>(
+pub fn expect_of<H: Host>(
     rt: &H,
+    name: &str,
     args: &[String],
     script: &[u8],
     status: u8,
@@ -39,39 +45,15 @@ pub fn expect_of<H: Abort + Threads + Wait + Sync + AllocGlobal>(
     let mut input = Watched::new(script);
     let mut output = Watched::new(&mut printed);
     let answered = run(rt, args, &mut input, &mut output);
-    assert_eq!(rt; printed.as_slice(), lines.as_bytes(), "of {lines:?}");
-    assert_eq!(rt; answered, status, "of {lines:?}");
+    compare(rt, name, printed.as_slice(), lines.as_bytes());
+    assert_eq!(rt; answered, status, "the status of {name}");
 }
 
-/// The script of these steps over a flow.
-fn script_of(alloc: Global, flow: &str, steps: &[(&str, &str)]) -> Result<String, AllocError> {
-    let mut script = String::new(alloc);
-    write!(script, "{{\"version\":1,\"flow\":{{{flow}}},\"steps\":[")?;
-    let mut separator = "";
-    for (step, _) in steps {
-        write!(script, "{separator}{{{step}}}")?;
-        separator = ",";
-    }
-    script.push_str("]}")?;
-    Ok(script)
+/// What was printed is what is wanted.
+pub fn compare<H: Host>(rt: &H, name: &str, printed: &[u8], wanted: &[u8]) {
+    assert_eq!(rt; text_of(printed), text_of(wanted), "{name}");
 }
 
-/// The lines of these steps.
-fn lines_of(alloc: Global, steps: &[(&str, &str)]) -> Result<String, AllocError> {
-    let mut lines = String::new(alloc);
-    for (_, line) in steps {
-        writeln!(lines, "{line}")?;
-    }
-    Ok(lines)
-}
-
-/// Plays steps over a flow, each with the line that it is to print.
-pub fn plays<H: Abort + Threads + Wait + Sync + AllocGlobal>(
-    rt: &H,
-    flow: &str,
-    steps: &[(&str, &str)],
-) {
-    let script = script_of(rt.alloc(), flow, steps).expect(rt, "memory");
-    let lines = lines_of(rt.alloc(), steps).expect(rt, "memory");
-    expect(rt, script.as_bytes(), 0, lines.as_str());
+fn text_of(bytes: &[u8]) -> &str {
+    str::from_utf8(bytes).unwrap_or("no UTF-8")
 }

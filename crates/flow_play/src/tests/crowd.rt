@@ -44,6 +44,6 @@ const RUNS: [(&str, u8, &str); 19] = [
 fn arguments_name_a_crowd_or_a_count_or_print_the_usage(rt: HostRuntime) {
     for (line, status, printed) in RUNS {
         let args = words(rt.alloc(), line).expect(&rt, "memory");
-        expect_of(&rt, args.as_slice(), b"", status, printed);
+        expect_of(&rt, line, args.as_slice(), b"", status, printed);
     }
 }

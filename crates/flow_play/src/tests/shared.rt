@@ -1,27 +1,22 @@
 //! Worked examples over a shared flow.
-use crate::tests::{expect, plays};
+use crate::tests::examples::Example;
 
-#[test]
-fn a_value_without_a_subscriber_is_gone(rt: HostRuntime) {
-    plays(
-        &rt,
-        r#""kind":"shared","replay":0,"extra":0,"overflow":"suspend""#,
-        &[
+pub const SHARED: [Example; 13] = [
+    Example {
+        name: "a value without a subscriber is gone",
+        flow: r#""kind":"shared","replay":0,"extra":0,"overflow":"suspend""#,
+        steps: &[
             (r#""do":"try_emit","value":5"#, "true"),
             (r#""do":"cache""#, "[]"),
             (r#""do":"count""#, "0"),
             (r#""do":"subscribe","name":"a""#, "subscribed"),
             (r#""do":"next","name":"a""#, "empty"),
         ],
-    );
-}
-
-#[test]
-fn a_new_subscriber_gets_the_replay_cache(rt: HostRuntime) {
-    plays(
-        &rt,
-        r#""kind":"shared","replay":2,"extra":0,"overflow":"suspend""#,
-        &[
+    },
+    Example {
+        name: "a new subscriber gets the replay cache",
+        flow: r#""kind":"shared","replay":2,"extra":0,"overflow":"suspend""#,
+        steps: &[
             (r#""do":"try_emit","value":1"#, "true"),
             (r#""do":"try_emit","value":2"#, "true"),
             (r#""do":"try_emit","value":3"#, "true"),
@@ -31,15 +26,11 @@ fn a_new_subscriber_gets_the_replay_cache(rt: HostRuntime) {
             (r#""do":"next","name":"a""#, "value 3"),
             (r#""do":"next","name":"a""#, "empty"),
         ],
-    );
-}
-
-#[test]
-fn a_slow_subscriber_suspends_the_emitter(rt: HostRuntime) {
-    plays(
-        &rt,
-        r#""kind":"shared","replay":1,"extra":1,"overflow":"suspend""#,
-        &[
+    },
+    Example {
+        name: "a slow subscriber suspends the emitter",
+        flow: r#""kind":"shared","replay":1,"extra":1,"overflow":"suspend""#,
+        steps: &[
             (r#""do":"subscribe","name":"a""#, "subscribed"),
             (r#""do":"try_emit","value":1"#, "true"),
             (r#""do":"try_emit","value":2"#, "true"),
@@ -53,15 +44,11 @@ fn a_slow_subscriber_suspends_the_emitter(rt: HostRuntime) {
             (r#""do":"next","name":"a""#, "value 3"),
             (r#""do":"next","name":"a""#, "empty"),
         ],
-    );
-}
-
-#[test]
-fn the_oldest_values_are_dropped(rt: HostRuntime) {
-    plays(
-        &rt,
-        r#""kind":"shared","replay":0,"extra":2,"overflow":"drop_oldest""#,
-        &[
+    },
+    Example {
+        name: "the oldest values are dropped",
+        flow: r#""kind":"shared","replay":0,"extra":2,"overflow":"drop_oldest""#,
+        steps: &[
             (r#""do":"subscribe","name":"a""#, "subscribed"),
             (r#""do":"emit","name":"e1","value":1"#, "done"),
             (r#""do":"emit","name":"e2","value":2"#, "done"),
@@ -73,15 +60,11 @@ fn the_oldest_values_are_dropped(rt: HostRuntime) {
             (r#""do":"next","name":"a""#, "empty"),
             (r#""do":"cache""#, "[]"),
         ],
-    );
-}
-
-#[test]
-fn the_latest_values_are_dropped(rt: HostRuntime) {
-    plays(
-        &rt,
-        r#""kind":"shared","replay":1,"extra":1,"overflow":"drop_latest""#,
-        &[
+    },
+    Example {
+        name: "the latest values are dropped",
+        flow: r#""kind":"shared","replay":1,"extra":1,"overflow":"drop_latest""#,
+        steps: &[
             (r#""do":"subscribe","name":"a""#, "subscribed"),
             (r#""do":"emit","name":"e1","value":1"#, "done"),
             (r#""do":"emit","name":"e2","value":2"#, "done"),
@@ -93,15 +76,11 @@ fn the_latest_values_are_dropped(rt: HostRuntime) {
             (r#""do":"next","name":"a""#, "empty"),
             (r#""do":"cache""#, "[2]"),
         ],
-    );
-}
-
-#[test]
-fn a_fast_subscriber_loses_nothing(rt: HostRuntime) {
-    plays(
-        &rt,
-        r#""kind":"shared","replay":0,"extra":1,"overflow":"drop_oldest""#,
-        &[
+    },
+    Example {
+        name: "a fast subscriber loses nothing",
+        flow: r#""kind":"shared","replay":0,"extra":1,"overflow":"drop_oldest""#,
+        steps: &[
             (r#""do":"subscribe","name":"a""#, "subscribed"),
             (r#""do":"subscribe","name":"b""#, "subscribed"),
             (r#""do":"emit","name":"d","value":1"#, "done"),
@@ -114,15 +93,11 @@ fn a_fast_subscriber_loses_nothing(rt: HostRuntime) {
             (r#""do":"next","name":"a""#, "value 3"),
             (r#""do":"next","name":"a""#, "empty"),
         ],
-    );
-}
-
-#[test]
-fn an_offered_value_waits_for_every_subscriber(rt: HostRuntime) {
-    plays(
-        &rt,
-        r#""kind":"shared","replay":0,"extra":0,"overflow":"suspend""#,
-        &[
+    },
+    Example {
+        name: "an offered value waits for every subscriber",
+        flow: r#""kind":"shared","replay":0,"extra":0,"overflow":"suspend""#,
+        steps: &[
             (r#""do":"subscribe","name":"a""#, "subscribed"),
             (r#""do":"subscribe","name":"b""#, "subscribed"),
             (r#""do":"try_emit","value":7"#, "false"),
@@ -132,15 +107,11 @@ fn an_offered_value_waits_for_every_subscriber(rt: HostRuntime) {
             (r#""do":"next","name":"b""#, "value 7"),
             (r#""do":"poll","name":"e""#, "done"),
         ],
-    );
-}
-
-#[test]
-fn a_cancelled_offer_reaches_nobody_else(rt: HostRuntime) {
-    plays(
-        &rt,
-        r#""kind":"shared","replay":0,"extra":0,"overflow":"suspend""#,
-        &[
+    },
+    Example {
+        name: "a cancelled offer reaches nobody else",
+        flow: r#""kind":"shared","replay":0,"extra":0,"overflow":"suspend""#,
+        steps: &[
             (r#""do":"subscribe","name":"a""#, "subscribed"),
             (r#""do":"subscribe","name":"b""#, "subscribed"),
             (r#""do":"try_emit","value":7"#, "false"),
@@ -152,15 +123,11 @@ fn a_cancelled_offer_reaches_nobody_else(rt: HostRuntime) {
             (r#""do":"poll","name":"e""#, "done"),
             (r#""do":"cancel","name":"e""#, "false"),
         ],
-    );
-}
-
-#[test]
-fn a_late_subscriber_is_offered_the_value(rt: HostRuntime) {
-    plays(
-        &rt,
-        r#""kind":"shared","replay":0,"extra":0,"overflow":"suspend""#,
-        &[
+    },
+    Example {
+        name: "a late subscriber is offered the value",
+        flow: r#""kind":"shared","replay":0,"extra":0,"overflow":"suspend""#,
+        steps: &[
             (r#""do":"subscribe","name":"a""#, "subscribed"),
             (r#""do":"emit","name":"e","value":7"#, "queued"),
             (r#""do":"subscribe","name":"b""#, "subscribed"),
@@ -171,15 +138,11 @@ fn a_late_subscriber_is_offered_the_value(rt: HostRuntime) {
             (r#""do":"subscribe","name":"c""#, "subscribed"),
             (r#""do":"next","name":"c""#, "empty"),
         ],
-    );
-}
-
-#[test]
-fn the_last_unsubscribe_admits_the_queue(rt: HostRuntime) {
-    plays(
-        &rt,
-        r#""kind":"shared","replay":1,"extra":0,"overflow":"suspend""#,
-        &[
+    },
+    Example {
+        name: "the last unsubscribe admits the queue",
+        flow: r#""kind":"shared","replay":1,"extra":0,"overflow":"suspend""#,
+        steps: &[
             (r#""do":"subscribe","name":"a""#, "subscribed"),
             (r#""do":"emit","name":"d","value":1"#, "done"),
             (r#""do":"emit","name":"e","value":2"#, "queued"),
@@ -193,15 +156,11 @@ fn the_last_unsubscribe_admits_the_queue(rt: HostRuntime) {
             (r#""do":"unsubscribe","name":"a""#, "false"),
             (r#""do":"next","name":"a""#, "gone"),
         ],
-    );
-}
-
-#[test]
-fn a_cancelled_emission_is_never_emitted(rt: HostRuntime) {
-    plays(
-        &rt,
-        r#""kind":"shared","replay":1,"extra":0,"overflow":"suspend""#,
-        &[
+    },
+    Example {
+        name: "a cancelled emission is never emitted",
+        flow: r#""kind":"shared","replay":1,"extra":0,"overflow":"suspend""#,
+        steps: &[
             (r#""do":"subscribe","name":"a""#, "subscribed"),
             (r#""do":"emit","name":"d","value":1"#, "done"),
             (r#""do":"emit","name":"e","value":2"#, "queued"),
@@ -216,15 +175,11 @@ fn a_cancelled_emission_is_never_emitted(rt: HostRuntime) {
             (r#""do":"unsubscribe","name":"a""#, "false"),
             (r#""do":"next","name":"a""#, "gone"),
         ],
-    );
-}
-
-#[test]
-fn a_reset_empties_the_cache_for_new_subscribers(rt: HostRuntime) {
-    plays(
-        &rt,
-        r#""kind":"shared","replay":2,"extra":1,"overflow":"suspend""#,
-        &[
+    },
+    Example {
+        name: "a reset empties the cache for new subscribers",
+        flow: r#""kind":"shared","replay":2,"extra":1,"overflow":"suspend""#,
+        steps: &[
             (r#""do":"subscribe","name":"a""#, "subscribed"),
             (r#""do":"try_emit","value":1"#, "true"),
             (r#""do":"try_emit","value":2"#, "true"),
@@ -240,15 +195,11 @@ fn a_reset_empties_the_cache_for_new_subscribers(rt: HostRuntime) {
             (r#""do":"next","name":"b""#, "value 3"),
             (r#""do":"cache""#, "[3]"),
         ],
-    );
-}
-
-#[test]
-fn a_flow_issues_no_more_numbers_than_its_limit(rt: HostRuntime) {
-    plays(
-        &rt,
-        r#""kind":"shared","replay":1,"extra":1,"overflow":"suspend","limit":3"#,
-        &[
+    },
+    Example {
+        name: "a flow issues no more numbers than its limit",
+        flow: r#""kind":"shared","replay":1,"extra":1,"overflow":"suspend","limit":3"#,
+        steps: &[
             (r#""do":"subscribe","name":"a""#, "subscribed"),
             (r#""do":"try_emit","value":1"#, "true"),
             (r#""do":"try_emit","value":2"#, "true"),
@@ -261,21 +212,5 @@ fn a_flow_issues_no_more_numbers_than_its_limit(rt: HostRuntime) {
             (r#""do":"cancel","name":"e""#, "false"),
             (r#""do":"next","name":"b""#, "gone"),
         ],
-    );
-}
-
-#[test]
-fn a_refused_flow_plays_no_step(rt: HostRuntime) {
-    for (script, line) in [
-        (
-            r#"{"version":1,"flow":{"kind":"shared","replay":0,"extra":0,"overflow":"drop_oldest"},"steps":[{"do":"count"}]}"#,
-            "refused 3 NeedsBuffer\n",
-        ),
-        (
-            r#"{"version":1,"flow":{"kind":"shared","replay":65536,"extra":1,"overflow":"suspend"},"steps":[{"do":"count"}]}"#,
-            "refused 2 TooLarge\n",
-        ),
-    ] {
-        expect(&rt, script.as_bytes(), 0, line);
-    }
-}
+    },
+];

@@ -1,12 +1,9 @@
 //! Readers and writers that give or take little, or fail.
 use crate::program::run;
+use crate::tests::{Host, compare};
 use flow_script::{ScriptLines, Watched, read_script};
-use std::alloc::AllocGlobal;
 use std::io;
 use std::io::{Read, Write};
-use std::process::Abort;
-use std::sync::Wait;
-use std::thread::Threads;
 
 /// Three values into a flow that replays two, and a subscriber.
 pub const SCRIPT: &str =
@@ -88,63 +85,36 @@ impl<'a> Write for Sluggish<'a> {
 }
 
 /// Plays from a reader that fails after so many bytes.
-fn play_from<H: Abort + Threads + Wait + Sync + AllocGlobal>(
-    rt: &H,
-    left: usize,
-    printed: &mut Vec<u8>,
-) -> u8 {
+fn play_from<H: Host>(rt: &H, left: usize, wanted: u8, lines: &[u8]) {
+    let mut printed = Vec::new(rt.alloc());
     let mut input = Watched::new(Trickle {
         bytes: SCRIPT.as_bytes(),
         left,
     });
-    let mut output = Watched::new(printed);
-    run(rt, &[], &mut input, &mut output)
+    let mut output = Watched::new(&mut printed);
+    let status = run(rt, &[], &mut input, &mut output);
+    assert_eq!(rt; status, wanted, "from {left} bytes");
+    compare(rt, "a script in single bytes", printed.as_slice(), lines);
 }
 
 /// Plays to a writer that stops after so many bytes.
-fn play_to<H: Abort + Threads + Wait + Sync + AllocGlobal>(
-    rt: &H,
-    left: usize,
-    fails: bool,
-    taken: &mut Vec<u8>,
-) -> u8 {
-    let mut input = Watched::new(SCRIPT.as_bytes());
-    let mut output = Watched::new(Sluggish { taken, left, fails });
-    run(rt, &[], &mut input, &mut output)
-}
-
-/// The status and what was printed are those that are wanted, where a stream stopped after so many bytes.
-fn compare(rt: &impl Abort, after: usize, status: u8, printed: &[u8], wanted: u8, lines: &[u8]) {
-    assert_eq!(rt; status, wanted, "after {after} bytes");
-    assert_eq!(rt; printed, lines, "after {after} bytes");
-}
-
-#[test]
-fn a_slow_reader_changes_nothing(rt: HostRuntime) {
-    let mut printed = Vec::new(rt.alloc());
-    let status = play_from(&rt, usize::MAX, &mut printed);
-    compare(
-        &rt,
-        usize::MAX,
-        status,
-        printed.as_slice(),
-        0,
-        LINES.as_bytes(),
-    );
-}
-
-#[test]
-fn a_slow_writer_changes_nothing(rt: HostRuntime) {
+fn play_to<H: Host>(rt: &H, left: usize, fails: bool, wanted: u8, lines: &[u8]) {
     let mut taken = Vec::new(rt.alloc());
-    let status = play_to(&rt, usize::MAX, true, &mut taken);
-    compare(
-        &rt,
-        usize::MAX,
-        status,
-        taken.as_slice(),
-        0,
-        LINES.as_bytes(),
-    );
+    let mut input = Watched::new(SCRIPT.as_bytes());
+    let mut output = Watched::new(Sluggish {
+        taken: &mut taken,
+        left,
+        fails,
+    });
+    let status = run(rt, &[], &mut input, &mut output);
+    assert_eq!(rt; status, wanted, "to {left} bytes");
+    compare(rt, "lines in single bytes", taken.as_slice(), lines);
+}
+
+#[test]
+fn a_slow_reader_or_writer_changes_nothing(rt: HostRuntime) {
+    play_from(&rt, usize::MAX, 0, LINES.as_bytes());
+    play_to(&rt, usize::MAX, true, 0, LINES.as_bytes());
 }
 
 #[test]
@@ -154,33 +124,19 @@ fn a_script_that_was_read_has_the_same_lines(rt: HostRuntime) {
     assert_eq!(rt; lines.as_str(), LINES);
 }
 
-/// The reader fails after so many bytes.
-fn fail_after<H: Abort + Threads + Wait + Sync + AllocGlobal>(rt: &H, left: usize) {
-    let mut printed = Vec::new(rt.alloc());
-    let status = play_from(rt, left, &mut printed);
-    compare(rt, left, status, printed.as_slice(), 3, b"read failed\n");
-}
-
 #[test]
 fn a_reader_that_fails_prints_its_line_alone(rt: HostRuntime) {
     for left in 0..=SCRIPT.len() {
-        fail_after(&rt, left);
+        play_from(&rt, left, 3, b"read failed\n");
     }
-}
-
-/// The writer takes these lines, and then fails, or takes no more.
-fn stop_after<H: Abort + Threads + Wait + Sync + AllocGlobal>(rt: &H, lines: &[u8], fails: bool) {
-    let mut taken = Vec::new(rt.alloc());
-    let status = play_to(rt, lines.len(), fails, &mut taken);
-    compare(rt, lines.len(), status, taken.as_slice(), 3, lines);
 }
 
 #[test]
 fn a_writer_that_stops_has_the_first_bytes(rt: HostRuntime) {
     for left in 0..LINES.len() {
         let lines = &LINES.as_bytes()[..left];
-        stop_after(&rt, lines, true);
-        stop_after(&rt, lines, false);
+        play_to(&rt, left, true, 3, lines);
+        play_to(&rt, left, false, 3, lines);
     }
 }
 
@@ -192,6 +148,7 @@ fn a_reader_without_end_is_left(rt: HostRuntime) {
     let mut output = Watched::new(&mut printed);
     let status = run(&rt, &[], &mut input, &mut output);
     let line = b"script refused 8 TooLarge at step 0\n";
-    compare(&rt, given, status, printed.as_slice(), 2, line);
+    compare(&rt, "spaces without end", printed.as_slice(), line);
+    assert_eq!(rt; status, 2);
     assert_eq!(rt; given, 1_048_577);
 }
