@@ -1,8 +1,9 @@
 //! Callers of flows for several threads, of which is proved what they conclude from the contracts of the calls that they make, and
-//! tests of worked examples by one caller and by several threads.
+//! tests of worked examples by one caller and by several threads, of sharings, and of want of memory.
 //!
 //! A worked example is a list of steps, each with what it is to answer. Another module takes the steps. All of it is for tests,
-//! and so proved once, with them.
+//! and so proved once, with them. Tests of what stands on flows for threads stand here, too: each crate of tests is linked, and
+//! proves anew how the values of flows are dropped.
 #![tactic(auto)]
 
 #[cfg(test)]
@@ -18,6 +19,14 @@ mod one_caller;
 #[cfg(test)]
 mod playing;
 #[cfg(test)]
+mod reader;
+#[cfg(test)]
 mod reading;
 #[cfg(test)]
+mod refusals;
+#[cfg(test)]
+mod sharing;
+#[cfg(test)]
 mod state_playing;
+#[cfg(test)]
+mod work;

@@ -1,9 +1,14 @@
 //! One caller of a shared flow, who makes a seat for each emission.
 ghost use Rattle.std.specs.Prelude.{◌≡◌};
 
-use flow_law::{Drained, FlowFault, Next, Refused};
-use flow_shared::{Emission, Emitted, Polled, Seat, SharedFlow, Subscription};
+use crate::reader::Reader;
+use flow_core::SharedCore;
+use flow_law::{FlowFault, Refused};
+use flow_shared::{Emission, Emitted, Polled, Seat, SharedFlow};
 use std::sync::Wait;
+
+/// A subscriber of a shared flow.
+pub type SharedReader<'a> = Reader<'a, SharedCore<i64>>;
 
 /// A caller with a seat of a flow.
 #[derive(Drop)]
@@ -19,14 +24,6 @@ pub struct Waiting<'a> {
     flow: &'a SharedFlow<i64>,
     emission: Emission<i64>,
     ghost of_flow: { emission.token.table_id ≡ flow.now.table_id },
-}
-
-/// A subscriber.
-#[derive(Drop)]
-pub struct Reader<'a> {
-    flow: &'a SharedFlow<i64>,
-    subscription: Subscription<i64>,
-    ghost of_flow: { subscription.token.table_id ≡ flow.now.table_id },
 }
 
 impl<'a> OneCaller<'a> {
@@ -65,12 +62,9 @@ impl<'a> OneCaller<'a> {
         }
     }
 
-    pub fn subscribe<R: Wait>(&mut self, rt: &R) -> Result<Reader<'a>, FlowFault> {
+    pub fn subscribe<R: Wait>(&mut self, rt: &R) -> Result<SharedReader<'a>, FlowFault> {
         match self.flow.subscribe(rt, &mut self.seat) {
-            Ok(subscription) => Ok(Reader {
-                flow: self.flow,
-                subscription,
-            }),
+            Ok(subscription) => Ok(Reader::new(self.flow, subscription)),
             Err(fault) => Err(fault),
         }
     }
@@ -80,12 +74,9 @@ impl<'a> OneCaller<'a> {
         &mut self,
         rt: &R,
         first: Vec<i64>,
-    ) -> Result<Reader<'a>, Refused<Vec<i64>>> {
+    ) -> Result<SharedReader<'a>, Refused<Vec<i64>>> {
         match self.flow.subscribe_with(rt, &mut self.seat, first) {
-            Ok(subscription) => Ok(Reader {
-                flow: self.flow,
-                subscription,
-            }),
+            Ok(subscription) => Ok(Reader::new(self.flow, subscription)),
             Err(refused) => Err(refused),
         }
     }
@@ -117,26 +108,5 @@ impl<'a> Waiting<'a> {
         let Waiting { flow, emission } = self;
         let (_seat, was_waiting) = flow.cancel(rt, emission);
         was_waiting
-    }
-}
-
-impl<'a> Reader<'a> {
-    pub fn next<R: Wait>(&mut self, rt: &R) -> Result<Next<i64>, FlowFault> {
-        self.flow.next(rt, &mut self.subscription)
-    }
-
-    /// Takes at most `most` values to the end of the list.
-    pub fn drain<R: Wait>(
-        &mut self,
-        rt: &R,
-        most: usize,
-        values: &mut Vec<i64>,
-    ) -> Result<Drained, FlowFault> {
-        self.flow.drain(rt, &mut self.subscription, most, values)
-    }
-
-    pub fn unsubscribe<R: Wait>(self, rt: &R) {
-        let Reader { flow, subscription } = self;
-        let _seat = flow.unsubscribe(rt, subscription);
     }
 }

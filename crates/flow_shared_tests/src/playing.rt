@@ -1,6 +1,6 @@
 //! Steps on a shared flow by one caller, each with what it is to answer.
 use crate::compare::compare;
-use crate::one_caller::{OneCaller, Reader, Waiting};
+use crate::one_caller::{OneCaller, SharedReader, Waiting};
 use flow_law::{Config, Drained, FlowFault, Next, Overflow, Refused};
 use flow_shared::SharedFlow;
 use std::alloc::Global;
@@ -62,7 +62,7 @@ pub enum Step {
 struct Player<'a> {
     caller: OneCaller<'a>,
     emissions: Vec<Option<Waiting<'a>>>,
-    readers: Vec<Option<Reader<'a>>>,
+    readers: Vec<Option<SharedReader<'a>>>,
     drained: Vec<i64>,
 }
 
@@ -96,12 +96,8 @@ impl<'a> Player<'a> {
         waits
     }
 
-    fn cancel<R: Wait + Abort>(&mut self, rt: &R, index: usize) -> bool {
-        take(rt, &mut self.emissions, index).cancel(rt)
-    }
-
     /// Names the next subscriber.
-    fn add(&mut self, rt: &impl Abort, reader: Reader<'a>) {
+    fn add(&mut self, rt: &impl Abort, reader: SharedReader<'a>) {
         let Ok(()) = self.readers.push(Some(reader)) else {
             panic!(rt; "memory")
         };
@@ -151,14 +147,6 @@ impl<'a> Player<'a> {
         }
     }
 
-    fn unsubscribe<R: Wait + Abort>(&mut self, rt: &R, index: usize) {
-        take(rt, &mut self.readers, index).unsubscribe(rt);
-    }
-
-    fn cache<R: Wait + Abort>(&mut self, rt: &R) -> Vec<i64> {
-        self.caller.replay_cache(rt).expect(rt, "memory")
-    }
-
     /// Takes a step, and compares what it answers.
     fn take<R: Wait + Abort>(&mut self, rt: &R, alloc: Global, place: usize, step: &Step) {
         match step {
@@ -167,7 +155,10 @@ impl<'a> Player<'a> {
             }
             Step::Emit(value, waits) => compare(rt, place, self.emit(rt, *value), *waits),
             Step::Poll(index, waits) => compare(rt, place, Ok(self.poll(rt, *index)), *waits),
-            Step::Cancel(index, waited) => compare(rt, place, Ok(self.cancel(rt, *index)), *waited),
+            Step::Cancel(index, waited) => {
+                let answer = take(rt, &mut self.emissions, *index).cancel(rt);
+                compare(rt, place, Ok(answer), *waited);
+            }
             Step::DropEmission(index) => drop(take(rt, &mut self.emissions, *index)),
             Step::Subscribe => compare(rt, place, self.subscribe(rt), Ok(())),
             Step::SubscribeRefused(fault) => compare(rt, place, self.subscribe(rt), Err(*fault)),
@@ -188,9 +179,12 @@ impl<'a> Player<'a> {
                 );
             }
             Step::Next(index, next) => compare(rt, place, self.next(rt, *index).as_ref(), Ok(next)),
-            Step::Unsubscribe(index) => self.unsubscribe(rt, *index),
+            Step::Unsubscribe(index) => take(rt, &mut self.readers, *index).unsubscribe(rt),
             Step::DropSubscription(index) => drop(take(rt, &mut self.readers, *index)),
-            Step::Cache(values) => compare(rt, place, self.cache(rt).as_slice(), *values),
+            Step::Cache(values) => {
+                let cache = self.caller.replay_cache(rt).expect(rt, "memory");
+                compare(rt, place, cache.as_slice(), *values);
+            }
             Step::Reset => self.caller.reset_replay_cache(rt),
             Step::Count(count) => compare(rt, place, self.caller.subscription_count(rt), *count),
             Step::Drain(index, most, ended) => {
@@ -221,9 +215,10 @@ fn answers<R: Wait + Abort>(rt: &R, alloc: Global, first: usize, example: &Examp
     }
 }
 
-/// Plays the examples. Step 7 of the example 3 has the place 307.
-pub fn play<R: Wait + Abort>(rt: &R, alloc: Global, examples: &[Example]) {
+/// Plays the examples. Step 7 of the example 3 has the place 307, from this one on.
+pub fn play<R: Wait + Abort>(rt: &R, alloc: Global, first: usize, examples: &[Example]) {
     for number in 0..examples.len() {
-        answers(rt, alloc, number.saturating_mul(100), &examples[number]);
+        let place = first.saturating_add(number.saturating_mul(100));
+        answers(rt, alloc, place, &examples[number]);
     }
 }

@@ -2,8 +2,10 @@
 ghost use Rattle.std.specs.Prelude.{◌≡◌};
 
 use crate::compare::compare;
+use crate::reader::Reader;
+use flow_core::StateCore;
 use flow_law::{Drained, FlowFault, Next};
-use flow_shared::{StateFlow, StateSeat, StateSubscription};
+use flow_shared::{StateFlow, StateSeat};
 use std::alloc::Global;
 use std::process::Abort;
 use std::sync::Wait;
@@ -31,9 +33,9 @@ pub enum StateStep {
 pub struct StatePlayer<'a> {
     flow: &'a StateFlow<i64>,
     seat: StateSeat<i64>,
-    reader: StateSubscription<i64>,
+    reader: Reader<'a, StateCore<i64>>,
     drained: Vec<i64>,
-    ghost of_flow: { (seat.table_id ≡ flow.now.table_id) × (reader.token.table_id ≡ flow.now.table_id) },
+    ghost of_flow: { seat.table_id ≡ flow.now.table_id },
 }
 
 impl<'a> StatePlayer<'a> {
@@ -48,85 +50,63 @@ impl<'a> StatePlayer<'a> {
     {
         let mut seat = seat;
         match flow.subscribe(rt, &mut seat) {
-            Ok(reader) => Ok(StatePlayer {
+            Ok(subscription) => Ok(StatePlayer {
                 flow,
                 seat,
-                reader,
+                reader: Reader::new(flow, subscription),
                 drained: Vec::new(alloc),
             }),
             Err(fault) => Err(fault),
         }
     }
 
-    fn next<R: Wait>(&mut self, rt: &R) -> Result<Next<i64>, FlowFault> {
-        self.flow.next(rt, &mut self.reader)
-    }
-
-    fn value<R: Wait>(&mut self, rt: &R) -> Result<i64, FlowFault> {
-        self.flow.value(rt, &mut self.seat)
-    }
-
-    fn set<R: Wait>(&mut self, rt: &R, value: i64) {
-        self.flow.set(rt, &mut self.seat, value);
-    }
-
-    fn try_emit<R: Wait>(&mut self, rt: &R, value: i64) -> bool {
-        self.flow.try_emit(rt, &mut self.seat, value)
-    }
-
-    fn compare_and_set<R: Wait>(&mut self, rt: &R, expect: i64, update: i64) -> bool {
-        self.flow
-            .compare_and_set(rt, &mut self.seat, &expect, update)
-    }
-
-    fn cache<R: Wait + Abort>(&mut self, rt: &R) -> Vec<i64> {
-        let cache = self.flow.replay_cache(rt, &mut self.seat);
-        cache.expect(rt, "memory")
-    }
-
-    fn reset<R: Wait>(&mut self, rt: &R) -> Result<(), FlowFault> {
-        self.flow.reset_replay_cache(rt, &mut self.seat)
-    }
-
-    fn count<R: Wait>(&mut self, rt: &R) -> u64 {
-        self.flow.subscription_count(rt, &mut self.seat)
-    }
-
-    fn drain<R: Wait>(&mut self, rt: &R, most: usize) -> Result<Drained, FlowFault> {
-        self.flow
-            .drain(rt, &mut self.reader, most, &mut self.drained)
-    }
-
     /// Takes a step, and compares what it answers.
     fn take<R: Wait + Abort>(&mut self, rt: &R, place: usize, step: &StateStep) {
+        let flow = self.flow;
         match step {
-            StateStep::Current(value) => compare(rt, place, self.value(rt), Ok(*value)),
-            StateStep::Set(value) => self.set(rt, *value),
+            StateStep::Current(value) => {
+                compare(rt, place, flow.value(rt, &mut self.seat), Ok(*value));
+            }
+            StateStep::Set(value) => flow.set(rt, &mut self.seat, *value),
             StateStep::TryEmit(value, taken) => {
-                compare(rt, place, self.try_emit(rt, *value), *taken);
+                compare(rt, place, flow.try_emit(rt, &mut self.seat, *value), *taken);
             }
             StateStep::CompareAndSet(expect, update, is_set) => {
-                let answer = self.compare_and_set(rt, *expect, *update);
+                let answer = flow.compare_and_set(rt, &mut self.seat, expect, *update);
                 compare(rt, place, answer, *is_set);
             }
-            StateStep::Next(next) => compare(rt, place, self.next(rt).as_ref(), Ok(next)),
-            StateStep::Cache(values) => compare(rt, place, self.cache(rt).as_slice(), *values),
-            StateStep::ResetRefused(fault) => compare(rt, place, self.reset(rt), Err(*fault)),
-            StateStep::Count(count) => compare(rt, place, self.count(rt), *count),
-            StateStep::Drain(most, ended) => compare(rt, place, self.drain(rt, *most), Ok(*ended)),
+            StateStep::Next(next) => {
+                compare(rt, place, self.reader.next(rt).as_ref(), Ok(next));
+            }
+            StateStep::Cache(values) => {
+                let cache = flow.replay_cache(rt, &mut self.seat);
+                compare(rt, place, cache.expect(rt, "memory").as_slice(), *values);
+            }
+            StateStep::ResetRefused(fault) => {
+                let answer = flow.reset_replay_cache(rt, &mut self.seat);
+                compare(rt, place, answer, Err(*fault));
+            }
+            StateStep::Count(count) => {
+                let answer = flow.subscription_count(rt, &mut self.seat);
+                compare(rt, place, answer, *count);
+            }
+            StateStep::Drain(most, ended) => {
+                let drained = self.reader.drain(rt, *most, &mut self.drained);
+                compare(rt, place, drained, Ok(*ended));
+            }
             StateStep::Values(values) => compare(rt, place, self.drained.as_slice(), *values),
         }
     }
 }
 
-/// Takes the steps on a new flow with this value, and compares what they answer. A wrong answer is told by the place of
-/// its step, from 0.
-pub fn state_answers<R: Wait + Abort>(rt: &R, alloc: Global, initial: i64, steps: &[StateStep]) {
-    let (flow, seat) = StateFlow::new(alloc, initial, u64::MAX).expect(rt, "a flow");
+/// Takes the steps on a new flow at 0, and compares what they answer. A wrong answer is told by the place of its step, from
+/// this one on.
+pub fn state_answers<R: Wait + Abort>(rt: &R, alloc: Global, first: usize, steps: &[StateStep]) {
+    let (flow, seat) = StateFlow::new(alloc, 0, u64::MAX).expect(rt, "a flow");
     let Ok(mut player) = StatePlayer::new(rt, alloc, &flow, seat) else {
         panic!(rt; "a subscription")
     };
     for place in 0..steps.len() {
-        player.take(rt, place, &steps[place]);
+        player.take(rt, first.saturating_add(place), &steps[place]);
     }
 }

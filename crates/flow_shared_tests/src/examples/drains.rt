@@ -1,11 +1,11 @@
 //! Draining flows, by one caller.
 use crate::playing::Step::{Drain, Subscribe, TryEmit, Values};
-use crate::playing::{Example, UNBUFFERED, play};
-use crate::state_playing::{StateStep, state_answers};
+use crate::playing::{Example, UNBUFFERED};
+use crate::state_playing::StateStep;
 use flow_law::Config;
 use flow_law::Drained::{Empty, Most};
 
-const EXAMPLES: &[Example] = &[
+pub const EXAMPLES: &[Example] = &[
     // A shared flow gives all that is there.
     Example {
         config: Config {
@@ -23,21 +23,9 @@ const EXAMPLES: &[Example] = &[
     },
 ];
 
-#[test]
-fn a_shared_flow_gives_all_that_is_there(rt: HostRuntime) {
-    play(&rt, rt.alloc(), EXAMPLES);
-}
-
-#[test]
-fn a_state_flow_gives_its_value_once(rt: HostRuntime) {
-    state_answers(
-        &rt,
-        rt.alloc(),
-        0,
-        &[
-            StateStep::Set(5),
-            StateStep::Drain(9, Empty),
-            StateStep::Values(&[5]),
-        ],
-    );
-}
+/// A state flow gives its value once.
+pub const STATE_EXAMPLE: &[StateStep] = &[
+    StateStep::Set(5),
+    StateStep::Drain(9, Empty),
+    StateStep::Values(&[5]),
+];

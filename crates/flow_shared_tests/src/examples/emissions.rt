@@ -3,11 +3,11 @@ use crate::playing::Step::{
     Cache, Cancel, Count, DropEmission, DropSubscription, Emit, Next, Poll, Subscribe, TryEmit,
     Unsubscribe,
 };
-use crate::playing::{DONE, Example, UNBUFFERED, WAITS, play};
+use crate::playing::{DONE, Example, UNBUFFERED, WAITS};
 use flow_law::Next::{Empty, Value};
 use flow_law::{Config, Overflow};
 
-const EXAMPLES: &[Example] = &[
+pub const EXAMPLES: &[Example] = &[
     // Try emit does not wait.
     Example {
         config: Config {
@@ -194,8 +194,3 @@ const EXAMPLES: &[Example] = &[
         ],
     },
 ];
-
-#[test]
-fn emissions_are_as_documented(rt: HostRuntime) {
-    play(&rt, rt.alloc(), EXAMPLES);
-}

@@ -2,12 +2,12 @@
 use crate::playing::Step::{
     Cache, Cancel, Emit, Next, Poll, SubscribeWith, SubscribeWithRefused, TryEmit,
 };
-use crate::playing::{DONE, Example, UNBUFFERED, WAITS, play};
+use crate::playing::{DONE, Example, UNBUFFERED, WAITS};
 use flow_law::FlowFault::Exhausted;
 use flow_law::Next::{Empty, Value};
 use flow_law::{Config, Overflow};
 
-const EXAMPLES: &[Example] = &[
+pub const EXAMPLES: &[Example] = &[
     // Own values come before the cache and are never dropped.
     Example {
         config: Config {
@@ -62,8 +62,3 @@ const EXAMPLES: &[Example] = &[
         steps: &[SubscribeWithRefused(&[1, 2], Exhausted)],
     },
 ];
-
-#[test]
-fn own_values_come_as_documented(rt: HostRuntime) {
-    play(&rt, rt.alloc(), EXAMPLES);
-}

@@ -1,12 +1,13 @@
 //! Calls that race: whichever comes first, what is documented of the flow comes of both.
 use crate::compare::compare;
-use crate::one_caller::{OneCaller, Reader, Waiting};
+use crate::one_caller::{OneCaller, SharedReader as Reader, Waiting};
 use crate::playing::UNBUFFERED;
+use crate::work::{Work, run_all};
 use flow_law::{Config, FlowFault, Next};
 use flow_shared::SharedFlow;
 use std::process::Abort;
 use std::sync::Wait;
-use std::thread::{Threads, for_each_mut, join, yield_now};
+use std::thread::{Threads, join, yield_now};
 
 /// How often two calls race.
 const ROUNDS: u32 = 100;
@@ -102,7 +103,9 @@ impl<'a> Racer<'a> {
             has_ended: false,
         }
     }
+}
 
+impl<'a> Work for Racer<'a> {
     fn run<R: Wait>(&mut self, rt: &R) {
         self.has_ended = match self.reader.take() {
             Some(reader) => {
@@ -165,7 +168,9 @@ fn emitters_go_on_when_the_subscriber_leaves(rt: HostRuntime) {
     let (flow, seat) = SharedFlow::new(rt.alloc(), config).expect(&rt, "a flow");
     let mut caller = OneCaller::new(&flow, seat);
     let mut racers = racers(&rt, &mut caller);
-    for_each_mut(&rt, &mut racers, 4, &|_, racer| racer.run(&rt));
-    compare(&rt, 1, racers.iter().all(|racer| racer.has_ended), true);
+    run_all(&rt, &mut racers);
+    for racer in &racers {
+        compare(&rt, 1, racer.has_ended, true);
+    }
     check_flow(&rt, &mut caller);
 }

@@ -1,35 +1,36 @@
 //! A state flow, by one caller. The values come from kotlinx.coroutines' documentation of `MutableStateFlow`.
 use crate::compare::compare;
+use crate::examples::drains::STATE_EXAMPLE;
 use crate::state_playing::StateStep::{
     Cache, CompareAndSet, Count, Current, Next, ResetRefused, Set, TryEmit,
 };
-use crate::state_playing::{StatePlayer, state_answers};
+use crate::state_playing::{StatePlayer, StateStep, state_answers};
 use flow_law::FlowFault;
 use flow_law::Next::{Empty, Value};
 use flow_shared::StateFlow;
 
+/// A subscriber gets no value twice in a row.
+const EXAMPLE: &[StateStep] = &[
+    Next(Value(0)),
+    Set(1),
+    Set(0),
+    Next(Empty),
+    CompareAndSet(0, 0, true),
+    CompareAndSet(1, 2, false),
+    Set(5),
+    Next(Value(5)),
+    Cache(&[5]),
+    ResetRefused(FlowFault::Unsupported),
+    TryEmit(6, true),
+    Current(6),
+    Count(1),
+];
+
 #[test]
-fn a_subscriber_gets_no_value_twice_in_a_row(rt: HostRuntime) {
-    state_answers(
-        &rt,
-        rt.alloc(),
-        0,
-        &[
-            Next(Value(0)),
-            Set(1),
-            Set(0),
-            Next(Empty),
-            CompareAndSet(0, 0, true),
-            CompareAndSet(1, 2, false),
-            Set(5),
-            Next(Value(5)),
-            Cache(&[5]),
-            ResetRefused(FlowFault::Unsupported),
-            TryEmit(6, true),
-            Current(6),
-            Count(1),
-        ],
-    );
+fn state_flows_are_as_documented(rt: HostRuntime) {
+    for (first, steps) in [(0, EXAMPLE), (100, STATE_EXAMPLE)] {
+        state_answers(&rt, rt.alloc(), first, steps);
+    }
 }
 
 #[test]

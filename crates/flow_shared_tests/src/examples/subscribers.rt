@@ -1,5 +1,6 @@
 //! What subscribers receive, and what is refused.
 use crate::compare::compare;
+use crate::examples::{drains, emissions, own_values};
 use crate::playing::Step::{Cache, Count, Emit, Next, Reset, Subscribe, SubscribeRefused, TryEmit};
 use crate::playing::{DONE, Example, UNBUFFERED, play};
 use flow_law::FlowFault::{Exhausted, NeedsBuffer, TooLarge};
@@ -7,7 +8,7 @@ use flow_law::Next::{Empty, Value};
 use flow_law::{Config, Overflow};
 use flow_shared::SharedFlow;
 
-const EXAMPLES: &[Example] = &[
+pub const EXAMPLES: &[Example] = &[
     // Nobody receives what was emitted before.
     Example {
         config: UNBUFFERED,
@@ -103,8 +104,15 @@ const EXAMPLES: &[Example] = &[
 ];
 
 #[test]
-fn subscribers_receive_as_documented(rt: HostRuntime) {
-    play(&rt, rt.alloc(), EXAMPLES);
+fn shared_flows_are_as_documented(rt: HostRuntime) {
+    for (first, examples) in [
+        (0, EXAMPLES),
+        (10_000, emissions::EXAMPLES),
+        (20_000, own_values::EXAMPLES),
+        (30_000, drains::EXAMPLES),
+    ] {
+        play(&rt, rt.alloc(), first, examples);
+    }
 }
 
 #[test]

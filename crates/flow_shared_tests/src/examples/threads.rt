@@ -3,16 +3,17 @@ ghost use Rattle.std.specs.Prelude.{◌≡◌, IfSome};
 
 use crate::compare::compare;
 use crate::reading::set_and_read;
-use flow_law::{Config, FlowFault, Next, Refused};
+use crate::work::{Work, run_all};
+use flow_law::{Config, Next};
 use flow_shared::{
     Emitted, PolledNow, Seat, SharedFlow, StateFlow, StateSeat, StateSubscription, Subscription,
 };
 use std::alloc::Global;
 use std::process::Abort;
 use std::sync::Wait;
-use std::thread::join;
+use std::thread::{Threads, join};
 
-fn new_flow(rt: &impl Abort, alloc: Global, config: Config) -> (SharedFlow<i64>, Seat<i64>)
+pub fn new_flow(rt: &impl Abort, alloc: Global, config: Config) -> (SharedFlow<i64>, Seat<i64>)
     ensures { result.1.table_id ≡ result.0.table_id }
 {
     SharedFlow::new(alloc, config).expect(rt, "a flow")
@@ -41,36 +42,47 @@ fn emit_once<R: Wait>(
     }
 }
 
+/// One thread emits a value through a new seat, which is handed back, and another one counts the subscribers.
+pub fn emit_on_a_thread<R: Threads + Wait + Abort + Sync>(
+    rt: &R,
+    flow: &SharedFlow<i64>,
+    seat: Seat<i64>,
+    value: i64,
+    subscribers: u64,
+) -> Seat<i64>
+    requires { seat.table_id ≡ flow.now.table_id }
+    ensures { result.table_id ≡ flow.entry.now.table_id }
+{
+    let mut seat = seat;
+    let other = flow.seat(&mut seat);
+    let (ended, count) = join(
+        rt,
+        || -> Option<Seat<i64>>
+            requires { other.table_id ≡ flow.now.table_id }
+            ensures { IfSome result (λ seat. seat.table_id ≡ flow.entry.now.table_id) }
+        { emit_once(rt, flow, other, value) },
+        || -> u64
+            requires { seat.table_id ≡ flow.now.table_id }
+        {
+            let mut seat = seat;
+            flow.subscription_count(rt, &mut seat)
+        },
+    );
+    compare(rt, 0, count, subscribers);
+    match ended {
+        Some(seat) => seat,
+        None => panic!(rt; "there is room"),
+    }
+}
+
 #[test]
 fn what_a_thread_emitted_is_received(rt: HostRuntime) {
     let (flow, mut seat) = new_flow(&rt, rt.alloc(), Config::new().extra(4));
-    let other = flow.seat(&mut seat);
     let mut subscription = flow.subscribe(&rt, &mut seat).expect(&rt, "a subscription");
-    let shared = &flow;
-    let (ended, count) = join(
-        &rt,
-        || -> Option<Seat<i64>>
-            requires { other.table_id ≡ shared.now.table_id }
-            ensures { IfSome result (λ seat. seat.table_id ≡ shared.entry.now.table_id) }
-        { emit_once(&rt, shared, other, 8) },
-        || -> u64
-            requires { seat.table_id ≡ shared.now.table_id }
-        {
-            let mut seat = seat;
-            shared.subscription_count(&rt, &mut seat)
-        },
-    );
-    compare(&rt, 0, count, 1);
-    let Some(mut ended) = ended else {
-        panic!(rt; "there is room")
-    };
+    let mut ended = emit_on_a_thread(&rt, &flow, seat, 8, 1);
     flow.meet_subscription(&mut subscription, &mut ended);
-    compare(
-        &rt,
-        1,
-        flow.next(&rt, &mut subscription),
-        Ok(Next::Value(8)),
-    );
+    let received = flow.next(&rt, &mut subscription);
+    compare(&rt, 1, received, Ok(Next::Value(8)));
 }
 
 /// A value is emitted and received, twice, at once.
@@ -149,28 +161,47 @@ fn an_emission_is_polled_and_cancelled_at_once(rt: HostRuntime) {
     poll_and_cancel(&rt, &flow, seat);
 }
 
+/// Who sets a value, and reads the current one.
+#[derive(Drop)]
+struct Setter<'a> {
+    flow: &'a StateFlow<i64>,
+    seat: StateSeat<i64>,
+    value: i64,
+    /// 0 until it has read.
+    found: i64,
+    ghost of_flow: { seat.table_id ≡ flow.now.table_id },
+}
+
+impl<'a> Setter<'a> {
+    fn new(flow: &'a StateFlow<i64>, seat: StateSeat<i64>, value: i64) -> Setter<'a>
+        requires { seat.table_id ≡ flow.now.table_id }
+    {
+        Setter {
+            flow,
+            seat,
+            value,
+            found: 0,
+        }
+    }
+}
+
+impl<'a> Work for Setter<'a> {
+    fn run<R: Wait>(&mut self, rt: &R) {
+        if let Ok(found) = set_and_read(rt, self.flow, &mut self.seat, self.value) {
+            self.found = found;
+        }
+    }
+}
+
 #[test]
 fn a_thread_reads_what_it_set_or_what_another_set(rt: HostRuntime) {
     let (flow, mut seat) = new_state_flow(&rt, rt.alloc());
     let other = flow.seat(&mut seat);
-    let shared = &flow;
-    let (found, also) = join(
-        &rt,
-        || -> Result<i64, FlowFault>
-            requires { seat.table_id ≡ shared.now.table_id }
-        {
-            let mut seat = seat;
-            set_and_read(&rt, shared, &mut seat, 9)
-        },
-        || -> Result<i64, FlowFault>
-            requires { other.table_id ≡ shared.now.table_id }
-        {
-            let mut other = other;
-            set_and_read(&rt, shared, &mut other, 4)
-        },
-    );
-    assert!(rt; found == Ok(9) || found == Ok(4));
-    assert!(rt; also == Ok(9) || also == Ok(4));
+    let mut setters = [Setter::new(&flow, seat, 9), Setter::new(&flow, other, 4)];
+    run_all(&rt, &mut setters);
+    for setter in &setters {
+        compare(&rt, 0, setter.found == 9 || setter.found == 4, true);
+    }
 }
 
 /// Sets a value at once, where nobody subscribes.

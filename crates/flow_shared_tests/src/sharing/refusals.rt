@@ -1,25 +1,22 @@
 //! What a flow that refuses, queues or is busy leaves of a turn, and how often a chain is asked. Over a flow for one
 //! thread some of it cannot come: without subscribers nothing waits there, and it is never busy.
-use crate::refusal_steps::Step::{
+use crate::sharing::refusal_steps::Step::{
     Accepted, Asked, Behave, Refused, Resets, Subscribers, Turn, Waits,
 };
-use crate::refusal_steps::answers;
-use crate::test_hub::Behaviour::{Accepts, KeepsCache, KeepsEmissions, Queues, Refuses};
+use crate::sharing::refusal_steps::{Example, play};
+use crate::sharing::test_hub::Behaviour::{Accepts, KeepsCache, KeepsEmissions, Queues, Refuses};
 use flow_law::Command::{Keep, Start, Stop, StopAndReset};
 use flow_law::FlowFault::{Busy, OutOfMemory};
 use flow_law::NEVER;
 use flow_law::report::Event::{self, Completed, Idle, Put, Queued, Waiting};
 use flow_law::report::ShareFault::Flow;
 
-/// A kept item is put again in the next turn. At a stop it is dropped, and the chain starts from its first item.
-#[test]
-fn drops_the_kept_item_at_a_stop(rt: HostRuntime) {
-    answers(
-        &rt,
-        rt.alloc(),
-        NEVER,
-        &[1, 2, 3],
-        &[
+const EXAMPLES: &[Example] = &[
+    // A kept item is put again in the next turn. At a stop it is dropped, and the chain starts from its first item.
+    Example {
+        expire: NEVER,
+        items: &[1, 2, 3],
+        steps: &[
             Turn(0, Start, Put),
             Behave(Refuses(OutOfMemory)),
             Refused(1, Flow(OutOfMemory)),
@@ -36,18 +33,12 @@ fn drops_the_kept_item_at_a_stop(rt: HostRuntime) {
             Turn(6, Start, Put),
             Accepted(&[1, 2, 1]),
         ],
-    );
-}
-
-/// An emission that waits is cancelled at a stop.
-#[test]
-fn cancels_the_waiting_emission_at_a_stop(rt: HostRuntime) {
-    answers(
-        &rt,
-        rt.alloc(),
-        NEVER,
-        &[1, 2],
-        &[
+    },
+    // An emission that waits is cancelled at a stop.
+    Example {
+        expire: NEVER,
+        items: &[1, 2],
+        steps: &[
             Turn(0, Start, Put),
             Behave(Queues),
             Turn(1, Keep, Queued),
@@ -57,18 +48,12 @@ fn cancels_the_waiting_emission_at_a_stop(rt: HostRuntime) {
             Waits(false),
             Accepted(&[1]),
         ],
-    );
-}
-
-/// A cancel that a busy flow did not make is made in the next turn.
-#[test]
-fn cancels_once_the_flow_is_free(rt: HostRuntime) {
-    answers(
-        &rt,
-        rt.alloc(),
-        NEVER,
-        &[1, 2],
-        &[
+    },
+    // A cancel that a busy flow did not make is made in the next turn.
+    Example {
+        expire: NEVER,
+        items: &[1, 2],
+        steps: &[
             Turn(0, Start, Put),
             Behave(Queues),
             Turn(1, Keep, Queued),
@@ -82,18 +67,12 @@ fn cancels_once_the_flow_is_free(rt: HostRuntime) {
             Waits(false),
             Accepted(&[1]),
         ],
-    );
-}
-
-/// A chain that has ended normally is asked again only after a stop and a start.
-#[test]
-fn asks_a_completed_chain_after_a_start_alone(rt: HostRuntime) {
-    answers(
-        &rt,
-        rt.alloc(),
-        NEVER,
-        &[1],
-        &[
+    },
+    // A chain that has ended normally is asked again only after a stop and a start.
+    Example {
+        expire: NEVER,
+        items: &[1],
+        steps: &[
             Turn(0, Start, Put),
             Turn(1, Keep, Completed),
             Asked(2),
@@ -105,19 +84,13 @@ fn asks_a_completed_chain_after_a_start_alone(rt: HostRuntime) {
             Turn(4, Start, Put),
             Asked(3),
         ],
-    );
-}
-
-/// What a busy flow did not do is done once it is free: the cancel first, and then the reset, once. A subscriber who comes
-/// meanwhile starts the chain after it.
-#[test]
-fn resets_once_the_flow_is_free(rt: HostRuntime) {
-    answers(
-        &rt,
-        rt.alloc(),
-        0,
-        &[1, 2],
-        &[
+    },
+    // What a busy flow did not do is done once it is free: the cancel first, and then the reset, once. A subscriber who comes
+    // meanwhile starts the chain after it.
+    Example {
+        expire: 0,
+        items: &[1, 2],
+        steps: &[
             Turn(0, Start, Put),
             Behave(Queues),
             Turn(1, Keep, Queued),
@@ -138,5 +111,10 @@ fn resets_once_the_flow_is_free(rt: HostRuntime) {
             Resets(1),
             Accepted(&[1, 1, 2]),
         ],
-    );
+    },
+];
+
+#[test]
+fn refusals_are_as_documented(rt: HostRuntime) {
+    play(&rt, rt.alloc(), EXAMPLES);
 }

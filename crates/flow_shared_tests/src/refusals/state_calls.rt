@@ -9,9 +9,10 @@ pub enum Call {
     Next(Option<i64>),
     Value(i64),
     Cache(&'static [i64]),
+    Count(u64),
 }
 
-use Call::{Cache, Next, Set, Subscribe, Value};
+use Call::{Cache, Count, Next, Set, Subscribe, Value};
 
 /// A subscriber comes at 0, and skips the 1.
 pub const SKIPPING: &[(Call, bool)] = &[
@@ -23,4 +24,5 @@ pub const SKIPPING: &[(Call, bool)] = &[
     (Next(None), false),
     (Cache(&[5]), true),
     (Value(5), true),
+    (Count(1), false),
 ];

@@ -2,8 +2,8 @@
 ghost use Rattle.std.specs.Prelude.{◌≡◌};
 
 use crate::compare::compare;
-use crate::shared_calls::SMALL;
-use crate::values::value_of;
+use crate::refusals::shared_calls::SMALL;
+use crate::refusals::values::value_of;
 use flow_law::{Boxed, FlowFault};
 use flow_shared::{EmitFuture, NextFuture, Seat, Sent, SharedFlow, Subscription};
 use flow_testing::Refusing;

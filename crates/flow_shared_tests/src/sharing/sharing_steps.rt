@@ -1,10 +1,9 @@
 //! Steps of a sharing and of its flow's subscribers, each with what it is to answer.
 use crate::compare::compare;
-use flow_cold::{OfList, OfRange, ScriptChain, Source};
+use flow_cold::ScriptChain;
 use flow_law::report::{Event, Report, ShareFault};
 use flow_law::{Command, FlowFault, Next};
 use flow_sharing::{Hub, Sharing};
-use std::alloc::Global;
 use std::ops::RangeInclusive;
 use std::process::Abort;
 use std::sync::Wait;
@@ -42,17 +41,6 @@ pub trait Subscribers<H>: Drop {
     fn cache<R: Wait + Abort>(&mut self, rt: &R, hub: &mut H) -> Result<Vec<i64>, FlowFault>;
 }
 
-/// The chain of a list.
-pub fn list(rt: &impl Abort, alloc: Global, items: &[i64]) -> ScriptChain {
-    let items = items.to_vec(alloc).expect(rt, "memory");
-    ScriptChain::source(Source::List(OfList::new(items)))
-}
-
-/// The chain of the numbers from 1 to 66.
-pub fn sixty_six() -> ScriptChain {
-    ScriptChain::source(Source::Range(OfRange::new(1, 66)))
-}
-
 /// A sharing and its flow's subscribers.
 #[derive(Drop)]
 struct Shared<H: Hub<Item = i64>, S: Subscribers<H>> {
@@ -61,36 +49,14 @@ struct Shared<H: Hub<Item = i64>, S: Subscribers<H>> {
 }
 
 impl<H: Hub<Item = i64>, S: Subscribers<H>> Shared<H, S> {
-    fn turn(&mut self, now: u64) -> Result<Report, ShareFault> {
-        self.sharing.turn(now)
-    }
-
-    fn subscribe<R: Wait + Abort>(&mut self, rt: &R) {
-        self.subscribers.subscribe(rt, self.sharing.hub_mut());
-    }
-
-    fn next<R: Wait + Abort>(&mut self, rt: &R, index: usize) -> Result<Next<i64>, FlowFault> {
-        self.subscribers.next(rt, self.sharing.hub_mut(), index)
-    }
-
-    fn unsubscribe<R: Wait + Abort>(&mut self, rt: &R, index: usize) -> bool {
-        self.subscribers
-            .unsubscribe(rt, self.sharing.hub_mut(), index)
-    }
-
-    fn cache<R: Wait + Abort>(&mut self, rt: &R) -> Vec<i64> {
-        self.subscribers
-            .cache(rt, self.sharing.hub_mut())
-            .expect(rt, "memory")
-    }
-
-    fn count(&mut self) -> Result<u64, FlowFault> {
-        self.sharing.hub_mut().count()
-    }
-
     /// Takes a turn, and compares what it reports.
     fn report(&mut self, rt: &impl Abort, place: usize, now: u64, command: Command, event: Event) {
-        compare(rt, place, self.turn(now), Ok(Report { command, event }));
+        compare(
+            rt,
+            place,
+            self.sharing.turn(now),
+            Ok(Report { command, event }),
+        );
     }
 
     /// Takes a turn at each moment, and compares what they report.
@@ -114,20 +80,40 @@ impl<H: Hub<Item = i64>, S: Subscribers<H>> Shared<H, S> {
             Step::Turns(first, last, command, event) => {
                 self.reports(rt, place, *first..=*last, *command, *event);
             }
-            Step::Refused(now, fault) => compare(rt, place, self.turn(*now), Err(*fault)),
-            Step::Subscribe => self.subscribe(rt),
-            Step::Next(index, next) => compare(rt, place, self.next(rt, *index).as_ref(), Ok(next)),
-            Step::Unsubscribe(index) => compare(rt, place, self.unsubscribe(rt, *index), true),
-            Step::Cache(values) => compare(rt, place, self.cache(rt).as_slice(), *values),
-            Step::Count(count) => compare(rt, place, self.count(), Ok(*count)),
+            Step::Refused(now, fault) => {
+                compare(rt, place, self.sharing.turn(*now), Err(*fault));
+            }
+            Step::Subscribe => self.subscribers.subscribe(rt, self.sharing.hub_mut()),
+            Step::Next(index, next) => {
+                let hub = self.sharing.hub_mut();
+                let answer = self.subscribers.next(rt, hub, *index);
+                compare(rt, place, answer.as_ref(), Ok(next));
+            }
+            Step::Unsubscribe(index) => {
+                let hub = self.sharing.hub_mut();
+                compare(
+                    rt,
+                    place,
+                    self.subscribers.unsubscribe(rt, hub, *index),
+                    true,
+                );
+            }
+            Step::Cache(values) => {
+                let cache = self.subscribers.cache(rt, self.sharing.hub_mut());
+                compare(rt, place, cache.expect(rt, "memory").as_slice(), *values);
+            }
+            Step::Count(count) => {
+                compare(rt, place, self.sharing.hub_mut().count(), Ok(*count));
+            }
         }
     }
 }
 
-/// Takes the steps of a new sharing, and compares what they answer. A wrong answer is told by the place of its step,
-/// from 0.
+/// Takes the steps of a new sharing, and compares what they answer. A wrong answer is told by the place of its step, from
+/// this one on.
 pub fn answers<R: Wait + Abort, H: Hub<Item = i64>, S: Subscribers<H>>(
     rt: &R,
+    first: usize,
     sharing: Sharing<ScriptChain, H>,
     subscribers: S,
     steps: &[Step],
@@ -137,6 +123,6 @@ pub fn answers<R: Wait + Abort, H: Hub<Item = i64>, S: Subscribers<H>>(
         subscribers,
     };
     for place in 0..steps.len() {
-        shared.take(rt, place, &steps[place]);
+        shared.take(rt, first.saturating_add(place), &steps[place]);
     }
 }

@@ -1,6 +1,6 @@
 //! A state flow without a lock, into which a chain is shared.
 use crate::compare::compare;
-use crate::sharing_steps::list;
+use crate::sharing::playing::list;
 use flow_law::report::Event::{Completed, Idle, Put};
 use flow_law::report::{Event, Report, ShareFault};
 use flow_law::{Command, Next, Started};

@@ -1,5 +1,5 @@
 //! Subscribers of flows for one thread, which are in the hubs.
-use crate::sharing_steps::{Step, Subscribers, answers};
+use crate::sharing::sharing_steps::{Step, Subscribers, answers};
 use flow_cold::ScriptChain;
 use flow_core::SubId;
 use flow_law::{FlowFault, Next, Started};
@@ -95,6 +95,7 @@ impl<H: HasFlow> Subscribers<H> for CoreSubscribers {
 pub fn share_answers<R: Wait + Abort>(
     rt: &R,
     alloc: Global,
+    first: usize,
     chain: ScriptChain,
     started: Started,
     replay: u32,
@@ -102,7 +103,7 @@ pub fn share_answers<R: Wait + Abort>(
 ) {
     let ids = Vec::new(alloc);
     match share_in(alloc, chain, started, replay, u64::MAX) {
-        Ok(sharing) => answers(rt, sharing, CoreSubscribers { ids }, steps),
+        Ok(sharing) => answers(rt, first, sharing, CoreSubscribers { ids }, steps),
         Err(fault) => panic!(rt; "{fault}"),
     }
 }
@@ -111,13 +112,14 @@ pub fn share_answers<R: Wait + Abort>(
 pub fn state_answers<R: Wait + Abort>(
     rt: &R,
     alloc: Global,
+    first: usize,
     chain: ScriptChain,
     started: Started,
     steps: &[Step],
 ) {
     let ids = Vec::new(alloc);
     match state_in(alloc, chain, started, 0, u64::MAX) {
-        Ok(sharing) => answers(rt, sharing, CoreSubscribers { ids }, steps),
+        Ok(sharing) => answers(rt, first, sharing, CoreSubscribers { ids }, steps),
         Err(fault) => panic!(rt; "{fault}"),
     }
 }

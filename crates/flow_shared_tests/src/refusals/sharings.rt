@@ -1,13 +1,14 @@
-//! A sharing whose flow is refused memory. A subscriber that reads nothing has 64 values buffered, and the next one waits, for
-//! which the flow takes memory.
+//! Sharings that are refused memory. A subscriber that reads nothing has 64 values buffered, and the next one waits, for
+//! which the flow takes memory. A chain of values whose copies take memory is refused an item.
 use crate::compare::compare;
-use flow_cold::OfRange;
+use crate::refusals::values::list_of;
+use flow_cold::{OfList, OfRange};
 use flow_core::{SharedCore, SubId};
 use flow_law::Command::{self, Keep, Start};
 use flow_law::report::Event::{self, Put, Queued, Waiting};
-use flow_law::report::ShareFault::Flow;
+use flow_law::report::ShareFault::{Chain, Ended, Flow};
 use flow_law::report::{Report, ShareFault};
-use flow_law::{FlowFault, Next, Started};
+use flow_law::{ChainFault, FlowFault, Next, Started};
 use flow_sharing::{CoreHub, Sharing, share_in};
 use flow_testing::Refusing;
 use std::alloc::{Allocator, Global};
@@ -57,6 +58,22 @@ fn puts_again<A: Allocator + Copy>(
     receives_all(rt, sharing.hub_mut().core_mut(), id);
 }
 
+/// The copy of the chain's first item is refused, which is told once, and ends the sharing.
+fn ends_with_its_chain<A: Allocator + Copy>(
+    rt: &impl Abort,
+    memory: A,
+    refusing: &Refusing<Global>,
+) {
+    let chain = OfList::new(list_of(rt, memory, &[1, 2]));
+    let Ok(mut sharing) = share_in(memory, chain, Started::Eagerly, 0, u64::MAX) else {
+        panic!(rt; "a sharing")
+    };
+    refusing.refuse(1);
+    let refused = Chain(ChainFault::OutOfMemory);
+    compare(rt, 4, sharing.turn(0), Err(refused));
+    compare(rt, 5, sharing.turn(1), Err(Ended));
+}
+
 /// The first allocation is refused, and then that of the item that waits.
 fn play<A: Allocator + Copy>(rt: &impl Abort, memory: A, refusing: &Refusing<Global>) {
     refusing.refuse(1);
@@ -69,7 +86,8 @@ fn play<A: Allocator + Copy>(rt: &impl Abort, memory: A, refusing: &Refusing<Glo
 }
 
 #[test]
-fn a_refused_item_is_kept(rt: HostRuntime) {
+fn a_refused_item_is_kept_and_a_refused_chain_ends(rt: HostRuntime) {
     let memory = Refusing::new(rt.alloc());
     play(&rt, &memory, &memory);
+    ends_with_its_chain(&rt, &memory, &memory);
 }

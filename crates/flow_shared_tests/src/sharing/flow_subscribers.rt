@@ -1,11 +1,12 @@
 //! Subscribers of flows for several threads, which are lent to the hubs.
 ghost use Rattle.std.specs.Prelude.{◌≡◌};
 
-use crate::sharing_steps::{Step, Subscribers, answers};
+use crate::reader::Reader;
+use crate::sharing::sharing_steps::{Step, Subscribers, answers};
 use flow_cold::ScriptChain;
 use flow_core::{FlowCore, SharedCore, StateCore};
 use flow_law::{Config, FlowFault, Next, Started};
-use flow_shared::{Flow, FlowSeat, FlowSubscription, SharedFlow, StateFlow};
+use flow_shared::{Flow, FlowSeat, SharedFlow, StateFlow};
 use flow_sharing::{SharedFlowHub, Sharing, StateFlowHub};
 use std::alloc::Global;
 use std::process::Abort;
@@ -42,24 +43,6 @@ impl Caching for StateCore<i64> {
     }
 }
 
-#[derive(Drop)]
-struct Reader<'a, S: Caching> {
-    flow: &'a Flow<S>,
-    subscription: FlowSubscription<S>,
-    ghost of_flow: { subscription.token.table_id ≡ flow.now.table_id },
-}
-
-impl<'a, S: Caching> Reader<'a, S> {
-    fn next<R: Wait>(&mut self, rt: &R) -> Result<Next<i64>, FlowFault> {
-        self.flow.next(rt, &mut self.subscription)
-    }
-
-    fn unsubscribe<R: Wait>(self, rt: &R) {
-        let Reader { flow, subscription } = self;
-        let _seat = flow.unsubscribe(rt, subscription);
-    }
-}
-
 /// The subscribers of a flow for several threads. Those who have gone have left their places.
 #[derive(Drop)]
 struct FlowSubscribers<'a, S: Caching> {
@@ -73,7 +56,7 @@ impl<'a, S: Caching> FlowSubscribers<'a, S> {
     fn reader<R: Wait>(&mut self, rt: &R) -> Result<Reader<'a, S>, FlowFault> {
         let flow = self.flow;
         match flow.subscribe(rt, &mut self.seat) {
-            Ok(subscription) => Ok(Reader { flow, subscription }),
+            Ok(subscription) => Ok(Reader::new(flow, subscription)),
             Err(fault) => Err(fault),
         }
     }
@@ -119,6 +102,7 @@ impl<'a, S: Caching, H> Subscribers<H> for FlowSubscribers<'a, S> {
 pub fn lent_answers<R: Wait + Abort>(
     rt: &R,
     alloc: Global,
+    first: usize,
     chain: ScriptChain,
     started: Started,
     replay: u32,
@@ -133,13 +117,20 @@ pub fn lent_answers<R: Wait + Abort>(
         seat,
         readers: Vec::new(alloc),
     };
-    answers(rt, Sharing::new(chain, started, hub), subscribers, steps);
+    answers(
+        rt,
+        first,
+        Sharing::new(chain, started, hub),
+        subscribers,
+        steps,
+    );
 }
 
 /// Takes the steps of a chain that is shared into a state flow, whose first value is 0.
 pub fn lent_state_answers<R: Wait + Abort>(
     rt: &R,
     alloc: Global,
+    first: usize,
     chain: ScriptChain,
     started: Started,
     steps: &[Step],
@@ -152,5 +143,11 @@ pub fn lent_state_answers<R: Wait + Abort>(
         seat,
         readers: Vec::new(alloc),
     };
-    answers(rt, Sharing::new(chain, started, hub), subscribers, steps);
+    answers(
+        rt,
+        first,
+        Sharing::new(chain, started, hub),
+        subscribers,
+        steps,
+    );
 }

@@ -10,21 +10,61 @@ use flow_sharing::{
 use std::alloc::Global;
 use std::process::Abort;
 
-/// Moments may stand still, and do not go back.
+/// What a policy answers to a moment and a count of subscribers.
+type Observation = (u64, u64, Result<Command, Backwards>);
+
+const POLICIES: &[(Started, &[Observation])] = &[
+    // Moments may stand still, and do not go back.
+    (
+        Started::WhileSubscribed {
+            stop: 10,
+            expire: NEVER,
+        },
+        &[
+            (5, 0, Ok(Command::Keep)),
+            (5, 2, Ok(Command::Start)),
+            (7, 0, Ok(Command::Keep)),
+            (6, 1, Err(Backwards { last: 7 })),
+            (17, 0, Ok(Command::Stop)),
+        ],
+    ),
+    // The stop and the expiry are added up without a bound: they may come to more than any moment.
+    (
+        Started::WhileSubscribed {
+            stop: NEVER - 1,
+            expire: 1,
+        },
+        &[
+            (0, 1, Ok(Command::Start)),
+            (0, 0, Ok(Command::Keep)),
+            (NEVER, 0, Ok(Command::StopAndReset)),
+        ],
+    ),
+    (
+        Started::WhileSubscribed {
+            stop: NEVER - 1,
+            expire: 2,
+        },
+        &[
+            (0, 1, Ok(Command::Start)),
+            (0, 0, Ok(Command::Keep)),
+            (NEVER, 0, Ok(Command::Stop)),
+        ],
+    ),
+];
+
+/// The policy answers so to each observation.
+fn observes(rt: &impl Abort, policy: &mut Policy, observations: &[Observation]) {
+    for place in 0..observations.len() {
+        let (moment, subscribers, wanted) = observations[place];
+        compare(rt, place, policy.observe(moment, subscribers), wanted);
+    }
+}
+
 #[test]
-fn observes_subscribers(rt: HostRuntime) {
-    let mut policy = Policy::new(Started::WhileSubscribed {
-        stop: 10,
-        expire: NEVER,
-    });
-    for (place, moment, subscribers, command) in [
-        (0, 5, 0, Ok(Command::Keep)),
-        (1, 5, 2, Ok(Command::Start)),
-        (2, 7, 0, Ok(Command::Keep)),
-        (3, 6, 1, Err(Backwards { last: 7 })),
-        (4, 17, 0, Ok(Command::Stop)),
-    ] {
-        compare(&rt, place, policy.observe(moment, subscribers), command);
+fn policies_observe_subscribers(rt: HostRuntime) {
+    for (started, observations) in POLICIES {
+        observes(&rt, &mut Policy::new(*started), observations);
     }
 }
 

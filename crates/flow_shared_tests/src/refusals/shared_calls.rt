@@ -8,6 +8,8 @@ pub enum Call {
     TryEmit(i64),
     /// The value, and whether it waits.
     Emit(i64, bool),
+    /// A refusal leaves the count of subscribers at 0.
+    Subscribe,
     /// The subscriber's own first values. A refusal leaves the count of subscribers at 0.
     SubscribeWith(&'static [i64]),
     /// The value that the subscriber receives, if there is one.
@@ -16,7 +18,7 @@ pub enum Call {
     Count(u64),
 }
 
-use Call::{Cache, Count, Emit, Next, SubscribeWith, TryEmit};
+use Call::{Cache, Count, Emit, Next, Subscribe, SubscribeWith, TryEmit};
 
 /// A flow that keeps one value for new subscribers, and one more.
 pub const SMALL: Config = Config {
@@ -80,3 +82,6 @@ pub const CACHED: &[(Call, bool)] = &[
     (Next(Some(3)), true),
     (Next(None), false),
 ];
+
+/// There is one subscriber.
+pub const SUBSCRIBING: &[(Call, bool)] = &[(Count(0), false), (Subscribe, true), (Count(1), false)];

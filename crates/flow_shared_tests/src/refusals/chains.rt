@@ -1,7 +1,7 @@
 //! A chain of values whose copies take memory, which is collected.
-use crate::calling::MANY;
 use crate::compare::compare;
-use crate::values::{are, list_of};
+use crate::refusals::calling::MANY;
+use crate::refusals::values::{are, list_of};
 use flow_cold::{ChainFault, End, OfList, collect_all};
 use flow_law::Boxed;
 use flow_testing::Refusing;

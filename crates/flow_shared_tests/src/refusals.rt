@@ -1,0 +1,18 @@
+//! Want of memory: worked examples whose every call is made again where it is refused. They are run with the first
+//! allocation refused, with the second one, and so on, until a run has none that is. Whatever is refused, the replies are
+//! those of the documentation.
+
+mod awaiting;
+mod calling;
+mod chains;
+mod gates;
+mod memory;
+mod shared;
+mod shared_calls;
+mod shared_flows;
+mod sharings;
+mod state;
+mod state_calls;
+mod state_flows;
+mod subscribed;
+mod values;

@@ -1,0 +1,71 @@
+//! A flow forgets what it replays some time after the chain has stopped (`replayExpirationMillis`).
+use crate::sharing::playing::{Chain, Example, Flow};
+use crate::sharing::sharing_steps::Step::{Cache, Next, Subscribe, Turn, Unsubscribe};
+use flow_law::Command::{Keep, Start, Stop, StopAndReset};
+use flow_law::Next::{Empty, Value};
+use flow_law::Started;
+use flow_law::report::Event::{Idle, Put};
+
+/// It stops after 100 milliseconds without a subscriber, and forgets after 50 more.
+const STARTED: Started = Started::WhileSubscribed {
+    stop: 100,
+    expire: 50,
+};
+
+pub const EXAMPLES: &[Example] = &[
+    // It forgets some time after the stop. A subscriber who comes after the expiry is replayed nothing.
+    Example {
+        chain: Chain::List(&[10, 20, 30, 40]),
+        started: STARTED,
+        flow: Flow::Shared(2),
+        steps: &[
+            Subscribe,
+            Turn(0, Start, Put),
+            Turn(0, Keep, Put),
+            Unsubscribe(0),
+            Turn(10, Keep, Put),
+            Turn(109, Keep, Put),
+            Turn(110, Stop, Idle),
+            Cache(&[30, 40]),
+            Turn(159, Keep, Idle),
+            Turn(160, StopAndReset, Idle),
+            Cache(&[]),
+            Turn(161, Keep, Idle),
+            Subscribe,
+            Next(1, Empty),
+            Turn(161, Start, Put),
+            Next(1, Value(10)),
+        ],
+    },
+    // A subscriber who is there before any turn has seen the expiry starts the chain, and nothing is forgotten.
+    Example {
+        chain: Chain::List(&[10, 20, 30, 40]),
+        started: STARTED,
+        flow: Flow::Shared(2),
+        steps: &[
+            Subscribe,
+            Turn(0, Start, Put),
+            Turn(0, Keep, Put),
+            Unsubscribe(0),
+            Turn(10, Keep, Put),
+            Turn(110, Stop, Idle),
+            Subscribe,
+            Turn(300, Start, Put),
+            Cache(&[30, 10]),
+        ],
+    },
+    // A state flow goes back to its initial value, here 0, as soon as its last subscriber has gone.
+    Example {
+        chain: Chain::List(&[3, 4]),
+        started: Started::WhileSubscribed { stop: 0, expire: 0 },
+        flow: Flow::State,
+        steps: &[
+            Subscribe,
+            Turn(0, Start, Put),
+            Next(0, Value(3)),
+            Unsubscribe(0),
+            Turn(1, StopAndReset, Idle),
+            Cache(&[0]),
+        ],
+    },
+];
