@@ -11,10 +11,10 @@ use std::sync::Wait;
 /// A flow, a seat of it, the value that the thread saw last, and what it found.
 #[derive(Drop)]
 pub struct Adder<'a> {
-    flow: &'a WordState<u64>,
-    seat: WordSeat<u64>,
-    last: u64,
-    found: Found,
+    pub flow: &'a WordState<u64>,
+    pub seat: WordSeat<u64>,
+    pub last: u64,
+    pub found: Found,
     ghost of_flow: { seat.table_id ≡ flow.now.table_id },
 }
 
@@ -23,33 +23,18 @@ fn one_more(value: u64) -> u64 {
 }
 
 impl<'a> Adder<'a> {
-    pub fn new(flow: &'a WordState<u64>, seat: WordSeat<u64>) -> Adder<'a>
-        requires { seat.table_id ≡ flow.now.table_id }
-    {
-        Adder {
-            flow,
-            seat,
-            last: 0,
-            found: Found::nothing(),
-        }
-    }
-
-    /// A value was read. It never falls.
-    fn see(&mut self, value: u64) {
-        self.found.check(self.last <= value);
-        self.last = value;
-    }
-
-    /// Adds 1, unless another thread does so first.
+    /// Adds 1 to the value that was read, which never falls, unless another thread does so first.
     fn try_add(&mut self) {
         let value = self.flow.value(&mut self.seat);
-        self.see(value);
+        self.found.check(self.last <= value);
+        self.last = value;
         let more = one_more(value);
         if self.flow.compare_and_set(&mut self.seat, value, more) {
             self.found.added = one_more(self.found.added);
         }
     }
 
+    /// Adds 1: the value that comes of it has risen.
     fn add<R: Wait>(&mut self, rt: &R) {
         let value = self.flow.update_and_get(rt, &mut self.seat, one_more);
         self.found.check(self.last < value);

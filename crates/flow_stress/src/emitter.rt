@@ -12,10 +12,10 @@ use std::thread::yield_now;
 /// A flow, a seat of it, the number of the thread, and how many values it has emitted.
 #[derive(Drop)]
 pub struct Emitter<'a> {
-    flow: &'a SharedFlow<Value>,
-    seat: Seat<Value>,
-    number: u32,
-    emitted: u32,
+    pub flow: &'a SharedFlow<Value>,
+    pub seat: Seat<Value>,
+    pub number: u32,
+    pub emitted: u32,
     ghost of_flow: { seat.table_id ≡ flow.now.table_id },
 }
 
@@ -33,25 +33,9 @@ struct Waiting<'a> {
 const POLLS: u32 = 100;
 
 impl<'a> Emitter<'a> {
-    pub fn new(flow: &'a SharedFlow<Value>, seat: Seat<Value>, number: u32) -> Emitter<'a>
-        requires { seat.table_id ≡ flow.now.table_id }
-    {
-        Emitter {
-            flow,
-            seat,
-            number,
-            emitted: 0,
-        }
-    }
-
-    /// The value that comes next.
-    fn value(&self) -> Value {
-        (self.number, self.emitted)
-    }
-
     /// Whether the flow took the value.
     fn try_emit<R: Wait>(&mut self, rt: &R) -> Option<bool> {
-        let value = self.value();
+        let value = (self.number, self.emitted);
         let is_taken = self.flow.try_emit(rt, &mut self.seat, value).ok()?;
         if is_taken {
             self.emitted = self.emitted.wrapping_add(1);
@@ -61,14 +45,13 @@ impl<'a> Emitter<'a> {
 
     /// Emits a value. Where it waits too long it is cancelled.
     fn emit<R: Wait>(self, rt: &R) -> Option<Emitter<'a>> {
-        let value = self.value();
         let Emitter {
             flow,
             seat,
             number,
             emitted,
         } = self;
-        match flow.emit(rt, seat, value) {
+        match flow.emit(rt, seat, (number, emitted)) {
             Emitted::Done(seat) => Some(Emitter {
                 flow,
                 seat,
@@ -135,16 +118,11 @@ impl<'a> Waiting<'a> {
             emitted,
         } = self;
         let (seat, was_waiting) = flow.cancel(rt, emission);
-        let emitted = if was_waiting {
-            emitted
-        } else {
-            emitted.wrapping_add(1)
-        };
         Emitter {
             flow,
             seat,
             number,
-            emitted,
+            emitted: emitted.wrapping_add(u32::from(!was_waiting)),
         }
     }
 

@@ -36,29 +36,32 @@ struct Word<'a> {
 }
 
 impl<'a> Shared<'a> {
-    fn emitter(&mut self, number: u32) -> Calls<'a> {
-        let seat = self.flow.seat(&mut self.seat);
-        Calls::Emit(Emitter::new(self.flow, seat, number))
+    fn emitter(&mut self, number: u32) -> Emitter<'a> {
+        Emitter {
+            flow: self.flow,
+            seat: self.flow.seat(&mut self.seat),
+            number,
+            emitted: 0,
+        }
     }
 
-    fn reader(&mut self, alloc: Global, threads: usize) -> Option<Calls<'a>> {
-        let order = Order::new(alloc, threads, true).ok()?;
-        let seat = self.flow.seat(&mut self.seat);
-        Some(Calls::Read(Reader::new(self.flow, seat, order)))
+    fn reader(&mut self, order: Order) -> Reader<'a> {
+        Reader {
+            flow: self.flow,
+            seat: self.flow.seat(&mut self.seat),
+            order,
+        }
     }
 
-    fn exchanger<R: Wait>(
-        &mut self,
-        rt: &R,
-        alloc: Global,
-        threads: usize,
-        number: u32,
-    ) -> Option<Calls<'a>> {
-        let order = Order::new(alloc, threads, false).ok()?;
+    fn exchanger<R: Wait>(&mut self, rt: &R, order: Order, number: u32) -> Option<Exchanger<'a>> {
         let subscription = self.flow.subscribe(rt, &mut self.seat).ok()?;
-        let seat = self.flow.seat(&mut self.seat);
-        let exchanger = Exchanger::new(self.flow, seat, subscription, number, order);
-        Some(Calls::Exchange(exchanger))
+        Some(Exchanger {
+            flow: self.flow,
+            seat: self.flow.seat(&mut self.seat),
+            subscription,
+            value: (number, 0),
+            order,
+        })
     }
 
     /// Everybody has left.
@@ -69,9 +72,13 @@ impl<'a> Shared<'a> {
 }
 
 impl<'a> Word<'a> {
-    fn adder(&mut self) -> Calls<'a> {
-        let seat = self.flow.seat(&mut self.seat);
-        Calls::Add(Adder::new(self.flow, seat))
+    fn adder(&mut self) -> Adder<'a> {
+        Adder {
+            flow: self.flow,
+            seat: self.flow.seat(&mut self.seat),
+            last: 0,
+            found: Found::nothing(),
+        }
     }
 
     /// Everybody has left, and no addition is lost or doubled.
@@ -101,13 +108,14 @@ impl<'a> Flows<'a> {
         size: Size,
         number: u32,
     ) -> Option<Calls<'a>> {
-        let threads = size.threads as usize;
-        match number % 4 {
-            0 => Some(self.suspending.emitter(number)),
-            1 => self.suspending.reader(alloc, threads),
-            2 => self.dropping.exchanger(rt, alloc, threads, number),
-            _ => Some(self.word.adder()),
-        }
+        let is_whole = number % 4 == 1;
+        let order = Order::new(alloc, size.threads as usize, is_whole).ok()?;
+        Some(match number % 4 {
+            0 => Calls::Emit(self.suspending.emitter(number)),
+            1 => Calls::Read(self.suspending.reader(order)),
+            2 => Calls::Exchange(self.dropping.exchanger(rt, order, number)?),
+            _ => Calls::Add(self.word.adder()),
+        })
     }
 
     fn jobs<R: Wait>(&mut self, rt: &R, alloc: Global, size: Size) -> Option<Vec<Job<'a>>> {
