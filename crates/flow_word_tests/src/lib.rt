@@ -3,6 +3,7 @@
 
 #[cfg(test)]
 mod caller;
+mod celsius;
 #[cfg(test)]
 mod compare;
 #[cfg(test)]

@@ -1,4 +1,5 @@
 //! Packs, at the extremes of each type.
+use crate::celsius::Celsius;
 use crate::compare::compare;
 use flow_law::Packed;
 use std::process::Abort;
@@ -33,4 +34,13 @@ fn other_values(rt: HostRuntime) {
     come_back(&rt, 2, &[()]);
     come_back(&rt, 3, &[None, Some(0), Some(u32::MAX)]);
     come_back(&rt, 4, &[(0, 0), (u32::MAX, i32::MIN), (0, -1)]);
+    come_back(
+        &rt,
+        5,
+        &[
+            Celsius { degrees: -40 },
+            Celsius { degrees: 0 },
+            Celsius { degrees: 100 },
+        ],
+    );
 }
