@@ -1,14 +1,11 @@
 //! Plays a flow script from standard input to standard output, or lets threads run: `flow_play [crowd E S N | count T N]`.
 #![tactic(auto)]
 
-mod command;
-mod crowd_lines;
-mod program;
 #[cfg(test)]
 mod tests;
 
+use flow_program::{refuse_arguments, run};
 use flow_script::Watched;
-use program::{refuse_arguments, run};
 use std::env::args;
 use std::io;
 use std::process::ExitCode;

@@ -1,6 +1,6 @@
 //! Whole runs of the program over memory: worked examples of the documented flows, refused scripts, limits, and
 //! streams that give or take little. Each script is a row of a table, and those of one flow play in both versions.
-use crate::program::run;
+use flow_program::run;
 use flow_script::Watched;
 use std::alloc::AllocGlobal;
 use std::process::Abort;

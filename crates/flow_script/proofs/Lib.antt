@@ -1,2 +1,3 @@
 pub mod ByteLemmas
 pub mod MeaningLemmas
+pub mod TellingLemmas

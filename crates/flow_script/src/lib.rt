@@ -5,6 +5,7 @@
 #![tactic(auto)]
 
 mod playing;
+mod telling;
 mod transfer;
 mod watched;
 
@@ -12,6 +13,7 @@ pub use flow_format::{
     Build, FlowStep, NamedFlow, Script, ScriptFault, ScriptFlow, Step, read_script,
 };
 pub use flow_lines::ScriptLines;
-pub use playing::play;
-pub use transfer::write_all;
+pub use playing::{lines_of, play};
+pub use telling::{OUT_OF_MEMORY, REFUSED, TRANSFER_FAILED, tell, tell_fault, tell_memory};
+pub use transfer::{read_all, write_all};
 pub use watched::Watched;

@@ -12,8 +12,8 @@ use flow_lines::ScriptLines;
 use std::alloc::Global;
 use std::io::{Read, Write};
 
-/// The lines of a script's text.
-fn lines_of(alloc: Global, bytes: &[u8]) -> Result<String, ScriptFault>
+/// The lines that the script of these bytes writes, or why it is refused.
+pub fn lines_of(alloc: Global, bytes: &[u8]) -> Result<String, ScriptFault>
     ensures { Gives (meaning bytes.now) (text_result result) }
 {
     let script = match read_script(alloc, bytes) {

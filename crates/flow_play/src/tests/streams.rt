@@ -1,6 +1,6 @@
 //! Readers and writers that give or take little, or fail.
-use crate::program::run;
 use crate::tests::{Host, compare};
+use flow_program::run;
 use flow_script::{ScriptLines, Watched, read_script};
 use std::io;
 use std::io::{Read, Write};

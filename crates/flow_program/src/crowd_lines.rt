@@ -1,6 +1,6 @@
 //! The lines of a crowd.
 ghost use Rattle.std.specs.Prelude.{◌≡◌, ◌++◌, OnOk, IfOk, string_bytes};
-ghost use Rattle.flow_play.specs.CrowdLines.{crowd_lines, subscriber_line, subscriber_lines};
+ghost use Rattle.flow_program.specs.CrowdLines.{crowd_lines, subscriber_line, subscriber_lines};
 
 use flow_crowd::{CrowdSize, Received};
 use std::alloc::{AllocError, Global};

@@ -1,9 +1,9 @@
--- How the program ends.
-use Rattle.std.proofs.Common.{◌≡◌, ◌≢◌, ◌⊎◌, ℕ, Bool, false, List, Option, Err, refl, subst, ◌∙◌, inl, inr}
+-- How a fault is told.
+use Rattle.std.proofs.Common.{◌≡◌, ◌≢◌, ◌⊎◌, ℕ, Bool, false, List, Option, Err, refl, inl, inr}
 use Rattle.flow_format.specs.declared.fault.ScriptFault.{ScriptFault}
 use Rattle.flow_format.specs.declared.fault.ScriptFault.TheVariants.{OutOfMemory, ReadFailed, WriteFailed, NotJson, BadVersion, BadShape, UnknownName, DuplicateName, TooLarge}
 use Rattle.flow_script.specs.Playing.{Plays, read_failed}
-use Rattle.flow_play.specs.Program.{IsRefusal, RunsScript, Tells, TellsFault, fault_line, memory_line}
+use Rattle.flow_script.specs.Telling.{IsRefusal, Tells, TellsFault, fault_line, memory_line}
 
 -- a fault that is none of three refuses the script
 pub refusal-is : (fault : ScriptFault) → fault ≢ OutOfMemory → fault ≢ ReadFailed → fault ≢ WriteFailed → IsRefusal fault
@@ -28,7 +28,7 @@ tells-refusal (DuplicateName at) failed old new answered is (inl tells) = (Dupli
 tells-refusal (TooLarge at) failed old new answered is (inl tells) = (TooLarge at, inl refl, tells)
 
 -- a refusal may be told as want of memory
-memory-plays : (fault : ScriptFault) (known old mid : Option (List ℕ)) → IsRefusal fault → Plays known old mid (Err fault) → Plays known old mid (Err OutOfMemory)
+pub memory-plays : (fault : ScriptFault) (known old mid : Option (List ℕ)) → IsRefusal fault → Plays known old mid (Err fault) → Plays known old mid (Err OutOfMemory)
 memory-plays OutOfMemory known old mid is plays = absurd is
 memory-plays ReadFailed known old mid is plays = absurd is
 memory-plays WriteFailed known old mid is plays = absurd is
@@ -39,14 +39,6 @@ memory-plays (UnknownName at) known old mid is plays = plays.1
 memory-plays (DuplicateName at) known old mid is plays = plays.1
 memory-plays (TooLarge at) known old mid is plays = plays.1
 
-not-read : (fault : ScriptFault) → IsRefusal fault → read_failed fault ≡ false
+pub not-read : (fault : ScriptFault) → IsRefusal fault → read_failed fault ≡ false
 not-read ReadFailed is = absurd is
 not-read _ is = refl
-
--- a run that `play` refused
-pub runs-refused : (fault told : ScriptFault) (known old mid new : Option (List ℕ)) (reads failed : Bool) (answered : ℕ) → Plays known old mid (Err fault) → reads ≡ read_failed fault
-    → ((told ≡ fault) ⊎ (IsRefusal fault × (told ≡ OutOfMemory))) → TellsFault told failed mid new answered → RunsScript known reads failed old new answered
-runs-refused fault told known old mid new reads failed answered plays read (inl is) tells =
-    (Err fault, mid, plays, read, subst (λ f. TellsFault f failed mid new answered) is tells)
-runs-refused fault told known old mid new reads failed answered plays read (inr is) tells =
-    (Err OutOfMemory, mid, memory-plays fault known old mid is.0 plays, read ∙ not-read fault is.0, subst (λ f. TellsFault f failed mid new answered) is.1 tells)

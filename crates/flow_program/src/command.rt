@@ -2,7 +2,7 @@
 ghost use Rattle.std.specs.Prelude.{◌≡◌, ◌<◌, ◌≤◌, true, length, Some};
 ghost use Rattle.std.specs.Str.{all_ascii_digits};
 ghost use Rattle.std.specs.Str.Parse.{digits_value};
-ghost use Rattle.flow_play.specs.Arguments.{command_of, count_of, crowd_of, number_in};
+ghost use Rattle.flow_program.specs.Arguments.{command_of, count_of, crowd_of, number_in};
 
 use flow_crowd::{CountSize, CrowdSize};
 

@@ -1,13 +1,9 @@
--- What the program prints beside a script's lines, and its status. Begin with `RunsScript`.
+-- The lines by which a program tells why a script was not played, and its statuses. Begin with `TellsFault`.
 use Rattle.std.specs.Prelude.{◌≡◌, ◌++◌, ℕ, Bool, true, false, List, take, Option, Result, Ok, Err, codes, decimal}
 use Rattle.std.specs.Io.KnownBytes.{Appends}
 use Rattle.flow_format.specs.declared.fault.ScriptFault.{ScriptFault}
 use Rattle.flow_format.specs.declared.fault.ScriptFault.TheVariants.{OutOfMemory, ReadFailed, WriteFailed, NotJson, BadVersion, BadShape, UnknownName, DuplicateName, TooLarge}
 use Rattle.flow_lines.specs.Lines.{lined}
-use Rattle.flow_script.specs.Playing.{Plays, is_read_failed}
-
-abbrev pub usage_line : List ℕ
-usage_line = lined (codes "usage: flow_play [crowd E S N | count T N]")
 
 abbrev pub memory_line : List ℕ
 memory_line = lined (codes "out of memory")
@@ -48,14 +44,7 @@ abbrev pub TellsFault : ScriptFault → Bool → Option (List ℕ) → Option (L
 TellsFault WriteFailed failed old new answered = (failed ≡ true) × (new ≡ old) × (answered ≡ 3)
 TellsFault fault failed old new answered = Tells failed old new (fault_line fault) (fault_status fault) answered
 
--- how the program ends by what `play` answered
+-- how a program ends by what it answers to a script
 abbrev pub Ends : Result (Unit {0}) ScriptFault → Bool → Option (List ℕ) → Option (List ℕ) → ℕ → Type 0
 Ends (Ok u) failed old new answered = (failed ≡ false) × (new ≡ old) × (answered ≡ 0)
 Ends (Err fault) failed old new answered = TellsFault fault failed old new answered
-
--- A run without arguments: what `play` answered to the bytes that the reader had, and how the program then ends. Whether
--- the reader and the writer failed is known of both.
-abbrev pub RunsScript : Option (List ℕ) → Bool → Bool → Option (List ℕ) → Option (List ℕ) → ℕ → Type 0
-RunsScript known read_failed write_failed old new answered =
-    (outcome : Result (Unit {0}) ScriptFault) × (played : Option (List ℕ)) × Plays known old played outcome
-    × (read_failed ≡ is_read_failed outcome) × Ends outcome write_failed played new answered

@@ -1,8 +1,8 @@
 use Rattle.std.proofs.Common.{refl, sym, ap, ◌∙◌, inl}
 use Rattle.flow_format.specs.declared.fault.ScriptFault.TheVariants.{OutOfMemory, ReadFailed, WriteFailed}
 use Rattle.flow_script.specs.Playing.{write_failed}
-use Rattle.flow_play.proofs.ProgramLemmas.{refusal-is, tells-refusal}
-use Rattle.flow_play.proofs.program.tell_fault.Goals as goal
+use Rattle.flow_script.proofs.TellingLemmas.{refusal-is, tells-refusal}
+use Rattle.flow_script.proofs.telling.tell_fault.Goals as goal
 
 pub returns-in-WriteFailed : goal.returns-in-WriteFailed
 returns-in-WriteFailed g c = (WriteFailed, inl (sym c.in-WriteFailed.is), (c.requires ∙ ap write_failed c.in-WriteFailed.is, refl, refl))

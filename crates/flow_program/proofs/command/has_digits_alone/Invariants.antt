@@ -1,6 +1,6 @@
 use Rattle.std.proofs.Common.{◌≡◌, drop}
 use Rattle.std.specs.Str.{all_ascii_digits}
-use Rattle.flow_play.proofs.command.has_digits_alone.Given as goal
+use Rattle.flow_program.proofs.command.has_digits_alone.Given as goal
 
 abbrev pub invariant-loop-byte : goal.invariant-loop-byte
 invariant-loop-byte l = all_ascii_digits l.text ≡ all_ascii_digits (drop l.byte-index l.text)

@@ -1,15 +1,15 @@
 //! The program over any reader and writer: what it prints beside a script's lines, and its status.
-ghost use Rattle.std.specs.Prelude.{◌≡◌, ◌≢◌, ◌⊎◌, ◌++◌, false, OnOk, IfOk, IfSome, None, length, string_bytes};
-ghost use Rattle.flow_script.specs.Playing.{write_failed};
+ghost use Rattle.std.specs.Prelude.{◌≡◌, ◌≢◌, false, IfOk, IfSome, None, length, string_bytes};
+ghost use Rattle.flow_script.specs.Telling.{Tells, memory_line};
 ghost use Rattle.flow_script.specs.Watching.{inner_of, has_failed};
-ghost use Rattle.flow_play.specs.Arguments.{command_of};
-ghost use Rattle.flow_play.specs.CrowdLines.{IsCountText, IsCrowdText, Runs, RunsCount, RunsCrowd, count_line};
-ghost use Rattle.flow_play.specs.Program.{RunsScript, Tells, TellsFault, fault_line, memory_line, usage_line, IsRefusal};
+ghost use Rattle.flow_program.specs.Arguments.{command_of};
+ghost use Rattle.flow_program.specs.CrowdLines.{IsCountText, IsCrowdText, Runs, RunsCount, RunsCrowd, count_line};
+ghost use Rattle.flow_program.specs.Program.{RunsScript, usage_line};
 
 use crate::command::{Command, command_of};
 use crate::crowd_lines::crowd_text;
 use flow_crowd::{CountSize, CrowdSize, run_count, run_crowd};
-use flow_script::{ScriptFault, Watched, play, write_all};
+use flow_script::{REFUSED, Watched, play, tell, tell_fault, tell_memory};
 use std::alloc::{AllocError, AllocGlobal, Global};
 use std::io::{ErrorKind, Read, Write};
 use std::sync::Wait;
@@ -17,24 +17,6 @@ use std::thread::Threads;
 
 /// The script was played.
 const PLAYED: u8 = 0;
-/// The script or the arguments were refused.
-const REFUSED: u8 = 2;
-/// A read or a write failed.
-const TRANSFER_FAILED: u8 = 3;
-
-const OUT_OF_MEMORY: u8 = 4;
-
-/// Prints a line, and answers this status, or that of a write that failed.
-fn tell<W: Write>(output: &mut Watched<W>, line: &str, status: u8) -> u8
-    requires { has_failed output.old ≡ false }
-    ensures { Tells (has_failed output.new)
-        (W.contents (inner_of output.old)) (W.contents (inner_of output.new)) line.now status result }
-{
-    match write_all(output, line.as_bytes()) {
-        Ok(()) => status,
-        Err(_) => TRANSFER_FAILED,
-    }
-}
 
 fn tell_usage<W: Write>(output: &mut Watched<W>) -> u8
     requires { has_failed output.old ≡ false }
@@ -48,14 +30,6 @@ fn tell_usage<W: Write>(output: &mut Watched<W>) -> u8
     )
 }
 
-fn tell_memory<W: Write>(output: &mut Watched<W>) -> u8
-    requires { has_failed output.old ≡ false }
-    ensures { Tells (has_failed output.new)
-        (W.contents (inner_of output.old)) (W.contents (inner_of output.new)) memory_line 4 result }
-{
-    tell(output, "out of memory\n", OUT_OF_MEMORY)
-}
-
 /// Tells why the arguments were not read: want of memory, or else that they are wrong.
 pub fn refuse_arguments<W: Write>(output: &mut Watched<W>, kind: ErrorKind) -> u8
     requires { has_failed output.old ≡ false }
@@ -67,65 +41,6 @@ pub fn refuse_arguments<W: Write>(output: &mut Watched<W>, kind: ErrorKind) -> u
     match kind {
         ErrorKind::OutOfMemory => tell_memory(output),
         _ => tell_usage(output),
-    }
-}
-
-/// The line of a fault.
-fn line_of(alloc: Global, fault: ScriptFault) -> Result<String, AllocError>
-    ensures { IfOk result (λ line. string_bytes line ≡ fault_line fault) }
-{
-    let mut line = String::new(alloc);
-    add_fault(&mut line, fault)?;
-    Ok(line)
-}
-
-fn add_fault(line: &mut String, fault: ScriptFault) -> Result<(), AllocError>
-    ensures { OnOk result (string_bytes line.new ≡ string_bytes line.old ++ fault_line fault) }
-{
-    match fault {
-        ScriptFault::OutOfMemory => writeln!(line, "out of memory"),
-        ScriptFault::ReadFailed => writeln!(line, "read failed"),
-        ScriptFault::NotJson => writeln!(line, "script refused 3 NotJson"),
-        ScriptFault::BadVersion => writeln!(line, "script refused 4 BadVersion"),
-        ScriptFault::BadShape(step) => writeln!(line, "script refused 5 BadShape at step {step}"),
-        ScriptFault::UnknownName(step) => {
-            writeln!(line, "script refused 6 UnknownName at step {step}")
-        }
-        ScriptFault::DuplicateName(step) => {
-            writeln!(line, "script refused 7 DuplicateName at step {step}")
-        }
-        ScriptFault::TooLarge(step) => writeln!(line, "script refused 8 TooLarge at step {step}"),
-        ScriptFault::WriteFailed => writeln!(line, "write failed"),
-    }
-}
-
-/// Tells the refusal of a script. Where there is no memory for its line, that is told.
-fn refuse<W: Write>(alloc: Global, output: &mut Watched<W>, fault: ScriptFault) -> u8
-    requires { has_failed output.old ≡ false }
-    ensures { Tells (has_failed output.new) (W.contents (inner_of output.old))
-        (W.contents (inner_of output.new))
-        (fault_line fault) 2 result
-        ⊎ Tells (has_failed output.new) (W.contents (inner_of output.old)) (W.contents (inner_of output.new))
-        memory_line 4 result }
-{
-    match line_of(alloc, fault) {
-        Ok(line) => tell(output, line.as_str(), REFUSED),
-        Err(_) => tell_memory(output),
-    }
-}
-
-/// Tells why a script was not played, and answers the status of that. After a write that failed nothing more is printed.
-fn tell_fault<W: Write>(alloc: Global, output: &mut Watched<W>, fault: ScriptFault) -> u8
-    requires { has_failed output.old ≡ write_failed fault }
-    ensures { (told : ScriptFault) × ((told ≡ fault) ⊎ (IsRefusal fault × (told ≡ ScriptFault.OutOfMemory)))
-        × TellsFault told (has_failed output.new)
-        (W.contents (inner_of output.old)) (W.contents (inner_of output.new)) result }
-{
-    match fault {
-        ScriptFault::WriteFailed => TRANSFER_FAILED,
-        ScriptFault::OutOfMemory => tell_memory(output),
-        ScriptFault::ReadFailed => tell(output, "read failed\n", TRANSFER_FAILED),
-        _ => refuse(alloc, output, fault),
     }
 }
 

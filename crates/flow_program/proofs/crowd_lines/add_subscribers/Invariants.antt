@@ -1,6 +1,6 @@
 use Rattle.std.proofs.Common.{◌≡◌, ◌+◌, ◌++◌, drop, string_bytes}
-use Rattle.flow_play.specs.CrowdLines.{subscriber_lines}
-use Rattle.flow_play.proofs.crowd_lines.add_subscribers.Given as goal
+use Rattle.flow_program.specs.CrowdLines.{subscriber_lines}
+use Rattle.flow_program.proofs.crowd_lines.add_subscribers.Given as goal
 
 abbrev pub invariant-loop-index : goal.invariant-loop-index
 invariant-loop-index l =

@@ -1,6 +1,6 @@
 use Rattle.flow_script.specs.Watching.{inner_of}
-use Rattle.flow_play.proofs.ProgramLemmas.{runs-refused}
-use Rattle.flow_play.proofs.program.play_script.Goals as goal
+use Rattle.flow_program.proofs.ProgramLemmas.{runs-refused}
+use Rattle.flow_program.proofs.program.play_script.Goals as goal
 
 pub returns-in-Err : goal.returns-in-Err
 returns-in-Err g c =

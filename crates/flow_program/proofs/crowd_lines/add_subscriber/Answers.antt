@@ -1,6 +1,6 @@
 use Rattle.std.proofs.Common.{◌≡◌, ◌++◌, OnOk, string_bytes, subst, sym}
-use Rattle.flow_play.specs.CrowdLines.{subscriber_line}
-use Rattle.flow_play.proofs.crowd_lines.add_subscriber.Goals as goal
+use Rattle.flow_program.specs.CrowdLines.{subscriber_line}
+use Rattle.flow_program.proofs.crowd_lines.add_subscriber.Goals as goal
 
 pub returns-then-is_in_order : goal.returns-then-is_in_order
 returns-then-is_in_order c =

@@ -3,8 +3,8 @@ use Rattle.std.specs.Prelude.{ℕ, leb, ◌&&◌, cond, List, [], ◌∷◌, len
 use Rattle.std.specs.Str.{all_ascii_digits}
 use Rattle.std.specs.Str.Parse.{digits_value}
 use Rattle.flow_crowd.specs.Sizes.{crowd_size, count_size}
-use Rattle.flow_play.specs.declared.command.Command.{Command}
-use Rattle.flow_play.specs.declared.command.Command.TheVariants.{Crowd, Count}
+use Rattle.flow_program.specs.declared.command.Command.{Command}
+use Rattle.flow_program.specs.declared.command.Command.TheVariants.{Crowd, Count}
 
 -- the number that one to five ASCII digits write
 abbrev pub number_in : List ℕ → Option ℕ
