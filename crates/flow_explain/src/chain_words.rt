@@ -1,0 +1,210 @@
+//! Chains, their sources and operators, and the keys of all of them.
+
+use crate::words::{Form, Key, Need, Row, Shape};
+use serde_json::Value;
+
+/// The most items of a source, entries of a scripted one, and numbers of a range.
+pub const MOST_ITEMS: usize = 10_000;
+
+/// The most items that a `flat_map` makes of one.
+pub const MOST_SPREAD: usize = 1_000;
+
+/// A chain.
+pub const CHAIN: Shape = Shape {
+    name: "a chain",
+    keys: &[
+        Key {
+            word: "from",
+            form: Form::Source,
+            need: Need::Always,
+        },
+        Key {
+            word: "ops",
+            form: Form::Operators,
+            need: Need::Always,
+        },
+    ],
+};
+
+const OF: Key = Key {
+    word: "of",
+    form: Form::Numbers(MOST_ITEMS),
+    need: Need::Maybe,
+};
+
+const RANGE: Key = Key {
+    word: "range",
+    form: Form::Range,
+    need: Need::Maybe,
+};
+
+const SCRIPTED: Key = Key {
+    word: "script",
+    form: Form::Entries,
+    need: Need::Maybe,
+};
+
+/// A source of which nothing is known yet.
+const ANY_SOURCE: Shape = Shape {
+    name: "a source",
+    keys: &[OF, RANGE, SCRIPTED],
+};
+
+/// The keys of a source by the first one that it has, since it has no other.
+pub fn source_shape(source: &Value) -> Shape {
+    if source.get("of").is_some() {
+        return Shape {
+            name: "a source with \"of\"",
+            keys: OF_KEYS,
+        };
+    }
+    if source.get("range").is_some() {
+        return Shape {
+            name: "a source with \"range\"",
+            keys: RANGE_KEYS,
+        };
+    }
+    if source.get("script").is_some() {
+        return Shape {
+            name: "a source with \"script\"",
+            keys: SCRIPTED_KEYS,
+        };
+    }
+    ANY_SOURCE
+}
+
+const OF_KEYS: &[Key] = &[OF];
+
+const RANGE_KEYS: &[Key] = &[RANGE];
+
+const SCRIPTED_KEYS: &[Key] = &[SCRIPTED];
+
+/// An entry of a scripted source that is a fault.
+pub const FAULT: Shape = Shape {
+    name: "a fault",
+    keys: &[Key {
+        word: "fault",
+        form: Form::Short,
+        need: Need::Always,
+    }],
+};
+
+/// The tag of an operator.
+pub const OP: Key = Key {
+    word: "op",
+    form: Form::Tag,
+    need: Need::Always,
+};
+
+const BY_ARITHMETIC: Key = Key {
+    word: "by",
+    form: Form::OneOf(&["add", "mul"]),
+    need: Need::Always,
+};
+
+const BY_TEST: Key = Key {
+    word: "by",
+    form: Form::OneOf(&["even", "odd", "lt", "gt", "ne"]),
+    need: Need::Always,
+};
+
+const BY_JOINING: Key = Key {
+    word: "by",
+    form: Form::OneOf(&["add", "mul", "left", "right"]),
+    need: Need::Always,
+};
+
+const K: Key = Key {
+    word: "k",
+    form: Form::Signed,
+    need: Need::Always,
+};
+
+/// The number beside a test of which it is not known whether it has one.
+const MAYBE_K: Key = Key {
+    word: "k",
+    form: Form::Signed,
+    need: Need::Maybe,
+};
+
+const ADD: Key = Key {
+    word: "add",
+    form: Form::Numbers(16),
+    need: Need::Always,
+};
+
+const N: Key = Key {
+    word: "n",
+    form: Form::Unsigned,
+    need: Need::Always,
+};
+
+const SPREAD_N: Key = Key {
+    word: "n",
+    form: Form::Spread,
+    need: Need::Always,
+};
+
+const INITIAL: Key = Key {
+    word: "from",
+    form: Form::Signed,
+    need: Need::Always,
+};
+
+const TO: Key = Key {
+    word: "to",
+    form: Form::OneOf(&["range", "repeat"]),
+    need: Need::Always,
+};
+
+const WITH: Key = Key {
+    word: "with",
+    form: Form::Chain,
+    need: Need::Always,
+};
+
+/// An operator, which is told by its tag.
+macro_rules! operator {
+    ($word:literal, $keys:expr, $need:expr) => {
+        Row {
+            word: $word,
+            name: $word,
+            keys: $keys,
+            need: $need,
+        }
+    };
+}
+
+/// The operators, by their tags.
+pub static OPERATOR_ROWS: [Row; 12] = [
+    operator!("map", &[OP, BY_ARITHMETIC, K], Need::Always),
+    operator!("filter", &[OP, BY_TEST, MAYBE_K], Need::Always),
+    operator!("take_while", &[OP, BY_TEST, MAYBE_K], Need::Always),
+    operator!("transform", &[OP, ADD], Need::Always),
+    operator!("take", &[OP, N], Need::Always),
+    operator!("drop", &[OP, N], Need::Always),
+    operator!("scan", &[OP, INITIAL, BY_ARITHMETIC], Need::Always),
+    operator!("flat_map", &[OP, TO, SPREAD_N], Need::Always),
+    operator!("zip", &[OP, WITH, BY_JOINING], Need::Always),
+    operator!("distinct", &[OP], Need::Always),
+    operator!("drop_while", &[OP, BY_TEST, MAYBE_K], Need::OnlyInTwo),
+    operator!("running_reduce", &[OP, BY_ARITHMETIC], Need::OnlyInTwo),
+];
+
+const PARITY_KEYS: &[Key] = &[OP, BY_TEST];
+
+const COMPARED_KEYS: &[Key] = &[OP, BY_TEST, K];
+
+/// The keys of an operator of a row. Even and odd stand alone, and the other tests have a number beside them.
+pub fn operator_shape(row: &Row, operator: &Value) -> Shape {
+    let by = operator.get("by").and_then(Value::as_str).unwrap_or("");
+    let keys = match (row.word, by) {
+        ("filter" | "take_while" | "drop_while", "even" | "odd") => PARITY_KEYS,
+        ("filter" | "take_while" | "drop_while", "lt" | "gt" | "ne") => COMPARED_KEYS,
+        _ => row.keys,
+    };
+    Shape {
+        name: row.name,
+        keys,
+    }
+}
