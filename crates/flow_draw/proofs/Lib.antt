@@ -1,0 +1,3 @@
+pub mod DrawingLemmas
+pub mod ListingLemmas
+pub mod SplitLemmas

@@ -1,0 +1,16 @@
+use Rattle.std.proofs.Common.{rules, Bor, List, ℕ, ◌++◌, ap, ◌∙◌}
+use Rattle.flow_draw.specs.Listing.{told}
+use Rattle.flow_draw.specs.Drawing.{lines_of}
+use Rattle.flow_draw.proofs.SplitLemmas.{told-more, told-last}
+use Rattle.flow_draw.proofs.lines.split_lines.Goals as goal
+
+pub loop-line-preserved : goal.loop-line-preserved
+loop-line-preserved c = (
+  search rules,
+  ap (λ (items : List (Bor (List ℕ))). told items ++ lines_of c.in-Some.more.now) c.in_ok-push.ensures.items
+      ∙ told-more c.args.text.now c.loop-line.rest.now c.loop-line.lines.items c.in-Some.line c.in-Some.more c.in-Some.ensures.cases c.loop-line.invariant.1,
+)
+
+pub returns : goal.returns
+returns c =
+    ap told c.in_ok-push-2.ensures.items ∙ told-last c.args.text.now c.loop-line.lines.items c.loop-line.rest c.in_default.ensures.cases c.loop-line.invariant.1

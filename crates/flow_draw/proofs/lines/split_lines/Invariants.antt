@@ -1,0 +1,12 @@
+use Rattle.std.proofs.Common.{◌≡◌, ◌++◌, length}
+use denote.Text.{Utf8}
+use denote.Shadow.{shadow}
+use Rattle.flow_draw.specs.Drawing.{lines_of}
+use Rattle.flow_draw.specs.Listing.{told}
+use Rattle.flow_draw.proofs.lines.split_lines.Given as goal
+
+abbrev pub invariant-loop-line : goal.invariant-loop-line
+invariant-loop-line l = shadow (Utf8 l.rest) × (told l.lines.items ++ lines_of l.rest ≡ lines_of l.fn.text)
+
+abbrev pub decreases-loop-line : goal.decreases-loop-line
+decreases-loop-line l = length l.rest

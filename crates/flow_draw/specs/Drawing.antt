@@ -1,0 +1,42 @@
+-- What is drawn of a script. Begin with `Pictures` and `Draws`.
+use Rattle.std.specs.Prelude.{◌≡◌, ◌==◌, ◌++◌, ℕ, List, [], ◌∷◌, take, Option, IfSome, Result, Ok, Err, String, string_bytes}
+use Rattle.std.specs.List.{slice_split}
+use Rattle.std.specs.Io.KnownBytes.{Appends}
+use Rattle.std.specs.declared.alloc.Global.{Global}
+use Rattle.flow_format.specs.declared.fault.ScriptFault.{ScriptFault}
+use Rattle.flow_format.specs.declared.fault.ScriptFault.TheVariants.{WriteFailed}
+use Rattle.flow_format.specs.Checks.{Gives}
+use Rattle.flow_lines.specs.ScriptMeaning.{meaning}
+use Rattle.flow_script.specs.Playing.{Plays}
+
+-- ---- lines
+
+-- the parts of a text between its line feeds
+abbrev pub lines_of : List ℕ → List (List ℕ)
+lines_of text = slice_split (λ byte. byte == 10) text
+
+-- these lines stand in the text, one after the other
+abbrev pub TellsInOrder : List (List ℕ) → List ℕ → Type 0
+TellsInOrder [] text = Unit {0}
+TellsInOrder (line ∷ more) text = (before : List ℕ) × (after : List ℕ) × (text ≡ before ++ (line ++ after)) × TellsInOrder more after
+
+-- each line of the text that a script writes stands in what is drawn, in order
+abbrev pub TellsLines : List ℕ → List ℕ → Type 0
+TellsLines text drawn = TellsInOrder (lines_of text) drawn
+
+-- ---- pictures
+
+-- Of a script that writes a text, something is drawn that tells its lines; one that is refused is refused by the same fault.
+abbrev pub Pictures : Result (List ℕ) ScriptFault → Result (String Global) ScriptFault → Type 0
+Pictures meant (Ok drawn) = (text : List ℕ) × (meant ≡ Ok text) × TellsLines text (string_bytes drawn)
+Pictures meant (Err fault) = Gives {A = List ℕ} meant (Err fault)
+
+-- Where the reader tells its bytes, a run that ends well wrote a picture that tells the lines of the script. After a write
+-- that failed, the front of one was written. A script is refused as the player refuses it.
+abbrev pub Draws : Option (List ℕ) → Option (List ℕ) → Option (List ℕ) → Result (Unit {0}) ScriptFault → Type 0
+Draws known old new (Ok u) =
+    IfSome known (λ bytes. (text : List ℕ) × (drawn : List ℕ) × (meaning bytes ≡ Ok text) × TellsLines text drawn × Appends old new drawn)
+Draws known old new (Err WriteFailed) =
+    IfSome known (λ bytes. (text : List ℕ) × (drawn : List ℕ) × (count : ℕ) × (meaning bytes ≡ Ok text) × TellsLines text drawn
+    × Appends old new (take count drawn))
+Draws known old new (Err fault) = Plays known old new (Err fault)

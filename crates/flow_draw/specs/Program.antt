@@ -1,0 +1,25 @@
+-- What the program draws or tells, and its status. Begin with `RunsDrawing`.
+use Rattle.std.specs.Prelude.{◌≡◌, ℕ, Bool, cond, List, [], ◌∷◌, Option, Some, None, Result, String, codes, string_bytes, bytes_eq}
+use Rattle.flow_format.specs.declared.fault.ScriptFault.{ScriptFault}
+use Rattle.flow_lines.specs.Lines.{lined}
+use Rattle.flow_script.specs.Playing.{is_read_failed}
+use Rattle.flow_script.specs.Telling.{Ends}
+use Rattle.flow_draw.specs.declared.drawing.Form.{Form}
+use Rattle.flow_draw.specs.declared.drawing.Form.TheVariants.{Text, Svg, Explained}
+use Rattle.flow_draw.specs.Drawing.{Draws}
+
+abbrev pub usage_line : List ℕ
+usage_line = lined (codes "usage: flow_draw [--text | --explain]")
+
+-- no argument, `--text`, or `--explain`
+abbrev pub form_of : {A : Type 0} → List (String A) → Option Form
+form_of [] = Some Svg
+form_of (word ∷ []) = cond (bytes_eq (string_bytes word) (codes "--text")) (Some Text) (cond (bytes_eq (string_bytes word) (codes "--explain")) (Some Explained) None)
+form_of _ = None
+
+-- A run that draws: what it answered to the bytes that the reader had, and how the program then ends. Whether the reader and
+-- the writer failed is known of both.
+abbrev pub RunsDrawing : Option (List ℕ) → Bool → Bool → Option (List ℕ) → Option (List ℕ) → ℕ → Type 0
+RunsDrawing known read_failed write_failed old new answered =
+    (outcome : Result (Unit {0}) ScriptFault) × (drawn : Option (List ℕ)) × Draws known old drawn outcome
+    × (read_failed ≡ is_read_failed outcome) × Ends outcome write_failed drawn new answered

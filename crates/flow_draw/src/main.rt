@@ -1,0 +1,43 @@
+//! Draws a flow script from standard input to standard output: `flow_draw [--text | --explain]`. Why one is refused is told on
+//! standard error, too.
+#![tactic(auto)]
+
+mod drawing;
+mod lines;
+mod listing;
+mod program;
+mod rules;
+mod shapes;
+mod style;
+mod svg;
+mod svg_lanes;
+mod text;
+
+use flow_script::Watched;
+use program::{refuse_arguments, run};
+use std::env::args;
+use std::io;
+use std::process::ExitCode;
+
+/// The arguments without the program's name.
+fn arguments(rt: &HostRuntime) -> io::Result<Vec<String>> {
+    let words = args(rt)?.skip(1).collect(rt.alloc())?;
+    Ok(words)
+}
+
+fn main(rt: HostRuntime) -> ExitCode {
+    let mut input = Watched::new(rt.stdin());
+    let mut output = Watched::new(rt.stdout());
+    let mut errors = rt.stderr();
+    let status = match arguments(&rt) {
+        Ok(words) => run(
+            rt.alloc(),
+            words.as_slice(),
+            &mut input,
+            &mut output,
+            &mut errors,
+        ),
+        Err(error) => refuse_arguments(&mut output, error.kind()),
+    };
+    ExitCode::from(status)
+}

@@ -1,0 +1,155 @@
+//! The program over any reader and writer: what it draws or tells, and its status.
+ghost use Rattle.std.specs.Prelude.{◌≡◌, ◌≢◌, false, IfSome, None};
+ghost use Rattle.flow_script.specs.Playing.{TakesWithin, is_read_failed, is_write_failed};
+ghost use Rattle.flow_script.specs.Telling.{Tells, memory_line};
+ghost use Rattle.flow_script.specs.Watching.{inner_of, has_failed};
+ghost use Rattle.flow_lines.specs.ScriptMeaning.{meaning};
+ghost use Rattle.flow_draw.specs.Drawing.{Draws, Pictures};
+ghost use Rattle.flow_draw.specs.Program.{RunsDrawing, form_of, usage_line};
+
+use crate::drawing::{Form, drawing_of};
+use flow_explain::explain_refusal;
+use flow_script::{
+    REFUSED, ScriptFault, Watched, read_all, tell, tell_fault, tell_memory, write_all,
+};
+use std::alloc::Global;
+use std::io::{ErrorKind, Read, Write};
+
+/// The script was drawn.
+const DRAWN: u8 = 0;
+
+/// What the arguments ask for, without the program's name.
+fn form_of(args: &[String]) -> Option<Form>
+    ensures { result ≡ form_of args.now }
+{
+    match args {
+        [] => Some(Form::Svg),
+        [flag] if flag.as_str() == "--text" => Some(Form::Text),
+        [flag] if flag.as_str() == "--explain" => Some(Form::Explained),
+        _ => None,
+    }
+}
+
+fn tell_usage<W: Write>(output: &mut Watched<W>) -> u8
+    requires { has_failed output.old ≡ false }
+    ensures { Tells (has_failed output.new)
+        (W.contents (inner_of output.old)) (W.contents (inner_of output.new)) usage_line 2 result }
+{
+    tell(output, "usage: flow_draw [--text | --explain]\n", REFUSED)
+}
+
+/// Tells why the arguments were not read: want of memory, or else that they are wrong.
+pub fn refuse_arguments<W: Write>(output: &mut Watched<W>, kind: ErrorKind) -> u8
+    requires { has_failed output.old ≡ false }
+    ensures memory { kind ≡ ErrorKind.OutOfMemory → Tells (has_failed output.new)
+        (W.contents (inner_of output.old)) (W.contents (inner_of output.new)) memory_line 4 result }
+    ensures wrong { kind ≢ ErrorKind.OutOfMemory → Tells (has_failed output.new)
+        (W.contents (inner_of output.old)) (W.contents (inner_of output.new)) usage_line 2 result }
+{
+    match kind {
+        ErrorKind::OutOfMemory => tell_memory(output),
+        _ => tell_usage(output),
+    }
+}
+
+/// Explains to a person where and why a script is refused. What cannot be written there is left out: the line on the output
+/// and the status tell the fault.
+fn explain<E: Write>(alloc: Global, errors: &mut E, bytes: &[u8], fault: ScriptFault) {
+    if let Ok(words) = explain_refusal(alloc, bytes, fault) {
+        let _written = errors.write_all(words.as_bytes());
+    }
+}
+
+/// What is drawn of the script of these bytes, or why it is refused, which is explained, too.
+fn drawn_or_explained<E: Write>(
+    alloc: Global,
+    form: Form,
+    bytes: &[u8],
+    errors: &mut E,
+) -> Result<String, ScriptFault>
+    ensures { Pictures (meaning bytes.now) result }
+{
+    match drawing_of(alloc, form, bytes) {
+        Ok(drawn) => Ok(drawn),
+        Err(fault) => {
+            explain(alloc, errors, bytes, fault);
+            Err(fault)
+        }
+    }
+}
+
+/// Draws the script that is read, once the last step was played. At most 1,048,577 bytes are asked for.
+fn draw<R: Read, W: Write, E: Write>(
+    alloc: Global,
+    form: Form,
+    input: &mut Watched<R>,
+    output: &mut Watched<W>,
+    errors: &mut E,
+) -> Result<(), ScriptFault>
+    requires reads { has_failed input.old ≡ false }
+    requires writes { has_failed output.old ≡ false }
+    ensures draws { Draws (R.remaining (inner_of input.old)) (W.contents (inner_of output.old))
+        (W.contents (inner_of output.new)) result }
+    ensures taken { TakesWithin (R.remaining (inner_of input.old)) (R.remaining (inner_of input.new)) }
+    ensures read_failed { has_failed input.new ≡ is_read_failed result }
+    ensures write_failed { has_failed output.new ≡ is_write_failed result }
+{
+    let bytes = match read_all(alloc, input) {
+        Ok(bytes) => bytes,
+        Err(fault) => return Err(fault),
+    };
+    let drawn = match drawn_or_explained(alloc, form, bytes.as_slice(), errors) {
+        Ok(drawn) => drawn,
+        Err(fault) => return Err(fault),
+    };
+    write_all(output, drawn.as_bytes())
+}
+
+/// Draws the script that is read, and answers the program's status.
+fn draw_script<R: Read, W: Write, E: Write>(
+    alloc: Global,
+    form: Form,
+    input: &mut Watched<R>,
+    output: &mut Watched<W>,
+    errors: &mut E,
+) -> u8
+    requires reads { has_failed input.old ≡ false }
+    requires writes { has_failed output.old ≡ false }
+    ensures { RunsDrawing
+        (R.remaining (inner_of input.old)) (has_failed input.new) (has_failed output.new)
+        (W.contents (inner_of output.old)) (W.contents (inner_of output.new)) result }
+{
+    match draw(alloc, form, input, output, errors) {
+        Ok(()) => DRAWN,
+        Err(fault) => tell_fault(alloc, output, fault),
+    }
+}
+
+/// Draws the script that is read in the form that the arguments, without the program's name, ask for, and answers the
+/// program's status. Wrong arguments are told before anything is read.
+///
+/// Where a script is refused, `errors` gets some lines for people, which say where and why.
+///
+/// 0: the script was drawn; 2: the script or the arguments were refused; 3: a read or a write failed; 4: want of memory.
+/// After a write that failed no line is printed.
+pub fn run<R: Read, W: Write, E: Write>(
+    alloc: Global,
+    args: &[String],
+    input: &mut Watched<R>,
+    output: &mut Watched<W>,
+    errors: &mut E,
+) -> u8
+    requires reads { has_failed input.old ≡ false }
+    requires writes { has_failed output.old ≡ false }
+    ensures usage { form_of args.now ≡ None → Tells (has_failed output.new)
+        (W.contents (inner_of output.old)) (W.contents (inner_of output.new)) usage_line 2 result }
+    ensures unread { form_of args.now ≡ None → input.new ≡ input.old }
+    ensures draws { IfSome (form_of args.now) (λ form. RunsDrawing
+        (R.remaining (inner_of input.old)) (has_failed input.new) (has_failed output.new)
+        (W.contents (inner_of output.old)) (W.contents (inner_of output.new)) result) }
+{
+    match form_of(args) {
+        Some(form) => draw_script(alloc, form, input, output, errors),
+        None => tell_usage(output),
+    }
+}

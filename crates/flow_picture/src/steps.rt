@@ -1,0 +1,57 @@
+//! The picture of a script's steps, and its flows in words.
+
+use crate::marks::Drawing;
+use crate::picture::Picture;
+use crate::played::Played;
+use crate::script_words::{add_flow, text_of};
+use serde_json::Value;
+use std::alloc::{AllocError, Global};
+
+/// A lane for each flow, subscriber and emission, and a column for each step that was played.
+pub fn steps_picture<'a>(
+    alloc: Global,
+    script: &'a Value,
+    played: Played<'a>,
+) -> Result<Picture<'a>, AllocError> {
+    let mut drawing = Drawing::new(alloc);
+    add_lanes(&mut drawing, script)?;
+    for (place, step) in played.steps.iter().enumerate() {
+        drawing.add_step(step, played.line(place))?;
+    }
+    Ok(drawing.picture)
+}
+
+/// The flow of a script that names none, unless its steps only collect chains.
+fn single_flow(script: &Value) -> Option<&Value> {
+    let flow = script.get("flow")?;
+    if text_of(flow, "kind") == "none" {
+        None
+    } else {
+        Some(flow)
+    }
+}
+
+fn add_lanes<'a>(drawing: &mut Drawing<'a>, script: &'a Value) -> Result<(), AllocError> {
+    if single_flow(script).is_some() {
+        return drawing.add_flow("flow");
+    }
+    if let Some(flows) = script.get("flows").and_then(Value::as_object) {
+        for (name, _) in flows {
+            drawing.add_flow(name.as_str())?;
+        }
+    }
+    Ok(())
+}
+
+/// What the flows are, a line for each.
+pub fn add_heads(text: &mut String, script: &Value) -> Result<(), AllocError> {
+    if let Some(flow) = single_flow(script) {
+        return add_flow(text, "flow", flow);
+    }
+    if let Some(flows) = script.get("flows").and_then(Value::as_object) {
+        for (name, flow) in flows {
+            add_flow(text, name.as_str(), flow)?;
+        }
+    }
+    Ok(())
+}
