@@ -24,11 +24,6 @@ after_ask (ends e) = ends Completed
 abbrev pub AsksOnce : {A B : Type 0} → ChainRun A → Asked B → ChainRun A → Type 0
 AsksOnce before result after = (after ≡ after_ask before) ⊎ ((result ≡ Fault OutOfMemory) × (after ≡ ends Completed))
 
--- a take of which n items are left asks nothing once it has given its last
-abbrev pub after_take : {A : Type 0} → ℕ → ChainRun A → ChainRun A
-after_take zero r = r
-after_take (suc n) r = after_ask r
-
 -- asked until the operator has its answer: `due` is what the upstream has left then, unless memory was wanted
 abbrev pub Leaves : {A B : Type 0} → ChainRun A → Asked B → ChainRun A → Type 0
 Leaves due result after = (after ≡ due) ⊎ (result ≡ Fault OutOfMemory)
