@@ -15,11 +15,7 @@ mod compare;
 #[cfg(test)]
 mod examples;
 #[cfg(test)]
-mod one_caller;
-#[cfg(test)]
 mod playing;
-#[cfg(test)]
-mod reader;
 #[cfg(test)]
 mod reading;
 #[cfg(test)]
@@ -27,6 +23,8 @@ mod refusals;
 #[cfg(test)]
 mod sharing;
 #[cfg(test)]
-mod state_playing;
+mod steps;
+#[cfg(test)]
+mod values;
 #[cfg(test)]
 mod work;

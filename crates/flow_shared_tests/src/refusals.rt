@@ -3,16 +3,8 @@
 //! those of the documentation.
 
 mod awaiting;
-mod calling;
 mod chains;
+mod flows;
 mod gates;
-mod memory;
-mod shared;
-mod shared_calls;
-mod shared_flows;
+mod own_values;
 mod sharings;
-mod state;
-mod state_calls;
-mod state_flows;
-mod subscribed;
-mod values;

@@ -3,9 +3,7 @@
 //!
 //! A worked example is a list of steps, each with what it is to answer. Another module takes the steps.
 
-mod core_subscribers;
 mod expiry;
-mod flow_subscribers;
 mod hubs;
 mod playing;
 mod refusal_steps;
@@ -16,3 +14,6 @@ mod sharings;
 mod test_hub;
 mod two_chains;
 mod word_hubs;
+
+pub use playing::Chain;
+pub use sharing_steps::{Step, turn};

@@ -1,17 +1,17 @@
 //! Draining flows, by one caller.
-use crate::playing::Step::{Drain, Subscribe, TryEmit, Values};
-use crate::playing::{Example, UNBUFFERED};
-use crate::state_playing::StateStep;
+use crate::steps::Kind::{Shared, State};
+use crate::steps::Step::{Drain, Set, Subscribe, TryEmit, Values};
+use crate::steps::{Example, UNBUFFERED};
 use flow_law::Config;
 use flow_law::Drained::{Empty, Most};
 
 pub const EXAMPLES: &[Example] = &[
     // A shared flow gives all that is there.
     Example {
-        config: Config {
+        kind: Shared(Config {
             extra: 4,
             ..UNBUFFERED
-        },
+        }),
         steps: &[
             Subscribe,
             TryEmit(1, Ok(true)),
@@ -21,11 +21,9 @@ pub const EXAMPLES: &[Example] = &[
             Values(&[1, 2]),
         ],
     },
-];
-
-/// A state flow gives its value once.
-pub const STATE_EXAMPLE: &[StateStep] = &[
-    StateStep::Set(5),
-    StateStep::Drain(9, Empty),
-    StateStep::Values(&[5]),
+    // A state flow gives its value once.
+    Example {
+        kind: State(u64::MAX),
+        steps: &[Subscribe, Set(5), Drain(0, 9, Empty), Values(&[5])],
+    },
 ];

@@ -1,20 +1,21 @@
 //! What becomes of emissions.
-use crate::playing::Step::{
+use crate::steps::Kind::Shared;
+use crate::steps::Step::{
     Cache, Cancel, Count, DropEmission, DropSubscription, Emit, Next, Poll, Subscribe, TryEmit,
     Unsubscribe,
 };
-use crate::playing::{DONE, Example, UNBUFFERED, WAITS};
+use crate::steps::{DONE, Example, UNBUFFERED, WAITS};
 use flow_law::Next::{Empty, Value};
 use flow_law::{Config, Overflow};
 
 pub const EXAMPLES: &[Example] = &[
     // Try emit does not wait.
     Example {
-        config: Config {
+        kind: Shared(Config {
             replay: 1,
             extra: 1,
             ..UNBUFFERED
-        },
+        }),
         steps: &[
             Subscribe,
             TryEmit(1, Ok(true)),
@@ -24,11 +25,11 @@ pub const EXAMPLES: &[Example] = &[
     },
     // An emitter waits for room.
     Example {
-        config: Config {
+        kind: Shared(Config {
             replay: 1,
             extra: 1,
             ..UNBUFFERED
-        },
+        }),
         steps: &[
             Subscribe,
             TryEmit(1, Ok(true)),
@@ -46,11 +47,11 @@ pub const EXAMPLES: &[Example] = &[
     },
     // Drop oldest keeps the newest.
     Example {
-        config: Config {
+        kind: Shared(Config {
             extra: 2,
             overflow: Overflow::DropOldest,
             ..UNBUFFERED
-        },
+        }),
         steps: &[
             Subscribe,
             Emit(1, DONE),
@@ -66,12 +67,12 @@ pub const EXAMPLES: &[Example] = &[
     },
     // Drop latest keeps the oldest.
     Example {
-        config: Config {
+        kind: Shared(Config {
             replay: 1,
             extra: 1,
             overflow: Overflow::DropLatest,
             ..UNBUFFERED
-        },
+        }),
         steps: &[
             Subscribe,
             Emit(1, DONE),
@@ -87,7 +88,7 @@ pub const EXAMPLES: &[Example] = &[
     },
     // Without a buffer an emitter waits for each subscriber.
     Example {
-        config: UNBUFFERED,
+        kind: Shared(UNBUFFERED),
         steps: &[
             Subscribe,
             Subscribe,
@@ -101,7 +102,7 @@ pub const EXAMPLES: &[Example] = &[
     },
     // A cancelled offer is not received.
     Example {
-        config: UNBUFFERED,
+        kind: Shared(UNBUFFERED),
         steps: &[
             Subscribe,
             Subscribe,
@@ -114,7 +115,7 @@ pub const EXAMPLES: &[Example] = &[
     },
     // A late subscriber is offered the value too.
     Example {
-        config: UNBUFFERED,
+        kind: Shared(UNBUFFERED),
         steps: &[
             Subscribe,
             Emit(7, WAITS),
@@ -129,10 +130,10 @@ pub const EXAMPLES: &[Example] = &[
     },
     // Emitters go on when the last subscriber leaves.
     Example {
-        config: Config {
+        kind: Shared(Config {
             replay: 1,
             ..UNBUFFERED
-        },
+        }),
         steps: &[
             Subscribe,
             Emit(1, DONE),
@@ -148,10 +149,10 @@ pub const EXAMPLES: &[Example] = &[
     },
     // A cancelled value is never emitted.
     Example {
-        config: Config {
+        kind: Shared(Config {
             replay: 1,
             ..UNBUFFERED
-        },
+        }),
         steps: &[
             Subscribe,
             Emit(1, DONE),
@@ -165,10 +166,10 @@ pub const EXAMPLES: &[Example] = &[
     },
     // A dropped emission stays queued.
     Example {
-        config: Config {
+        kind: Shared(Config {
             extra: 1,
             ..UNBUFFERED
-        },
+        }),
         steps: &[
             Subscribe,
             Emit(1, DONE),
@@ -181,10 +182,10 @@ pub const EXAMPLES: &[Example] = &[
     },
     // A dropped subscription stays, and blocks emitters.
     Example {
-        config: Config {
+        kind: Shared(Config {
             extra: 1,
             ..UNBUFFERED
-        },
+        }),
         steps: &[
             Subscribe,
             DropSubscription(0),

@@ -41,57 +41,26 @@ where
     assert!(rt; task.poll(future).is_pending() && task.is_woken());
 }
 
-/// The value comes with the first poll. Then a poll is pending, and there is no subscription to be had from the future.
+/// A value comes with the first poll, if there is one. Then a poll is pending, and the subscription is to be had from the
+/// future only where there was none.
 fn receives(
     rt: &impl Abort,
     task: &MockTask,
     flow: &SharedFlow<i64>,
     subscription: Subscription<i64>,
-    value: i64,
+    value: Option<i64>,
 )
     requires { subscription.token.table_id ≡ flow.now.table_id }
 {
     let mut next = NextFuture::new(flow, subscription);
-    let Poll::Ready((_subscription, received)) = task.poll(&mut next) else {
-        panic!(rt; "there is a value")
-    };
-    compare(rt, 1, received, Ok(value));
+    if let Some(value) = value {
+        let Poll::Ready((_subscription, received)) = task.poll(&mut next) else {
+            panic!(rt; "there is a value")
+        };
+        compare(rt, 1, received, Ok(value));
+    }
     pends(rt, task, &mut next);
-    assert!(rt; next.into_subscription().is_none());
-}
-
-/// The emission is done with this poll. Then a poll is pending, and there is nothing to cancel.
-fn is_done<R: Wait + Abort>(rt: &R, task: &MockTask, emit: EmitFuture<'_, i64>) {
-    let mut emit = emit;
-    assert!(rt; matches!(task.poll(&mut emit), Poll::Ready(Sent::Done(_))));
-    pends(rt, task, &mut emit);
-    assert!(rt; emit.cancel(rt).is_none());
-}
-
-#[test]
-fn an_emission_is_pending_until_each_subscriber_has_it(rt: HostRuntime) {
-    let (flow, seat, first, second) = unbuffered(&rt, rt.alloc());
-    let task = MockTask::new(&rt).expect(&rt, "a task");
-    let mut emit = EmitFuture::new(&flow, seat, 7);
-    pends(&rt, &task, &mut emit);
-    receives(&rt, &task, &flow, first, 7);
-    pends(&rt, &task, &mut emit);
-    receives(&rt, &task, &flow, second, 7);
-    is_done(&rt, &task, emit);
-}
-
-/// There is nothing to receive, and the subscription comes back.
-fn receives_nothing(
-    rt: &impl Abort,
-    task: &MockTask,
-    flow: &SharedFlow<i64>,
-    subscription: Subscription<i64>,
-)
-    requires { subscription.token.table_id ≡ flow.now.table_id }
-{
-    let mut next = NextFuture::new(flow, subscription);
-    pends(rt, task, &mut next);
-    assert!(rt; next.into_subscription().is_some());
+    compare(rt, 2, next.into_subscription().is_some(), value.is_none());
 }
 
 /// The value was still on its way.
@@ -100,21 +69,32 @@ fn is_cancelled<R: Wait + Abort>(rt: &R, emit: EmitFuture<'_, i64>) {
     assert!(rt; was_waiting);
 }
 
+/// At last it is done with a poll. Then a poll is pending, and there is nothing to cancel.
+#[test]
+fn an_emission_is_pending_until_each_subscriber_has_it(rt: HostRuntime) {
+    let (flow, seat, first, second) = unbuffered(&rt, rt.alloc());
+    let task = MockTask::new(&rt).expect(&rt, "a task");
+    let mut emit = EmitFuture::new(&flow, seat, 7);
+    pends(&rt, &task, &mut emit);
+    receives(&rt, &task, &flow, first, Some(7));
+    pends(&rt, &task, &mut emit);
+    receives(&rt, &task, &flow, second, Some(7));
+    assert!(rt; matches!(task.poll(&mut emit), Poll::Ready(Sent::Done(_))));
+    pends(&rt, &task, &mut emit);
+    assert!(rt; emit.cancel(&rt).is_none());
+}
+
+/// One that is cancelled before a poll was never made.
 #[test]
 fn a_cancelled_emission_is_not_received(rt: HostRuntime) {
     let (flow, seat, first, second) = unbuffered(&rt, rt.alloc());
     let task = MockTask::new(&rt).expect(&rt, "a task");
     let mut emit = EmitFuture::new(&flow, seat, 7);
     pends(&rt, &task, &mut emit);
-    receives(&rt, &task, &flow, first, 7);
+    receives(&rt, &task, &flow, first, Some(7));
     is_cancelled(&rt, emit);
-    receives_nothing(&rt, &task, &flow, second);
-}
-
-#[test]
-fn an_emission_that_is_cancelled_before_a_poll_was_never_made(rt: HostRuntime) {
+    receives(&rt, &task, &flow, second, None);
     let (flow, seat, first, _second) = unbuffered(&rt, rt.alloc());
-    let task = MockTask::new(&rt).expect(&rt, "a task");
     is_cancelled(&rt, EmitFuture::new(&flow, seat, 7));
-    receives_nothing(&rt, &task, &flow, first);
+    receives(&rt, &task, &flow, first, None);
 }

@@ -1,14 +1,16 @@
 //! A gate whose state counts the events of its history.
 ghost use Rattle.std.specs.Prelude.{◌≡◌, ◌%◌, ◌^◌, [], ◌∷◌, length};
+ghost use Rattle.std.specs.Option.{ForSome};
 
 use crate::compare::compare;
+use crate::work::{Work, run_all};
 use flow_gate::{Adds, Gate, Held, Seat};
 use flow_law::Guarded;
-use std::alloc::Global;
+use std::alloc::{AllocGlobal, Global};
 use std::marker::Brand;
 use std::process::Abort;
+use std::random::RandomSource;
 use std::sync::Wait;
-use std::thread::join;
 
 /// It begins at 0 again after 2^64 events.
 #[derive(Drop)]
@@ -75,36 +77,15 @@ fn new_gate(rt: &impl Abort, alloc: Global) -> (Gate<Count>, Seat<Count>)
     }
 }
 
-/// How many events a gate has had that nobody is in.
-fn count_of(rt: &impl Abort, gate: Gate<Count>) -> u64 {
-    match gate.close() {
-        Some(count) => count.events,
+/// A gate that nobody is in was closed, and has had so many events.
+fn had(rt: &impl Abort, closed: Option<Count>, events: u64) {
+    match closed {
+        Some(count) => compare(rt, 2, count.events, events),
         None => panic!(rt; "somebody is inside"),
     }
 }
 
-/// The same, by one of its seats.
-fn count_by(rt: &impl Abort, gate: Gate<Count>, seat: Seat<Count>) -> u64
-    requires { seat.table_id ≡ gate.table_id }
-{
-    match gate.close_with(seat) {
-        Some(count) => count.events,
-        None => panic!(rt; "somebody is inside"),
-    }
-}
-
-/// Enters after the other seat has left.
-fn enter_alone(rt: &impl Abort, gate: &Gate<Count>, seat: Seat<Count>)
-    requires { seat.table_id ≡ gate.now.table_id }
-{
-    let Ok(mut held) = gate.try_enter(seat) else {
-        panic!(rt; "nobody is inside")
-    };
-    compare(rt, 1, held.state().events, 1);
-    let _seat = add_one(held);
-}
-
-/// One seat enters, and the other one after it.
+/// One seat enters, and the other one after it has left.
 fn enter_in_turn<R: Wait + Abort>(rt: &R, gate: &Gate<Count>, seat: Seat<Count>, other: Seat<Count>)
     requires { (seat.table_id ≡ gate.now.table_id) × (other.table_id ≡ gate.now.table_id) }
 {
@@ -115,60 +96,70 @@ fn enter_in_turn<R: Wait + Abort>(rt: &R, gate: &Gate<Count>, seat: Seat<Count>,
     };
     compare(rt, 0, held.state().events, 0);
     let _seat = add_one(held);
-    enter_alone(rt, gate, other);
+    let Ok(mut held) = gate.try_enter(other) else {
+        panic!(rt; "nobody is inside")
+    };
+    compare(rt, 1, held.state().events, 1);
+    let _seat = add_one(held);
 }
 
+/// A fresh gate gives its state.
 #[test]
 fn who_is_inside_keeps_others_out(rt: HostRuntime) {
+    let (gate, _seat) = new_gate(&rt, rt.alloc());
+    had(&rt, gate.close(), 0);
+    let (gate, seat) = new_gate(&rt, rt.alloc());
+    had(&rt, gate.close_with(seat), 0);
     let (gate, mut seat) = new_gate(&rt, rt.alloc());
     let other = gate.seat(&mut seat);
     enter_in_turn(&rt, &gate, seat, other);
-    compare(&rt, 2, count_of(&rt, gate), 2);
-}
-
-#[test]
-fn a_fresh_gate_gives_its_state(rt: HostRuntime) {
-    let (gate, _seat) = new_gate(&rt, rt.alloc());
-    compare(&rt, 0, count_of(&rt, gate), 0);
-    let (gate, seat) = new_gate(&rt, rt.alloc());
-    compare(&rt, 1, count_by(&rt, gate, seat), 0);
+    had(&rt, gate.close(), 2);
 }
 
 /// One seat adds an event and meets the other one. Each of them then adds one, and the second one leaves once more.
-fn meet_and_go_on<R: Wait>(rt: &R, gate: &Gate<Count>, seat: Seat<Count>, other: Seat<Count>)
-    requires { (seat.table_id ≡ gate.now.table_id) × (other.table_id ≡ gate.now.table_id) }
-{
-    let seat = add_one(gate.enter(rt, seat));
-    let (seat, other) = meet_in_one_history(gate, seat, other);
-    let other = add_one(gate.enter(rt, other));
-    let _seat = add_one(gate.enter(rt, seat));
-    let _other = gate.enter(rt, other).leave::<Brand, _>(&());
-}
-
 #[test]
 fn two_seats_meet_and_go_on(rt: HostRuntime) {
     let (gate, mut seat) = new_gate(&rt, rt.alloc());
     let other = gate.seat(&mut seat);
-    meet_and_go_on(&rt, &gate, seat, other);
-    compare(&rt, 0, count_of(&rt, gate), 3);
+    let seat = add_one(gate.enter(&rt, seat));
+    let (seat, other) = meet_in_one_history(&gate, seat, other);
+    let other = add_one(gate.enter(&rt, other));
+    let _seat = add_one(gate.enter(&rt, seat));
+    let _other = gate.enter(&rt, other).leave::<Brand, _>(&());
+    had(&rt, gate.close(), 3);
+}
+
+/// Who adds 1,000 events.
+#[derive(Drop)]
+struct Adder<'a> {
+    gate: &'a Gate<Count>,
+    seat: Option<Seat<Count>>,
+    ghost of_gate: { ForSome seat (λ seat. seat.table_id ≡ gate.now.table_id) },
+}
+
+impl<'a> Work for Adder<'a> {
+    fn run<R: Wait + RandomSource + AllocGlobal>(&mut self, rt: &R) {
+        if let Some(seat) = self.seat.take() {
+            self.seat = Some(add_thousand(rt, self.gate, seat));
+        }
+    }
 }
 
 #[test]
 fn two_threads_lose_no_addition(rt: HostRuntime) {
     let (gate, mut seat) = new_gate(&rt, rt.alloc());
     let other = gate.seat(&mut seat);
-    let shared = &gate;
-    let (seat, other) = join(
-        &rt,
-        || -> Seat<Count>
-            requires { seat.table_id ≡ shared.now.table_id }
-            ensures { result.table_id ≡ shared.entry.now.table_id }
-        { add_thousand(&rt, shared, seat) },
-        || -> Seat<Count>
-            requires { other.table_id ≡ shared.now.table_id }
-            ensures { result.table_id ≡ shared.entry.now.table_id }
-        { add_thousand(&rt, shared, other) },
-    );
-    let _both = meet_in_one_history(&gate, seat, other);
-    compare(&rt, 0, count_of(&rt, gate), 2000);
+    let mut adders = [
+        Adder {
+            gate: &gate,
+            seat: Some(seat),
+        },
+        Adder {
+            gate: &gate,
+            seat: Some(other),
+        },
+    ];
+    run_all(&rt, &mut adders);
+    drop(adders);
+    had(&rt, gate.close(), 2000);
 }

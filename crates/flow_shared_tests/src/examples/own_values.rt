@@ -1,8 +1,9 @@
 //! Subscribers with first values of their own (`onSubscription`).
-use crate::playing::Step::{
+use crate::steps::Kind::Shared;
+use crate::steps::Step::{
     Cache, Cancel, Emit, Next, Poll, SubscribeWith, SubscribeWithRefused, TryEmit,
 };
-use crate::playing::{DONE, Example, UNBUFFERED, WAITS};
+use crate::steps::{DONE, Example, UNBUFFERED, WAITS};
 use flow_law::FlowFault::Exhausted;
 use flow_law::Next::{Empty, Value};
 use flow_law::{Config, Overflow};
@@ -10,12 +11,12 @@ use flow_law::{Config, Overflow};
 pub const EXAMPLES: &[Example] = &[
     // Own values come before the cache and are never dropped.
     Example {
-        config: Config {
+        kind: Shared(Config {
             replay: 1,
             extra: 1,
             overflow: Overflow::DropOldest,
             ..UNBUFFERED
-        },
+        }),
         steps: &[
             TryEmit(1, Ok(true)),
             SubscribeWith(&[8, 9]),
@@ -32,7 +33,7 @@ pub const EXAMPLES: &[Example] = &[
     },
     // An own value lets an emission wait.
     Example {
-        config: UNBUFFERED,
+        kind: Shared(UNBUFFERED),
         steps: &[
             SubscribeWith(&[8]),
             Emit(7, WAITS),
@@ -44,7 +45,7 @@ pub const EXAMPLES: &[Example] = &[
     },
     // A cancel leaves an own value.
     Example {
-        config: UNBUFFERED,
+        kind: Shared(UNBUFFERED),
         steps: &[
             SubscribeWith(&[8]),
             Emit(7, WAITS),
@@ -55,10 +56,10 @@ pub const EXAMPLES: &[Example] = &[
     },
     // A refused subscription hands its values back.
     Example {
-        config: Config {
+        kind: Shared(Config {
             limit: 0,
             ..UNBUFFERED
-        },
+        }),
         steps: &[SubscribeWithRefused(&[1, 2], Exhausted)],
     },
 ];

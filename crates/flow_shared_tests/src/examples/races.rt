@@ -1,176 +1,132 @@
 //! Calls that race: whichever comes first, what is documented of the flow comes of both.
 use crate::compare::compare;
-use crate::one_caller::{OneCaller, SharedReader as Reader, Waiting};
-use crate::playing::UNBUFFERED;
-use crate::work::{Work, run_all};
-use flow_law::{Config, FlowFault, Next};
+use crate::examples::worker::{Role, Worker};
+use crate::playing::{FlowPlayer, take_all, token};
+use crate::steps::Step::{self, Count, Emit, Next, Subscribe, TryEmit};
+use crate::steps::{TAKEN, UNBUFFERED, WAITS};
+use crate::work::run_all;
+use flow_law::Next::{Empty, Value};
+use flow_law::{self, Config};
 use flow_shared::SharedFlow;
+use std::alloc::{AllocGlobal, Global};
 use std::process::Abort;
+use std::random::RandomSource;
 use std::sync::Wait;
-use std::thread::{Threads, join, yield_now};
+use std::thread::Threads;
 
 /// How often two calls race.
 const ROUNDS: u32 = 100;
 
-/// How often an emission that waits is polled at most.
-const POLLS: u32 = 1_000_000;
-
-/// An emission that waits.
-fn waiting<'a, R: Wait + Abort>(rt: &R, caller: &mut OneCaller<'a>, value: i64) -> Waiting<'a> {
-    let Ok(Some(emission)) = caller.emit(rt, value) else {
-        panic!(rt; "there is no room")
-    };
-    emission
+/// On a new flow the first subscriber reads while the first emission is cancelled, which waits.
+struct Race {
+    config: Config,
+    /// What comes before.
+    before: &'static [Step],
+    /// What the reader may get.
+    received: &'static [flow_law::Next<i64>],
+    /// What follows where the emission was cancelled.
+    cancelled: &'static [Step],
+    /// What follows where it was not, if that may be.
+    emitted: Option<&'static [Step]>,
 }
+
+const RACES: &[Race] = &[
+    // An emission that waits for room is cancelled while the subscriber makes room. It is received by nobody, or by all.
+    Race {
+        config: Config {
+            extra: 1,
+            ..UNBUFFERED
+        },
+        before: &[Subscribe, TryEmit(1, TAKEN), Emit(2, WAITS)],
+        received: &[Value(1)],
+        cancelled: &[Next(0, Empty)],
+        emitted: Some(&[Next(0, Value(2)), Next(0, Empty)]),
+    },
+    // A value that two subscribers are offered is cancelled while one of them takes it, before or not at all.
+    Race {
+        config: UNBUFFERED,
+        before: &[Subscribe, Subscribe, Emit(7, WAITS)],
+        received: &[Value(7), Empty],
+        cancelled: &[Next(1, Empty), Next(0, Empty)],
+        emitted: None,
+    },
+];
 
 /// One thread reads while another cancels.
-fn read_and_cancel<R: Threads + Wait + Abort + Sync>(
+fn read_and_cancel<R: Threads + Wait + Abort + RandomSource + AllocGlobal + Sync>(
     rt: &R,
-    reader: &mut Reader<'_>,
-    emission: Waiting<'_>,
-) -> (Result<Next<i64>, FlowFault>, bool) {
-    join(rt, || reader.next(rt), || emission.cancel(rt))
-}
-
-/// What the subscriber gets next.
-fn receives<R: Wait + Abort>(rt: &R, reader: &mut Reader<'_>, place: usize, wanted: Next<i64>) {
-    compare(rt, place, reader.next(rt), Ok(wanted));
-}
-
-/// An emission that waits for room is cancelled while the subscriber makes room.
-fn cancel_while_room_is_made<R: Threads + Wait + Abort + Sync>(rt: &R, caller: &mut OneCaller<'_>) {
-    let mut reader = caller.subscribe(rt).expect(rt, "a subscription");
-    compare(rt, 0, caller.try_emit(rt, 1), Ok(true));
-    let emission = waiting(rt, caller, 2);
-    let (received, was_waiting) = read_and_cancel(rt, &mut reader, emission);
-    compare(rt, 1, received, Ok(Next::Value(1)));
-    if !was_waiting {
-        receives(rt, &mut reader, 2, Next::Value(2));
+    alloc: Global,
+    race: &Race,
+) {
+    let (flow, seat) = SharedFlow::new(alloc, race.config).expect(rt, "a flow");
+    let mut player = FlowPlayer::new(alloc, alloc, &flow, seat);
+    let mut refused = Vec::new(alloc);
+    take_all(rt, 0, &mut player, race.before, &mut refused);
+    let mut reading = player.worker(Role::Read);
+    reading.reader = Some(token(rt, &mut player.readers, 0));
+    let mut cancelling = player.worker(Role::Cancel);
+    cancelling.emission = Some(token(rt, &mut player.emissions, 0));
+    let mut workers = [reading, cancelling];
+    run_all(rt, &mut workers);
+    let done = &mut workers[..];
+    let was_waiting = done[1].is_done;
+    let Some(received) = done[0].received.take() else {
+        panic!(rt; "memory")
+    };
+    compare(rt, 100, race.received.contains(&received), true);
+    let reader = done[0].reader.take();
+    if let Some(place) = player.readers.get_mut(0) {
+        *place = reader;
     }
-    receives(rt, &mut reader, 3, Next::Empty);
-    reader.unsubscribe(rt);
+    let then = match (was_waiting, race.emitted) {
+        (true, _) => race.cancelled,
+        (false, Some(steps)) => steps,
+        (false, None) => panic!(rt; "the emission waits"),
+    };
+    take_all(rt, 200, &mut player, then, &mut refused);
 }
 
 #[test]
 fn a_cancelled_emission_is_received_by_nobody_and_another_by_all(rt: HostRuntime) {
-    let config = Config::new().extra(1);
-    let (flow, seat) = SharedFlow::new(rt.alloc(), config).expect(&rt, "a flow");
-    let mut caller = OneCaller::new(&flow, seat);
     for _ in 0..ROUNDS {
-        cancel_while_room_is_made(&rt, &mut caller);
-    }
-}
-
-/// A value that two subscribers are offered is cancelled while one of them takes it.
-fn cancel_while_one_takes<R: Threads + Wait + Abort + Sync>(rt: &R, caller: &mut OneCaller<'_>) {
-    let mut reader = caller.subscribe(rt).expect(rt, "a subscription");
-    let mut other = caller.subscribe(rt).expect(rt, "a subscription");
-    let emission = waiting(rt, caller, 7);
-    let (received, was_waiting) = read_and_cancel(rt, &mut reader, emission);
-    compare(rt, 0, was_waiting, true);
-    let is_offered = received == Ok(Next::Value(7)) || received == Ok(Next::Empty);
-    compare(rt, 1, is_offered, true);
-    receives(rt, &mut other, 2, Next::Empty);
-    receives(rt, &mut reader, 3, Next::Empty);
-    other.unsubscribe(rt);
-    reader.unsubscribe(rt);
-}
-
-#[test]
-fn a_cancelled_offer_is_taken_before_or_not_at_all(rt: HostRuntime) {
-    let (flow, seat) = SharedFlow::new(rt.alloc(), UNBUFFERED).expect(&rt, "a flow");
-    let mut caller = OneCaller::new(&flow, seat);
-    for _ in 0..ROUNDS {
-        cancel_while_one_takes(&rt, &mut caller);
-    }
-}
-
-/// One of several threads: it emits a value, or ends the subscription that it has.
-#[derive(Drop)]
-struct Racer<'a> {
-    caller: OneCaller<'a>,
-    value: i64,
-    reader: Option<Reader<'a>>,
-    has_ended: bool,
-}
-
-impl<'a> Racer<'a> {
-    fn new(caller: &mut OneCaller<'a>, value: i64, reader: Option<Reader<'a>>) -> Racer<'a> {
-        Racer {
-            caller: caller.another(),
-            value,
-            reader,
-            has_ended: false,
+        for race in RACES {
+            read_and_cancel(&rt, rt.alloc(), race);
         }
     }
 }
 
-impl<'a> Work for Racer<'a> {
-    fn run<R: Wait>(&mut self, rt: &R) {
-        self.has_ended = match self.reader.take() {
-            Some(reader) => {
-                reader.unsubscribe(rt);
-                true
-            }
-            None => emit_and_wait(rt, &mut self.caller, self.value),
-        };
-    }
-}
+/// A subscriber has not read what a flow of one value has.
+const UNREAD: &[Step] = &[Subscribe, TryEmit(1, TAKEN)];
 
-/// Emits a value, and waits until there is room for it.
-fn emit_and_wait<R: Wait>(rt: &R, caller: &mut OneCaller<'_>, value: i64) -> bool {
-    match caller.emit(rt, value) {
-        Ok(Some(emission)) => is_emitted(rt, emission),
-        Ok(None) => true,
-        Err(_fault) => false,
-    }
-}
+/// Nobody subscribes any more.
+const LEFT: &[Step] = &[Count(0)];
 
-/// Polls the emission until it is done, and other threads go first.
-fn is_emitted<R: Wait>(rt: &R, emission: Waiting<'_>) -> bool {
-    let mut emission = emission;
-    for _ in 0..POLLS {
-        match emission.poll(rt) {
-            Some(back) => emission = back,
-            None => return true,
-        }
-        yield_now();
-    }
-    false
-}
-
-/// Three emit 2, 3 and 4, where there is no room, and the one subscriber, who has not read, leaves.
-fn racers<'a, R: Wait + Abort>(rt: &R, caller: &mut OneCaller<'a>) -> [Racer<'a>; 4] {
-    let reader = caller.subscribe(rt).expect(rt, "a subscription");
-    compare(rt, 0, caller.try_emit(rt, 1), Ok(true));
-    [
-        Racer::new(caller, 2, None),
-        Racer::new(caller, 3, None),
-        Racer::new(caller, 4, None),
-        Racer::new(caller, 0, Some(reader)),
-    ]
-}
-
-/// Nobody subscribes any more, and the cache has one of the three values.
-fn check_flow<R: Wait + Abort>(rt: &R, caller: &mut OneCaller<'_>) {
-    compare(rt, 2, caller.subscription_count(rt), 0);
-    let cache = caller.replay_cache(rt).expect(rt, "memory");
-    let is_one_of_them = match cache.as_slice() {
-        [value] => 2 <= *value && *value <= 4,
-        _ => false,
-    };
-    compare(rt, 3, is_one_of_them, true);
-}
-
+/// Three emit 2, 3 and 4, where there is no room, and the one subscriber, who has not read, leaves. Then nobody subscribes any
+/// more, and the cache has one of the three values.
 #[test]
 fn emitters_go_on_when_the_subscriber_leaves(rt: HostRuntime) {
     let config = Config::new().replay(1);
     let (flow, seat) = SharedFlow::new(rt.alloc(), config).expect(&rt, "a flow");
-    let mut caller = OneCaller::new(&flow, seat);
-    let mut racers = racers(&rt, &mut caller);
-    run_all(&rt, &mut racers);
-    for racer in &racers {
-        compare(&rt, 1, racer.has_ended, true);
+    let mut player = FlowPlayer::new(rt.alloc(), rt.alloc(), &flow, seat);
+    let mut refused = Vec::new(rt.alloc());
+    take_all(&rt, 0, &mut player, UNREAD, &mut refused);
+    let mut leaving = player.worker(Role::Leave);
+    leaving.reader = Some(token(&rt, &mut player.readers, 0));
+    let mut workers = [
+        player.worker(Role::Emit(2)),
+        player.worker(Role::Emit(3)),
+        player.worker(Role::Emit(4)),
+        leaving,
+    ];
+    run_all(&rt, &mut workers);
+    for worker in &workers {
+        compare(&rt, 1, worker.is_done, true);
     }
-    check_flow(&rt, &mut caller);
+    take_all(&rt, 2, &mut player, LEFT, &mut refused);
+    let cache = player.flow.replay_cache(&rt, &mut player.seat);
+    let is_one_of_them = match cache.expect(&rt, "memory").as_slice() {
+        [value] => 2 <= *value && *value <= 4,
+        _ => false,
+    };
+    compare(&rt, 3, is_one_of_them, true);
 }

@@ -1,8 +1,10 @@
 //! What subscribers receive, and what is refused.
 use crate::compare::compare;
-use crate::examples::{drains, emissions, own_values};
-use crate::playing::Step::{Cache, Count, Emit, Next, Reset, Subscribe, SubscribeRefused, TryEmit};
-use crate::playing::{DONE, Example, UNBUFFERED, play};
+use crate::examples::{drains, emissions, own_values, state};
+use crate::playing::play;
+use crate::steps::Kind::Shared;
+use crate::steps::Step::{Cache, Count, Emit, Next, Reset, Subscribe, SubscribeRefused, TryEmit};
+use crate::steps::{DONE, Example, UNBUFFERED};
 use flow_law::FlowFault::{Exhausted, NeedsBuffer, TooLarge};
 use flow_law::Next::{Empty, Value};
 use flow_law::{Config, Overflow};
@@ -11,7 +13,7 @@ use flow_shared::SharedFlow;
 pub const EXAMPLES: &[Example] = &[
     // Nobody receives what was emitted before.
     Example {
-        config: UNBUFFERED,
+        kind: Shared(UNBUFFERED),
         steps: &[
             TryEmit(5, Ok(true)),
             Cache(&[]),
@@ -22,10 +24,10 @@ pub const EXAMPLES: &[Example] = &[
     },
     // A new subscriber gets the cache.
     Example {
-        config: Config {
+        kind: Shared(Config {
             replay: 2,
             ..UNBUFFERED
-        },
+        }),
         steps: &[
             TryEmit(1, Ok(true)),
             TryEmit(2, Ok(true)),
@@ -39,11 +41,11 @@ pub const EXAMPLES: &[Example] = &[
     },
     // A slow subscriber loses the oldest.
     Example {
-        config: Config {
+        kind: Shared(Config {
             extra: 1,
             overflow: Overflow::DropOldest,
             ..UNBUFFERED
-        },
+        }),
         steps: &[
             Subscribe,
             Subscribe,
@@ -60,11 +62,11 @@ pub const EXAMPLES: &[Example] = &[
     },
     // A reset leaves old subscribers what they have.
     Example {
-        config: Config {
+        kind: Shared(Config {
             replay: 2,
             extra: 1,
             ..UNBUFFERED
-        },
+        }),
         steps: &[
             Subscribe,
             TryEmit(1, Ok(true)),
@@ -84,12 +86,12 @@ pub const EXAMPLES: &[Example] = &[
     },
     // No number is issued beyond the limit.
     Example {
-        config: Config {
+        kind: Shared(Config {
             replay: 1,
             extra: 1,
             limit: 3,
             ..UNBUFFERED
-        },
+        }),
         steps: &[
             Subscribe,
             TryEmit(1, Ok(true)),
@@ -104,12 +106,13 @@ pub const EXAMPLES: &[Example] = &[
 ];
 
 #[test]
-fn shared_flows_are_as_documented(rt: HostRuntime) {
+fn flows_are_as_documented(rt: HostRuntime) {
     for (first, examples) in [
         (0, EXAMPLES),
         (10_000, emissions::EXAMPLES),
         (20_000, own_values::EXAMPLES),
         (30_000, drains::EXAMPLES),
+        (40_000, state::EXAMPLES),
     ] {
         play(&rt, rt.alloc(), first, examples);
     }

@@ -2,85 +2,57 @@
 ghost use Rattle.std.specs.Prelude.{◌≡◌, IfSome};
 
 use crate::compare::compare;
+use crate::examples::worker::Role;
+use crate::playing::FlowPlayer;
 use crate::reading::set_and_read;
 use crate::work::{Work, run_all};
+use flow_core::SharedCore;
 use flow_law::{Config, Next};
-use flow_shared::{
-    Emitted, PolledNow, Seat, SharedFlow, StateFlow, StateSeat, StateSubscription, Subscription,
-};
-use std::alloc::Global;
+use flow_shared::{Emitted, PolledNow, Seat, SharedFlow, StateFlow, StateSeat, Subscription};
+use std::alloc::{AllocGlobal, Global};
 use std::process::Abort;
+use std::random::RandomSource;
 use std::sync::Wait;
-use std::thread::{Threads, join};
+use std::thread::Threads;
 
-pub fn new_flow(rt: &impl Abort, alloc: Global, config: Config) -> (SharedFlow<i64>, Seat<i64>)
-    ensures { result.1.table_id ≡ result.0.table_id }
-{
-    SharedFlow::new(alloc, config).expect(rt, "a flow")
-}
-
-fn new_state_flow(rt: &impl Abort, alloc: Global) -> (StateFlow<i64>, StateSeat<i64>)
-    ensures { result.1.table_id ≡ result.0.table_id }
-{
-    StateFlow::new(alloc, 0, u64::MAX).expect(rt, "a flow")
-}
-
-/// Emits a value, and hands the seat back where the emission need not wait.
-fn emit_once<R: Wait>(
+/// A flow, a seat, and a subscriber.
+pub fn one_subscriber<R: Wait + Abort>(
     rt: &R,
-    flow: &SharedFlow<i64>,
-    seat: Seat<i64>,
-    value: i64,
-) -> Option<Seat<i64>>
-    requires { seat.table_id ≡ flow.now.table_id }
-    ensures { IfSome result (λ seat. seat.table_id ≡ flow.entry.now.table_id) }
+    alloc: Global,
+    config: Config,
+) -> (SharedFlow<i64>, Seat<i64>, Subscription<i64>)
+    ensures { (result.1.table_id ≡ result.0.table_id) × (result.2.token.table_id ≡ result.0.table_id) }
 {
-    match flow.emit(rt, seat, value) {
-        Emitted::Done(seat) => Some(seat),
-        Emitted::Queued(_emission) => None,
-        Emitted::Refused(_seat, _value, _fault) => None,
-    }
+    let (flow, mut seat) = SharedFlow::new(alloc, config).expect(rt, "a flow");
+    let subscription = flow.subscribe(rt, &mut seat).expect(rt, "a subscription");
+    (flow, seat, subscription)
 }
 
-/// One thread emits a value through a new seat, which is handed back, and another one counts the subscribers.
-pub fn emit_on_a_thread<R: Threads + Wait + Abort + Sync>(
+/// One thread emits a value through a new seat, and another one counts the subscribers.
+pub fn emit_on_a_thread<R: Threads + Wait + Abort + RandomSource + AllocGlobal + Sync>(
     rt: &R,
-    flow: &SharedFlow<i64>,
-    seat: Seat<i64>,
+    player: &mut FlowPlayer<'_, i64, SharedCore<i64>>,
     value: i64,
     subscribers: u64,
-) -> Seat<i64>
-    requires { seat.table_id ≡ flow.now.table_id }
-    ensures { result.table_id ≡ flow.entry.now.table_id }
-{
-    let mut seat = seat;
-    let other = flow.seat(&mut seat);
-    let (ended, count) = join(
-        rt,
-        || -> Option<Seat<i64>>
-            requires { other.table_id ≡ flow.now.table_id }
-            ensures { IfSome result (λ seat. seat.table_id ≡ flow.entry.now.table_id) }
-        { emit_once(rt, flow, other, value) },
-        || -> u64
-            requires { seat.table_id ≡ flow.now.table_id }
-        {
-            let mut seat = seat;
-            flow.subscription_count(rt, &mut seat)
-        },
-    );
-    compare(rt, 0, count, subscribers);
-    match ended {
-        Some(seat) => seat,
-        None => panic!(rt; "there is room"),
+) {
+    let mut workers = [
+        player.worker(Role::Emit(value)),
+        player.worker(Role::Count(subscribers)),
+    ];
+    run_all(rt, &mut workers);
+    for worker in &workers {
+        compare(rt, 0, worker.is_done, true);
     }
 }
 
 #[test]
 fn what_a_thread_emitted_is_received(rt: HostRuntime) {
-    let (flow, mut seat) = new_flow(&rt, rt.alloc(), Config::new().extra(4));
-    let mut subscription = flow.subscribe(&rt, &mut seat).expect(&rt, "a subscription");
-    let mut ended = emit_on_a_thread(&rt, &flow, seat, 8, 1);
-    flow.meet_subscription(&mut subscription, &mut ended);
+    let config = Config::new().extra(4);
+    let (flow, mut seat, mut subscription) = one_subscriber(&rt, rt.alloc(), config);
+    let own = flow.seat(&mut seat);
+    let mut player = FlowPlayer::new(rt.alloc(), rt.alloc(), &flow, own);
+    emit_on_a_thread(&rt, &mut player, 8, 1);
+    flow.meet_subscription(&mut subscription, &mut seat);
     let received = flow.next(&rt, &mut subscription);
     compare(&rt, 1, received, Ok(Next::Value(8)));
 }
@@ -129,17 +101,15 @@ fn rounds<R: Wait>(
     10_000
 }
 
+/// 10,000 rounds; and an emission that waits is polled and cancelled.
 #[test]
 fn alone_no_call_is_busy(rt: HostRuntime) {
-    let (flow, mut seat) = new_flow(&rt, rt.alloc(), Config::new().extra(4));
-    let mut subscription = flow.subscribe(&rt, &mut seat).expect(&rt, "a subscription");
+    let config = Config::new().extra(4);
+    let (flow, seat, mut subscription) = one_subscriber(&rt, rt.alloc(), config);
     compare(&rt, 0, rounds(&rt, &flow, seat, &mut subscription), 10_000);
-}
-
-/// An emission waits, and is cancelled.
-fn poll_and_cancel<R: Abort>(rt: &R, flow: &SharedFlow<i64>, seat: Seat<i64>)
-    requires { seat.table_id ≡ flow.now.table_id }
-{
+    let (flow, mut seat, _subscription) = one_subscriber(&rt, rt.alloc(), Config::new());
+    compare(&rt, 1, flow.count_now(&mut seat), Ok(1));
+    compare(&rt, 2, flow.reset_now(&mut seat), Ok(()));
     let Emitted::Queued(emission) = flow.emit_now(seat, 7) else {
         panic!(rt; "it waits")
     };
@@ -150,15 +120,6 @@ fn poll_and_cancel<R: Abort>(rt: &R, flow: &SharedFlow<i64>, seat: Seat<i64>)
         panic!(rt; "nobody is inside")
     };
     assert!(rt; was_waiting);
-}
-
-#[test]
-fn an_emission_is_polled_and_cancelled_at_once(rt: HostRuntime) {
-    let (flow, mut seat) = new_flow(&rt, rt.alloc(), Config::new());
-    let _subscription = flow.subscribe(&rt, &mut seat).expect(&rt, "a subscription");
-    compare(&rt, 0, flow.count_now(&mut seat), Ok(1));
-    compare(&rt, 1, flow.reset_now(&mut seat), Ok(()));
-    poll_and_cancel(&rt, &flow, seat);
 }
 
 /// Who sets a value, and reads the current one.
@@ -172,21 +133,8 @@ struct Setter<'a> {
     ghost of_flow: { seat.table_id ≡ flow.now.table_id },
 }
 
-impl<'a> Setter<'a> {
-    fn new(flow: &'a StateFlow<i64>, seat: StateSeat<i64>, value: i64) -> Setter<'a>
-        requires { seat.table_id ≡ flow.now.table_id }
-    {
-        Setter {
-            flow,
-            seat,
-            value,
-            found: 0,
-        }
-    }
-}
-
 impl<'a> Work for Setter<'a> {
-    fn run<R: Wait>(&mut self, rt: &R) {
+    fn run<R: Wait + RandomSource + AllocGlobal>(&mut self, rt: &R) {
         if let Ok(found) = set_and_read(rt, self.flow, &mut self.seat, self.value) {
             self.found = found;
         }
@@ -195,61 +143,46 @@ impl<'a> Work for Setter<'a> {
 
 #[test]
 fn a_thread_reads_what_it_set_or_what_another_set(rt: HostRuntime) {
-    let (flow, mut seat) = new_state_flow(&rt, rt.alloc());
+    let (flow, mut seat) = StateFlow::new(rt.alloc(), 0, u64::MAX).expect(&rt, "a flow");
     let other = flow.seat(&mut seat);
-    let mut setters = [Setter::new(&flow, seat, 9), Setter::new(&flow, other, 4)];
+    let mut setters = [
+        Setter {
+            flow: &flow,
+            seat,
+            value: 9,
+            found: 0,
+        },
+        Setter {
+            flow: &flow,
+            seat: other,
+            value: 4,
+            found: 0,
+        },
+    ];
     run_all(&rt, &mut setters);
     for setter in &setters {
         compare(&rt, 0, setter.found == 9 || setter.found == 4, true);
     }
 }
 
-/// Sets a value at once, where nobody subscribes.
-fn set_at_once(rt: &impl Abort, flow: &StateFlow<i64>, seat: &mut StateSeat<i64>)
-    requires { seat.old.table_id ≡ flow.now.table_id }
-    ensures { seat.new.table_id ≡ flow.entry.now.table_id }
-{
-    compare(rt, 0, flow.set_now(seat, 5), Ok(()));
-    compare(rt, 1, flow.count_now(seat), Ok(0));
-}
-
-/// What one seat sets at once, another reads that has met it.
-fn set_and_meet<R: Wait + Abort>(
-    rt: &R,
-    flow: &StateFlow<i64>,
-    seat: &mut StateSeat<i64>,
-    other: &mut StateSeat<i64>,
-)
-    requires { (seat.old.table_id ≡ flow.now.table_id) × (other.old.table_id ≡ flow.now.table_id) }
-    ensures seat { seat.new.table_id ≡ flow.entry.now.table_id }
-    ensures other { other.new.table_id ≡ flow.entry.now.table_id }
-{
-    set_at_once(rt, flow, other);
-    flow.meet(seat, other);
-    compare(rt, 2, flow.value(rt, seat), Ok(5));
-}
-
-/// Receives the value, and unsubscribes.
-fn receive_and_leave<R: Wait + Abort>(
-    rt: &R,
-    flow: &StateFlow<i64>,
-    subscription: StateSubscription<i64>,
-)
-    requires { subscription.token.table_id ≡ flow.now.table_id }
-{
-    let mut subscription = subscription;
-    compare(rt, 3, flow.next(rt, &mut subscription), Ok(Next::Value(5)));
-    let mut seat = flow.unsubscribe(rt, subscription);
-    compare(rt, 4, flow.subscription_count(rt, &mut seat), 0);
-}
-
+/// What one seat sets at once, another reads that has met it, and its subscriber receives.
 #[test]
 fn a_state_flow_is_set_at_once(rt: HostRuntime) {
-    let (flow, mut seat) = new_state_flow(&rt, rt.alloc());
+    let (flow, mut seat) = StateFlow::new(rt.alloc(), 0, u64::MAX).expect(&rt, "a flow");
     let mut other = flow.seat(&mut seat);
-    set_and_meet(&rt, &flow, &mut seat, &mut other);
+    compare(&rt, 0, flow.set_now(&mut other, 5), Ok(()));
+    compare(&rt, 1, flow.count_now(&mut other), Ok(0));
+    flow.meet(&mut seat, &mut other);
+    compare(&rt, 2, flow.value(&rt, &mut seat), Ok(5));
     let subscribed = flow.subscribe(&rt, &mut seat);
     let mut subscription = subscribed.expect(&rt, "a subscription");
     flow.meet_subscription(&mut subscription, &mut other);
-    receive_and_leave(&rt, &flow, subscription);
+    compare(
+        &rt,
+        3,
+        flow.next(&rt, &mut subscription),
+        Ok(Next::Value(5)),
+    );
+    let mut seat = flow.unsubscribe(&rt, subscription);
+    compare(&rt, 4, flow.subscription_count(&rt, &mut seat), 0);
 }

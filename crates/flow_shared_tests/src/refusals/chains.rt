@@ -1,24 +1,24 @@
 //! A chain of values whose copies take memory, which is collected.
 use crate::compare::compare;
-use crate::refusals::calling::MANY;
-use crate::refusals::values::{are, list_of};
+use crate::playing::MANY;
+use crate::values::{are, list_of};
 use flow_cold::{ChainFault, End, OfList, collect_all};
 use flow_law::Boxed;
 use flow_testing::Refusing;
-use std::alloc::{Allocator, Global};
+use std::alloc::Global;
 use std::process::Abort;
 
 const FAILED: End = End::Failed(ChainFault::OutOfMemory);
 
 /// Collects 1 to 3, or a first part of them where the chain is refused memory. `None` where the list of what was collected is.
-fn collected<A: Allocator + Copy>(
+fn collected<'a>(
     rt: &impl Abort,
-    memory: A,
-    chain: &mut OfList<Boxed<i64, A>, A>,
+    memory: &'a Refusing<Global>,
+    chain: &mut OfList<Boxed<i64, &'a Refusing<Global>>, &'a Refusing<Global>>,
 ) -> Option<End> {
     match collect_all(memory, chain) {
         Ok(got) => {
-            let wanted = if got.end == FAILED {
+            let length = if got.end == FAILED {
                 got.items.len()
             } else {
                 3
@@ -27,7 +27,7 @@ fn collected<A: Allocator + Copy>(
                 rt,
                 0,
                 got.items.as_slice(),
-                [1, 2, 3].split_at(wanted.min(3)).0,
+                [1, 2, 3].split_at(length.min(3)).0,
             );
             Some(got.end)
         }
@@ -38,27 +38,23 @@ fn collected<A: Allocator + Copy>(
     }
 }
 
-/// Collects with each allocation refused in turn, until none is. After a refusal a collection gives all.
-fn collects<A: Allocator + Copy>(rt: &impl Abort, memory: A, refusing: &Refusing<Global>) {
-    let mut chain = OfList::new(list_of(rt, memory, &[1, 2, 3]));
+/// Each allocation is refused in turn, until none is. After a refusal a collection gives all.
+#[test]
+fn each_growth_of_a_collection_is_refused(rt: HostRuntime) {
+    let memory = Refusing::new(rt.alloc());
+    let mut chain = OfList::new(list_of(&rt, &memory, &[1, 2, 3]));
     let mut list_is_refused = false;
     let mut copy_is_refused = false;
     for number in 1..MANY {
-        refusing.refuse(number);
-        let end = collected(rt, memory, &mut chain);
-        if refusing.is_waiting() {
+        memory.refuse(number);
+        let end = collected(&rt, &memory, &mut chain);
+        if memory.is_waiting() {
             break;
         }
         list_is_refused |= end.is_none();
         copy_is_refused |= end == Some(FAILED);
-        let again = collected(rt, memory, &mut chain);
-        compare(rt, 2, again, Some(End::Completed));
+        let again = collected(&rt, &memory, &mut chain);
+        compare(&rt, 2, again, Some(End::Completed));
     }
-    assert!(rt; refusing.is_waiting() && list_is_refused && copy_is_refused);
-}
-
-#[test]
-fn each_growth_of_a_collection_is_refused(rt: HostRuntime) {
-    let memory = Refusing::new(rt.alloc());
-    collects(&rt, &memory, &memory);
+    assert!(rt; memory.is_waiting() && list_is_refused && copy_is_refused);
 }

@@ -1,6 +1,8 @@
 //! A flow forgets what it replays some time after the chain has stopped (`replayExpirationMillis`).
-use crate::sharing::playing::{Chain, Example, Flow};
-use crate::sharing::sharing_steps::Step::{Cache, Next, Subscribe, Turn, Unsubscribe};
+use crate::sharing::playing::Flow::{Shared, State};
+use crate::sharing::playing::{Chain, Example};
+use crate::sharing::sharing_steps::Step::{Flow, Turn};
+use crate::steps::Step::{Cache, Next, Subscribe, Unsubscribe};
 use flow_law::Command::{Keep, Start, Stop, StopAndReset};
 use flow_law::Next::{Empty, Value};
 use flow_law::Started;
@@ -17,55 +19,55 @@ pub const EXAMPLES: &[Example] = &[
     Example {
         chain: Chain::List(&[10, 20, 30, 40]),
         started: STARTED,
-        flow: Flow::Shared(2),
+        flow: Shared(2),
         steps: &[
-            Subscribe,
+            Flow(Subscribe),
             Turn(0, Start, Put),
             Turn(0, Keep, Put),
-            Unsubscribe(0),
+            Flow(Unsubscribe(0)),
             Turn(10, Keep, Put),
             Turn(109, Keep, Put),
             Turn(110, Stop, Idle),
-            Cache(&[30, 40]),
+            Flow(Cache(&[30, 40])),
             Turn(159, Keep, Idle),
             Turn(160, StopAndReset, Idle),
-            Cache(&[]),
+            Flow(Cache(&[])),
             Turn(161, Keep, Idle),
-            Subscribe,
-            Next(1, Empty),
+            Flow(Subscribe),
+            Flow(Next(1, Empty)),
             Turn(161, Start, Put),
-            Next(1, Value(10)),
+            Flow(Next(1, Value(10))),
         ],
     },
     // A subscriber who is there before any turn has seen the expiry starts the chain, and nothing is forgotten.
     Example {
         chain: Chain::List(&[10, 20, 30, 40]),
         started: STARTED,
-        flow: Flow::Shared(2),
+        flow: Shared(2),
         steps: &[
-            Subscribe,
+            Flow(Subscribe),
             Turn(0, Start, Put),
             Turn(0, Keep, Put),
-            Unsubscribe(0),
+            Flow(Unsubscribe(0)),
             Turn(10, Keep, Put),
             Turn(110, Stop, Idle),
-            Subscribe,
+            Flow(Subscribe),
             Turn(300, Start, Put),
-            Cache(&[30, 10]),
+            Flow(Cache(&[30, 10])),
         ],
     },
     // A state flow goes back to its initial value, here 0, as soon as its last subscriber has gone.
     Example {
         chain: Chain::List(&[3, 4]),
         started: Started::WhileSubscribed { stop: 0, expire: 0 },
-        flow: Flow::State,
+        flow: State,
         steps: &[
-            Subscribe,
+            Flow(Subscribe),
             Turn(0, Start, Put),
-            Next(0, Value(3)),
-            Unsubscribe(0),
+            Flow(Next(0, Value(3))),
+            Flow(Unsubscribe(0)),
             Turn(1, StopAndReset, Idle),
-            Cache(&[0]),
+            Flow(Cache(&[0])),
         ],
     },
 ];

@@ -1,9 +1,14 @@
 //! Worked examples of `shareIn` and `stateIn`, which are the same over flows for one thread and for several.
-use crate::sharing::core_subscribers::{share_answers, state_answers};
-use crate::sharing::flow_subscribers::{lent_answers, lent_state_answers};
-use crate::sharing::sharing_steps::Step;
+use crate::compare::compare;
+use crate::playing::{FlowPlayer, Player, core_step};
+use crate::sharing::sharing_steps::{Step, turn};
+use crate::steps::Step as FlowStep;
+use crate::steps::Step::Cache;
+use crate::values::are;
 use flow_cold::{Entry, OfList, OfRange, ScriptChain, Scripted, Source};
-use flow_law::Started;
+use flow_law::{Config, Started};
+use flow_shared::{SharedFlow, StateFlow};
+use flow_sharing::{Hub, SharedFlowHub, Sharing, StateFlowHub, share_in, state_in};
 use std::alloc::Global;
 use std::process::Abort;
 use std::sync::Wait;
@@ -33,53 +38,118 @@ pub enum Flow {
     State,
 }
 
-/// The chain of a list.
-pub fn list(rt: &impl Abort, alloc: Global, items: &[i64]) -> ScriptChain {
-    let items = items.to_vec(alloc).expect(rt, "memory");
-    ScriptChain::source(Source::List(OfList::new(items)))
-}
-
-fn failing(rt: &impl Abort, alloc: Global) -> ScriptChain {
-    let entries = [Entry::Pending, Entry::Item(1), Entry::Fault(7)];
-    let entries = Vec::from_array(alloc, entries).expect(rt, "memory");
-    ScriptChain::source(Source::Scripted(Scripted::new(entries)))
-}
-
 impl Chain {
-    fn make(&self, rt: &impl Abort, alloc: Global) -> ScriptChain {
-        match self {
-            Chain::List(items) => list(rt, alloc, items),
-            Chain::SixtySix => ScriptChain::source(Source::Range(OfRange::new(1, 66))),
-            Chain::Failing => failing(rt, alloc),
+    pub fn make(&self, rt: &impl Abort, alloc: Global) -> ScriptChain {
+        let source = match self {
+            Chain::List(items) => {
+                Source::List(OfList::new(items.to_vec(alloc).expect(rt, "memory")))
+            }
+            Chain::SixtySix => Source::Range(OfRange::new(1, 66)),
+            Chain::Failing => {
+                let entries = [Entry::Pending, Entry::Item(1), Entry::Fault(7)];
+                let entries = Vec::from_array(alloc, entries).expect(rt, "memory");
+                Source::Scripted(Scripted::new(entries))
+            }
+        };
+        ScriptChain::source(source)
+    }
+}
+
+/// Takes the steps of a chain that is shared by a shared flow of its own (`shareIn`).
+fn share<R: Wait + Abort>(rt: &R, alloc: Global, first: usize, example: &Example, replay: u32) {
+    let chain = example.chain.make(rt, alloc);
+    let Ok(mut sharing) = share_in(alloc, chain, example.started, replay, u64::MAX) else {
+        panic!(rt; "a sharing")
+    };
+    let mut ids = Vec::new(alloc);
+    for index in 0..example.steps.len() {
+        let place = first.saturating_add(index);
+        match &example.steps[index] {
+            Step::Flow(Cache(values)) => {
+                let cache = sharing.hub_mut().core_mut().replay_cache();
+                are(rt, place, cache.expect(rt, "memory").as_slice(), values);
+            }
+            Step::Flow(step) => {
+                let answer = core_step(rt, sharing.hub_mut().core_mut(), &mut ids, place, step);
+                compare(rt, place, answer, Ok(()));
+            }
+            step => turn(rt, &mut sharing, place, step),
         }
     }
 }
 
-/// Takes the steps of an example over a flow for one thread, and over one for several.
-fn answers<R: Wait + Abort>(rt: &R, alloc: Global, first: usize, example: &Example) {
-    let Example {
-        chain,
-        started,
-        flow,
-        steps,
-    } = example;
-    let (one, other) = (chain.make(rt, alloc), chain.make(rt, alloc));
-    match flow {
+/// Takes the steps of a chain that is shared by a state flow of its own (`stateIn`), whose first value is 0.
+fn share_state<R: Wait + Abort>(rt: &R, alloc: Global, first: usize, example: &Example) {
+    let chain = example.chain.make(rt, alloc);
+    let Ok(mut sharing) = state_in(alloc, chain, example.started, 0, u64::MAX) else {
+        panic!(rt; "a sharing")
+    };
+    let mut ids = Vec::new(alloc);
+    for index in 0..example.steps.len() {
+        let place = first.saturating_add(index);
+        match &example.steps[index] {
+            Step::Flow(Cache(values)) => {
+                let cache = sharing.hub_mut().core_mut().replay_cache();
+                are(rt, place, cache.expect(rt, "memory").as_slice(), values);
+            }
+            Step::Flow(step) => {
+                let answer = core_step(rt, sharing.hub_mut().core_mut(), &mut ids, place, step);
+                compare(rt, place, answer, Ok(()));
+            }
+            step => turn(rt, &mut sharing, place, step),
+        }
+    }
+}
+
+/// Takes the steps of a sharing into a flow for several threads, whose subscribers the player has.
+fn takes<R: Wait + Abort, H: Hub<Item = i64>, P: Player<Step = FlowStep>>(
+    rt: &R,
+    first: usize,
+    sharing: Sharing<ScriptChain, H>,
+    player: &mut P,
+    steps: &[Step],
+) {
+    let mut sharing = sharing;
+    for index in 0..steps.len() {
+        let place = first.saturating_add(index);
+        match &steps[index] {
+            Step::Flow(step) => compare(rt, place, player.take(rt, place, step), Ok(())),
+            step => turn(rt, &mut sharing, place, step),
+        }
+    }
+}
+
+/// Takes the steps of a chain that is shared into a flow for several threads, which is lent to the hub.
+fn lend<R: Wait + Abort>(rt: &R, alloc: Global, first: usize, example: &Example) {
+    let chain = example.chain.make(rt, alloc);
+    match example.flow {
         Flow::Shared(replay) => {
-            share_answers(rt, alloc, first, one, *started, *replay, steps);
-            lent_answers(rt, alloc, first, other, *started, *replay, steps);
+            let config = Config::new().replay(replay).extra(64 - replay.min(64));
+            let (flow, mut seat) = SharedFlow::new(alloc, config).expect(rt, "a flow");
+            let hub = SharedFlowHub::new(&flow, &mut seat);
+            let mut player = FlowPlayer::new(alloc, alloc, &flow, seat);
+            let sharing = Sharing::new(chain, example.started, hub);
+            takes(rt, first, sharing, &mut player, example.steps);
         }
         Flow::State => {
-            state_answers(rt, alloc, first, one, *started, steps);
-            lent_state_answers(rt, alloc, first, other, *started, steps);
+            let (flow, mut seat) = StateFlow::new(alloc, 0, u64::MAX).expect(rt, "a flow");
+            let hub = StateFlowHub::new(&flow, &mut seat, 0);
+            let mut player = FlowPlayer::new(alloc, alloc, &flow, seat);
+            let sharing = Sharing::new(chain, example.started, hub);
+            takes(rt, first, sharing, &mut player, example.steps);
         }
     }
 }
 
-/// Plays the examples. Step 7 of the example 3 has the place 307, from this one on.
+/// Plays the examples, over flows for one thread and for several. Step 7 of the example 3 has the place 307, from this one on.
 pub fn play<R: Wait + Abort>(rt: &R, alloc: Global, first: usize, examples: &[Example]) {
     for number in 0..examples.len() {
         let place = first.saturating_add(number.saturating_mul(100));
-        answers(rt, alloc, place, &examples[number]);
+        let example = &examples[number];
+        match example.flow {
+            Flow::Shared(replay) => share(rt, alloc, place, example, replay),
+            Flow::State => share_state(rt, alloc, place, example),
+        }
+        lend(rt, alloc, place, example);
     }
 }

@@ -1,9 +1,9 @@
 //! Worked examples of `shareIn` and `stateIn`.
 use crate::sharing::expiry;
-use crate::sharing::playing::{Chain, Example, Flow, play};
-use crate::sharing::sharing_steps::Step::{
-    Cache, Count, Next, Refused, Subscribe, Turn, Turns, Unsubscribe,
-};
+use crate::sharing::playing::Flow::{Shared, State};
+use crate::sharing::playing::{Chain, Example, play};
+use crate::sharing::sharing_steps::Step::{Count, Flow, Refused, Turn, Turns};
+use crate::steps::Step::{Cache, Next, Subscribe, Unsubscribe};
 use flow_law::Command::{Keep, Start, Stop};
 use flow_law::Next::{Empty, Value};
 use flow_law::report::Event::{Completed, Idle, Pending, Put, Queued, Waiting};
@@ -19,22 +19,22 @@ const EXAMPLES: &[Example] = &[
             stop: 100,
             expire: NEVER,
         },
-        flow: Flow::Shared(0),
+        flow: Shared(0),
         steps: &[
-            Subscribe,
+            Flow(Subscribe),
             Turn(0, Start, Put),
-            Unsubscribe(0),
+            Flow(Unsubscribe(0)),
             Turn(50, Keep, Put),
             Turn(149, Keep, Put),
-            Subscribe,
+            Flow(Subscribe),
             Turn(149, Keep, Put),
-            Next(1, Value(40)),
-            Unsubscribe(1),
+            Flow(Next(1, Value(40))),
+            Flow(Unsubscribe(1)),
             Turn(200, Keep, Completed),
             Turn(300, Stop, Idle),
-            Subscribe,
+            Flow(Subscribe),
             Turn(301, Start, Put),
-            Next(2, Value(10)),
+            Flow(Next(2, Value(10))),
             Refused(300, Backwards(301)),
         ],
     },
@@ -45,11 +45,11 @@ const EXAMPLES: &[Example] = &[
             stop: NEVER,
             expire: NEVER,
         },
-        flow: Flow::Shared(0),
+        flow: Shared(0),
         steps: &[
-            Subscribe,
+            Flow(Subscribe),
             Turn(0, Start, Put),
-            Unsubscribe(0),
+            Flow(Unsubscribe(0)),
             Turn(0, Keep, Put),
             Turn(u64::MAX, Keep, Put),
         ],
@@ -58,14 +58,14 @@ const EXAMPLES: &[Example] = &[
     Example {
         chain: Chain::SixtySix,
         started: Started::Eagerly,
-        flow: Flow::Shared(0),
+        flow: Shared(0),
         steps: &[
-            Subscribe,
+            Flow(Subscribe),
             Turn(0, Start, Put),
             Turns(1, 63, Keep, Put),
             Turn(64, Keep, Queued),
             Turn(65, Keep, Waiting),
-            Next(0, Value(1)),
+            Flow(Next(0, Value(1))),
             Turn(66, Keep, Queued),
         ],
     },
@@ -76,15 +76,15 @@ const EXAMPLES: &[Example] = &[
             stop: 0,
             expire: NEVER,
         },
-        flow: Flow::Shared(0),
+        flow: Shared(0),
         steps: &[
-            Subscribe,
+            Flow(Subscribe),
             Turn(0, Start, Put),
             Turns(1, 63, Keep, Put),
             Turn(64, Keep, Queued),
-            Unsubscribe(0),
+            Flow(Unsubscribe(0)),
             Turn(65, Stop, Idle),
-            Cache(&[]),
+            Flow(Cache(&[])),
             Count(0),
         ],
     },
@@ -92,32 +92,32 @@ const EXAMPLES: &[Example] = &[
     Example {
         chain: Chain::Failing,
         started: Started::Lazily,
-        flow: Flow::Shared(1),
+        flow: Shared(1),
         steps: &[
             Turn(5, Keep, Idle),
-            Subscribe,
+            Flow(Subscribe),
             Turn(5, Start, Pending),
             Turn(6, Keep, Put),
             Refused(7, OfChain(ChainFault::Source(7))),
             Refused(8, Ended),
-            Cache(&[1]),
-            Next(0, Value(1)),
+            Flow(Cache(&[1])),
+            Flow(Next(0, Value(1))),
         ],
     },
     // A state flow has the newest item, and a subscriber gets no item that is the same as the one before.
     Example {
         chain: Chain::List(&[3, 3, 4]),
         started: Started::Eagerly,
-        flow: Flow::State,
+        flow: State,
         steps: &[
             Turn(0, Start, Put),
-            Cache(&[3]),
-            Subscribe,
-            Next(0, Value(3)),
+            Flow(Cache(&[3])),
+            Flow(Subscribe),
+            Flow(Next(0, Value(3))),
             Turn(1, Keep, Put),
-            Next(0, Empty),
+            Flow(Next(0, Empty)),
             Turn(2, Keep, Put),
-            Next(0, Value(4)),
+            Flow(Next(0, Value(4))),
             Turn(3, Keep, Completed),
             Turn(4, Keep, Completed),
         ],

@@ -5,7 +5,7 @@ use flow_sharing::Hub;
 use std::cell::Cell;
 
 /// What a test flow does with an item.
-#[derive(Clone, Copy, PartialEq, Eq)]
+#[derive(Clone, Copy)]
 pub enum Behaviour {
     Accepts,
     Queues,
@@ -45,7 +45,7 @@ impl Hub for TestHub {
         }
         match self.accepted.push(value) {
             Ok(()) => {
-                self.waits = self.behaviour == Behaviour::Queues;
+                self.waits = matches!(self.behaviour, Behaviour::Queues);
                 Ok(self.waits)
             }
             Err(refused) => Err(Refused {
@@ -60,7 +60,7 @@ impl Hub for TestHub {
     }
 
     fn cancel(&mut self) -> Result<bool, FlowFault> {
-        if self.behaviour == Behaviour::KeepsEmissions {
+        if matches!(self.behaviour, Behaviour::KeepsEmissions) {
             return Err(FlowFault::Busy);
         }
         let waited = self.waits;
@@ -72,7 +72,7 @@ impl Hub for TestHub {
     }
 
     fn reset(&mut self) -> Result<(), FlowFault> {
-        if self.behaviour == Behaviour::KeepsCache {
+        if matches!(self.behaviour, Behaviour::KeepsCache) {
             return Err(FlowFault::Busy);
         }
         self.resets = self.resets.wrapping_add(1);

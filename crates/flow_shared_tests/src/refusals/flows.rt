@@ -1,0 +1,148 @@
+//! Worked examples of flows, for one thread and for several, each with the places of the steps that take memory: each of them
+//! is refused in some run, and no other step is.
+use crate::compare::compare;
+use crate::playing::{Threads, refuse_each};
+use crate::steps::Kind::{Shared, State};
+use crate::steps::Step::{
+    Cache, Count, Current, Emit, Next, Set, Subscribe, SubscribeWith, TryEmit,
+};
+use crate::steps::{DONE, Example, TAKEN, WAITS};
+use flow_law::Config;
+use flow_law::Next::{Empty, Value};
+use flow_law::Overflow::{DropOldest, Suspend};
+use std::alloc::Global;
+use std::process::Abort;
+use std::sync::Wait;
+
+/// A flow that keeps one value for new subscribers, and one more.
+pub const SMALL: Config = Config {
+    replay: 1,
+    extra: 1,
+    overflow: Suspend,
+    limit: u64::MAX,
+};
+
+/// The same, where the oldest value is dropped.
+const DROPPING: Config = Config {
+    overflow: DropOldest,
+    ..SMALL
+};
+
+/// A flow that keeps two values for new subscribers.
+const REPLAYING: Config = Config {
+    replay: 2,
+    extra: 0,
+    ..SMALL
+};
+
+/// The examples, each with the places of the steps that take memory, from 0.
+const EXAMPLES: &[(Example, &[usize])] = &[
+    // An emission waits for a slow subscriber.
+    (
+        Example {
+            kind: Shared(SMALL),
+            steps: &[
+                SubscribeWith(&[]),
+                TryEmit(1, TAKEN),
+                TryEmit(2, TAKEN),
+                Emit(3, WAITS),
+                Next(0, Value(1)),
+                Cache(&[3]),
+                Next(0, Value(2)),
+                Next(0, Value(3)),
+                Next(0, Empty),
+                Count(1),
+            ],
+        },
+        &[0, 3, 4, 5, 6, 7],
+    ),
+    // Own values come before the cache, and are never dropped. They are moved, and so never refused.
+    (
+        Example {
+            kind: Shared(DROPPING),
+            steps: &[
+                TryEmit(1, TAKEN),
+                SubscribeWith(&[8, 9]),
+                Emit(2, DONE),
+                Emit(3, DONE),
+                Emit(4, DONE),
+                Next(0, Value(8)),
+                Next(0, Value(9)),
+                Next(0, Value(3)),
+                Next(0, Value(4)),
+                Next(0, Empty),
+                Cache(&[4]),
+            ],
+        },
+        &[1, 7, 8, 10],
+    ),
+    // A new subscriber gets the cache.
+    (
+        Example {
+            kind: Shared(REPLAYING),
+            steps: &[
+                Cache(&[]),
+                TryEmit(1, TAKEN),
+                TryEmit(2, TAKEN),
+                TryEmit(3, TAKEN),
+                Cache(&[2, 3]),
+                SubscribeWith(&[]),
+                Next(0, Value(2)),
+                Next(0, Value(3)),
+                Next(0, Empty),
+            ],
+        },
+        &[4, 5, 6, 7],
+    ),
+    // There is one subscriber.
+    (
+        Example {
+            kind: Shared(SMALL),
+            steps: &[Count(0), Subscribe, Count(1)],
+        },
+        &[1],
+    ),
+    // A subscriber of a state flow comes at 0, and skips the 1.
+    (
+        Example {
+            kind: State(u64::MAX),
+            steps: &[
+                Subscribe,
+                Next(0, Value(0)),
+                Set(1),
+                Set(5),
+                Next(0, Value(5)),
+                Next(0, Empty),
+                Cache(&[5]),
+                Current(5),
+                Count(1),
+            ],
+        },
+        &[0, 1, 4, 6, 7],
+    ),
+];
+
+/// Each step at one of these places was refused in some run, and no other one was. A new state flow for one thread has the
+/// value that it is given, and is not refused.
+fn are_refused<R: Wait + Abort>(
+    rt: &R,
+    alloc: Global,
+    threads: &Threads,
+    example: &Example,
+    places: &[usize],
+) {
+    let (flow_is_refused, refused) = refuse_each(rt, alloc, threads, 0, example);
+    let takes_memory = matches!(threads, Threads::Several) || matches!(example.kind, Shared(_));
+    compare(rt, 0, flow_is_refused, takes_memory);
+    for place in 0..example.steps.len() {
+        compare(rt, place, refused.contains(&place), places.contains(&place));
+    }
+}
+
+#[test]
+fn each_growth_of_a_flow_is_refused(rt: HostRuntime) {
+    for (example, places) in EXAMPLES {
+        are_refused(&rt, rt.alloc(), &Threads::One, example, places);
+        are_refused(&rt, rt.alloc(), &Threads::Several, example, places);
+    }
+}
