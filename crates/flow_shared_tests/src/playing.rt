@@ -9,4 +9,4 @@ mod runs;
 
 pub use on_cores::core_step;
 pub use on_flows::{FlowPlayer, Reader, Waiting, token};
-pub use runs::{MANY, Player, Threads, play, refuse_each, take_all};
+pub use runs::{MANY, Threads, play, refuse_each};

@@ -6,7 +6,7 @@ use crate::awaiting::{exchange, send};
 use crate::compare::compare;
 use crate::examples::threads::one_subscriber;
 use crate::examples::worker::Role;
-use crate::playing::{FlowPlayer, Player, token};
+use crate::playing::{FlowPlayer, token};
 use crate::steps::Step;
 use crate::work::run_all;
 use flow_law::Config;
@@ -96,7 +96,12 @@ pub fn receive_all<R: Wait + RandomSource + AllocGlobal>(
 fn each_value_is_received_by_another_thread_before_the_next(rt: HostRuntime) {
     let (flow, seat) = SharedFlow::new(rt.alloc(), Config::new()).expect(&rt, "a flow");
     let mut player = FlowPlayer::new(rt.alloc(), rt.alloc(), &flow, seat);
-    compare(&rt, 0, player.take(&rt, 0, &Step::Subscribe), Ok(()));
+    compare(
+        &rt,
+        0,
+        player.subscriber_step(&rt, 0, &Step::Subscribe),
+        Ok(()),
+    );
     let mut receiving = player.worker(Role::Receive(100));
     receiving.reader = Some(token(&rt, &mut player.readers, 0));
     let mut workers = [player.worker(Role::Send(100)), receiving];

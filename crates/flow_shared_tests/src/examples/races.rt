@@ -1,7 +1,7 @@
 //! Calls that race: whichever comes first, what is documented of the flow comes of both.
 use crate::compare::compare;
 use crate::examples::worker::{Role, Worker};
-use crate::playing::{FlowPlayer, take_all, token};
+use crate::playing::{FlowPlayer, token};
 use crate::steps::Step::{self, Count, Emit, Next, Subscribe, TryEmit};
 use crate::steps::{TAKEN, UNBUFFERED, WAITS};
 use crate::work::run_all;
@@ -61,20 +61,28 @@ fn read_and_cancel<R: Threads + Wait + Abort + RandomSource + AllocGlobal + Sync
     let (flow, seat) = SharedFlow::new(alloc, race.config).expect(rt, "a flow");
     let mut player = FlowPlayer::new(alloc, alloc, &flow, seat);
     let mut refused = Vec::new(alloc);
-    take_all(rt, 0, &mut player, race.before, &mut refused);
+    player.take_all(rt, 0, race.before, &mut refused);
     let mut reading = player.worker(Role::Read);
     reading.reader = Some(token(rt, &mut player.readers, 0));
     let mut cancelling = player.worker(Role::Cancel);
     cancelling.emission = Some(token(rt, &mut player.emissions, 0));
-    let mut workers = [reading, cancelling];
-    run_all(rt, &mut workers);
-    let done = &mut workers[..];
-    let was_waiting = done[1].is_done;
-    let Some(received) = done[0].received.take() else {
+    let Ok(mut workers) = Vec::from_array(alloc, [reading, cancelling]) else {
+        panic!(rt; "memory")
+    };
+    run_all(rt, workers.as_mut_slice());
+    let (Some(cancelling), Some(reading)) = (workers.pop(), workers.pop()) else {
+        panic!(rt; "two workers")
+    };
+    let was_waiting = cancelling.is_done;
+    let Worker {
+        reader,
+        received,
+        ..
+    } = reading;
+    let Some(received) = received else {
         panic!(rt; "memory")
     };
     compare(rt, 100, race.received.contains(&received), true);
-    let reader = done[0].reader.take();
     if let Some(place) = player.readers.get_mut(0) {
         *place = reader;
     }
@@ -83,7 +91,7 @@ fn read_and_cancel<R: Threads + Wait + Abort + RandomSource + AllocGlobal + Sync
         (false, Some(steps)) => steps,
         (false, None) => panic!(rt; "the emission waits"),
     };
-    take_all(rt, 200, &mut player, then, &mut refused);
+    player.take_all(rt, 200, then, &mut refused);
 }
 
 #[test]
@@ -109,7 +117,7 @@ fn emitters_go_on_when_the_subscriber_leaves(rt: HostRuntime) {
     let (flow, seat) = SharedFlow::new(rt.alloc(), config).expect(&rt, "a flow");
     let mut player = FlowPlayer::new(rt.alloc(), rt.alloc(), &flow, seat);
     let mut refused = Vec::new(rt.alloc());
-    take_all(&rt, 0, &mut player, UNREAD, &mut refused);
+    player.take_all(&rt, 0, UNREAD, &mut refused);
     let mut leaving = player.worker(Role::Leave);
     leaving.reader = Some(token(&rt, &mut player.readers, 0));
     let mut workers = [
@@ -122,7 +130,7 @@ fn emitters_go_on_when_the_subscriber_leaves(rt: HostRuntime) {
     for worker in &workers {
         compare(&rt, 1, worker.is_done, true);
     }
-    take_all(&rt, 2, &mut player, LEFT, &mut refused);
+    player.take_all(&rt, 2, LEFT, &mut refused);
     let cache = player.flow.replay_cache(&rt, &mut player.seat);
     let is_one_of_them = match cache.expect(&rt, "memory").as_slice() {
         [value] => 2 <= *value && *value <= 4,

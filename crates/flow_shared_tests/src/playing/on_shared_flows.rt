@@ -1,7 +1,6 @@
 //! Steps on shared flows for several threads.
 use crate::compare::compare;
 use crate::playing::on_flows::{FlowPlayer, Reader, Waiting, token};
-use crate::playing::runs::Player;
 use crate::steps::Step;
 use crate::values::{Numbered, are, list_of};
 use flow_core::SharedCore;
@@ -105,13 +104,9 @@ impl<'a, T: Numbered<Memory = A>, A: Allocator + Copy> FlowPlayer<'a, T, SharedC
             }
         }
     }
-}
 
-impl<'a, T: Numbered<Memory = A>, A: Allocator + Copy> Player
-    for FlowPlayer<'a, T, SharedCore<T, A>, A> {
-    type Step = Step;
-
-    fn take<R: Wait + Abort>(
+    /// Takes a step, and compares what it answers. `Err` where it is refused for want of memory.
+    pub fn take<R: Wait + Abort>(
         &mut self,
         rt: &R,
         place: usize,
@@ -129,6 +124,25 @@ impl<'a, T: Numbered<Memory = A>, A: Allocator + Copy> Player
             }
             Step::Reset => Ok(self.flow.reset_replay_cache(rt, &mut self.seat)),
             _ => self.emission_step(rt, place, step),
+        }
+    }
+
+    /// Takes the steps, and those that are refused again, whose places are told. A wrong answer is told by the place of its
+    /// step, from this one on.
+    pub fn take_all<R: Wait + Abort>(
+        &mut self,
+        rt: &R,
+        first: usize,
+        steps: &[Step],
+        refused: &mut Vec<usize>,
+    ) {
+        for index in 0..steps.len() {
+            let place = first.saturating_add(index);
+            if let Err(fault) = self.take(rt, place, &steps[index]) {
+                compare(rt, place, fault, FlowFault::OutOfMemory);
+                compare(rt, place, self.take(rt, place, &steps[index]), Ok(()));
+                refused.push(index).expect(rt, "memory");
+            }
         }
     }
 }

@@ -1,7 +1,6 @@
 //! Steps on state flows for several threads.
 use crate::compare::compare;
 use crate::playing::on_flows::FlowPlayer;
-use crate::playing::runs::Player;
 use crate::steps::Step;
 use crate::values::{Numbered, are};
 use flow_core::StateCore;
@@ -10,11 +9,9 @@ use std::alloc::Allocator;
 use std::process::Abort;
 use std::sync::Wait;
 
-impl<'a, T: Numbered<Memory = A>, A: Allocator + Copy> Player
-    for FlowPlayer<'a, T, StateCore<T, A>, A> {
-    type Step = Step;
-
-    fn take<R: Wait + Abort>(
+impl<'a, T: Numbered<Memory = A>, A: Allocator + Copy> FlowPlayer<'a, T, StateCore<T, A>, A> {
+    /// Takes a step, and compares what it answers. `Err` where it is refused for want of memory.
+    pub fn take<R: Wait + Abort>(
         &mut self,
         rt: &R,
         place: usize,
@@ -50,6 +47,25 @@ impl<'a, T: Numbered<Memory = A>, A: Allocator + Copy> Player
                 Ok(compare(rt, place, answer, Err(*fault)))
             }
             _ => self.subscriber_step(rt, place, step),
+        }
+    }
+
+    /// Takes the steps, and those that are refused again, whose places are told. A wrong answer is told by the place of its
+    /// step, from this one on.
+    pub fn take_all<R: Wait + Abort>(
+        &mut self,
+        rt: &R,
+        first: usize,
+        steps: &[Step],
+        refused: &mut Vec<usize>,
+    ) {
+        for index in 0..steps.len() {
+            let place = first.saturating_add(index);
+            if let Err(fault) = self.take(rt, place, &steps[index]) {
+                compare(rt, place, fault, FlowFault::OutOfMemory);
+                compare(rt, place, self.take(rt, place, &steps[index]), Ok(()));
+                refused.push(index).expect(rt, "memory");
+            }
         }
     }
 }

@@ -15,7 +15,7 @@ use std::sync::Wait;
 /// More runs than an example has.
 pub const MANY: u64 = 200;
 
-/// Who takes steps on a flow.
+/// Who takes steps on a flow for one thread.
 pub trait Player {
     /// A step, and what it answers.
     type Step;
@@ -37,7 +37,7 @@ pub enum Threads {
 
 /// Takes the steps, and those that are refused again, whose places are told. A wrong answer is told by the place of its
 /// step, from this one on.
-pub fn take_all<R: Wait + Abort, P: Player>(
+fn take_all<R: Wait + Abort, P: Player>(
     rt: &R,
     first: usize,
     player: &mut P,
@@ -91,12 +91,12 @@ fn on_several<R: Wait + Abort, A: Allocator + Copy>(
         Kind::Shared(config) => {
             let (flow, seat) = SharedFlow::<Boxed<i64, A>, A>::new(memory, config)?;
             let mut player = FlowPlayer::new(alloc, memory, &flow, seat);
-            Ok(take_all(rt, first, &mut player, example.steps, refused))
+            Ok(player.take_all(rt, first, example.steps, refused))
         }
         Kind::State(limit) => {
             let (flow, seat) = StateFlow::new(memory, Boxed::of(rt, memory, 0), limit)?;
             let mut player = FlowPlayer::new(alloc, memory, &flow, seat);
-            Ok(take_all(rt, first, &mut player, example.steps, refused))
+            Ok(player.take_all(rt, first, example.steps, refused))
         }
     }
 }

@@ -1,14 +1,13 @@
 //! Worked examples of `shareIn` and `stateIn`, which are the same over flows for one thread and for several.
 use crate::compare::compare;
-use crate::playing::{FlowPlayer, Player, core_step};
+use crate::playing::{FlowPlayer, core_step};
 use crate::sharing::sharing_steps::{Step, turn};
-use crate::steps::Step as FlowStep;
 use crate::steps::Step::Cache;
 use crate::values::are;
 use flow_cold::{Entry, OfList, OfRange, ScriptChain, Scripted, Source};
 use flow_law::{Config, Started};
 use flow_shared::{SharedFlow, StateFlow};
-use flow_sharing::{Hub, SharedFlowHub, Sharing, StateFlowHub, share_in, state_in};
+use flow_sharing::{SharedFlowHub, Sharing, StateFlowHub, share_in, state_in};
 use std::alloc::Global;
 use std::process::Abort;
 use std::sync::Wait;
@@ -101,42 +100,36 @@ fn share_state<R: Wait + Abort>(rt: &R, alloc: Global, first: usize, example: &E
     }
 }
 
-/// Takes the steps of a sharing into a flow for several threads, whose subscribers the player has.
-fn takes<R: Wait + Abort, H: Hub<Item = i64>, P: Player<Step = FlowStep>>(
-    rt: &R,
-    first: usize,
-    sharing: Sharing<ScriptChain, H>,
-    player: &mut P,
-    steps: &[Step],
-) {
-    let mut sharing = sharing;
-    for index in 0..steps.len() {
+/// Takes the steps of a chain that is shared into a shared flow of 64 values, of which so many are replayed, and which is lent to the
+/// hub.
+fn lend<R: Wait + Abort>(rt: &R, alloc: Global, first: usize, example: &Example, replay: u32) {
+    let chain = example.chain.make(rt, alloc);
+    let config = Config::new().replay(replay).extra(64 - replay.min(64));
+    let (flow, mut seat) = SharedFlow::new(alloc, config).expect(rt, "a flow");
+    let hub = SharedFlowHub::new(&flow, &mut seat);
+    let mut player = FlowPlayer::new(alloc, alloc, &flow, seat);
+    let mut sharing = Sharing::new(chain, example.started, hub);
+    for index in 0..example.steps.len() {
         let place = first.saturating_add(index);
-        match &steps[index] {
+        match &example.steps[index] {
             Step::Flow(step) => compare(rt, place, player.take(rt, place, step), Ok(())),
             step => turn(rt, &mut sharing, place, step),
         }
     }
 }
 
-/// Takes the steps of a chain that is shared into a flow for several threads, which is lent to the hub.
-fn lend<R: Wait + Abort>(rt: &R, alloc: Global, first: usize, example: &Example) {
+/// Takes the steps of a chain that is shared into a state flow, whose first value is 0, and which is lent to the hub.
+fn lend_state<R: Wait + Abort>(rt: &R, alloc: Global, first: usize, example: &Example) {
     let chain = example.chain.make(rt, alloc);
-    match example.flow {
-        Flow::Shared(replay) => {
-            let config = Config::new().replay(replay).extra(64 - replay.min(64));
-            let (flow, mut seat) = SharedFlow::new(alloc, config).expect(rt, "a flow");
-            let hub = SharedFlowHub::new(&flow, &mut seat);
-            let mut player = FlowPlayer::new(alloc, alloc, &flow, seat);
-            let sharing = Sharing::new(chain, example.started, hub);
-            takes(rt, first, sharing, &mut player, example.steps);
-        }
-        Flow::State => {
-            let (flow, mut seat) = StateFlow::new(alloc, 0, u64::MAX).expect(rt, "a flow");
-            let hub = StateFlowHub::new(&flow, &mut seat, 0);
-            let mut player = FlowPlayer::new(alloc, alloc, &flow, seat);
-            let sharing = Sharing::new(chain, example.started, hub);
-            takes(rt, first, sharing, &mut player, example.steps);
+    let (flow, mut seat) = StateFlow::new(alloc, 0, u64::MAX).expect(rt, "a flow");
+    let hub = StateFlowHub::new(&flow, &mut seat, 0);
+    let mut player = FlowPlayer::new(alloc, alloc, &flow, seat);
+    let mut sharing = Sharing::new(chain, example.started, hub);
+    for index in 0..example.steps.len() {
+        let place = first.saturating_add(index);
+        match &example.steps[index] {
+            Step::Flow(step) => compare(rt, place, player.take(rt, place, step), Ok(())),
+            step => turn(rt, &mut sharing, place, step),
         }
     }
 }
@@ -147,9 +140,14 @@ pub fn play<R: Wait + Abort>(rt: &R, alloc: Global, first: usize, examples: &[Ex
         let place = first.saturating_add(number.saturating_mul(100));
         let example = &examples[number];
         match example.flow {
-            Flow::Shared(replay) => share(rt, alloc, place, example, replay),
-            Flow::State => share_state(rt, alloc, place, example),
+            Flow::Shared(replay) => {
+                share(rt, alloc, place, example, replay);
+                lend(rt, alloc, place, example, replay);
+            }
+            Flow::State => {
+                share_state(rt, alloc, place, example);
+                lend_state(rt, alloc, place, example);
+            }
         }
-        lend(rt, alloc, place, example);
     }
 }
