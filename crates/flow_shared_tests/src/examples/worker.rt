@@ -6,7 +6,7 @@ use crate::playing::{FlowPlayer, Reader, Waiting};
 use crate::work::Work;
 use flow_core::SharedCore;
 use flow_law::Next;
-use flow_shared::{Emitted, Polled, Seat, SharedFlow};
+use flow_shared::{Emission, Emitted, Polled, Seat, SharedFlow};
 use std::alloc::AllocGlobal;
 use std::random::RandomSource;
 use std::sync::Wait;
@@ -66,33 +66,31 @@ impl<'a> FlowPlayer<'a, i64, SharedCore<i64>> {
 }
 
 impl<'a> Worker<'a> {
-    /// Emits the value, and polls until the emission is done. Between two polls other threads go first.
+    /// Emits the value, and waits until there is room for it.
     fn emits<R: Wait>(&mut self, rt: &R, value: i64) -> bool {
         let flow = self.flow;
         let seat = flow.seat(&mut self.seat);
-        let mut emission = match flow.emit(rt, seat, value) {
-            Emitted::Done(_seat) => return true,
-            Emitted::Queued(emission) => Waiting { flow, emission },
-            Emitted::Refused(_seat, _value, _fault) => return false,
-        };
-        for _ in 0..POLLS {
-            let Waiting {
-                flow,
-                emission: waiting,
-            } = emission;
-            match flow.poll_emit(rt, waiting) {
-                Polled::Waiting(waiting) => {
-                    emission = Waiting {
-                        flow,
-                        emission: waiting,
-                    };
-                }
-                Polled::Done(_seat) => return true,
-            }
-            yield_now();
+        match flow.emit(rt, seat, value) {
+            Emitted::Done(_seat) => true,
+            Emitted::Queued(emission) => is_emitted(rt, flow, emission),
+            Emitted::Refused(_seat, _value, _fault) => false,
         }
-        false
     }
+}
+
+/// Polls the emission until it is done. Between two polls other threads go first.
+fn is_emitted<R: Wait>(rt: &R, flow: &SharedFlow<i64>, emission: Emission<i64>) -> bool
+    requires { emission.token.table_id ≡ flow.now.table_id }
+{
+    let mut emission = emission;
+    for _ in 0..POLLS {
+        match flow.poll_emit(rt, emission) {
+            Polled::Waiting(back) => emission = back,
+            Polled::Done(_seat) => return true,
+        }
+        yield_now();
+    }
+    false
 }
 
 impl<'a> Work for Worker<'a> {
