@@ -6,10 +6,7 @@ ghost use Rattle.flow_draw.specs.Listing.{told};
 
 use crate::lines::split_lines;
 use crate::listing::add_listing;
-use crate::rules::{Rules, explained_frame};
-use crate::svg::svg_frame;
-use crate::text::text_frame;
-use flow_picture::{Played, items_of};
+use flow_picture::{Frame, Played, explained_frame, items_of, svg_frame, text_frame};
 use flow_script::{Script, ScriptFault, ScriptLines, lines_of, read_script};
 use serde_json::Value;
 use std::alloc::{AllocError, Global};
@@ -21,13 +18,6 @@ pub enum Form {
     Svg,
     /// No picture, but beside each line the rule by which its step wrote it.
     Explained,
-}
-
-/// What stands before the lines of a script, and after them.
-#[derive(Drop)]
-pub struct Frame {
-    pub before: String,
-    pub after: String,
 }
 
 /// How many lines come before that of the first step: those of flows that were refused when they were made. They are what
@@ -61,24 +51,16 @@ fn frame_of(
     match form {
         Form::Text => text_frame(alloc, script, played),
         Form::Svg => svg_frame(alloc, script, played),
-        Form::Explained => explained_frame(alloc, script, played),
+        Form::Explained => explained_frame(alloc, script),
     }
 }
 
-/// The rules that stand beside the lines.
-fn rules_of(form: Form, script: &Value) -> Rules<'_> {
-    match form {
-        Form::Explained => Rules::Of(script),
-        Form::Text | Form::Svg => Rules::Untold,
-    }
-}
-
-/// The frame around the lines of a script.
+/// The frame around the lines of a script, which have rules beside them where those of a script are told.
 fn framed(
     alloc: Global,
     frame: Frame,
     played: Played<'_>,
-    rules: Rules<'_>,
+    rules: Option<&Value>,
 ) -> Result<String, AllocError>
     ensures { IfOk result (λ drawn. TellsInOrder (told played.entry.lines.now) (string_bytes drawn)) }
 {
@@ -107,7 +89,11 @@ fn drawn(alloc: Global, form: Form, bytes: &[u8], text: &str) -> Result<String, 
         refused,
     };
     let frame = frame_of(alloc, form, &script, played)?;
-    match framed(alloc, frame, played, rules_of(form, &script)) {
+    let rules = match form {
+        Form::Explained => Some(&script),
+        Form::Text | Form::Svg => None,
+    };
+    match framed(alloc, frame, played, rules) {
         Ok(drawn) => Ok(drawn),
         Err(_) => Err(ScriptFault::OutOfMemory),
     }

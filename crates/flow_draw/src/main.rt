@@ -6,12 +6,6 @@ mod drawing;
 mod lines;
 mod listing;
 mod program;
-mod rules;
-mod shapes;
-mod style;
-mod svg;
-mod svg_lanes;
-mod text;
 
 use flow_script::Watched;
 use program::{refuse_arguments, run};

@@ -52,15 +52,8 @@ pub fn refuse_arguments<W: Write>(output: &mut Watched<W>, kind: ErrorKind) -> u
     }
 }
 
-/// Explains to a person where and why a script is refused. What cannot be written there is left out: the line on the output
-/// and the status tell the fault.
-fn explain<E: Write>(alloc: Global, errors: &mut E, bytes: &[u8], fault: ScriptFault) {
-    if let Ok(words) = explain_refusal(alloc, bytes, fault) {
-        let _written = errors.write_all(words.as_bytes());
-    }
-}
-
-/// What is drawn of the script of these bytes, or why it is refused, which is explained, too.
+/// What is drawn of the script of these bytes, or why it is refused. Where and why it is refused is explained to a person, too.
+/// What of that cannot be written is left out: the line on the output and the status tell the fault.
 fn drawn_or_explained<E: Write>(
     alloc: Global,
     form: Form,
@@ -72,7 +65,9 @@ fn drawn_or_explained<E: Write>(
     match drawing_of(alloc, form, bytes) {
         Ok(drawn) => Ok(drawn),
         Err(fault) => {
-            explain(alloc, errors, bytes, fault);
+            if let Ok(words) = explain_refusal(alloc, bytes, fault) {
+                let _written = errors.write_all(words.as_bytes());
+            }
             Err(fault)
         }
     }

@@ -1,5 +1,6 @@
 //! Chains, their sources and operators, and the keys of all of them.
 
+use crate::head::text_at;
 use crate::words::{Form, Key, Need, Row, Shape};
 use serde_json::Value;
 
@@ -44,40 +45,46 @@ const SCRIPTED: Key = Key {
     need: Need::Maybe,
 };
 
+/// The sources, by the one key that each has.
+static SOURCE_ROWS: [Row; 3] = [
+    Row {
+        word: "of",
+        name: "a source with \"of\"",
+        keys: &[OF],
+        need: Need::Maybe,
+    },
+    Row {
+        word: "range",
+        name: "a source with \"range\"",
+        keys: &[RANGE],
+        need: Need::Maybe,
+    },
+    Row {
+        word: "script",
+        name: "a source with \"script\"",
+        keys: &[SCRIPTED],
+        need: Need::Maybe,
+    },
+];
+
+/// The keys of a source by the first one that it has, since it has no other.
+pub fn source_shape(source: &Value) -> Shape {
+    for row in &SOURCE_ROWS {
+        if source.get(row.word).is_some() {
+            return Shape {
+                name: row.name,
+                keys: row.keys,
+            };
+        }
+    }
+    ANY_SOURCE
+}
+
 /// A source of which nothing is known yet.
 const ANY_SOURCE: Shape = Shape {
     name: "a source",
     keys: &[OF, RANGE, SCRIPTED],
 };
-
-/// The keys of a source by the first one that it has, since it has no other.
-pub fn source_shape(source: &Value) -> Shape {
-    if source.get("of").is_some() {
-        return Shape {
-            name: "a source with \"of\"",
-            keys: OF_KEYS,
-        };
-    }
-    if source.get("range").is_some() {
-        return Shape {
-            name: "a source with \"range\"",
-            keys: RANGE_KEYS,
-        };
-    }
-    if source.get("script").is_some() {
-        return Shape {
-            name: "a source with \"script\"",
-            keys: SCRIPTED_KEYS,
-        };
-    }
-    ANY_SOURCE
-}
-
-const OF_KEYS: &[Key] = &[OF];
-
-const RANGE_KEYS: &[Key] = &[RANGE];
-
-const SCRIPTED_KEYS: &[Key] = &[SCRIPTED];
 
 /// An entry of a scripted source that is a fault.
 pub const FAULT: Shape = Shape {
@@ -195,10 +202,10 @@ const PARITY_KEYS: &[Key] = &[OP, BY_TEST];
 
 const COMPARED_KEYS: &[Key] = &[OP, BY_TEST, K];
 
-/// The keys of an operator of a row. Even and odd stand alone, and the other tests have a number beside them.
-pub fn operator_shape(row: &Row, operator: &Value) -> Shape {
-    let by = operator.get("by").and_then(Value::as_str).unwrap_or("");
-    let keys = match (row.word, by) {
+/// The object of a row that has this tag and these members. Of operators even and odd stand alone, and the other tests have a
+/// number beside them.
+pub fn shape_of(row: Row, object: &Value) -> Shape {
+    let keys = match (row.word, text_at(object, "by")) {
         ("filter" | "take_while" | "drop_while", "even" | "odd") => PARITY_KEYS,
         ("filter" | "take_while" | "drop_while", "lt" | "gt" | "ne") => COMPARED_KEYS,
         _ => row.keys,

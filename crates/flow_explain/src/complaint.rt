@@ -1,63 +1,12 @@
 //! What is wrong in a script, and where.
 
-use crate::nearest::nearest;
-use crate::words::{Form, Key, Row, Shape, Version};
-use flow_places::{Spot, Text};
-use std::alloc::{AllocError, Global};
-
-/// What is wrong in a text, and where.
-#[derive(Drop)]
-pub struct Complaint {
-    /// The offset of the key or the value.
-    pub at: usize,
-    pub what: String,
-    /// What was expected there.
-    pub expected: String,
-    /// The nearest right word, or nothing.
-    pub nearest: String,
-}
-
-impl Complaint {
-    pub fn new(alloc: Global, at: usize) -> Self {
-        Complaint {
-            at,
-            what: String::new(alloc),
-            expected: String::new(alloc),
-            nearest: String::new(alloc),
-        }
-    }
-
-    /// With the nearest of these words, if one is near.
-    pub fn suggest(
-        &mut self,
-        alloc: Global,
-        word: &str,
-        choices: &[&str],
-    ) -> Result<(), AllocError> {
-        match nearest(alloc, word, choices)? {
-            Some(choice) => add_word(&mut self.nearest, choice),
-            None => Ok(()),
-        }
-    }
-}
-
-/// A word between quotes.
-pub fn add_word(text: &mut String, word: &str) -> Result<(), AllocError> {
-    text.push('"')?;
-    text.push_str(word)?;
-    text.push('"')
-}
-
-/// Words between quotes, as they are listed in a sentence.
-pub fn add_words(text: &mut String, words: &[&str]) -> Result<(), AllocError> {
-    for (index, word) in words.iter().enumerate() {
-        if index > 0 {
-            text.push_str(", ")?;
-        }
-        add_word(text, word)?;
-    }
-    Ok(())
-}
+use crate::choices::{Choices, add_choices};
+use crate::introduced::Introduced;
+use crate::nearest::nearest_of;
+use crate::words::{Form, Key};
+use flow_format::ScriptFault;
+use flow_places::{Place, Spot, Text};
+use std::alloc::AllocError;
 
 /// Where in a script a value stands.
 #[derive(Clone, Copy)]
@@ -72,192 +21,175 @@ pub enum Owner {
     FlowName,
 }
 
-fn add_owner(text: &mut String, owner: Owner) -> Result<(), AllocError> {
-    match owner {
-        Owner::Script => text.push_str(" is no script"),
-        Owner::FlowName => text.push_str(" is no name of a flow"),
-        Owner::Member(key) => {
-            text.push_str(" is no value of ")?;
-            add_word(text, key)
+/// What is wrong. Of the first four the key or the value that stands there is told before.
+#[derive(Clone, Copy)]
+pub enum What<'a> {
+    /// It is no key of the object that has this name, or none in this version.
+    NoKey(&'static str, &'static str),
+    /// It is no value of this key, or none in this version.
+    NoValue(&'static str, &'static str),
+    /// It is no item of the list of this key.
+    NoItem(&'static str),
+    /// What these words say of it.
+    Told(&'static str),
+    /// The object of this name lacks this key.
+    MissingKey(&'static str, &'static str),
+    /// An object lacks its tag, which is this key.
+    MissingTag(&'static str),
+    /// The value of this key has more than there may be: so many of this unit.
+    PastLimit(&'static str, u64, &'static str),
+    /// The flow of this name has no such step.
+    NoStep(&'static str, &'a str),
+    /// The flow of this name gives no subscriber first values.
+    NoFirst(&'static str),
+    /// The script has so many bytes.
+    TooLong(usize),
+    /// What these words say.
+    Words(&'static str),
+    /// What the fault says: nothing more is known.
+    Fault(ScriptFault),
+}
+
+/// What was expected in place of what is wrong.
+#[derive(Clone, Copy)]
+pub enum Expected<'a> {
+    /// What these words say.
+    Words(&'static str),
+    AtMost(u64),
+    /// A value of this form, and the key that is to have it where that is missing.
+    Form(Option<&'static str>, Form),
+    /// No key but these.
+    Keys(Choices<'a>),
+    /// This tag, and one of these.
+    Tag(&'static str, Choices<'a>),
+    OneOf(Choices<'a>),
+    /// What these words say of a name, which stands for something else.
+    Other(&'static str, Introduced<'a>),
+    /// Another name than that of this step.
+    NewName(Introduced<'a>),
+}
+
+/// What is wrong in a text, and where.
+#[derive(Clone, Copy)]
+pub struct Complaint<'a> {
+    /// The offset of the key or the value.
+    pub at: usize,
+    pub what: What<'a>,
+    /// What was expected there, if that is known.
+    pub expected: Option<Expected<'a>>,
+    /// The nearest right word, if one is near.
+    pub nearest: Option<&'a str>,
+}
+
+/// What was found: nothing, or what is wrong.
+pub type Found<'a> = Result<Option<Complaint<'a>>, AllocError>;
+
+impl What<'_> {
+    fn add_to(self, text: Text<'_>, at: usize, to: &mut String) -> Result<(), AllocError> {
+        if let What::NoKey(..) | What::NoValue(..) | What::NoItem(_) | What::Told(_) = self {
+            text.add_raw(to, at)?;
         }
-        Owner::Item(key) => {
-            text.push_str(" is no item of ")?;
-            add_word(text, key)
-        }
-    }
-}
-
-/// What a form asks for.
-fn add_form(text: &mut String, form: Form) -> Result<(), AllocError> {
-    match form {
-        Form::OneOf(words) => {
-            text.push_str("one of ")?;
-            add_words(text, words)
-        }
-        _ => text.push_str(form.words()),
-    }
-}
-
-/// A key and its form.
-fn add_key(text: &mut String, key: Key) -> Result<(), AllocError> {
-    add_word(text, key.word)?;
-    text.push_str(", ")?;
-    add_form(text, key.form)
-}
-
-/// The keys of an object in this version.
-fn keys_of(alloc: Global, shape: Shape, version: Version) -> Result<Vec<&'static str>, AllocError> {
-    let mut words = Vec::new(alloc);
-    for key in shape.keys {
-        if key.need.is_known(version) {
-            words.push(key.word)?;
-        }
-    }
-    Ok(words)
-}
-
-/// The words of a table in this version.
-fn words_of(
-    alloc: Global,
-    rows: &'static [Row],
-    version: Version,
-) -> Result<Vec<&'static str>, AllocError> {
-    let mut words = Vec::new(alloc);
-    for row in rows {
-        if row.need.is_known(version) {
-            words.push(row.word)?;
-        }
-    }
-    Ok(words)
-}
-
-fn add_version(text: &mut String, version: Version) -> Result<(), AllocError> {
-    match version {
-        Version::One => text.push_str(" in version 1"),
-        Version::Two => text.push_str(" in version 2"),
-    }
-}
-
-/// The key at an offset is none of its object.
-pub fn unknown_key(
-    text: Text<'_>,
-    version: Version,
-    object: Spot<'_>,
-    at: usize,
-    shape: Shape,
-) -> Result<Complaint, AllocError> {
-    let alloc = text.alloc;
-    let word = text.word(at)?;
-    let keys = keys_of(alloc, shape, version)?;
-    let mut complaint = Complaint::new(alloc, at);
-    text.add_raw(&mut complaint.what, at)?;
-    complaint.what.push_str(" is no key of ")?;
-    complaint.what.push_str(shape.name)?;
-    if shape.key(word.as_str()).is_some() {
-        add_version(&mut complaint.what, version)?;
-    }
-    match shape.missing(version, object.value) {
-        Some(key) => add_key(&mut complaint.expected, key)?,
-        None => {
-            complaint.expected.push_str("no key but ")?;
-            add_words(&mut complaint.expected, keys.as_slice())?;
+        match self {
+            What::NoKey(object, version) => write!(to, " is no key of {object}{version}"),
+            What::NoValue(key, version) => write!(to, " is no value of \"{key}\"{version}"),
+            What::NoItem(key) => write!(to, " is no item of \"{key}\""),
+            What::Told(words) | What::Words(words) => to.push_str(words),
+            What::MissingKey(object, key) => write!(to, "{object} has no \"{key}\""),
+            What::MissingTag(tag) => write!(to, "there is no \"{tag}\""),
+            What::PastLimit(key, size, unit) => write!(to, "\"{key}\": {size} {unit}"),
+            What::NoStep(flow, step) => write!(to, "{flow} has no step {step}"),
+            What::NoFirst(flow) => {
+                write!(to, "{flow} gives no subscriber first values of its own")
+            }
+            What::TooLong(size) => write!(to, "the script has {size} bytes"),
+            What::Fault(fault) => write!(to, "{fault}"),
         }
     }
-    complaint.suggest(alloc, word.as_str(), keys.as_slice())?;
-    Ok(complaint)
 }
 
-/// An object lacks a key.
-pub fn missing_key(
-    text: Text<'_>,
-    object: Spot<'_>,
-    name: &str,
-    key: Key,
-) -> Result<Complaint, AllocError> {
-    let mut complaint = Complaint::new(text.alloc, object.at);
-    complaint.what.push_str(name)?;
-    complaint.what.push_str(" has no ")?;
-    add_word(&mut complaint.what, key.word)?;
-    add_key(&mut complaint.expected, key)?;
-    Ok(complaint)
-}
-
-/// An object lacks its tag.
-pub fn missing_tag(
-    text: Text<'_>,
-    version: Version,
-    object: Spot<'_>,
-    tag: Key,
-    rows: &'static [Row],
-) -> Result<Complaint, AllocError> {
-    let words = words_of(text.alloc, rows, version)?;
-    let mut complaint = Complaint::new(text.alloc, object.at);
-    complaint.what.push_str("there is no ")?;
-    add_word(&mut complaint.what, tag.word)?;
-    add_word(&mut complaint.expected, tag.word)?;
-    complaint.expected.push_str(", one of ")?;
-    add_words(&mut complaint.expected, words.as_slice())?;
-    Ok(complaint)
-}
-
-/// A tag is no word of its table.
-pub fn unknown_tag(
-    text: Text<'_>,
-    version: Version,
-    tag: Key,
-    found: Spot<'_>,
-    rows: &'static [Row],
-) -> Result<Complaint, AllocError> {
-    let alloc = text.alloc;
-    let word = found.value.as_str().unwrap_or("");
-    let words = words_of(alloc, rows, version)?;
-    let mut complaint = Complaint::new(alloc, found.at);
-    text.add_raw(&mut complaint.what, found.at)?;
-    add_owner(&mut complaint.what, Owner::Member(tag.word))?;
-    if rows.iter().any(|row| row.word == word) {
-        add_version(&mut complaint.what, version)?;
+impl Expected<'_> {
+    fn add_to(self, bytes: &[u8], to: &mut String) -> Result<(), AllocError> {
+        match self {
+            Expected::Words(words) => to.push_str(words),
+            Expected::AtMost(most) => write!(to, "at most {most}"),
+            Expected::Form(key, form) => {
+                if let Some(key) = key {
+                    write!(to, "\"{key}\", ")?;
+                }
+                match form {
+                    Form::OneOf(words) => add_choices(to, "one of ", Choices::Words(words)),
+                    _ => to.push_str(form.words()),
+                }
+            }
+            Expected::Keys(keys) => add_choices(to, "no key but ", keys),
+            Expected::Tag(tag, words) => {
+                write!(to, "\"{tag}\", ")?;
+                add_choices(to, "one of ", words)
+            }
+            Expected::OneOf(words) => add_choices(to, "one of ", words),
+            Expected::Other(words, other) => {
+                write!(to, "{words}; this one is ")?;
+                other.add_to(bytes, true, to)
+            }
+            Expected::NewName(first) => {
+                to.push_str("a new name; this one is ")?;
+                first.add_to(bytes, false, to)
+            }
+        }
     }
-    complaint.expected.push_str("one of ")?;
-    add_words(&mut complaint.expected, words.as_slice())?;
-    complaint.suggest(alloc, word, words.as_slice())?;
-    Ok(complaint)
+}
+
+impl<'a> Complaint<'a> {
+    /// The object of a name that begins at an offset lacks a key.
+    pub fn of_missing(at: usize, name: &'static str, key: Key) -> Self {
+        Complaint {
+            at,
+            what: What::MissingKey(name, key.word),
+            expected: Some(Expected::Form(Some(key.word), key.form)),
+            nearest: None,
+        }
+    }
+
+    /// Adds its lines: the place, the part of the script and what is wrong, what was expected, and the nearest right word.
+    /// Part 0 is the head, and steps count from 1.
+    pub fn add_to(
+        self,
+        text: Text<'_>,
+        part: Option<u64>,
+        lines: &mut String,
+    ) -> Result<(), AllocError> {
+        let place = Place::at(text.bytes, self.at);
+        write!(lines, "{place}: ")?;
+        match part {
+            Some(0) => lines.push_str("head: ")?,
+            Some(step) => write!(lines, "step {step}: ")?,
+            None => {}
+        }
+        self.what.add_to(text, self.at, lines)?;
+        if let Some(expected) = self.expected {
+            lines.push_str("\n  expected: ")?;
+            expected.add_to(text.bytes, lines)?;
+        }
+        if let Some(word) = self.nearest {
+            write!(lines, "\n  nearest: \"{word}\"")?;
+        }
+        lines.push('\n')
+    }
 }
 
 /// A value has not the form that is asked for.
-pub fn wrong_form(
-    text: Text<'_>,
-    owner: Owner,
-    found: Spot<'_>,
-    form: Form,
-) -> Result<Complaint, AllocError> {
-    let mut complaint = Complaint::new(text.alloc, found.at);
-    text.add_raw(&mut complaint.what, found.at)?;
-    add_owner(&mut complaint.what, owner)?;
-    add_form(&mut complaint.expected, form)?;
+pub fn wrong_form<'a>(text: Text<'a>, owner: Owner, found: Spot<'a>, form: Form) -> Found<'a> {
     let word = found.value.as_str().unwrap_or("");
-    complaint.suggest(text.alloc, word, form.choices())?;
-    Ok(complaint)
-}
-
-/// A limit is passed.
-pub fn past_limit(
-    text: Text<'_>,
-    owner: Owner,
-    found: Spot<'_>,
-    form: Form,
-) -> Result<Complaint, AllocError> {
-    let mut complaint = Complaint::new(text.alloc, found.at);
-    let Some(limit) = form.limit() else {
-        return Ok(complaint);
-    };
-    let size = form.size(found.value);
-    let most = limit.most;
-    let unit = limit.unit;
-    if let Owner::Member(key) | Owner::Item(key) = owner {
-        add_word(&mut complaint.what, key)?;
-        complaint.what.push_str(": ")?;
-    }
-    write!(complaint.what, "{size} {unit}")?;
-    write!(complaint.expected, "at most {most}")?;
-    Ok(complaint)
+    let near = nearest_of(text.alloc, word, Choices::Words(form.choices()))?;
+    Ok(Some(Complaint {
+        at: found.at,
+        what: match owner {
+            Owner::Script => What::Told(" is no script"),
+            Owner::FlowName => What::Told(" is no name of a flow"),
+            Owner::Member(key) => What::NoValue(key, ""),
+            Owner::Item(key) => What::NoItem(key),
+        },
+        expected: Some(Expected::Form(None, form)),
+        nearest: near,
+    }))
 }

@@ -1,76 +1,55 @@
 //! The forms of values: which values have them, their limits, and what a reader is told of them.
 
 use crate::chain_words::{MOST_ITEMS, MOST_SPREAD};
+use crate::choices::Choices;
 use crate::flow_words::{MOST_FLOWS, MOST_STEPS, STARTED_WORDS};
+use crate::head::items_of;
 use crate::words::Form;
 use serde_json::Value;
-use std::alloc::AllocError;
-
-fn is_name_byte(byte: u8) -> bool {
-    byte.is_ascii_lowercase() || byte.is_ascii_digit() || byte == b'_'
-}
 
 /// Whether a text has the form of a name.
 pub fn is_name(text: &str) -> bool {
-    !text.is_empty() && text.len() <= 32 && text.as_bytes().iter().all(|byte| is_name_byte(*byte))
+    for byte in text.as_bytes() {
+        if !matches!(*byte, b'a'..=b'z' | b'0'..=b'9' | b'_') {
+            return false;
+        }
+    }
+    !text.is_empty() && text.len() <= 32
 }
 
-fn is_short(value: &Value) -> bool {
-    match value.as_u64() {
-        Some(number) => number <= u32::MAX as u64,
-        None => false,
+/// How many members an object has.
+pub fn members_len(value: &Value) -> usize {
+    match value.as_object() {
+        Some(members) => members.len(),
+        None => 0,
     }
 }
 
-/// Whether it is one of these words.
-fn is_one_of(words: &[&str], value: &Value) -> bool {
-    let Some(text) = value.as_str() else {
-        return false;
+/// How many numbers a range has, if it has two bounds.
+fn range_len(value: &Value) -> Option<u64> {
+    let [first, last] = items_of(value) else {
+        return None;
     };
-    words.iter().any(|word| *word == text)
+    let (first, last) = (first.as_i64()?, last.as_i64()?);
+    if first <= last {
+        Some(last.abs_diff(first).saturating_add(1))
+    } else {
+        Some(0)
+    }
 }
 
-/// Whether it is a fault of a scripted source.
-fn is_fault(value: &Value) -> bool {
-    match value.as_object() {
-        Some(members) => members.len() == 1 && value.get("fault").is_some_and(is_short),
+/// Whether there is a whole number below 2^32.
+fn is_short(value: Option<&Value>) -> bool {
+    match value {
+        Some(value) => matches!(value.as_u64(), Some(number) if number <= u32::MAX as u64),
         None => false,
     }
 }
 
-/// The numbers of a range that has two, or none.
-fn bounds_of(value: &Value) -> Option<(i64, i64)> {
-    match value.as_array().map(|items| items.as_slice()) {
-        Some([first, last]) => Some((first.as_i64()?, last.as_i64()?)),
-        _ => None,
-    }
-}
-
-/// How many numbers a range has.
-fn range_len(value: &Value) -> u64 {
-    match bounds_of(value) {
-        Some((first, last)) if first <= last => last.abs_diff(first).saturating_add(1),
-        _ => 0,
-    }
-}
-
-fn items_len(value: &Value) -> u64 {
-    match value.as_array() {
-        Some(items) => items.len() as u64,
-        None => 0,
-    }
-}
-
-fn members_len(value: &Value) -> u64 {
-    match value.as_object() {
-        Some(members) => members.len() as u64,
-        None => 0,
-    }
-}
-
-/// A limit: the most that there may be of something.
+/// How much there is of something, and the most that there may be.
 #[derive(Clone, Copy)]
-pub struct Limit {
+pub struct Limited {
+    pub size: u64,
     pub most: u64,
     pub unit: &'static str,
 }
@@ -82,16 +61,27 @@ impl Form {
             Form::Version => matches!(value.as_u64(), Some(1 | 2)),
             Form::Signed => value.as_i64().is_some(),
             Form::Unsigned | Form::Spread => value.as_u64().is_some(),
-            Form::Short => is_short(value),
-            Form::Name => value.as_str().is_some_and(is_name),
-            Form::OneOf(words) => is_one_of(words, value),
+            Form::Short => is_short(Some(value)),
+            Form::Name => is_name(value.as_str().unwrap_or("")),
+            Form::OneOf(words) => {
+                Choices::Words(words)
+                    .find(value.as_str().unwrap_or(""))
+                    .is_some()
+            }
             Form::Tag => value.is_string(),
             Form::Numbers(_) | Form::Entries | Form::Operators | Form::Steps => value.is_array(),
-            Form::Range => bounds_of(value).is_some(),
+            Form::Range => range_len(value).is_some(),
             Form::Entry => {
-                value.as_i64().is_some() || value.as_str() == Some("pending") || is_fault(value)
+                value.is_i64()
+                    || value.as_str() == Some("pending")
+                    || (members_len(value) == 1 && is_short(value.get("fault")))
             }
-            Form::Started => value.is_object() || is_one_of(&STARTED_WORDS, value),
+            Form::Started => {
+                value.is_object()
+                    || Choices::Words(&STARTED_WORDS)
+                        .find(value.as_str().unwrap_or(""))
+                        .is_some()
+            }
             Form::Chain | Form::Source | Form::Operator => value.is_object(),
             Form::Flow | Form::Flows | Form::Step | Form::Script => value.is_object(),
         }
@@ -129,37 +119,27 @@ impl Form {
     pub fn choices(self) -> &'static [&'static str] {
         match self {
             Form::OneOf(words) => words,
-            Form::Started => &["eagerly", "lazily"],
+            Form::Started => &STARTED_WORDS,
             Form::Entry => &["pending"],
             _ => &[],
         }
     }
 
-    /// The limit of the form, if it has one.
-    pub fn limit(self) -> Option<Limit> {
-        let (most, unit) = match self {
-            Form::Numbers(most) => (most, "items"),
-            Form::Entries => (MOST_ITEMS, "entries"),
-            Form::Range => (MOST_ITEMS, "numbers"),
-            Form::Spread => (MOST_SPREAD, "items of one"),
-            Form::Flows => (MOST_FLOWS, "flows"),
-            Form::Steps => (MOST_STEPS, "steps"),
+    /// How much a value has of what the form limits, if it has a limit.
+    pub fn limited(self, value: &Value) -> Option<Limited> {
+        let (size, most, unit) = match self {
+            Form::Numbers(most) => (items_of(value).len() as u64, most, "items"),
+            Form::Entries => (items_of(value).len() as u64, MOST_ITEMS, "entries"),
+            Form::Steps => (items_of(value).len() as u64, MOST_STEPS, "steps"),
+            Form::Flows => (members_len(value) as u64, MOST_FLOWS, "flows"),
+            Form::Range => (range_len(value).unwrap_or(0), MOST_ITEMS, "numbers"),
+            Form::Spread => (value.as_u64().unwrap_or(0), MOST_SPREAD, "items of one"),
             _ => return None,
         };
-        Some(Limit {
+        Some(Limited {
+            size,
             most: most as u64,
             unit,
         })
-    }
-
-    /// How much of what is limited there is.
-    pub fn size(self, value: &Value) -> u64 {
-        match self {
-            Form::Numbers(_) | Form::Entries | Form::Steps => items_len(value),
-            Form::Range => range_len(value),
-            Form::Spread => value.as_u64().unwrap_or(0),
-            Form::Flows => members_len(value),
-            _ => 0,
-        }
     }
 }

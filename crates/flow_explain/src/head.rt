@@ -7,7 +7,18 @@ use std::alloc::AllocError;
 
 /// The text of a member, or none.
 pub fn text_at<'a>(value: &'a Value, key: &str) -> &'a str {
-    value.get(key).and_then(Value::as_str).unwrap_or("")
+    match value.get(key) {
+        Some(member) => member.as_str().unwrap_or(""),
+        None => "",
+    }
+}
+
+/// The items of a list, or none.
+pub fn items_of(value: &Value) -> &[Value] {
+    match value.as_array() {
+        Some(items) => items.as_slice(),
+        None => &[],
+    }
 }
 
 /// A script whose text is JSON.
@@ -18,63 +29,43 @@ pub struct Script<'a> {
     pub root: Spot<'a>,
 }
 
-fn is_space(byte: u8) -> bool {
-    matches!(byte, b' ' | b'\n' | b'\r' | b'\t')
-}
-
-fn version_of(script: &Value) -> Version {
-    if script.get("version").and_then(Value::as_u64) == Some(1) {
-        Version::One
-    } else {
-        Version::Two
-    }
-}
-
 impl<'a> Script<'a> {
     /// The script of a text, and its value.
     pub fn new(text: Text<'a>, value: &'a Value) -> Self {
-        let start = text.bytes.iter().position(|byte| !is_space(*byte));
         Script {
             text,
-            version: version_of(value),
+            version: match value.get("version") {
+                Some(version) if version.as_u64() == Some(1) => Version::One,
+                _ => Version::Two,
+            },
             root: Spot {
                 value,
-                at: start.unwrap_or(0),
+                at: text.part_from(0).unwrap_or(0),
             },
         }
     }
 
-    pub fn steps(&self) -> &'a [Value] {
-        match self.root.value.get("steps").and_then(Value::as_array) {
-            Some(steps) => steps.as_slice(),
-            None => &[],
-        }
+    /// The steps before the one at an index, where the first one has the index 0.
+    pub fn steps_before(self, index: usize) -> &'a [Value] {
+        let Some(steps) = self.root.value.get("steps") else {
+            return &[];
+        };
+        items_of(steps).get(..index).unwrap_or(&[])
     }
 
     /// A step, where the first one has the index 0.
-    pub fn step(&self, index: usize) -> Result<Option<Spot<'a>>, AllocError> {
+    pub fn step(self, index: usize) -> Result<Option<Spot<'a>>, AllocError> {
         match self.text.member(self.root, "steps")? {
-            Some(steps) => self.text.item(steps, index),
+            Some(steps) => Ok(self.text.item(steps, index)),
             None => Ok(None),
         }
     }
 
     /// The flow that a step is about.
-    pub fn flow_of(&self, step: &Value) -> Option<&'a Value> {
+    pub fn flow_of(self, step: &Value) -> Option<&'a Value> {
         match self.version {
             Version::One => self.root.value.get("flow"),
             Version::Two => self.root.value.get("flows")?.get(text_at(step, "flow")),
         }
-    }
-
-    /// The names of the flows.
-    pub fn flow_names(&self) -> Result<Vec<&'a str>, AllocError> {
-        let mut names = Vec::new(self.text.alloc);
-        if let Some(flows) = self.root.value.get("flows").and_then(Value::as_object) {
-            for (name, _) in flows {
-                names.push(name.as_str())?;
-            }
-        }
-        Ok(names)
     }
 }

@@ -1,14 +1,14 @@
 //! Why a script is refused, in words.
 
-use crate::complaint::{Complaint, Owner, missing_key, wrong_form};
-use crate::flow_words::VERSION;
+use crate::complaint::{Complaint, Expected, Found, Owner, What, wrong_form};
+use crate::flow_words::{SCRIPT, VERSION};
 use crate::head::Script;
 use crate::names::{duplicate_name, unknown_name};
 use crate::not_allowed::not_allowed;
 use crate::search::{Aim, wrong_in};
 use crate::words::Form;
 use flow_format::{MOST_BYTES, ScriptFault};
-use flow_places::{Place, Spot, Text, not_json};
+use flow_places::{Spot, Text, not_json};
 use serde_json::Value;
 use std::alloc::{AllocError, Global};
 
@@ -24,153 +24,100 @@ fn part_of(fault: ScriptFault) -> Option<u64> {
     }
 }
 
-fn add_part(text: &mut String, part: u64) -> Result<(), AllocError> {
-    if part == 0 {
-        text.push_str("head: ")
-    } else {
-        write!(text, "step {part}: ")
-    }
-}
-
-/// A line that tells more, if there is something to tell.
-fn add_more(text: &mut String, label: &str, more: &str) -> Result<(), AllocError> {
-    if more.is_empty() {
-        return Ok(());
-    }
-    text.push_str("  ")?;
-    text.push_str(label)?;
-    text.push_str(": ")?;
-    text.push_str(more)?;
-    text.push('\n')
-}
-
-/// The lines of a complaint.
-fn told(text: Text<'_>, part: Option<u64>, complaint: Complaint) -> Result<String, AllocError> {
-    let place = Place::at(text.bytes, complaint.at);
-    let mut lines = String::new(text.alloc);
-    write!(lines, "{place}: ")?;
-    if let Some(part) = part {
-        add_part(&mut lines, part)?;
-    }
-    lines.push_str(complaint.what.as_str())?;
-    lines.push('\n')?;
-    add_more(&mut lines, "expected", complaint.expected.as_str())?;
-    add_more(&mut lines, "nearest", complaint.nearest.as_str())?;
-    Ok(lines)
-}
-
-/// The words of a fault that is about no place.
-fn fault_words(alloc: Global, fault: ScriptFault) -> Result<String, AllocError> {
-    let mut lines = String::new(alloc);
-    writeln!(lines, "{fault}")?;
-    Ok(lines)
-}
-
-/// The version is missing, or is no version.
-fn wrong_version(script: &Script<'_>) -> Result<Complaint, AllocError> {
-    match script.text.member(script.root, "version")? {
-        Some(found) => {
-            let owner = Owner::Member("version");
-            wrong_form(script.text, owner, found, Form::Version)
-        }
-        None => missing_key(script.text, script.root, "the script", VERSION),
-    }
-}
-
 /// What is wrong in a step.
-fn wrong_step(
-    script: &Script<'_>,
+fn wrong_step<'a>(
+    script: Script<'a>,
     index: usize,
-    step: Spot<'_>,
+    step: Spot<'a>,
     fault: ScriptFault,
-) -> Result<Option<Complaint>, AllocError> {
+) -> Found<'a> {
     let owner = Owner::Item("steps");
-    let aim = match fault {
-        ScriptFault::UnknownName(_) => return unknown_name(script, index, step),
-        ScriptFault::DuplicateName(_) => return duplicate_name(script, index, step),
-        ScriptFault::TooLarge(_) => Aim::Limit,
-        _ => Aim::Shape,
-    };
-    match wrong_in(script.text, script.version, aim, step, owner, Form::Step)? {
-        Some(complaint) => Ok(Some(complaint)),
-        None if aim == Aim::Shape => not_allowed(script, step),
-        None => Ok(None),
+    match fault {
+        ScriptFault::UnknownName(_) => unknown_name(script, index, step),
+        ScriptFault::DuplicateName(_) => duplicate_name(script, index, step),
+        ScriptFault::TooLarge(_) => wrong_in(script, Aim::Limit, step, owner, Form::Step),
+        _ => match wrong_in(script, Aim::Shape, step, owner, Form::Step)? {
+            Some(complaint) => Ok(Some(complaint)),
+            None => not_allowed(script, step),
+        },
     }
 }
 
 /// What is wrong in the head.
-fn wrong_head(script: &Script<'_>, fault: ScriptFault) -> Result<Option<Complaint>, AllocError> {
+fn wrong_head<'a>(script: Script<'a>, fault: ScriptFault) -> Found<'a> {
+    let (text, root) = (script.text, script.root);
     let aim = match fault {
-        ScriptFault::BadVersion => return Ok(Some(wrong_version(script)?)),
+        ScriptFault::BadVersion => {
+            return match text.member(root, "version")? {
+                Some(found) => wrong_form(text, Owner::Member("version"), found, Form::Version),
+                None => Ok(Some(Complaint::of_missing(root.at, SCRIPT.name, VERSION))),
+            };
+        }
         ScriptFault::TooLarge(_) => Aim::Limit,
         _ => Aim::Shape,
     };
-    wrong_in(
-        script.text,
-        script.version,
-        aim,
-        script.root,
-        Owner::Script,
-        Form::Script,
-    )
-}
-
-/// The words of a fault, for a place where nothing else is found.
-fn plain_words(text: Text<'_>, at: usize, fault: ScriptFault) -> Result<Complaint, AllocError> {
-    let mut complaint = Complaint::new(text.alloc, at);
-    write!(complaint.what, "{fault}")?;
-    Ok(complaint)
+    wrong_in(script, aim, root, Owner::Script, Form::Script)
 }
 
 /// What is wrong in a part of a script, or at least where that part begins.
-fn wrong_part(script: &Script<'_>, part: u64, fault: ScriptFault) -> Result<Complaint, AllocError> {
-    if part > 0 {
-        let index = (part - 1) as usize;
-        if let Some(step) = script.step(index)? {
-            return match wrong_step(script, index, step, fault)? {
-                Some(complaint) => Ok(complaint),
-                None => plain_words(script.text, step.at, fault),
-            };
-        }
-    }
-    match wrong_head(script, fault)? {
+fn wrong_part<'a>(
+    script: Script<'a>,
+    part: u64,
+    fault: ScriptFault,
+) -> Result<Complaint<'a>, AllocError> {
+    let index = part.saturating_sub(1) as usize;
+    let step = if part > 0 { script.step(index)? } else { None };
+    let (at, found) = match step {
+        Some(step) => (step.at, wrong_step(script, index, step, fault)?),
+        None => (script.root.at, wrong_head(script, fault)?),
+    };
+    match found {
         Some(complaint) => Ok(complaint),
-        None => plain_words(script.text, script.root.at, fault),
+        None => Ok(Complaint {
+            at,
+            what: What::Fault(fault),
+            expected: None,
+            nearest: None,
+        }),
     }
 }
 
-/// A script that has more bytes than it may.
-fn too_long(text: Text<'_>) -> Result<Complaint, AllocError> {
-    let size = text.bytes.len();
-    let mut complaint = Complaint::new(text.alloc, MOST_BYTES);
-    write!(complaint.what, "the script has {size} bytes")?;
-    write!(complaint.expected, "at most {MOST_BYTES}")?;
-    Ok(complaint)
+/// Adds where the text stops being JSON.
+fn add_stop(text: Text<'_>, lines: &mut String) -> Result<(), AllocError> {
+    let (at, what, expected) = match not_json(text)? {
+        Some(stop) if stop.tells_value => (stop.at, What::Told(stop.what), Some(stop.expected)),
+        Some(stop) => (stop.at, What::Words(stop.what), Some(stop.expected)),
+        None => (0, What::Words("the text is JSON"), None),
+    };
+    let complaint = Complaint {
+        at,
+        what,
+        expected: match expected {
+            Some(words) => Some(Expected::Words(words)),
+            None => None,
+        },
+        nearest: None,
+    };
+    complaint.add_to(text, None, lines)
 }
 
-/// Where the text stops being JSON.
-fn stopped(text: Text<'_>) -> Result<Complaint, AllocError> {
-    let stop = not_json(text)?;
-    Ok(Complaint {
-        at: stop.at,
-        what: stop.what,
-        expected: stop.expected,
-        nearest: String::new(text.alloc),
-    })
-}
-
-/// Why a script whose text is JSON is refused.
-fn script_words(text: Text<'_>, part: u64, fault: ScriptFault) -> Result<String, AllocError> {
+/// Adds why a script whose text is JSON is refused.
+fn add_reason(
+    text: Text<'_>,
+    part: u64,
+    fault: ScriptFault,
+    lines: &mut String,
+) -> Result<(), AllocError> {
     match Value::from_slice(text.alloc, text.bytes) {
         Ok(value) => {
-            let script = Script::new(text, &value);
-            told(text, Some(part), wrong_part(&script, part, fault)?)
+            let complaint = wrong_part(Script::new(text, &value), part, fault)?;
+            complaint.add_to(text, Some(part), lines)
         }
         Err(error) => {
             if error.is_memory() {
                 Err(AllocError)
             } else {
-                fault_words(text.alloc, fault)
+                writeln!(lines, "{fault}")
             }
         }
     }
@@ -192,10 +139,22 @@ pub fn explain_refusal(
     fault: ScriptFault,
 ) -> Result<String, AllocError> {
     let text = Text { alloc, bytes };
-    match part_of(fault) {
-        Some(0) if bytes.len() > MOST_BYTES => told(text, Some(0), too_long(text)?),
-        Some(part) => script_words(text, part, fault),
-        None if fault == ScriptFault::NotJson => told(text, None, stopped(text)?),
-        None => fault_words(alloc, fault),
-    }
+    let size = bytes.len();
+    let mut lines = String::new(alloc);
+    let told = match part_of(fault) {
+        Some(0) if size > MOST_BYTES => {
+            let complaint = Complaint {
+                at: MOST_BYTES,
+                what: What::TooLong(size),
+                expected: Some(Expected::AtMost(MOST_BYTES as u64)),
+                nearest: None,
+            };
+            complaint.add_to(text, Some(0), &mut lines)
+        }
+        Some(part) => add_reason(text, part, fault, &mut lines),
+        None if fault == ScriptFault::NotJson => add_stop(text, &mut lines),
+        None => writeln!(lines, "{fault}"),
+    };
+    told?;
+    Ok(lines)
 }

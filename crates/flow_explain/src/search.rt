@@ -1,18 +1,18 @@
 //! The search for what is wrong in a part of a script.
 
-use crate::chain_words::{CHAIN, FAULT, OP, OPERATOR_ROWS, operator_shape, source_shape};
-use crate::complaint::{
-    Complaint, Owner, missing_key, missing_tag, past_limit, unknown_key, unknown_tag, wrong_form,
-};
+use crate::chain_words::{CHAIN, FAULT, OP, OPERATOR_ROWS, shape_of, source_shape};
+use crate::choices::Choices;
+use crate::complaint::{Complaint, Expected, Found, Owner, What, wrong_form};
 use crate::flow_words::{FLOW_ROWS, KIND, SCRIPT, STOP};
-use crate::form::is_name;
+use crate::form::{is_name, members_len};
+use crate::head::{Script, items_of};
+use crate::nearest::nearest_of;
 use crate::step_words::{DO, STEP_ROWS};
-use crate::words::{Form, Key, Row, Shape, Version, row_named};
+use crate::words::{Form, Presence, Row, Shape, Version, row_named};
 use flow_places::{Spot, Text};
-use std::alloc::AllocError;
 
 /// What is looked for.
-#[derive(Clone, Copy, PartialEq, Eq)]
+#[derive(Clone, Copy)]
 pub enum Aim {
     /// A key or a value of the wrong form.
     Shape,
@@ -28,224 +28,206 @@ struct Task<'a> {
     form: Form,
 }
 
-/// What was found in a value: nothing, or what is wrong.
-type Found = Result<Option<Complaint>, AllocError>;
-
-/// The values of a part of a script that are looked at, in the order in which they are.
-#[derive(Drop)]
+/// A search through a part of a script.
+#[derive(Clone, Copy)]
 struct Search<'a> {
     text: Text<'a>,
     version: Version,
     aim: Aim,
-    tasks: Vec<Task<'a>>,
 }
 
 impl<'a> Search<'a> {
-    fn add(&mut self, spot: Spot<'a>, owner: Owner, form: Form) -> Result<(), AllocError> {
-        self.tasks.push(Task { spot, owner, form })?;
-        Ok(())
-    }
-
     /// Looks for a key that an object has not.
-    fn unknown(&self, spot: Spot<'a>, shape: Shape) -> Found {
-        for part in &self.text.parts(spot.at)? {
-            let word = self.text.word(part.key)?;
-            let known = match shape.key(word.as_str()) {
-                Some(key) => key.need.is_known(self.version),
-                None => false,
+    fn unknown(self, object: Spot<'a>, shape: Shape) -> Found<'a> {
+        let keys = Choices::Keys(shape.keys, self.version);
+        let mut from = object.at.saturating_add(1);
+        for _ in 0..self.text.bytes.len() {
+            let Some(member) = self.text.member_from(object, from)? else {
+                break;
             };
-            if !known {
-                return Ok(Some(unknown_key(self.text, self.version, spot, part.key, shape)?));
-            }
+            let version = match keys.find(member.name) {
+                Some((_, true)) => {
+                    from = member.end;
+                    continue;
+                }
+                Some((_, false)) => self.version.words(),
+                None => "",
+            };
+            return Ok(Some(Complaint {
+                at: member.key,
+                what: What::NoKey(shape.name, version),
+                expected: match shape.missing(self.version, object.value) {
+                    Some(key) => Some(Expected::Form(Some(key.word), key.form)),
+                    None => Some(Expected::Keys(keys)),
+                },
+                nearest: nearest_of(self.text.alloc, member.name, keys)?,
+            }));
         }
         Ok(None)
     }
 
     /// Looks at the keys of an object, and later at its values.
-    fn object(&mut self, spot: Spot<'a>, shape: Shape) -> Found {
-        if let Some(complaint) = self.unknown(spot, shape)? {
+    fn object(self, tasks: &mut Vec<Task<'a>>, object: Spot<'a>, shape: Shape) -> Found<'a> {
+        if let Some(complaint) = self.unknown(object, shape)? {
             return Ok(Some(complaint));
         }
-        if let Some(key) = shape.missing(self.version, spot.value) {
-            return Ok(Some(missing_key(self.text, spot, shape.name, key)?));
+        if let Some(key) = shape.missing(self.version, object.value) {
+            return Ok(Some(Complaint::of_missing(object.at, shape.name, key)));
         }
         for key in shape.keys {
-            if let Some(member) = self.text.member(spot, key.word)? {
-                self.add(member, Owner::Member(key.word), key.form)?;
+            if let Some(spot) = self.text.member(object, key.word)? {
+                tasks.push(Task {
+                    spot,
+                    owner: Owner::Member(key.word),
+                    form: key.form,
+                })?;
             }
         }
         Ok(None)
     }
 
-    /// The row of an object that has a tag, or what is wrong with the tag.
-    fn row(
-        &self,
-        spot: Spot<'a>,
-        tag: Key,
+    /// Looks at an object whose keys its tag tells.
+    fn tagged(
+        self,
+        tasks: &mut Vec<Task<'a>>,
+        object: Spot<'a>,
+        tag: &'static str,
         rows: &'static [Row],
-    ) -> Result<Result<Row, Complaint>, AllocError> {
-        let Some(found) = self.text.member(spot, tag.word)? else {
-            return Ok(Err(missing_tag(self.text, self.version, spot, tag, rows)?));
+    ) -> Found<'a> {
+        let tags = Choices::Tags(rows, self.version);
+        let Some(found) = self.text.member(object, tag)? else {
+            return Ok(Some(Complaint {
+                at: object.at,
+                what: What::MissingTag(tag),
+                expected: Some(Expected::Tag(tag, tags)),
+                nearest: None,
+            }));
         };
         let word = found.value.as_str().unwrap_or("");
-        match row_named(rows, word) {
-            Some(row) if row.need.is_known(self.version) => Ok(Ok(row)),
-            _ => Ok(Err(unknown_tag(self.text, self.version, tag, found, rows)?)),
-        }
-    }
-
-    /// Looks at an object whose keys its tag tells.
-    fn tagged(&mut self, spot: Spot<'a>, tag: Key, rows: &'static [Row]) -> Found {
-        match self.row(spot, tag, rows)? {
-            Ok(row) => self.object(spot, row.shape()),
-            Err(complaint) => Ok(Some(complaint)),
-        }
-    }
-
-    fn operator(&mut self, spot: Spot<'a>) -> Found {
-        match self.row(spot, OP, &OPERATOR_ROWS)? {
-            Ok(row) => self.object(spot, operator_shape(&row, spot.value)),
-            Err(complaint) => Ok(Some(complaint)),
-        }
-    }
-
-    /// A source has one key.
-    fn source(&mut self, spot: Spot<'a>) -> Found {
-        if let Some(complaint) = self.object(spot, source_shape(spot.value))? {
-            return Ok(Some(complaint));
-        }
-        match spot.value.as_object() {
-            Some(members) if !members.is_empty() => Ok(None),
-            _ => Ok(Some(wrong_form(self.text, Owner::Member("from"), spot, Form::Source)?)),
-        }
-    }
-
-    /// Looks at the items of a list that are no objects.
-    fn items(&mut self, task: Task<'a>, form: Form) -> Found {
-        let items = match task.spot.value.as_array() {
-            Some(items) => items.as_slice(),
-            None => &[],
+        let version = match row_named(rows, word) {
+            Some(row) if !matches!(row.need.within(self.version), Presence::Unknown) => {
+                return self.object(tasks, object, shape_of(row, object.value));
+            }
+            Some(_) => self.version.words(),
+            None => "",
         };
-        let Some(index) = items.iter().position(|item| !form.fits(item)) else {
-            return Ok(None);
-        };
-        match self.text.item(task.spot, index)? {
-            Some(item) => self.item(task.owner, item, form),
-            None => Ok(None),
-        }
+        Ok(Some(Complaint {
+            at: found.at,
+            what: What::NoValue(tag, version),
+            expected: Some(Expected::OneOf(tags)),
+            nearest: nearest_of(self.text.alloc, word, tags)?,
+        }))
     }
 
-    /// An item of a list that has not the form of its items.
-    fn item(&mut self, owner: Owner, item: Spot<'a>, form: Form) -> Found {
-        if item.value.is_object() && matches!(form, Form::Entry) {
-            return self.object(item, FAULT);
-        }
-        let owner = match owner {
+    /// Looks at the items of a list, which are to have a form: later at operators, which are looked into, and now at all others.
+    fn items(self, tasks: &mut Vec<Task<'a>>, list: Task<'a>, form: Form) -> Found<'a> {
+        let owner = match list.owner {
             Owner::Member(key) => Owner::Item(key),
             other => other,
         };
-        Ok(Some(wrong_form(self.text, owner, item, form)?))
-    }
-
-    /// Looks later at the operators of a list.
-    fn operators(&mut self, list: Spot<'a>) -> Found {
-        let Some(items) = list.value.as_array() else {
-            return Ok(None);
-        };
-        let parts = self.text.parts(list.at)?;
-        for (part, value) in parts.iter().zip(items.iter()) {
-            let spot = Spot {
-                value,
-                at: part.value,
+        let mut next = self.text.part_from(list.spot.at.saturating_add(1));
+        for value in items_of(list.spot.value) {
+            let Some(at) = next else {
+                break;
             };
-            self.add(spot, Owner::Item("ops"), Form::Operator)?;
+            let spot = Spot { value, at };
+            match form {
+                Form::Operator => tasks.push(Task { spot, owner, form })?,
+                _ if form.fits(value) => {}
+                Form::Entry if value.is_object() => return self.object(tasks, spot, FAULT),
+                _ => return wrong_form(self.text, owner, spot, form),
+            }
+            next = self.text.part_after(at);
         }
         Ok(None)
     }
 
     /// Looks at the names of flows, and later at the flows.
-    fn flows(&mut self, object: Spot<'a>) -> Found {
-        for part in &self.text.parts(object.at)? {
-            let name = self.text.word(part.key)?;
-            if !is_name(name.as_str()) {
+    fn flows(self, tasks: &mut Vec<Task<'a>>, flows: Spot<'a>) -> Found<'a> {
+        let mut from = flows.at.saturating_add(1);
+        for _ in 0..self.text.bytes.len() {
+            let Some(flow) = self.text.member_from(flows, from)? else {
+                break;
+            };
+            if !is_name(flow.name) {
                 let key = Spot {
-                    value: object.value,
-                    at: part.key,
+                    value: flows.value,
+                    at: flow.key,
                 };
-                let complaint = wrong_form(self.text, Owner::FlowName, key, Form::Name)?;
-                return Ok(Some(complaint));
+                return wrong_form(self.text, Owner::FlowName, key, Form::Name);
             }
-            if let Some(value) = object.value.get(name.as_str()) {
-                let spot = Spot {
-                    value,
-                    at: part.value,
-                };
-                self.add(spot, Owner::Item("flows"), Form::Flow)?;
-            }
+            tasks.push(Task {
+                spot: flow.spot,
+                owner: Owner::Item("flows"),
+                form: Form::Flow,
+            })?;
+            from = flow.end;
         }
         Ok(None)
     }
 
     /// Looks into a value of the right form.
-    fn inside(&mut self, task: Task<'a>) -> Found {
+    fn inside(self, tasks: &mut Vec<Task<'a>>, task: Task<'a>) -> Found<'a> {
+        let spot = task.spot;
         match task.form {
-            Form::Script => self.object(task.spot, SCRIPT),
-            Form::Step => self.tagged(task.spot, DO, &STEP_ROWS),
-            Form::Flow => self.tagged(task.spot, KIND, &FLOW_ROWS),
-            Form::Flows => self.flows(task.spot),
-            Form::Started if task.spot.value.is_object() => self.object(task.spot, STOP),
-            Form::Chain => self.object(task.spot, CHAIN),
-            Form::Source => self.source(task.spot),
-            Form::Operators => self.operators(task.spot),
-            Form::Operator => self.operator(task.spot),
-            Form::Numbers(_) => self.items(task, Form::Signed),
-            Form::Entries => self.items(task, Form::Entry),
+            Form::Script => self.object(tasks, spot, SCRIPT),
+            Form::Step => self.tagged(tasks, spot, DO.word, &STEP_ROWS),
+            Form::Flow => self.tagged(tasks, spot, KIND.word, &FLOW_ROWS),
+            Form::Flows => self.flows(tasks, spot),
+            Form::Started if spot.value.is_object() => self.object(tasks, spot, STOP),
+            Form::Chain => self.object(tasks, spot, CHAIN),
+            Form::Source if members_len(spot.value) == 0 => {
+                wrong_form(self.text, task.owner, spot, Form::Source)
+            }
+            Form::Source => self.object(tasks, spot, source_shape(spot.value)),
+            Form::Operators => self.items(tasks, task, Form::Operator),
+            Form::Operator => self.tagged(tasks, spot, OP.word, &OPERATOR_ROWS),
+            Form::Numbers(_) => self.items(tasks, task, Form::Signed),
+            Form::Entries => self.items(tasks, task, Form::Entry),
             _ => Ok(None),
         }
     }
 
-    fn is_past_limit(&self, task: Task<'a>) -> bool {
-        match task.form.limit() {
-            Some(limit) => self.aim == Aim::Limit && task.form.size(task.spot.value) > limit.most,
-            None => false,
-        }
-    }
-
-    /// Looks at a value.
-    fn look(&mut self, task: Task<'a>) -> Found {
+    /// Looks at a value, and later at what is in it. Where limits are looked for, what passes one is wrong.
+    fn look(self, tasks: &mut Vec<Task<'a>>, task: Task<'a>) -> Found<'a> {
         if !task.form.fits(task.spot.value) {
-            let complaint = wrong_form(self.text, task.owner, task.spot, task.form)?;
-            return Ok(Some(complaint));
+            return wrong_form(self.text, task.owner, task.spot, task.form);
         }
-        if self.is_past_limit(task) {
-            let complaint = past_limit(self.text, task.owner, task.spot, task.form)?;
-            return Ok(Some(complaint));
+        if let (Owner::Member(key), Aim::Limit) = (task.owner, self.aim)
+            && let Some(limited) = task.form.limited(task.spot.value)
+            && limited.size > limited.most
+        {
+            return Ok(Some(Complaint {
+                at: task.spot.at,
+                what: What::PastLimit(key, limited.size, limited.unit),
+                expected: Some(Expected::AtMost(limited.most)),
+                nearest: None,
+            }));
         }
-        self.inside(task)
+        self.inside(tasks, task)
     }
 }
 
-/// What is wrong in a value that should have this form. Each value that is looked at begins at a byte of its own.
+/// What is wrong in a value of a script that should have this form. Each value that is looked at begins at a byte of its own.
 pub fn wrong_in<'a>(
-    text: Text<'a>,
-    version: Version,
+    script: Script<'a>,
     aim: Aim,
     spot: Spot<'a>,
     owner: Owner,
     form: Form,
-) -> Result<Option<Complaint>, AllocError> {
-    let mut search = Search {
-        text,
-        version,
+) -> Found<'a> {
+    let search = Search {
+        text: script.text,
+        version: script.version,
         aim,
-        tasks: Vec::new(text.alloc),
     };
-    search.add(spot, owner, form)?;
-    for index in 0..text.bytes.len() {
-        let Some(task) = search.tasks.get(index).copied() else {
+    let mut tasks = Vec::new(script.text.alloc);
+    tasks.push(Task { spot, owner, form })?;
+    for index in 0..script.text.bytes.len() {
+        let Some(task) = tasks.get(index).copied() else {
             break;
         };
-        if let Some(complaint) = search.look(task)? {
+        if let Some(complaint) = search.look(&mut tasks, task)? {
             return Ok(Some(complaint));
         }
     }

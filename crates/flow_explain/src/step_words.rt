@@ -88,17 +88,15 @@ pub static STEP_ROWS: [Row; 15] = [
     step!("collect", &[DO, CHAIN]),
 ];
 
-/// The kinds of flow on which a step is allowed, and whether the subscriber may have first values of its own.
-pub fn kinds_of(step: &str, has_first: bool) -> &'static [&'static str] {
-    if has_first {
-        return &["shared"];
-    }
+/// Whether a step is allowed in a script with a flow of this kind.
+pub fn is_allowed(step: &str, kind: &str) -> bool {
     match step {
-        "try_emit" | "reset" => &["shared", "state"],
-        "emit" | "poll" | "cancel" => &["shared"],
-        "value" => &["state", "state_in"],
-        "set" | "compare_and_set" => &["state"],
-        "turn" => &["share", "state_in"],
-        _ => &["shared", "state", "share", "state_in"],
+        "collect" => true,
+        "try_emit" | "reset" => matches!(kind, "shared" | "state"),
+        "emit" | "poll" | "cancel" => kind == "shared",
+        "value" => matches!(kind, "state" | "state_in"),
+        "set" | "compare_and_set" => kind == "state",
+        "turn" => matches!(kind, "share" | "state_in"),
+        _ => matches!(kind, "shared" | "state" | "share" | "state_in"),
     }
 }

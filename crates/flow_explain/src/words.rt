@@ -3,10 +3,20 @@
 use serde_json::Value;
 
 /// The versions of the format.
-#[derive(Clone, Copy, PartialEq, Eq)]
+#[derive(Clone, Copy)]
 pub enum Version {
     One,
     Two,
+}
+
+impl Version {
+    /// What is told of a word that is known in the other version alone.
+    pub fn words(self) -> &'static str {
+        match self {
+            Version::One => " in version 1",
+            Version::Two => " in version 2",
+        }
+    }
 }
 
 /// What the format asks of a value.
@@ -53,23 +63,22 @@ pub enum Need {
     MaybeInTwo,
 }
 
-impl Need {
-    /// Whether the word is known in a version.
-    pub fn is_known(self, version: Version) -> bool {
-        match self {
-            Need::Always | Need::Maybe => true,
-            Need::OnlyInOne => version == Version::One,
-            Need::OnlyInTwo | Need::MaybeInTwo => version == Version::Two,
-        }
-    }
+/// Whether a word may be there.
+#[derive(Clone, Copy)]
+pub enum Presence {
+    Unknown,
+    Optional,
+    Required,
+}
 
-    /// Whether the key has to be there in a version.
-    pub fn is_needed(self, version: Version) -> bool {
-        match self {
-            Need::Always => true,
-            Need::OnlyInOne => version == Version::One,
-            Need::OnlyInTwo => version == Version::Two,
-            Need::Maybe | Need::MaybeInTwo => false,
+impl Need {
+    /// Whether the word may be there in a version.
+    pub fn within(self, version: Version) -> Presence {
+        match (self, version) {
+            (Need::OnlyInOne, Version::Two) | (Need::OnlyInTwo | Need::MaybeInTwo, Version::One) =>
+                Presence::Unknown,
+            (Need::Maybe | Need::MaybeInTwo, _) => Presence::Optional,
+            _ => Presence::Required,
         }
     }
 }
@@ -90,20 +99,12 @@ pub struct Shape {
 }
 
 impl Shape {
-    /// The key of that word, in whatever version.
-    pub fn key(&self, word: &str) -> Option<Key> {
-        for key in self.keys {
-            if key.word == word {
-                return Some(*key);
-            }
-        }
-        None
-    }
-
     /// The first key that has to be there and is not.
     pub fn missing(&self, version: Version, object: &Value) -> Option<Key> {
         for key in self.keys {
-            if key.need.is_needed(version) && object.get(key.word).is_none() {
+            if matches!(key.need.within(version), Presence::Required)
+                && object.get(key.word).is_none()
+            {
                 return Some(*key);
             }
         }
@@ -118,15 +119,6 @@ pub struct Row {
     pub name: &'static str,
     pub keys: &'static [Key],
     pub need: Need,
-}
-
-impl Row {
-    pub fn shape(&self) -> Shape {
-        Shape {
-            name: self.name,
-            keys: self.keys,
-        }
-    }
 }
 
 /// The row of a word, in whatever version.

@@ -247,32 +247,7 @@ const REFUSALS: [(&str, &str); 32] = [
     ),
 ];
 
-/// What is told of a text by the fault that refuses it.
-fn told(alloc: Global, text: &str) -> Result<String, AllocError> {
-    match read_script(alloc, text.as_bytes()) {
-        Ok(_) => String::from_str(alloc, "it is a script"),
-        Err(fault) => explain_refusal(alloc, text.as_bytes(), fault),
-    }
-}
-
-/// Compares what is told of a text with what is wanted.
-fn expect(rt: &(impl Abort + AllocGlobal), text: &str, words: &str) {
-    let told = told(rt.alloc(), text).expect(rt, "memory");
-    assert_eq!(rt; told.as_str(), words, "of {text}");
-}
-
-fn expect_each(rt: &(impl Abort + AllocGlobal), refusals: &[(&str, &str)]) {
-    for (text, words) in refusals {
-        expect(rt, text, words);
-    }
-}
-
-#[test]
-fn a_refusal_is_told_with_its_place(rt: HostRuntime) {
-    expect_each(&rt, &REFUSALS);
-}
-
-/// Faults that are not those of the text.
+/// Faults that are not those of the text `NO_STEPS`.
 const OTHERS: [(ScriptFault, &str); 4] = [
     (ScriptFault::ReadFailed, "the script could not be read\n"),
     (
@@ -286,16 +261,29 @@ const OTHERS: [(ScriptFault, &str); 4] = [
     (ScriptFault::NotJson, "line 1, column 1: the text is JSON\n"),
 ];
 
-/// Compares what is told of a text by a fault that is not its own.
-fn expect_words(rt: &(impl Abort + AllocGlobal), fault: ScriptFault, words: &str) {
-    let text = r#"{"version":2,"flows":{},"steps":[]}"#;
-    let told = explain_refusal(rt.alloc(), text.as_bytes(), fault).expect(rt, "memory");
-    assert_eq!(rt; told.as_str(), words, "by {fault}");
+const NO_STEPS: &str = r#"{"version":2,"flows":{},"steps":[]}"#;
+
+/// What is told of a text by a fault, or else by the one that refuses it.
+fn told(alloc: Global, text: &str, fault: Option<ScriptFault>) -> Result<String, AllocError> {
+    let fault = match (fault, read_script(alloc, text.as_bytes())) {
+        (Some(fault), _) | (None, Err(fault)) => fault,
+        (None, Ok(_)) => return String::from_str(alloc, "it is a script"),
+    };
+    explain_refusal(alloc, text.as_bytes(), fault)
+}
+
+/// Compares what is told of a text with what is wanted.
+fn expect(rt: &(impl Abort + AllocGlobal), text: &str, fault: Option<ScriptFault>, words: &str) {
+    let told = told(rt.alloc(), text, fault).expect(rt, "memory");
+    assert_eq!(rt; told.as_str(), words, "of {text}");
 }
 
 #[test]
-fn another_fault_is_told_by_its_words(rt: HostRuntime) {
+fn a_refusal_is_told_with_its_place(rt: HostRuntime) {
+    for (text, words) in &REFUSALS {
+        expect(&rt, text, None, words);
+    }
     for (fault, words) in OTHERS {
-        expect_words(&rt, fault, words);
+        expect(&rt, NO_STEPS, Some(fault), words);
     }
 }

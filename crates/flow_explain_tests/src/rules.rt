@@ -1,6 +1,6 @@
 //! The rules that are told of lines: which words docs/DEFINITIONS.md has for what a step answered.
 
-use flow_explain::rule_of;
+use flow_picture::rule_of;
 use serde_json::Value;
 use std::alloc::AllocGlobal;
 use std::process::Abort;
@@ -272,13 +272,9 @@ fn expect(rt: &(impl Abort + AllocGlobal), flow: &str, step: &str, line: &str, r
     );
 }
 
-fn expect_each(rt: &(impl Abort + AllocGlobal), rules: &[(&str, &str, &str, &str)]) {
-    for (flow, step, line, rule) in rules {
-        expect(rt, flow, step, line, rule);
-    }
-}
-
 #[test]
 fn each_line_has_its_rule(rt: HostRuntime) {
-    expect_each(&rt, &RULES);
+    for (flow, step, line, rule) in &RULES {
+        expect(&rt, flow, step, line, rule);
+    }
 }

@@ -11,18 +11,6 @@ const MOST_ITEMS: usize = 24;
 /// What a mark tells, and what stands in it.
 type Content<'a> = (Sign, Words<'a>);
 
-/// An item of a source, a turn that pends, or a fault.
-fn entry_of<'a>(entry: &Value) -> Content<'a> {
-    if let Some(number) = entry.as_i64() {
-        return (Sign::Value, Words::Number(number));
-    }
-    if entry.as_str().is_some() {
-        (Sign::Nothing, Words::None)
-    } else {
-        (Sign::Refused, Words::Text("fault"))
-    }
-}
-
 /// Where a chain comes from.
 #[derive(Clone, Copy)]
 struct Source<'a> {
@@ -32,18 +20,14 @@ struct Source<'a> {
 
 impl<'a> Source<'a> {
     fn new(chain: &'a Value) -> Self {
-        let Some(source) = chain.get("from") else {
-            return Source {
-                name: "",
-                items: &[],
-            };
-        };
-        for name in ["of", "range", "script"] {
-            if source.get(name).is_some() {
-                return Source {
-                    name,
-                    items: items_of(source, name),
-                };
+        if let Some(source) = chain.get("from") {
+            for name in ["of", "range", "script"] {
+                if source.get(name).is_some() {
+                    return Source {
+                        name,
+                        items: items_of(source, name),
+                    };
+                }
             }
         }
         Source {
@@ -54,32 +38,19 @@ impl<'a> Source<'a> {
 
     /// The mark at a column, and after the last item the end. Of a range the first number and the last are drawn.
     fn at(&self, column: usize) -> Content<'a> {
-        if self.name == "range" && column == 1 {
+        let is_range = self.name == "range";
+        if is_range && column == 1 {
             return (Sign::Told, Words::Text("to"));
         }
-        let place = if self.name == "range" && column > 1 {
-            column - 1
-        } else {
-            column
-        };
-        match self.items.get(place) {
-            Some(entry) => entry_of(entry),
+        let before = (is_range && column > 1) as usize;
+        match self.items.get(column.saturating_sub(before)) {
+            Some(Value::Number(number)) => {
+                (Sign::Value, Words::Number(number.as_i64().unwrap_or(0)))
+            }
+            Some(Value::String(_)) => (Sign::Nothing, Words::None),
+            Some(_) => (Sign::Refused, Words::Text("fault")),
             None => (Sign::Ends, Words::None),
         }
-    }
-}
-
-/// The items of a list, and what follows it.
-fn split_list(line: &str) -> Option<(&str, &str)> {
-    line.strip_prefix("[")?.split_once("] ")
-}
-
-/// How a collection ended.
-fn end_of(words: &str) -> Content<'_> {
-    if words == "completed" {
-        (Sign::Ends, Words::None)
-    } else {
-        (Sign::Refused, Words::Text(words))
     }
 }
 
@@ -93,14 +64,15 @@ struct Given<'a> {
 impl<'a> Given<'a> {
     /// The line of a collection: a list and how it ended, or why the chain could not be built.
     fn new(line: &'a str) -> Self {
-        match split_list(line) {
-            Some((items, end)) => Given {
-                items: if items.is_empty() { None } else { Some(items) },
-                end: end_of(end),
-            },
-            None => Given {
-                items: None,
-                end: (Sign::Refused, Words::Text(line)),
+        let (items, end) = match line.split_once("] ") {
+            Some((list, end)) => (list.strip_prefix("[").unwrap_or(""), end),
+            None => ("", line),
+        };
+        Given {
+            items: if items.is_empty() { None } else { Some(items) },
+            end: match end {
+                "completed" => (Sign::Ends, Words::None),
+                _ => (Sign::Refused, Words::Text(end)),
             },
         }
     }
@@ -110,20 +82,12 @@ impl<'a> Given<'a> {
         let Some(items) = self.items else {
             return self.end;
         };
-        let item = match items.split_once(", ") {
-            Some((item, more)) => {
-                self.items = Some(more);
-                item
-            }
-            None => {
-                self.items = None;
-                items
-            }
+        let (item, more) = match items.split_once(", ") {
+            Some((item, more)) => (item, Some(more)),
+            None => (items, None),
         };
-        match item.parse::<i64>() {
-            Ok(number) => (Sign::Value, Words::Number(number)),
-            Err(_) => (Sign::Value, Words::Text(item)),
-        }
+        self.items = more;
+        (Sign::Value, Words::of_value(item))
     }
 }
 
@@ -140,8 +104,9 @@ fn add_content<'a>(
         return picture.add_mark(lane, Sign::Told, Words::Text(".."));
     }
     let (sign, words) = content;
-    if sign == Sign::Ends || sign == Sign::Refused {
-        picture.end_lane(lane);
+    if matches!(sign, Sign::Ends | Sign::Refused) {
+        let column = picture.columns;
+        picture.end_lane(lane, column);
     }
     picture.add_mark(lane, sign, words)
 }
@@ -160,7 +125,7 @@ pub fn collected<'a>(
     for column in 0..MOST_ITEMS + 1 {
         add_content(&mut picture, 0, source.at(column))?;
         add_content(&mut picture, 1, given.next())?;
-        picture.end_column();
+        picture.columns = picture.columns.saturating_add(1);
         if !picture.is_open(0) && !picture.is_open(1) {
             break;
         }

@@ -1,32 +1,43 @@
-//! What the lines of a flow script say, as a picture: lanes from left to right, and the marks on them.
+//! What the lines of a flow script say: as a picture, with lanes from left to right and marks on them, and by which rules.
 //!
 //! # Lanes and marks
 //! `steps_picture` has a lane for each flow, subscriber and emission, and a column for each step that was played;
 //! `collected` has two lanes, of a chain's source and of what it gave. Each mark is taken from the line that its step
-//! wrote, and from nothing else.
+//! wrote, and from nothing else. The table in `marks` has the marks of a step by its tag and its line.
 //!
 //! # Where the marks stand
-//! A `Layout` gives each column a width in characters, and cuts a picture into bands that are at most `MOST_WIDTH` wide.
-//! How a mark looks is left to the caller.
+//! `parts_of` gives each column a width in characters, cuts a picture into bands that are at most `MOST_WIDTH` wide, and tells
+//! the parts of it from left to right, line by line. `text_frame` and `svg_frame` write each part in their way.
 //!
 //! # Words
-//! `add_step`, `add_chain` and `add_heads` write a step, a chain and the flows in words.
+//! `Played::add_words_before` has what stands before a line: the step that writes it, in words.
+//!
+//! # Rules
+//! `rule_of` takes a step as it stands in the script, the flow that it is about, and the line that it wrote, and gives the rule by
+//! which it wrote that line. The tables `rules_of_flows` and `rules_of_turns` have the rules; they are those of docs/DEFINITIONS.md,
+//! and the lines those of docs/SCRIPTS.md.
 #![tactic(auto)]
 
 mod collection;
+mod frame;
 mod layout;
 mod marks;
 mod picture;
 mod played;
+mod rules;
+mod rules_of_flows;
+mod rules_of_turns;
 mod script_words;
 mod steps;
+mod style;
+mod svg;
+mod svg_marks;
+mod text;
+mod widths;
 
-pub use collection::collected;
-pub use layout::{
-    Band, Layout, MOST_WIDTH, NAME_WIDTH, add_cut, add_words, brackets, lanes_of, mark_at,
-    mark_width, number_width, words_width,
-};
-pub use picture::{Lane, Mark, Picture, Sign, Words};
+pub use frame::{Frame, explained_frame};
 pub use played::Played;
-pub use script_words::{add_chain, add_step, items_of, text_of};
-pub use steps::{add_heads, steps_picture};
+pub use rules::rule_of;
+pub use script_words::items_of;
+pub use svg::svg_frame;
+pub use text::text_frame;

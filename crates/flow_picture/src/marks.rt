@@ -1,185 +1,280 @@
 //! What a step's line says of the lanes, as marks.
 
 use crate::picture::{Picture, Sign, Words};
+use crate::rules::Line;
 use crate::script_words::{number_of, text_of};
 use indexmap::IndexSet;
 use serde_json::Value;
-use std::alloc::{AllocError, Global};
+use std::alloc::AllocError;
 
 /// A picture that grows by a column with each step.
 #[derive(Drop)]
 pub struct Drawing<'a> {
     pub picture: Picture<'a>,
     /// The names of the flows: their lanes come first.
-    flows: IndexSet<&'a str>,
+    pub flows: IndexSet<&'a str>,
     /// The names of subscribers and emissions: their lanes come next.
-    names: IndexSet<&'a str>,
+    pub names: IndexSet<&'a str>,
+}
+
+/// What stands in the marks of a step.
+#[derive(Clone, Copy)]
+enum Content {
+    Nothing,
+    /// The number that the step gives by this key.
+    Member(&'static str),
+    /// Its line.
+    Line,
+    /// The value that its line tells.
+    Received,
+    /// The value of an emission that goes on. The marks are those of such an emission alone.
+    Emission,
+}
+
+/// What becomes of the lane of the subscriber or the emission that a step is about.
+#[derive(Clone, Copy)]
+enum Named {
+    Untouched,
+    Marked(Sign),
+    /// It ends with this mark.
+    Ended(Sign),
+}
+
+/// The marks of a step with this tag and such a line: on the lane of its flow, and on that of its name.
+#[derive(Clone, Copy)]
+struct Marks(&'static str, Line, Option<Sign>, Named, Content);
+
+/// Any line that no row before is about.
+const OTHER: Line = Line::Begins("");
+
+/// The marks of the steps that do not only tell what their flow answers. Of a tag and a line the first row counts.
+static MARKS: [Marks; 21] = [
+    Marks(
+        "try_emit",
+        Line::Is("true"),
+        Some(Sign::Value),
+        Named::Untouched,
+        Content::Member("value"),
+    ),
+    Marks(
+        "try_emit",
+        Line::Is("false"),
+        Some(Sign::Lost),
+        Named::Untouched,
+        Content::Member("value"),
+    ),
+    Marks(
+        "set",
+        Line::Is("set"),
+        Some(Sign::Value),
+        Named::Untouched,
+        Content::Member("value"),
+    ),
+    Marks(
+        "compare_and_set",
+        Line::Is("true"),
+        Some(Sign::Value),
+        Named::Untouched,
+        Content::Member("update"),
+    ),
+    Marks(
+        "compare_and_set",
+        Line::Is("false"),
+        Some(Sign::Lost),
+        Named::Untouched,
+        Content::Member("update"),
+    ),
+    Marks(
+        "emit",
+        Line::Is("done"),
+        Some(Sign::Value),
+        Named::Ended(Sign::Value),
+        Content::Member("value"),
+    ),
+    Marks(
+        "emit",
+        Line::Is("queued"),
+        Some(Sign::Waits),
+        Named::Marked(Sign::Waits),
+        Content::Member("value"),
+    ),
+    Marks(
+        "emit",
+        OTHER,
+        None,
+        Named::Ended(Sign::Refused),
+        Content::Line,
+    ),
+    Marks(
+        "poll",
+        Line::Is("waiting"),
+        None,
+        Named::Marked(Sign::Waits),
+        Content::Nothing,
+    ),
+    Marks(
+        "poll",
+        OTHER,
+        None,
+        Named::Ended(Sign::Value),
+        Content::Emission,
+    ),
+    Marks(
+        "poll",
+        OTHER,
+        None,
+        Named::Marked(Sign::Nothing),
+        Content::Nothing,
+    ),
+    Marks(
+        "cancel",
+        Line::Is("true"),
+        Some(Sign::Lost),
+        Named::Ended(Sign::Lost),
+        Content::Emission,
+    ),
+    Marks(
+        "cancel",
+        OTHER,
+        None,
+        Named::Marked(Sign::Nothing),
+        Content::Nothing,
+    ),
+    Marks(
+        "subscribe",
+        Line::Is("subscribed"),
+        None,
+        Named::Marked(Sign::Begins),
+        Content::Nothing,
+    ),
+    Marks(
+        "subscribe",
+        OTHER,
+        None,
+        Named::Ended(Sign::Refused),
+        Content::Line,
+    ),
+    Marks(
+        "next",
+        Line::Begins("value "),
+        None,
+        Named::Marked(Sign::Value),
+        Content::Received,
+    ),
+    Marks(
+        "next",
+        Line::Is("empty"),
+        None,
+        Named::Marked(Sign::Nothing),
+        Content::Nothing,
+    ),
+    Marks(
+        "next",
+        OTHER,
+        None,
+        Named::Marked(Sign::Refused),
+        Content::Line,
+    ),
+    Marks(
+        "unsubscribe",
+        Line::Is("true"),
+        None,
+        Named::Ended(Sign::Ends),
+        Content::Nothing,
+    ),
+    Marks(
+        "unsubscribe",
+        OTHER,
+        None,
+        Named::Marked(Sign::Nothing),
+        Content::Nothing,
+    ),
+    Marks("collect", OTHER, None, Named::Untouched, Content::Nothing),
+];
+
+/// The marks of a step with this tag and line, where the emission that it is about goes on or does not.
+fn marks_of(tag: &str, line: &str, goes_on: bool) -> Marks {
+    for marks in &MARKS {
+        if marks.0 == tag
+            && marks.1.fits(line)
+            && (goes_on || !matches!(marks.4, Content::Emission))
+        {
+            return *marks;
+        }
+    }
+    let sign = if line.starts_with("refused") || line == "no flow" {
+        Sign::Refused
+    } else {
+        Sign::Told
+    };
+    Marks("", OTHER, Some(sign), Named::Untouched, Content::Line)
+}
+
+impl Content {
+    fn words<'a>(self, step: &Value, line: &'a str, emission: Option<i64>) -> Words<'a> {
+        match self {
+            Content::Nothing => Words::None,
+            Content::Member(key) => Words::Number(number_of(step, key)),
+            Content::Line => Words::Text(line),
+            Content::Received => Words::of_value(line.strip_prefix("value ").unwrap_or(line)),
+            Content::Emission => Words::Number(emission.unwrap_or(0)),
+        }
+    }
 }
 
 impl<'a> Drawing<'a> {
-    /// Before the first step.
-    pub fn new(alloc: Global) -> Self {
-        Drawing {
-            picture: Picture::new(alloc),
-            flows: IndexSet::new(alloc),
-            names: IndexSet::new(alloc),
-        }
-    }
-
     pub fn add_flow(&mut self, name: &'a str) -> Result<(), AllocError> {
         self.flows.insert(name)?;
         self.picture.add_lane(name, None)
     }
 
-    /// The lane of the flow that a step is about.
-    fn flow_lane(&self, step: &Value) -> usize {
-        match step.get("flow").and_then(Value::as_str) {
-            Some(name) => self.flows.get_index_of(name).unwrap_or(0),
-            None => 0,
-        }
+    /// The lane of the flow that a step is about, and that of the subscriber or the emission.
+    fn lanes(&self, step: &Value) -> (usize, usize) {
+        let flow = self.flows.get_index_of(text_of(step, "flow")).unwrap_or(0);
+        let name = self.names.get_index_of(text_of(step, "name")).unwrap_or(0);
+        (flow, name.saturating_add(self.flows.len()))
     }
 
-    /// The lane of the subscriber or the emission that a step is about.
-    fn named_lane(&self, step: &Value) -> usize {
-        let place = self.names.get_index_of(text_of(step, "name")).unwrap_or(0);
-        place.saturating_add(self.flows.len())
-    }
-
-    fn add_name(&mut self, step: &'a Value, waits: Option<i64>) -> Result<(), AllocError> {
+    /// A lane for the name that a step introduces.
+    fn add_name(&mut self, step: &'a Value) -> Result<(), AllocError> {
         let name = text_of(step, "name");
+        let waits = match text_of(step, "do") {
+            "emit" => Some(number_of(step, "value")),
+            "subscribe" => None,
+            _ => return Ok(()),
+        };
         self.names.insert(name)?;
         self.picture.add_lane(name, waits)
     }
 
-    fn mark_flow(&mut self, step: &Value, sign: Sign, words: Words<'a>) -> Result<(), AllocError> {
-        let lane = self.flow_lane(step);
-        self.picture.add_mark(lane, sign, words)
-    }
-
-    fn mark_named(&mut self, step: &Value, sign: Sign, words: Words<'a>) -> Result<(), AllocError> {
-        let lane = self.named_lane(step);
-        self.picture.add_mark(lane, sign, words)
-    }
-
-    /// The lane of a subscriber or an emission ends with this mark.
-    fn end_named(&mut self, step: &Value, sign: Sign, words: Words<'a>) -> Result<(), AllocError> {
-        let lane = self.named_lane(step);
-        self.picture.end_lane(lane);
-        self.picture.add_mark(lane, sign, words)
-    }
-
-    /// A value that the flow took or did not take.
-    fn offered(&mut self, step: &Value, key: &str, line: &'a str) -> Result<(), AllocError> {
-        let value = Words::Number(number_of(step, key));
-        match line {
-            "true" | "set" => self.mark_flow(step, Sign::Value, value),
-            "false" => self.mark_flow(step, Sign::Lost, value),
-            _ => self.refused(step, line),
-        }
-    }
-
-    fn emit(&mut self, step: &'a Value, line: &'a str) -> Result<(), AllocError> {
-        let number = number_of(step, "value");
-        self.add_name(step, Some(number))?;
-        let value = Words::Number(number);
-        match line {
-            "done" => {
-                self.mark_flow(step, Sign::Value, value)?;
-                self.end_named(step, Sign::Value, value)
-            }
-            "queued" => {
-                self.mark_flow(step, Sign::Waits, value)?;
-                self.mark_named(step, Sign::Waits, value)
-            }
-            _ => self.end_named(step, Sign::Refused, Words::Text(line)),
-        }
-    }
-
-    fn poll(&mut self, step: &Value, line: &str) -> Result<(), AllocError> {
-        if line == "waiting" {
-            return self.mark_named(step, Sign::Waits, Words::None);
-        }
-        match self.picture.open_value(self.named_lane(step)) {
-            Some(value) => self.end_named(step, Sign::Value, Words::Number(value)),
-            None => self.mark_named(step, Sign::Nothing, Words::None),
-        }
-    }
-
-    fn cancel(&mut self, step: &Value, line: &str) -> Result<(), AllocError> {
-        match self.picture.open_value(self.named_lane(step)) {
-            Some(value) if line == "true" => {
-                self.mark_flow(step, Sign::Lost, Words::Number(value))?;
-                self.end_named(step, Sign::Lost, Words::Number(value))
-            }
-            _ => self.mark_named(step, Sign::Nothing, Words::None),
-        }
-    }
-
-    fn subscribe(&mut self, step: &'a Value, line: &'a str) -> Result<(), AllocError> {
-        self.add_name(step, None)?;
-        if line == "subscribed" {
-            self.mark_named(step, Sign::Begins, Words::None)
-        } else {
-            self.end_named(step, Sign::Refused, Words::Text(line))
-        }
-    }
-
-    fn next(&mut self, step: &Value, line: &'a str) -> Result<(), AllocError> {
-        if let Some(value) = line.strip_prefix("value ") {
-            return match value.parse::<i64>() {
-                Ok(number) => self.mark_named(step, Sign::Value, Words::Number(number)),
-                Err(_) => self.mark_named(step, Sign::Value, Words::Text(value)),
-            };
-        }
-        if line == "empty" {
-            self.mark_named(step, Sign::Nothing, Words::None)
-        } else {
-            self.mark_named(step, Sign::Refused, Words::Text(line))
-        }
-    }
-
-    fn unsubscribe(&mut self, step: &Value, line: &str) -> Result<(), AllocError> {
-        if line == "true" {
-            self.end_named(step, Sign::Ends, Words::None)
-        } else {
-            self.mark_named(step, Sign::Nothing, Words::None)
-        }
-    }
-
-    /// A refusal of the flow. One that was refused itself has no line.
-    fn refused(&mut self, step: &Value, line: &'a str) -> Result<(), AllocError> {
-        let lane = self.flow_lane(step);
-        if line == "no flow" {
-            self.picture.clear_lane(lane);
-        }
-        self.picture
-            .add_mark(lane, Sign::Refused, Words::Text(line))
-    }
-
-    /// What the flow answered, in its words.
-    fn told(&mut self, step: &Value, line: &'a str) -> Result<(), AllocError> {
-        if line.starts_with("refused") || line == "no flow" {
-            self.refused(step, line)
-        } else {
-            self.mark_flow(step, Sign::Told, Words::Text(line))
-        }
-    }
-
     /// The marks of one step more, by the line that it writes.
     pub fn add_step(&mut self, step: &'a Value, line: &'a str) -> Result<(), AllocError> {
-        match text_of(step, "do") {
-            "try_emit" | "set" => self.offered(step, "value", line)?,
-            "compare_and_set" => self.offered(step, "update", line)?,
-            "emit" => self.emit(step, line)?,
-            "poll" => self.poll(step, line)?,
-            "cancel" => self.cancel(step, line)?,
-            "subscribe" => self.subscribe(step, line)?,
-            "next" => self.next(step, line)?,
-            "unsubscribe" => self.unsubscribe(step, line)?,
-            "collect" => {}
-            _ => self.told(step, line)?,
+        self.add_name(step)?;
+        let (flow, named) = self.lanes(step);
+        let emission = self.picture.open_value(named);
+        let Marks(_, _, on_flow, on_named, content) = marks_of(
+            text_of(step, "do"),
+            line,
+            emission.is_some(),
+        );
+        let words = content.words(step, line, emission);
+        let column = self.picture.columns;
+        if let Some(sign) = on_flow {
+            if line == "no flow" {
+                // The lane of a flow that was refused has marks, and no line.
+                self.picture.end_lane(flow, 0);
+            }
+            self.picture.add_mark(flow, sign, words)?;
         }
-        self.picture.end_column();
+        match on_named {
+            Named::Untouched => {}
+            Named::Marked(sign) => self.picture.add_mark(named, sign, words)?,
+            Named::Ended(sign) => {
+                self.picture.end_lane(named, column);
+                self.picture.add_mark(named, sign, words)?;
+            }
+        }
+        self.picture.columns = column.saturating_add(1);
         Ok(())
     }
 }

@@ -3,7 +3,7 @@
 use std::alloc::{AllocError, Global};
 
 /// What a mark tells.
-#[derive(Clone, Copy, PartialEq, Eq)]
+#[derive(Clone, Copy)]
 pub enum Sign {
     /// The flow took the value, or a subscriber received it.
     Value,
@@ -26,6 +26,16 @@ pub enum Words<'a> {
     None,
     Number(i64),
     Text(&'a str),
+}
+
+impl<'a> Words<'a> {
+    /// A value as a line tells it.
+    pub fn of_value(text: &'a str) -> Self {
+        match text.parse::<i64>() {
+            Ok(number) => Words::Number(number),
+            Err(_) => Words::Text(text),
+        }
+    }
 }
 
 /// A mark on a lane.
@@ -101,22 +111,10 @@ impl<'a> Picture<'a> {
         Ok(())
     }
 
-    /// The next column is complete.
-    pub fn end_column(&mut self) {
-        self.columns = self.columns.saturating_add(1);
-    }
-
-    /// The lane ends at the next column.
-    pub fn end_lane(&mut self, lane: usize) {
+    /// The lane ends at a column.
+    pub fn end_lane(&mut self, lane: usize, column: usize) {
         if lane < self.lanes.len() {
-            self.lanes[lane].ends = self.columns;
-        }
-    }
-
-    /// The lane has marks, and no line.
-    pub fn clear_lane(&mut self, lane: usize) {
-        if lane < self.lanes.len() {
-            self.lanes[lane].ends = self.lanes[lane].begins;
+            self.lanes[lane].ends = column;
         }
     }
 

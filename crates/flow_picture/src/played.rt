@@ -1,6 +1,7 @@
 //! The steps of a script that was played, with their lines.
 
-use crate::script_words::add_step;
+use crate::rules::rule_of;
+use crate::script_words::{add_step, text_of};
 use serde_json::Value;
 use std::alloc::AllocError;
 
@@ -25,13 +26,42 @@ impl<'a> Played<'a> {
     }
 
     /// The step that wrote the line at a place, and how many came before it. A flow that was refused wrote its line itself.
-    pub fn step_at(&self, place: usize) -> Option<(usize, &'a Value)> {
+    fn step_at(&self, place: usize) -> Option<(usize, &'a Value)> {
         let step = place.checked_sub(self.refused)?;
         Some((step, self.steps.get(step)?))
     }
 
-    /// The step that wrote the line at a place, in words before it.
-    pub fn add_step_at(&self, words: &mut String, place: usize) -> Result<(), AllocError> {
+    /// The rule by which a step of a script wrote the line at a place. A line without a step has none.
+    fn rule_at(&self, script: &Value, place: usize) -> &'static str {
+        let Some((before, step)) = self.step_at(place) else {
+            return "";
+        };
+        let flow = match script.get("flows") {
+            Some(flows) => flows.get(text_of(step, "flow")),
+            None => script.get("flow"),
+        };
+        rule_of(flow, step, self.line(before))
+    }
+
+    /// What stands before the line at a place: the end of the line before it, with its rule where those of a script are told,
+    /// and the step that wrote the line, in words.
+    pub fn add_words_before(
+        &self,
+        words: &mut String,
+        place: usize,
+        rules: Option<&Value>,
+    ) -> Result<(), AllocError> {
+        if let Some(before) = place.checked_sub(1) {
+            let rule = match rules {
+                Some(script) => self.rule_at(script, before),
+                None => "",
+            };
+            if !rule.is_empty() {
+                words.push_str("  -- ")?;
+                words.push_str(rule)?;
+            }
+            words.push('\n')?;
+        }
         let Some((before, step)) = self.step_at(place) else {
             return Ok(());
         };

@@ -5,19 +5,25 @@ use std::alloc::AllocError;
 
 /// The text of a member, or none.
 pub fn text_of<'a>(value: &'a Value, key: &str) -> &'a str {
-    value.get(key).and_then(Value::as_str).unwrap_or("")
+    match value.get(key) {
+        Some(member) => member.as_str().unwrap_or(""),
+        None => "",
+    }
 }
 
 /// The number of a member, or 0.
 pub fn number_of(value: &Value, key: &str) -> i64 {
-    value.get(key).and_then(Value::as_i64).unwrap_or(0)
+    match value.get(key) {
+        Some(member) => member.as_i64().unwrap_or(0),
+        None => 0,
+    }
 }
 
 /// The items of a member, or none.
 pub fn items_of<'a>(value: &'a Value, key: &str) -> &'a [Value] {
-    match value.get(key).and_then(Value::as_array) {
-        Some(items) => items.as_slice(),
-        None => &[],
+    match value.get(key) {
+        Some(Value::Array(items)) => items.as_slice(),
+        _ => &[],
     }
 }
 
@@ -50,6 +56,7 @@ fn add_value(text: &mut String, value: &Value) -> Result<(), AllocError> {
 /// How many items of a list are written out.
 const MOST_ITEMS: usize = 12;
 
+/// Numbers, words and faults.
 fn add_items(text: &mut String, items: &[Value]) -> Result<(), AllocError> {
     text.push('[')?;
     for (index, item) in items.iter().enumerate() {
@@ -60,17 +67,12 @@ fn add_items(text: &mut String, items: &[Value]) -> Result<(), AllocError> {
             text.push_str("..")?;
             break;
         }
-        add_item(text, item)?;
+        match item.as_i64() {
+            Some(number) => write!(text, "{number}")?,
+            None => text.push_str(item.as_str().unwrap_or("fault"))?,
+        }
     }
     text.push(']')
-}
-
-/// An item of a list: a number, a word, or a fault.
-fn add_item(text: &mut String, item: &Value) -> Result<(), AllocError> {
-    if let Some(number) = item.as_i64() {
-        return write!(text, "{number}");
-    }
-    text.push_str(item.as_str().unwrap_or("fault"))
 }
 
 /// The members of an object but one, each with its key.
@@ -131,19 +133,11 @@ pub fn add_flow(text: &mut String, name: &str, flow: &Value) -> Result<(), Alloc
         add_chain(text, chain)?;
     }
     if let Some(started) = flow.get("started") {
-        add_started(text, started)?;
+        text.push_str(", started")?;
+        if started.is_string() {
+            add_member(text, flow, "started")?;
+        }
+        add_members(text, started, "")?;
     }
     text.push('\n')
-}
-
-/// When a shared chain runs.
-fn add_started(text: &mut String, started: &Value) -> Result<(), AllocError> {
-    text.push_str(", started")?;
-    match started.as_str() {
-        Some(word) => {
-            text.push(' ')?;
-            text.push_str(word)
-        }
-        None => add_members(text, started, ""),
-    }
 }

@@ -4,22 +4,9 @@ use crate::marks::Drawing;
 use crate::picture::Picture;
 use crate::played::Played;
 use crate::script_words::{add_flow, text_of};
+use indexmap::IndexSet;
 use serde_json::Value;
 use std::alloc::{AllocError, Global};
-
-/// A lane for each flow, subscriber and emission, and a column for each step that was played.
-pub fn steps_picture<'a>(
-    alloc: Global,
-    script: &'a Value,
-    played: Played<'a>,
-) -> Result<Picture<'a>, AllocError> {
-    let mut drawing = Drawing::new(alloc);
-    add_lanes(&mut drawing, script)?;
-    for (place, step) in played.steps.iter().enumerate() {
-        drawing.add_step(step, played.line(place))?;
-    }
-    Ok(drawing.picture)
-}
 
 /// The flow of a script that names none, unless its steps only collect chains.
 fn single_flow(script: &Value) -> Option<&Value> {
@@ -31,11 +18,12 @@ fn single_flow(script: &Value) -> Option<&Value> {
     }
 }
 
+/// The lanes of the flows.
 fn add_lanes<'a>(drawing: &mut Drawing<'a>, script: &'a Value) -> Result<(), AllocError> {
     if single_flow(script).is_some() {
         return drawing.add_flow("flow");
     }
-    if let Some(flows) = script.get("flows").and_then(Value::as_object) {
+    if let Some(Value::Object(flows)) = script.get("flows") {
         for (name, _) in flows {
             drawing.add_flow(name.as_str())?;
         }
@@ -43,12 +31,39 @@ fn add_lanes<'a>(drawing: &mut Drawing<'a>, script: &'a Value) -> Result<(), All
     Ok(())
 }
 
+fn add_steps<'a>(
+    drawing: &mut Drawing<'a>,
+    script: &'a Value,
+    played: Played<'a>,
+) -> Result<(), AllocError> {
+    add_lanes(drawing, script)?;
+    for (place, step) in played.steps.iter().enumerate() {
+        drawing.add_step(step, played.line(place))?;
+    }
+    Ok(())
+}
+
+/// A lane for each flow, subscriber and emission, and a column for each step that was played.
+pub fn steps_picture<'a>(
+    alloc: Global,
+    script: &'a Value,
+    played: Played<'a>,
+) -> Result<Picture<'a>, AllocError> {
+    let mut drawing = Drawing {
+        picture: Picture::new(alloc),
+        flows: IndexSet::new(alloc),
+        names: IndexSet::new(alloc),
+    };
+    add_steps(&mut drawing, script, played)?;
+    Ok(drawing.picture)
+}
+
 /// What the flows are, a line for each.
 pub fn add_heads(text: &mut String, script: &Value) -> Result<(), AllocError> {
     if let Some(flow) = single_flow(script) {
         return add_flow(text, "flow", flow);
     }
-    if let Some(flows) = script.get("flows").and_then(Value::as_object) {
+    if let Some(Value::Object(flows)) = script.get("flows") {
         for (name, flow) in flows {
             add_flow(text, name.as_str(), flow)?;
         }

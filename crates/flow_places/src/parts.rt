@@ -21,18 +21,22 @@ pub struct Spot<'a> {
     pub at: usize,
 }
 
-/// The offsets at which a member's key and its value begin. Of an item of a list both are the same.
+/// A member of an object.
 #[derive(Clone, Copy)]
-pub struct Part {
+pub struct Member<'a> {
+    /// Its key as it was read.
+    pub name: &'a str,
     /// Where the key begins.
     pub key: usize,
-    /// Where the value begins.
-    pub value: usize,
+    /// Its value, and where that begins. Where a key is there twice, the value is the last one.
+    pub spot: Spot<'a>,
+    /// The offset behind the value.
+    pub end: usize,
 }
 
 /// Whether a byte stands in a text between quotes.
-#[derive(Clone, Copy, PartialEq, Eq)]
-enum Quoted {
+#[derive(Clone, Copy)]
+pub enum Quoted {
     Outside,
     Inside,
     /// Behind a backslash.
@@ -40,102 +44,30 @@ enum Quoted {
 }
 
 impl Quoted {
-    /// Behind a byte that stands between quotes.
-    fn after(self, byte: u8) -> Quoted {
+    /// Behind a byte that stands here.
+    pub fn after(self, byte: u8) -> Quoted {
         match (self, byte) {
+            (Quoted::Outside, b'"') => Quoted::Inside,
+            (Quoted::Outside, _) => Quoted::Outside,
             (Quoted::Escaped, _) => Quoted::Inside,
-            (_, b'\\') => Quoted::Escaped,
-            (_, b'"') => Quoted::Outside,
-            _ => Quoted::Inside,
+            (Quoted::Inside, b'\\') => Quoted::Escaped,
+            (Quoted::Inside, b'"') => Quoted::Outside,
+            (Quoted::Inside, _) => Quoted::Inside,
         }
     }
 }
 
-/// What the next word of an object or a list begins.
-#[derive(Clone, Copy)]
-enum Due {
-    /// A member or an item.
-    Part,
-    /// The value of the last member.
-    Value,
-    /// No part: the last one goes on.
-    Nothing,
-}
-
-/// A walk over the bytes of an object or a list.
-#[derive(Drop)]
-struct Walk {
-    parts: Vec<Part>,
-    nesting: usize,
-    quoted: Quoted,
-    due: Due,
-}
-
-impl Walk {
-    fn new(alloc: Global) -> Self {
-        Walk {
-            parts: Vec::new(alloc),
-            nesting: 0,
-            quoted: Quoted::Outside,
-            due: Due::Part,
+/// How long the object, the list or the text between quotes is with which these bytes begin.
+fn enclosed_len(bytes: &[u8]) -> usize {
+    let mut nesting = 0usize;
+    let mut quoted = Quoted::Outside;
+    for (index, byte) in bytes.iter().enumerate() {
+        match (quoted, *byte) {
+            (Quoted::Outside, b'{' | b'[') => nesting = nesting.saturating_add(1),
+            (Quoted::Outside, b'}' | b']') => nesting = nesting.saturating_sub(1),
+            _ => quoted = quoted.after(*byte),
         }
-    }
-
-    /// A word begins: a part, where it stands right in the object or the list.
-    fn begin(&mut self, at: usize) -> Result<(), AllocError> {
-        if self.nesting != 1 {
-            return Ok(());
-        }
-        match self.due {
-            Due::Part => self.parts.push(Part { key: at, value: at })?,
-            Due::Value => {
-                if let Some(last) = self.parts.last_mut() {
-                    last.value = at;
-                }
-            }
-            Due::Nothing => {}
-        }
-        self.due = Due::Nothing;
-        Ok(())
-    }
-
-    fn expect(&mut self, due: Due) {
-        if self.nesting == 1 {
-            self.due = due;
-        }
-    }
-
-    /// The next byte.
-    fn take(&mut self, at: usize, byte: u8) -> Result<(), AllocError> {
-        if self.quoted != Quoted::Outside {
-            self.quoted = self.quoted.after(byte);
-            return Ok(());
-        }
-        match byte {
-            b' ' | b'\n' | b'\r' | b'\t' => {}
-            b',' => self.expect(Due::Part),
-            b':' => self.expect(Due::Value),
-            b'}' | b']' => self.nesting = self.nesting.saturating_sub(1),
-            b'{' | b'[' => {
-                self.begin(at)?;
-                self.nesting = self.nesting.saturating_add(1);
-            }
-            b'"' => {
-                self.begin(at)?;
-                self.quoted = Quoted::Inside;
-            }
-            _ => self.begin(at)?,
-        }
-        Ok(())
-    }
-}
-
-/// How long the text between quotes is, and the quotes, with which these bytes begin.
-fn quoted_len(bytes: &[u8]) -> usize {
-    let mut quoted = Quoted::Inside;
-    for (index, byte) in bytes.iter().enumerate().skip(1) {
-        quoted = quoted.after(*byte);
-        if quoted == Quoted::Outside {
+        if nesting == 0 && matches!(quoted, Quoted::Outside) {
             return index.saturating_add(1);
         }
     }
@@ -158,91 +90,112 @@ fn plain_len(bytes: &[u8]) -> usize {
 /// How many bytes of a value are told.
 const MOST_TOLD: usize = 48;
 
-/// Adds bytes as they are, but for those beyond the first few.
-fn add_cut(alloc: Global, to: &mut String, bytes: &[u8]) -> Result<(), AllocError> {
-    let told = bytes.get(..MOST_TOLD).unwrap_or(bytes);
-    to.push_str(String::from_utf8_lossy(alloc, told)?.as_str())?;
-    if bytes.len() > MOST_TOLD {
-        to.push_str("..")?;
-    }
-    Ok(())
-}
-
 impl<'a> Text<'a> {
     /// The bytes from an offset on.
-    pub(crate) fn rest(self, at: usize) -> &'a [u8] {
+    fn rest(self, at: usize) -> &'a [u8] {
         self.bytes.get(at..).unwrap_or(&[])
     }
 
-    /// The parts of the object or the list that begins at an offset.
-    pub fn parts(self, at: usize) -> Result<Vec<Part>, AllocError> {
-        let mut walk = Walk::new(self.alloc);
-        for (index, byte) in self.rest(at).iter().enumerate() {
-            walk.take(at.saturating_add(index), *byte)?;
-            if walk.nesting == 0 {
-                break;
+    /// The bytes of the key or the value that begins at an offset.
+    fn raw(self, at: usize) -> &'a [u8] {
+        let rest = self.rest(at);
+        let length = match rest.first() {
+            Some(b'{' | b'[' | b'"') => enclosed_len(rest),
+            _ => plain_len(rest),
+        };
+        rest.get(..length).unwrap_or(rest)
+    }
+
+    /// Where the next key or value begins, from an offset on, if the object or the list does not end before it.
+    pub fn part_from(self, from: usize) -> Option<usize> {
+        for (index, byte) in self.rest(from).iter().enumerate() {
+            match *byte {
+                b' ' | b'\n' | b'\r' | b'\t' | b',' | b':' => {}
+                b'}' | b']' => return None,
+                _ => return Some(from.saturating_add(index)),
             }
         }
-        Ok(walk.parts)
+        None
     }
 
-    /// The text between quotes that begins at an offset.
-    pub fn word(self, at: usize) -> Result<String, AllocError> {
-        let rest = self.rest(at);
-        let quoted = rest.get(..quoted_len(rest)).unwrap_or(&[]);
-        match Value::from_slice(self.alloc, quoted) {
-            Ok(value) => String::from_str(self.alloc, value.as_str().unwrap_or("")),
-            Err(error) => {
-                if error.is_memory() {
-                    Err(AllocError)
-                } else {
-                    Ok(String::new(self.alloc))
-                }
-            }
-        }
+    /// Where the key or the value begins that follows the one at an offset.
+    pub fn part_after(self, at: usize) -> Option<usize> {
+        self.part_from(at.saturating_add(self.raw(at).len()))
     }
 
-    /// Adds the value that begins at an offset as it is written, in short.
-    pub fn add_raw(self, to: &mut String, at: usize) -> Result<(), AllocError> {
-        let rest = self.rest(at);
-        match rest.first() {
-            None => to.push_str("the end of the text"),
-            Some(b'{') => to.push_str("an object"),
-            Some(b'[') => to.push_str("a list"),
-            Some(b'"') => add_cut(self.alloc, to, rest.get(..quoted_len(rest)).unwrap_or(rest)),
-            Some(_) => add_cut(self.alloc, to, rest.get(..plain_len(rest)).unwrap_or(rest)),
-        }
-    }
-
-    /// The member of an object. Where a key is there twice, the last one counts.
-    pub fn member(self, object: Spot<'a>, key: &str) -> Result<Option<Spot<'a>>, AllocError> {
-        let Some(value) = object.value.get(key) else {
+    /// The next member of an object, from an offset on, if the object does not end before it.
+    pub fn member_from(
+        self,
+        object: Spot<'a>,
+        from: usize,
+    ) -> Result<Option<Member<'a>>, AllocError> {
+        let Some(key) = self.part_from(from) else {
             return Ok(None);
         };
+        let Some(at) = self.part_after(key) else {
+            return Ok(None);
+        };
+        let Some(members) = object.value.as_object() else {
+            return Ok(None);
+        };
+        // The key was read before: only memory can be wanting.
+        let Ok(word) = Value::from_slice(self.alloc, self.raw(key)) else {
+            return Err(AllocError);
+        };
+        match members.get_key_value(word.as_str().unwrap_or("")) {
+            Some((name, value)) => Ok(Some(Member {
+                name: name.as_str(),
+                key,
+                spot: Spot { value, at },
+                end: at.saturating_add(self.raw(at).len()),
+            })),
+            None => Ok(None),
+        }
+    }
+
+    /// The value of a key of an object. Where a key is there twice, the last one counts.
+    pub fn member(self, object: Spot<'a>, key: &str) -> Result<Option<Spot<'a>>, AllocError> {
         let mut found = None;
-        for part in &self.parts(object.at)? {
-            if self.word(part.key)?.as_str() == key {
-                found = Some(Spot {
-                    value,
-                    at: part.value,
-                });
+        if object.value.get(key).is_none() {
+            return Ok(found);
+        }
+        let mut from = object.at.saturating_add(1);
+        for _ in 0..self.bytes.len() {
+            let Some(member) = self.member_from(object, from)? else {
+                break;
+            };
+            if member.name == key {
+                found = Some(member.spot);
             }
+            from = member.end;
         }
         Ok(found)
     }
 
     /// An item of a list, where the first one has the index 0.
-    pub fn item(self, list: Spot<'a>, index: usize) -> Result<Option<Spot<'a>>, AllocError> {
-        let Some(value) = list.value.get(index) else {
-            return Ok(None);
-        };
-        let parts = self.parts(list.at)?;
-        match parts.get(index) {
-            Some(part) => Ok(Some(Spot {
-                value,
-                at: part.value,
-            })),
-            None => Ok(None),
+    pub fn item(self, list: Spot<'a>, index: usize) -> Option<Spot<'a>> {
+        let value = list.value.get(index)?;
+        let mut at = self.part_from(list.at.saturating_add(1))?;
+        for _ in 0..index {
+            at = self.part_after(at)?;
         }
+        Some(Spot { value, at })
+    }
+
+    /// Adds the value that begins at an offset as it is written, in short.
+    pub fn add_raw(self, to: &mut String, at: usize) -> Result<(), AllocError> {
+        match self.rest(at).first() {
+            None => return to.push_str("the end of the text"),
+            Some(b'{') => return to.push_str("an object"),
+            Some(b'[') => return to.push_str("a list"),
+            Some(_) => {}
+        }
+        let raw = self.raw(at);
+        let told = raw.get(..MOST_TOLD).unwrap_or(raw);
+        to.push_str(String::from_utf8_lossy(self.alloc, told)?.as_str())?;
+        if raw.len() > MOST_TOLD {
+            to.push_str("..")?;
+        }
+        Ok(())
     }
 }

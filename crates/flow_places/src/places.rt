@@ -4,7 +4,7 @@ ghost use Rattle.std.specs.Prelude.{◌<◌};
 use std::fmt;
 
 /// A line and a column of a text, both from 1. A column counts characters.
-#[derive(Clone, Copy, Debug, PartialEq, Eq)]
+#[derive(Clone, Copy)]
 pub struct Place {
     /// The line, from 1.
     pub line: usize,
@@ -12,38 +12,20 @@ pub struct Place {
     pub column: usize,
 }
 
-/// Whether a character begins with this byte of UTF-8.
-fn begins_character(byte: u8) -> bool {
-    byte < 0x80 || byte >= 0xC0
-}
-
 impl Place {
-    const FIRST: Place = Place { line: 1, column: 1 };
-
-    /// The place behind a byte.
-    fn after(self, byte: u8) -> Place
-        requires { (0 < self.line) × (0 < self.column) }
-        ensures { (0 < result.line) × (0 < result.column) }
-    {
-        if byte == b'\n' {
-            return Place {
-                line: self.line.saturating_add(1),
-                column: 1,
-            };
-        }
-        Place {
-            line: self.line,
-            column: self.column.saturating_add(begins_character(byte) as usize),
-        }
-    }
-
     /// The place of the byte at an offset.
     pub fn at(bytes: &[u8], offset: usize) -> Place
         ensures from_one { (0 < result.line) × (0 < result.column) }
     {
-        let mut place = Place::FIRST;
+        let mut place = Place { line: 1, column: 1 };
         for byte in bytes.iter().take(offset) {
-            place = place.after(*byte);
+            if *byte == b'\n' {
+                place.line = place.line.saturating_add(1);
+                place.column = 1;
+            } else if *byte < 0x80 || *byte >= 0xC0 {
+                // A character of UTF-8 begins.
+                place.column = place.column.saturating_add(1);
+            }
         }
         place
     }

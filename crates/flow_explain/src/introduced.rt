@@ -1,0 +1,96 @@
+//! The steps that introduce names.
+
+use crate::head::{Script, text_at};
+use flow_places::Place;
+use serde_json::Value;
+use std::alloc::AllocError;
+
+/// What a name stands for.
+#[derive(Clone, Copy)]
+pub struct Named {
+    /// The tag of the steps that introduce such names.
+    pub tag: &'static str,
+    pub words: &'static str,
+    /// What is told of a name that stands for no such thing.
+    pub denied: &'static str,
+    /// What is expected in its place.
+    pub expected: &'static str,
+}
+
+const EMISSION: Named = Named {
+    tag: "emit",
+    words: "an emission",
+    denied: " is no emission of this flow that an earlier step introduced",
+    expected: "the name of an emission",
+};
+
+const SUBSCRIBER: Named = Named {
+    tag: "subscribe",
+    words: "a subscriber",
+    denied: " is no subscriber of this flow that an earlier step introduced",
+    expected: "the name of a subscriber",
+};
+
+impl Named {
+    /// What a step introduces by its name, or else what it uses by it.
+    pub fn by(step: &Value) -> (Option<Named>, Option<Named>) {
+        match text_at(step, "do") {
+            "emit" => (Some(EMISSION), None),
+            "subscribe" => (Some(SUBSCRIBER), None),
+            "poll" | "cancel" => (None, Some(EMISSION)),
+            "next" | "unsubscribe" => (None, Some(SUBSCRIBER)),
+            _ => (None, None),
+        }
+    }
+}
+
+/// A step that introduces a name.
+#[derive(Clone, Copy)]
+pub struct Introduced<'a> {
+    named: Named,
+    /// The name of the flow that the step is about. There is none in version 1.
+    flow: &'a str,
+    /// The index of the step.
+    index: usize,
+    /// Where the step begins.
+    at: usize,
+}
+
+impl Introduced<'_> {
+    /// The step that introduced the name, and its place, and before that what the name stands for if it is told.
+    pub fn add_to(self, bytes: &[u8], tells_use: bool, to: &mut String) -> Result<(), AllocError> {
+        let (words, flow) = (self.named.words, self.flow);
+        if tells_use {
+            to.push_str(words)?;
+            if !flow.is_empty() {
+                write!(to, " of \"{flow}\"")?;
+            }
+            to.push_str(", ")?;
+        }
+        let step = self.index.saturating_add(1);
+        let place = Place::at(bytes, self.at);
+        write!(to, "of step {step} ({place})")
+    }
+}
+
+/// The first step before another one that introduces a name.
+pub fn introduced_before<'a>(
+    script: Script<'a>,
+    before: usize,
+    name: &str,
+) -> Result<Option<Introduced<'a>>, AllocError> {
+    for (index, value) in script.steps_before(before).iter().enumerate() {
+        if let (Some(named), _) = Named::by(value)
+            && text_at(value, "name") == name
+        {
+            let step = script.step(index)?;
+            return Ok(Some(Introduced {
+                named,
+                flow: text_at(value, "flow"),
+                index,
+                at: step.unwrap_or(script.root).at,
+            }));
+        }
+    }
+    Ok(None)
+}

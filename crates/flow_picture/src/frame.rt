@@ -1,0 +1,21 @@
+//! What stands around the lines of a script.
+
+use crate::steps::add_heads;
+use serde_json::Value;
+use std::alloc::{AllocError, Global};
+
+/// What stands before the lines of a script, and after them.
+#[derive(Drop)]
+pub struct Frame {
+    pub before: String,
+    pub after: String,
+}
+
+/// The flows of a script before its lines. The rules stand beside these.
+pub fn explained_frame(alloc: Global, script: &Value) -> Result<Frame, AllocError> {
+    let mut before = String::new(alloc);
+    add_heads(&mut before, script)?;
+    before.push('\n')?;
+    let after = String::new(alloc);
+    Ok(Frame { before, after })
+}

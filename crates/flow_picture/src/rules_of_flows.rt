@@ -1,0 +1,282 @@
+//! The rules of shared flows and of state flows.
+
+use crate::rules::{Case, Line, Rule};
+
+/// A call that would take a number when all are taken.
+const EXHAUSTED: &str =
+    "refused: as many numbers are taken as the flow's limit says, and nothing has changed";
+
+/// There is no subscriber of that name, or not any more.
+const NO_SUBSCRIBER: &str =
+    "the name stands for no subscriber: it unsubscribed, or its subscription was refused";
+
+const DROPS_OLDEST: &str = "taken: where the buffer is full its oldest value is dropped";
+
+const DROPS_LATEST: &str =
+    "taken, or dropped where a subscriber has a whole buffer still to receive";
+
+const ROOM: &str = "taken: there is no subscriber, or room for every subscriber";
+
+const NOBODY_TO_WAIT_FOR: &str = "taken: there is no subscriber for whom the emitter would wait";
+
+const SUBSCRIBERS: &str = "how many subscribers there are; at first there is none";
+
+/// The rules of shared flows. Of a step and a line the first one counts.
+pub static SHARED_RULES: [Rule; 32] = [
+    Rule(
+        "try_emit",
+        Case::Drops("drop_oldest"),
+        Line::Is("true"),
+        DROPS_OLDEST,
+    ),
+    Rule(
+        "try_emit",
+        Case::Drops("drop_latest"),
+        Line::Is("true"),
+        DROPS_LATEST,
+    ),
+    Rule("try_emit", Case::Buffered, Line::Is("true"), ROOM),
+    Rule(
+        "try_emit",
+        Case::Unbuffered,
+        Line::Is("true"),
+        NOBODY_TO_WAIT_FOR,
+    ),
+    Rule(
+        "try_emit",
+        Case::Buffered,
+        Line::Is("false"),
+        "blocked: a subscriber has a whole window still to receive",
+    ),
+    Rule(
+        "try_emit",
+        Case::Unbuffered,
+        Line::Is("false"),
+        "blocked: without a buffer an emitter waits until every subscriber has received the value",
+    ),
+    Rule(
+        "try_emit",
+        Case::Always,
+        Line::Is("refused 4 Exhausted"),
+        EXHAUSTED,
+    ),
+    Rule(
+        "emit",
+        Case::Drops("drop_oldest"),
+        Line::Is("done"),
+        DROPS_OLDEST,
+    ),
+    Rule(
+        "emit",
+        Case::Drops("drop_latest"),
+        Line::Is("done"),
+        DROPS_LATEST,
+    ),
+    Rule("emit", Case::Buffered, Line::Is("done"), ROOM),
+    Rule(
+        "emit",
+        Case::Unbuffered,
+        Line::Is("done"),
+        NOBODY_TO_WAIT_FOR,
+    ),
+    Rule(
+        "emit",
+        Case::Buffered,
+        Line::Is("queued"),
+        "blocked: a subscriber has a whole window still to receive, and the emitter waits in the queue",
+    ),
+    Rule(
+        "emit",
+        Case::Unbuffered,
+        Line::Is("queued"),
+        "without a buffer the emitter waits until every subscriber has received the value",
+    ),
+    Rule(
+        "emit",
+        Case::Always,
+        Line::Is("refused 4 Exhausted"),
+        EXHAUSTED,
+    ),
+    Rule(
+        "poll",
+        Case::Always,
+        Line::Is("waiting"),
+        "the emission waits: its value is queued, or offered and not yet received by every subscriber",
+    ),
+    Rule(
+        "poll",
+        Case::Always,
+        Line::Is("done"),
+        "the emission does not wait: its value is neither queued nor offered",
+    ),
+    Rule(
+        "cancel",
+        Case::Always,
+        Line::Is("true"),
+        "the emission waited: a queued value is lost, an offered one reaches nobody else",
+    ),
+    Rule(
+        "cancel",
+        Case::Always,
+        Line::Is("false"),
+        "the emission did not wait, so nothing is cancelled",
+    ),
+    Rule(
+        "subscribe",
+        Case::HasFirst,
+        Line::Is("subscribed"),
+        "a new subscriber gets its own first values, then the replay cache, and then what is emitted afterwards",
+    ),
+    Rule(
+        "subscribe",
+        Case::Replays,
+        Line::Is("subscribed"),
+        "a new subscriber gets the replay cache, and then what is emitted afterwards",
+    ),
+    Rule(
+        "subscribe",
+        Case::Always,
+        Line::Is("subscribed"),
+        "without replay a new subscriber gets what is emitted afterwards",
+    ),
+    Rule(
+        "subscribe",
+        Case::Always,
+        Line::Is("refused 4 Exhausted"),
+        EXHAUSTED,
+    ),
+    Rule(
+        "next",
+        Case::Always,
+        Line::Begins("value "),
+        "the oldest of the values that the subscriber has still to receive",
+    ),
+    Rule(
+        "next",
+        Case::Always,
+        Line::Is("empty"),
+        "the subscriber has received all that it is to receive so far",
+    ),
+    Rule("next", Case::Always, Line::Is("gone"), NO_SUBSCRIBER),
+    Rule(
+        "unsubscribe",
+        Case::Always,
+        Line::Is("true"),
+        "the subscriber is gone, and emitters who waited for it alone go on",
+    ),
+    Rule(
+        "unsubscribe",
+        Case::Always,
+        Line::Is("false"),
+        NO_SUBSCRIBER,
+    ),
+    Rule(
+        "cache",
+        Case::Replays,
+        Line::Is("[]"),
+        "nothing was emitted, or nothing after the last reset",
+    ),
+    Rule(
+        "cache",
+        Case::Always,
+        Line::Is("[]"),
+        "without replay the replay cache stays empty",
+    ),
+    Rule(
+        "cache",
+        Case::Always,
+        Line::Begins("["),
+        "the most recent values, as many as the flow replays, of those emitted after the last reset",
+    ),
+    Rule("count", Case::Always, Line::Number, SUBSCRIBERS),
+    Rule(
+        "reset",
+        Case::Always,
+        Line::Is("reset"),
+        "a reset empties the replay cache for new subscribers; old ones keep what they have still to receive",
+    ),
+];
+
+/// The rules of state flows.
+pub static STATE_RULES: [Rule; 15] = [
+    Rule(
+        "try_emit",
+        Case::Always,
+        Line::Is("true"),
+        "a state flow always takes a value: it is the current one now",
+    ),
+    Rule(
+        "set",
+        Case::Always,
+        Line::Is("set"),
+        "the value is the current one now; setting one that is the same does nothing",
+    ),
+    Rule(
+        "compare_and_set",
+        Case::Always,
+        Line::Is("true"),
+        "the current value was the expected one, and the new one is current now",
+    ),
+    Rule(
+        "compare_and_set",
+        Case::Always,
+        Line::Is("false"),
+        "the current value is not the expected one, and stays",
+    ),
+    Rule(
+        "subscribe",
+        Case::Always,
+        Line::Is("subscribed"),
+        "a new subscriber of a state flow first gets the current value",
+    ),
+    Rule(
+        "subscribe",
+        Case::Always,
+        Line::Is("refused 4 Exhausted"),
+        EXHAUSTED,
+    ),
+    Rule(
+        "next",
+        Case::Always,
+        Line::Begins("value "),
+        "the current value, which is not the same as the last one that the subscriber got",
+    ),
+    Rule(
+        "next",
+        Case::Always,
+        Line::Is("empty"),
+        "the current value is the same as the last one that the subscriber got",
+    ),
+    Rule("next", Case::Always, Line::Is("gone"), NO_SUBSCRIBER),
+    Rule(
+        "unsubscribe",
+        Case::Always,
+        Line::Is("true"),
+        "the subscriber is gone",
+    ),
+    Rule(
+        "unsubscribe",
+        Case::Always,
+        Line::Is("false"),
+        NO_SUBSCRIBER,
+    ),
+    Rule(
+        "cache",
+        Case::Always,
+        Line::Begins("["),
+        "the replay cache of a state flow is its current value alone",
+    ),
+    Rule(
+        "value",
+        Case::Always,
+        Line::Number,
+        "a state flow has one current value",
+    ),
+    Rule("count", Case::Always, Line::Number, SUBSCRIBERS),
+    Rule(
+        "reset",
+        Case::Always,
+        Line::Is("refused 5 Unsupported"),
+        "the replay cache of a state flow is its value, and cannot be reset",
+    ),
+];

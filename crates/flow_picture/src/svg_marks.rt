@@ -1,0 +1,117 @@
+//! The marks of a lane and its line as SVG.
+
+use crate::layout::Cell;
+use crate::picture::{Mark, Sign, Words};
+use crate::widths::{add_words, words_width};
+use std::alloc::AllocError;
+
+/// How wide a character is, in pixels.
+const CHARACTER: usize = 9;
+
+/// So many characters in pixels.
+pub fn pixels(characters: usize) -> usize {
+    characters.saturating_mul(CHARACTER)
+}
+
+/// The end of a text.
+pub const END_TEXT: &str = "</text>\n";
+
+/// The beginning of a text of a class at a place.
+pub fn begin_text(
+    elements: &mut String,
+    class: &str,
+    x: usize,
+    y: usize,
+) -> Result<(), AllocError> {
+    write!(elements, "<text class=\"{class}\" x=\"{x}\" y=\"{y}\">")
+}
+
+/// How a mark looks: the class of its box, the class of its words, and the radius of the box's corners.
+type Look = (&'static str, &'static str, usize);
+
+/// The classes of values, so that one value has one colour.
+const COLOURS: [&str; 6] = ["m c0", "m c1", "m c2", "m c3", "m c4", "m c5"];
+
+fn look_of(mark: Mark<'_>) -> Look {
+    match mark.sign {
+        Sign::Value => {
+            let colour = match mark.words {
+                Words::Number(number) => number.unsigned_abs() % 6,
+                _ => 0,
+            };
+            (COLOURS[colour as usize], "n k", 13)
+        }
+        Sign::Waits => ("m w", "n", 13),
+        Sign::Lost => ("m l", "n s", 13),
+        Sign::Nothing => ("m e", "n", 5),
+        Sign::Begins | Sign::Ends => ("b", "n", 0),
+        Sign::Told => ("t", "n", 3),
+        Sign::Refused => ("r", "n f", 3),
+    }
+}
+
+/// The width and the height of a mark's box.
+fn size_of(mark: Mark<'_>) -> (usize, usize) {
+    match mark.sign {
+        Sign::Begins | Sign::Ends => (4, 24),
+        Sign::Nothing => (10, 10),
+        _ => {
+            let width = pixels(words_width(mark.words)).saturating_add(12);
+            (width.max(26), 26)
+        }
+    }
+}
+
+/// A mark whose box begins at `x`, on the line at `y`.
+fn add_mark(elements: &mut String, mark: Mark<'_>, x: usize, y: usize) -> Result<(), AllocError> {
+    let (shape, class, corner) = look_of(mark);
+    let (width, height) = size_of(mark);
+    let top = y.saturating_sub(height / 2);
+    writeln!(
+        elements,
+        "<rect class=\"{shape}\" x=\"{x}\" y=\"{top}\" width=\"{width}\" height=\"{height}\" rx=\"{corner}\"/>"
+    )?;
+    let middle = x.saturating_add(width / 2);
+    begin_text(elements, class, middle, y.saturating_add(5))?;
+    add_words(elements, mark.words)?;
+    elements.push_str(END_TEXT)
+}
+
+/// The line of a lane through a column from `x` on, whose mark has its middle there.
+fn add_line(
+    elements: &mut String,
+    cell: Cell<'_>,
+    x: usize,
+    middle: usize,
+    y: usize,
+) -> Result<(), AllocError> {
+    let end = x.saturating_add(pixels(cell.width));
+    let from = if cell.comes { x } else { middle };
+    let to = if cell.goes_on { end } else { middle };
+    let class = if cell.waits { "x d" } else { "x" };
+    writeln!(
+        elements,
+        "<line class=\"{class}\" x1=\"{from}\" y1=\"{y}\" x2=\"{to}\" y2=\"{y}\"/>"
+    )
+}
+
+/// A column of a lane from `x` on: its line, and the mark there.
+pub fn add_cell(
+    elements: &mut String,
+    cell: Cell<'_>,
+    x: usize,
+    y: usize,
+) -> Result<(), AllocError> {
+    let begin = x.saturating_add(CHARACTER);
+    if cell.has_line {
+        let middle = match cell.mark {
+            Some(mark) => begin.saturating_add(size_of(mark).0 / 2),
+            None => begin,
+        };
+        add_line(elements, cell, x, middle, y)?;
+    }
+    match cell.mark {
+        Some(mark) => add_mark(elements, mark, begin, y),
+        None => Ok(()),
+    }
+}

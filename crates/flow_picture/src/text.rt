@@ -1,0 +1,141 @@
+//! A picture as text for a terminal.
+
+use crate::collection::collected;
+use crate::frame::Frame;
+use crate::layout::{Cell, MOST_WIDTH, Part, parts_of};
+use crate::picture::Picture;
+use crate::played::Played;
+use crate::script_words::add_chain;
+use crate::steps::{add_heads, steps_picture};
+use crate::widths::{NAME_WIDTH, add_cut, add_words, brackets, mark_width, number_width};
+use serde_json::Value;
+use std::alloc::{AllocError, Global};
+
+/// What the marks mean.
+const LEGEND: &str = "\
+(3) taken by the flow, or received    ?3 its emitter waits    x3 not taken, or cancelled
+ .  nothing there                      | begins, or ends       ! refused
+
+";
+
+/// The same letter, so many times.
+fn add_letters(text: &mut String, letter: char, count: usize) -> Result<(), AllocError> {
+    for _ in 0..count {
+        text.push(letter)?;
+    }
+    Ok(())
+}
+
+/// The end of a line, without the spaces before it.
+fn end_line(text: &mut String) -> Result<(), AllocError> {
+    for _ in 0..MOST_WIDTH {
+        if !text.ends_with(' ') {
+            break;
+        }
+        text.pop();
+    }
+    text.push('\n')
+}
+
+/// A name, as wide as the place before the lanes.
+fn add_name(text: &mut String, name: &str) -> Result<(), AllocError> {
+    let width = name.len().min(NAME_WIDTH - 2);
+    add_cut(text, name, NAME_WIDTH - 2)?;
+    add_letters(text, ' ', NAME_WIDTH - width)
+}
+
+/// A column of a lane: its line, and the mark there.
+fn add_cell(text: &mut String, cell: Cell<'_>) -> Result<(), AllocError> {
+    let line = if cell.waits { '┄' } else { '─' };
+    text.push(if cell.comes { line } else { ' ' })?;
+    let mut taken = 1;
+    if let Some(mark) = cell.mark {
+        let (before, after) = brackets(mark.sign);
+        text.push_str(before)?;
+        add_words(text, mark.words)?;
+        text.push_str(after)?;
+        taken = mark_width(mark).saturating_add(1);
+    }
+    let after = if cell.goes_on { line } else { ' ' };
+    add_letters(text, after, cell.width.saturating_sub(taken))
+}
+
+fn add_part(text: &mut String, part: Part<'_>) -> Result<(), AllocError> {
+    match part {
+        Part::Numbers => add_name(text, "step"),
+        Part::Number(numbered) => {
+            let number = numbered.number;
+            write!(text, " {number}")?;
+            let taken = number_width(number as u64).saturating_add(1);
+            add_letters(text, ' ', numbered.width.saturating_sub(taken))
+        }
+        Part::Name(name) => add_name(text, name),
+        Part::Cell(cell) => add_cell(text, cell),
+        Part::EndNumbers | Part::EndLane => end_line(text),
+        Part::EndBand(_) => text.push('\n'),
+    }
+}
+
+/// A picture, with the numbers of these steps above their columns.
+fn add_picture(
+    alloc: Global,
+    text: &mut String,
+    picture: &Picture<'_>,
+    steps: &[Value],
+) -> Result<(), AllocError> {
+    for part in &parts_of(alloc, picture, steps)? {
+        add_part(text, *part)?;
+    }
+    Ok(())
+}
+
+/// The collections of a script, each with its chain in words.
+fn add_collections(alloc: Global, text: &mut String, played: Played<'_>) -> Result<(), AllocError> {
+    for (place, step) in played.steps.iter().enumerate() {
+        if let Some(chain) = step.get("chain") {
+            write!(text, "step {}: collect", place.saturating_add(1))?;
+            add_chain(text, chain)?;
+            text.push('\n')?;
+            let picture = collected(alloc, chain, played.line(place))?;
+            add_picture(alloc, text, &picture, &[])?;
+        }
+    }
+    Ok(())
+}
+
+fn add_steps(
+    alloc: Global,
+    text: &mut String,
+    script: &Value,
+    played: Played<'_>,
+) -> Result<(), AllocError> {
+    let picture = steps_picture(alloc, script, played)?;
+    add_picture(alloc, text, &picture, played.steps)
+}
+
+fn add_all(
+    alloc: Global,
+    text: &mut String,
+    script: &Value,
+    played: Played<'_>,
+) -> Result<(), AllocError> {
+    add_heads(text, script)?;
+    for line in played.lines.iter().take(played.refused) {
+        text.push_str(line)?;
+        text.push('\n')?;
+    }
+    text.push('\n')?;
+    add_steps(alloc, text, script, played)?;
+    add_collections(alloc, text, played)?;
+    text.push_str(LEGEND)
+}
+
+/// The pictures of a script, which its lines follow.
+pub fn text_frame(alloc: Global, script: &Value, played: Played<'_>) -> Result<Frame, AllocError> {
+    let mut before = String::new(alloc);
+    add_all(alloc, &mut before, script, played)?;
+    Ok(Frame {
+        before,
+        after: String::new(alloc),
+    })
+}

@@ -1,0 +1,68 @@
+//! How wide the words and the marks of a picture are, in characters.
+
+use crate::picture::{Mark, Sign, Words};
+use std::alloc::AllocError;
+
+/// The most characters of a name before its lane.
+pub const NAME_WIDTH: usize = 14;
+
+/// The most characters that stand in a mark.
+pub const WORDS_WIDTH: usize = 24;
+
+/// How many digits a number has.
+pub fn number_width(number: u64) -> usize {
+    (number.checked_ilog10().unwrap_or(0) as usize).saturating_add(1)
+}
+
+/// How many characters stand in a mark.
+pub fn words_width(words: Words<'_>) -> usize {
+    match words {
+        Words::None => 0,
+        Words::Number(number) => {
+            number_width(number.unsigned_abs()).saturating_add((number < 0) as usize)
+        }
+        Words::Text(text) => text.len().min(WORDS_WIDTH),
+    }
+}
+
+/// What stands in a mark. A longer text is cut.
+pub fn add_words(text: &mut String, words: Words<'_>) -> Result<(), AllocError> {
+    match words {
+        Words::None => Ok(()),
+        Words::Number(number) => write!(text, "{number}"),
+        Words::Text(words) => add_cut(text, words, WORDS_WIDTH),
+    }
+}
+
+/// A text, of which at most so many characters are kept.
+pub fn add_cut(text: &mut String, words: &str, most: usize) -> Result<(), AllocError> {
+    if words.len() <= most {
+        return text.push_str(words);
+    }
+    for letter in words.chars().take(most.saturating_sub(2)) {
+        text.push(letter)?;
+    }
+    text.push_str("..")
+}
+
+/// What stands before and after the words of a mark where a picture is text.
+pub fn brackets(sign: Sign) -> (&'static str, &'static str) {
+    match sign {
+        Sign::Value => ("(", ")"),
+        Sign::Waits => ("?", ""),
+        Sign::Lost => ("x", ""),
+        Sign::Nothing => (".", ""),
+        Sign::Begins | Sign::Ends => ("|", ""),
+        Sign::Told => ("", ""),
+        Sign::Refused => ("!", ""),
+    }
+}
+
+/// How many characters a mark has.
+pub fn mark_width(mark: Mark<'_>) -> usize {
+    let (before, after) = brackets(mark.sign);
+    before
+        .len()
+        .saturating_add(after.len())
+        .saturating_add(words_width(mark.words))
+}
