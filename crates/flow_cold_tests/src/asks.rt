@@ -1,7 +1,7 @@
 //! How often a chain is asked.
 
 use crate::compare::compare;
-use crate::gives::gives;
+use crate::gives::{COLLECTIONS, gives};
 use crate::operators::{Add, sum};
 use flow_cold::{Asked, Chain, Cold, End, OfRange, Take};
 use std::cell::Cell;
@@ -34,29 +34,22 @@ impl<'a, C: Cold> Cold for Counted<'a, C> {
     }
 }
 
-/// 1 to 5, counting how often the range is asked.
-fn one_to_five(asks: &Cell<u32>) -> Counted<'_, OfRange> {
-    Counted {
-        chain: OfRange::new(1, 5),
-        asks,
-    }
-}
-
-/// The scan gives its initial value without asking, and nothing is asked after the last item of the take.
-#[test]
-fn a_scan_and_a_take_ask_twice(rt: HostRuntime) {
-    let asks = Cell::new(0);
-    let scan = one_to_five(&asks).scan(0, Add, sum);
-    let mut chain = Take::new(scan, 3).expect(&rt, "a take");
-    gives(&rt, rt.alloc(), &mut chain, 0, &[0, 1, 3], End::Completed);
-    compare(&rt, 0, asks.get(), 2);
-}
-
+/// The scan gives its initial value without asking, and nothing is asked after the last item of a take.
 #[test]
 fn a_take_asks_no_more_than_it_gives(rt: HostRuntime) {
     let asks = Cell::new(0);
-    let mut chain = Take::new(one_to_five(&asks), 2).expect(&rt, "a take");
-    gives(&rt, rt.alloc(), &mut chain, 0, &[1, 2], End::Completed);
-    assert!(rt; matches!(chain.ask(), Asked::End));
-    compare(&rt, 0, asks.get(), 2);
+    let counted = Counted {
+        chain: OfRange::new(1, 5),
+        asks: &asks,
+    };
+    let chain = Take::new(counted, 2).expect(&rt, "a take");
+    gives(&rt, rt.alloc(), 0, chain, &[1, 2], End::Completed);
+    compare(&rt, 0, asks.replace(0), 2 * COLLECTIONS);
+    let counted = Counted {
+        chain: OfRange::new(1, 5),
+        asks: &asks,
+    };
+    let chain = Take::new(counted.scan(0, Add, sum), 3).expect(&rt, "a take");
+    gives(&rt, rt.alloc(), 1, chain, &[0, 1, 3], End::Completed);
+    compare(&rt, 1, asks.get(), 2 * COLLECTIONS);
 }

@@ -4,12 +4,30 @@ use flow_cold::{Cold, End, Entry, OfList, ScriptChain, Scripted, Source, collect
 use std::alloc::Global;
 use std::process::Abort;
 
-/// Collects the chain at this place, and compares its items and its end.
+/// How often `gives` collects a chain.
+pub const COLLECTIONS: u32 = 2;
+
+/// Collects the chain twice, and compares its items and its end each time.
 pub fn gives<C: Cold<Item = i64>>(
     rt: &impl Abort,
     alloc: Global,
-    chain: &mut C,
     place: usize,
+    chain: C,
+    items: &[i64],
+    end: End,
+)
+    requires { C.sound chain }
+{
+    let mut chain = chain;
+    gives_once(rt, alloc, place, &mut chain, items, end);
+    gives_once(rt, alloc, place, &mut chain, items, end);
+}
+
+fn gives_once<C: Cold<Item = i64>>(
+    rt: &impl Abort,
+    alloc: Global,
+    place: usize,
+    chain: &mut C,
     items: &[i64],
     end: End,
 )
@@ -43,12 +61,9 @@ pub fn script(rt: &impl Abort, alloc: Global, entries: &[Entry<i64>]) -> Scripte
 }
 
 /// It gives 5, pends, gives 6 and fails.
-pub fn fails_after_two(rt: &impl Abort, alloc: Global) -> Scripted<i64> {
-    let entries = [
-        Entry::Item(5),
-        Entry::Pending,
-        Entry::Item(6),
-        Entry::Fault(7),
-    ];
-    script(rt, alloc, &entries)
-}
+pub const FAILS_AFTER_TWO: &[Entry<i64>] = &[
+    Entry::Item(5),
+    Entry::Pending,
+    Entry::Item(6),
+    Entry::Fault(7),
+];

@@ -70,51 +70,41 @@ pub fn sum(x: i64, y: i64) -> Result<i64, ChainFault>
     }
 }
 
-#[test]
-fn items_are_mapped_and_tested(rt: HostRuntime) {
-    let source = list(&rt, rt.alloc(), &[0, 1, i64::MAX, 2]);
-    let mapped = Map::new(source, WithMeaning::new(AddOne, increased));
-    let mut chain = Filter::new(mapped, WithMeaning::new(IsAboveOne, above_one));
-    let overflow = End::Failed(ChainFault::Overflow);
-    gives(&rt, rt.alloc(), &mut chain, 0, &[2], overflow);
-}
-
-#[test]
-fn items_are_taken_and_dropped(rt: HostRuntime) {
-    let source = list(&rt, rt.alloc(), &[7, 3, 3, 2, 1, 5]);
-    let dropped = DropFirst::new(Distinct::new(source), 1);
-    let above = TakeWhile::new(dropped, WithMeaning::new(IsAboveOne, above_one));
-    let mut chain = Take::new(above, 5).expect(&rt, "a take");
-    gives(&rt, rt.alloc(), &mut chain, 0, &[3, 2], End::Completed);
-}
-
 pub fn above_one(x: &i64) -> bool
     ensures { result ≡ is_above_one x.now }
 {
     *x > 1
 }
 
-/// 7 and 3 pass and are dropped; 5 passes too, but comes after 1, which does not.
+/// Of the items that are dropped 7 and 3 pass; 5 passes too, but comes after 1, which does not.
 #[test]
-fn first_items_are_dropped_and_the_others_added_up(rt: HostRuntime) {
-    let source = list(&rt, rt.alloc(), &[7, 3, 1, 5, 2]);
+fn operators_take_closures(rt: HostRuntime) {
+    let alloc = rt.alloc();
+    let source = list(&rt, alloc, &[0, 1, i64::MAX, 2]);
+    let mapped = Map::new(source, WithMeaning::new(AddOne, increased));
+    let tested = Filter::new(mapped, WithMeaning::new(IsAboveOne, above_one));
+    let overflow = End::Failed(ChainFault::Overflow);
+    gives(&rt, alloc, 0, tested, &[2], overflow);
+    let source = list(&rt, alloc, &[7, 3, 1, 5, 2]);
     let dropped = DropWhile::new(source, WithMeaning::new(IsAboveOne, above_one));
-    let mut chain = RunningReduce::new(dropped, WithMeaning::new(Add, sum));
-    gives(&rt, rt.alloc(), &mut chain, 0, &[1, 6, 8], End::Completed);
+    let reduced = RunningReduce::new(dropped, WithMeaning::new(Add, sum));
+    gives(&rt, alloc, 1, reduced, &[1, 6, 8], End::Completed);
+    let left = list(&rt, alloc, &[1, 2]);
+    let right = list(&rt, alloc, &[10, 20, 30]);
+    let zipped = Zip::new(left, right, WithMeaning::new(Add, sum));
+    gives(&rt, alloc, 2, zipped, &[11, 22], End::Completed);
 }
 
+/// A take of nothing is refused.
 #[test]
-fn a_take_of_nothing_is_refused(rt: HostRuntime) {
+fn items_are_taken_and_dropped(rt: HostRuntime) {
+    let source = list(&rt, rt.alloc(), &[7, 3, 3, 2, 1, 5]);
+    let dropped = DropFirst::new(Distinct::new(source), 1);
+    let above = TakeWhile::new(dropped, WithMeaning::new(IsAboveOne, above_one));
+    let chain = Take::new(above, 5).expect(&rt, "a take");
+    gives(&rt, rt.alloc(), 0, chain, &[3, 2], End::Completed);
     let refused = Take::new(OfRange::new(1, 5), 0);
-    compare(&rt, 0, refused.err(), Some(ChainFault::NotPositive));
-}
-
-#[test]
-fn pairs_are_made(rt: HostRuntime) {
-    let left = list(&rt, rt.alloc(), &[1, 2]);
-    let right = list(&rt, rt.alloc(), &[10, 20, 30]);
-    let mut chain = Zip::new(left, right, WithMeaning::new(Add, sum));
-    gives(&rt, rt.alloc(), &mut chain, 0, &[11, 22], End::Completed);
+    compare(&rt, 1, refused.err(), Some(ChainFault::NotPositive));
 }
 
 fn listed(alloc: Global, x: i64) -> Result<Vec<i64>, ChainFault>
@@ -149,20 +139,14 @@ fn items_become_several(rt: HostRuntime) {
     let alloc = rt.alloc();
     let twice = |x: i64| listed(alloc, x);
     let source = list(&rt, alloc, &[1, 2]);
-    let mut made = Transform::new(source, Twice, &twice);
-    gives(&rt, alloc, &mut made, 0, &[1, 1, 2, 2], End::Completed);
-    let mut chain = OfRange::new(1, 2).transform(Twice, &twice);
-    gives(&rt, alloc, &mut chain, 1, &[1, 1, 2, 2], End::Completed);
-}
-
-/// By the constructor, and by the method.
-#[test]
-fn items_become_chains(rt: HostRuntime) {
-    let alloc = rt.alloc();
+    let made = Transform::new(source, Twice, &twice);
+    gives(&rt, alloc, 0, made, &[1, 1, 2, 2], End::Completed);
+    let chain = OfRange::new(1, 2).transform(Twice, &twice);
+    gives(&rt, alloc, 1, chain, &[1, 1, 2, 2], End::Completed);
     let twice = |x: i64| opened(alloc, x);
     let source = list(&rt, alloc, &[1, 2]);
-    let mut made = FlatMapConcat::new(source, TwiceRun, &twice);
-    gives(&rt, alloc, &mut made, 0, &[1, 1, 2, 2], End::Completed);
-    let mut chain = OfRange::new(1, 2).flat_map_concat(TwiceRun, &twice);
-    gives(&rt, alloc, &mut chain, 1, &[1, 1, 2, 2], End::Completed);
+    let made = FlatMapConcat::new(source, TwiceRun, &twice);
+    gives(&rt, alloc, 2, made, &[1, 1, 2, 2], End::Completed);
+    let chain = OfRange::new(1, 2).flat_map_concat(TwiceRun, &twice);
+    gives(&rt, alloc, 3, chain, &[1, 1, 2, 2], End::Completed);
 }

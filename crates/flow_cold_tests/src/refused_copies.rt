@@ -45,19 +45,15 @@ fn three<'a>(rt: &impl Abort, alloc: Global, copies: &'a Cell<u64>) -> OfList<Co
 
 const WANTED: End = End::Failed(ChainFault::OutOfMemory);
 
+/// A list copies each item, and `Distinct` copies each item that it keeps: the fourth copy is its second.
 #[test]
-fn a_refused_copy_ends_a_list(rt: HostRuntime) {
+fn a_refused_copy_ends_a_chain(rt: HostRuntime) {
     let copies = Cell::new(3);
-    let mut chain = three(&rt, rt.alloc(), &copies);
-    gives(&rt, rt.alloc(), &mut chain, &[1, 2], WANTED);
-    gives(&rt, rt.alloc(), &mut chain, &[1, 2, 3], End::Completed);
-}
-
-/// The list copies each item, and `Distinct` copies each item that it keeps: the fourth copy is its second.
-#[test]
-fn a_refused_copy_ends_an_operator(rt: HostRuntime) {
-    let copies = Cell::new(4);
-    let mut chain = Distinct::new(three(&rt, rt.alloc(), &copies));
-    gives(&rt, rt.alloc(), &mut chain, &[1], WANTED);
-    gives(&rt, rt.alloc(), &mut chain, &[1, 2, 3], End::Completed);
+    let mut list = three(&rt, rt.alloc(), &copies);
+    gives(&rt, rt.alloc(), &mut list, &[1, 2], WANTED);
+    gives(&rt, rt.alloc(), &mut list, &[1, 2, 3], End::Completed);
+    copies.set(4);
+    let mut distinct = Distinct::new(three(&rt, rt.alloc(), &copies));
+    gives(&rt, rt.alloc(), &mut distinct, &[1], WANTED);
+    gives(&rt, rt.alloc(), &mut distinct, &[1, 2, 3], End::Completed);
 }

@@ -52,7 +52,7 @@ const OVERFLOW: End = End::Failed(ChainFault::Overflow);
 /// A list in which the greatest number comes second.
 const GREATEST: Start = Start::List(&[1, i64::MAX, 2]);
 
-const WHOLE: &[Example] = &[
+const EXAMPLES: &[Example] = &[
     // A range is scanned.
     Example {
         start: Start::Range(1, 5),
@@ -140,10 +140,7 @@ const WHOLE: &[Example] = &[
         items: &[11, 2],
         end: End::Completed,
     },
-];
-
-/// The first items are dropped while they pass.
-const DROPPED: &[Example] = &[
+    // The first items are dropped while they pass.
     Example {
         start: Start::List(&[1, 5, 2]),
         stages: &[Stage::DropWhile(Test::Less(3))],
@@ -174,10 +171,7 @@ const DROPPED: &[Example] = &[
         items: &[],
         end: End::Completed,
     },
-];
-
-/// Each result is given after the first item.
-const REDUCED: &[Example] = &[
+    // Each result is given after the first item.
     Example {
         start: Start::List(&[5, 2]),
         stages: &[Stage::RunningReduce(Arithmetic::Add)],
@@ -202,10 +196,7 @@ const REDUCED: &[Example] = &[
         items: &[i64::MAX, i64::MAX],
         end: OVERFLOW,
     },
-];
-
-/// A result that is out of range is an overflow, in each operator that computes.
-const OVERFLOWING: &[Example] = &[
+    // A result that is out of range is an overflow, in each operator that computes.
     Example {
         start: GREATEST,
         stages: &[ADD_ONE],
@@ -248,6 +239,19 @@ const OVERFLOWING: &[Example] = &[
         items: &[1],
         end: OVERFLOW,
     },
+    // A chain may be 64 deep.
+    Example {
+        start: Start::List(&[0]),
+        stages: &[ADD_ONE; 63],
+        items: &[63],
+        end: End::Completed,
+    },
+];
+
+/// Operators that are refused: one more than a chain may have, and a take of nothing.
+const REFUSED: [(&[Stage], ChainFault); 2] = [
+    (&[ADD_ONE; 64], ChainFault::TooDeep),
+    (&[Stage::Take(0)], ChainFault::NotPositive),
 ];
 
 fn begun(rt: &impl Abort, alloc: Global, start: &Start) -> ScriptChain {
@@ -287,58 +291,34 @@ fn operator(rt: &impl Abort, alloc: Global, stage: &Stage) -> Op {
 }
 
 /// The chain with these operators.
-fn then(rt: &impl Abort, alloc: Global, chain: ScriptChain, stages: &[Stage]) -> ScriptChain {
-    let mut chain = chain;
+fn built(
+    rt: &impl Abort,
+    alloc: Global,
+    start: &Start,
+    stages: &[Stage],
+) -> Result<ScriptChain, ChainFault> {
+    let mut chain = begun(rt, alloc, start);
     for stage in stages {
-        match chain.then(alloc, operator(rt, alloc, stage)) {
-            Ok(longer) => chain = longer,
-            Err(_) => panic!(rt; "an operator is refused"),
-        }
+        chain = chain.then(alloc, operator(rt, alloc, stage))?;
     }
-    chain
-}
-
-/// Collects the chain of each example twice: both times it gives the items and the end.
-fn give_twice(rt: &impl Abort, alloc: Global, examples: &[Example]) {
-    for place in 0..examples.len() {
-        let example = &examples[place];
-        let start = begun(rt, alloc, &example.start);
-        let mut chain = then(rt, alloc, start, example.stages);
-        gives(rt, alloc, &mut chain, place, example.items, example.end);
-        gives(rt, alloc, &mut chain, place, example.items, example.end);
-    }
+    Ok(chain)
 }
 
 #[test]
 fn chains_are_built_and_collected_twice(rt: HostRuntime) {
-    for examples in [WHOLE, DROPPED, REDUCED, OVERFLOWING] {
-        give_twice(&rt, rt.alloc(), examples);
+    for place in 0..EXAMPLES.len() {
+        let example = &EXAMPLES[place];
+        let built = built(&rt, rt.alloc(), &example.start, example.stages);
+        let chain = built.expect(&rt, "operators");
+        gives(&rt, rt.alloc(), place, chain, example.items, example.end);
     }
 }
 
-/// 0 plus 1 so many times.
-fn tower(rt: &impl Abort, alloc: Global, count: u64) -> ScriptChain {
-    let mut chain = begun(rt, alloc, &Start::List(&[0]));
-    for _ in 0..count {
-        chain = then(rt, alloc, chain, &[ADD_ONE]);
-    }
-    chain
-}
-
-#[test]
-fn a_chain_may_be_64_deep(rt: HostRuntime) {
-    let mut deepest = tower(&rt, rt.alloc(), 63);
-    for _ in 0..2 {
-        gives(&rt, rt.alloc(), &mut deepest, 0, &[63], End::Completed);
-    }
-}
-
-/// An operator more than a chain may have, and a take of nothing.
 #[test]
 fn operators_are_refused(rt: HostRuntime) {
-    let alloc = rt.alloc();
-    let too_deep = tower(&rt, alloc, 63).then(alloc, operator(&rt, alloc, &ADD_ONE));
-    compare(&rt, 0, too_deep.err(), Some(ChainFault::TooDeep));
-    let nothing = tower(&rt, alloc, 0).then(alloc, Op::Take(0));
-    compare(&rt, 1, nothing.err(), Some(ChainFault::NotPositive));
+    for place in 0..REFUSED.len() {
+        let (stages, fault) = REFUSED[place];
+        let refused = built(&rt, rt.alloc(), &GREATEST, stages).err();
+        compare(&rt, place, refused, Some(fault));
+    }
 }
