@@ -1,6 +1,6 @@
 //! Draining flows. The values are those that kotlinx.coroutines documents for the same collector.
 use crate::shared_calls::Call::{Drain, Emit, RefuseCopy, Subscribe, TryEmit, Unsubscribe, Values};
-use crate::shared_calls::{Example, UNBUFFERED, play};
+use crate::shared_calls::{Example, UNBUFFERED};
 use flow_law::Drained::{Empty, Gone, Most};
 use flow_law::Emit::{Done, Queued};
 use flow_law::{Config, FlowFault};
@@ -11,7 +11,7 @@ const THREE: Config = Config {
     ..UNBUFFERED
 };
 
-const EXAMPLES: &[Example] = &[
+pub const DRAINS: &[Example] = &[
     // A shared flow gives all that is there.
     Example {
         config: THREE,
@@ -62,8 +62,3 @@ const EXAMPLES: &[Example] = &[
         ],
     },
 ];
-
-#[test]
-fn drains_of_a_shared_flow(rt: HostRuntime) {
-    play(&rt, rt.alloc(), EXAMPLES);
-}

@@ -1,11 +1,11 @@
 //! How many values a shared flow keeps, after each call: those that a new subscriber or an old one may still get.
 use crate::shared_calls::Call::{Emit, Held, Next, Reset, Subscribe, TryEmit};
-use crate::shared_calls::{Example, UNBUFFERED, play};
+use crate::shared_calls::{Example, UNBUFFERED};
 use flow_law::Config;
 use flow_law::Emit::Queued;
 use flow_law::Next::Value;
 
-const EXAMPLES: &[Example] = &[
+pub const HELD: &[Example] = &[
     // A value is kept for the cache or a subscriber.
     Example {
         config: Config {
@@ -47,8 +47,3 @@ const EXAMPLES: &[Example] = &[
         ],
     },
 ];
-
-#[test]
-fn values_are_kept_as_long_as_needed(rt: HostRuntime) {
-    play(&rt, rt.alloc(), EXAMPLES);
-}

@@ -24,6 +24,17 @@ pub fn are(rt: &impl Abort, place: usize, values: &[CopyLimited<'_>], numbers: &
     }
 }
 
+/// Copies of values, where none was refused.
+pub fn copied<'a>(
+    rt: &impl Abort,
+    copies: Result<Vec<CopyLimited<'a>>, FlowFault>,
+) -> Vec<CopyLimited<'a>> {
+    let Ok(copies) = copies else {
+        panic!(rt; "memory")
+    };
+    copies
+}
+
 /// A list of these numbers.
 pub fn list_of<'a>(
     rt: &impl Abort,

@@ -1,59 +1,11 @@
 //! Flows of many values.
-use crate::compare::compare;
-use crate::limited::number_of;
 use crate::shared_calls::Call::{CacheLength, Each, Emit, Held, Next, Subscribe};
-use crate::shared_calls::{Caller, Example, UNBUFFERED, play};
+use crate::shared_calls::{Example, Repeated, UNBUFFERED};
 use flow_law::Emit::{Done, Queued};
 use flow_law::Next::Value;
 use flow_law::{Config, Overflow};
-use flow_testing::CopyLimited;
-use std::process::Abort;
 
-/// A call that is made with one value after the other.
-pub enum Repeated {
-    /// The flow takes or drops each value.
-    TryEmit,
-    /// No emission waits.
-    Emit,
-    /// Each emission waits. The first one has this number, and the others the next ones.
-    Queue(u64),
-    /// The subscriber receives the values.
-    Receive(usize),
-}
-
-impl Caller<'_> {
-    /// Makes the call with each value from the first to the last.
-    pub fn make_each(
-        &mut self,
-        rt: &impl Abort,
-        place: usize,
-        call: &Repeated,
-        first: i64,
-        last: i64,
-    ) {
-        let mut made = 0u64;
-        for value in first..=last {
-            let emitted = CopyLimited::new(value, self.copies);
-            match call {
-                Repeated::TryEmit => {
-                    compare(rt, place, self.flow.try_emit(emitted).ok(), Some(true));
-                }
-                Repeated::Emit => compare(rt, place, self.flow.emit(emitted).ok(), Some(Done)),
-                Repeated::Queue(number) => {
-                    let queued = Queued(number.wrapping_add(made));
-                    compare(rt, place, self.flow.emit(emitted).ok(), Some(queued));
-                }
-                Repeated::Receive(index) => {
-                    let id = self.subscriber(rt, *index);
-                    compare(rt, place, number_of(self.flow.next(id)), Ok(Value(value)));
-                }
-            }
-            made = made.wrapping_add(1);
-        }
-    }
-}
-
-const EXAMPLES: &[Example] = &[
+pub const MANY: &[Example] = &[
     // The largest buffer is filled, and more.
     Example {
         config: Config {
@@ -110,8 +62,3 @@ const EXAMPLES: &[Example] = &[
         ],
     },
 ];
-
-#[test]
-fn flows_of_many_values(rt: HostRuntime) {
-    play(&rt, rt.alloc(), EXAMPLES);
-}

@@ -2,7 +2,7 @@
 use crate::shared_calls::Call::{
     Cache, Cancel, Emit, Next, NextRefused, Poll, RefuseCopy, SubscribeWith, TryEmit,
 };
-use crate::shared_calls::{Example, UNBUFFERED, play};
+use crate::shared_calls::{Example, UNBUFFERED};
 use flow_law::Emit::{Done, Queued};
 use flow_law::Next::{Empty, Value};
 use flow_law::{Config, FlowFault, Overflow};
@@ -15,7 +15,7 @@ const ROOM_FOR_TWO: Config = Config {
     ..UNBUFFERED
 };
 
-const EXAMPLES: &[Example] = &[
+pub const OWN_VALUES: &[Example] = &[
     // Own values come before the cache, and are never dropped.
     Example {
         config: ROOM_FOR_TWO,
@@ -99,8 +99,3 @@ const EXAMPLES: &[Example] = &[
         ],
     },
 ];
-
-#[test]
-fn own_values_come_first(rt: HostRuntime) {
-    play(&rt, rt.alloc(), EXAMPLES);
-}

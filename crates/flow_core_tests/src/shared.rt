@@ -1,15 +1,13 @@
 //! Worked examples over a shared flow.
-use crate::compare::compare;
 use crate::shared_calls::Call::{
     Cache, Cancel, Count, Emit, Next, Poll, Reset, Subscribe, TryEmit, Unsubscribe,
 };
-use crate::shared_calls::{Example, UNBUFFERED, play};
-use flow_core::SharedCore;
+use crate::shared_calls::{Example, UNBUFFERED};
+use flow_law::Config;
 use flow_law::Emit::{Done, Queued};
 use flow_law::Next::{Empty, Gone, Value};
-use flow_law::{Config, FlowFault, Overflow};
 
-const EXAMPLES: &[Example] = &[
+pub const SHARED: &[Example] = &[
     // A new subscriber gets the cache.
     Example {
         config: Config {
@@ -86,14 +84,3 @@ const EXAMPLES: &[Example] = &[
         ],
     },
 ];
-
-#[test]
-fn calls_of_a_shared_flow(rt: HostRuntime) {
-    play(&rt, rt.alloc(), EXAMPLES);
-}
-
-#[test]
-fn a_strategy_that_drops_needs_a_buffer(rt: HostRuntime) {
-    let refused = SharedCore::<i64>::new(rt.alloc(), Config::new().overflow(Overflow::DropLatest));
-    compare(&rt, 0, refused.err(), Some(FlowFault::NeedsBuffer));
-}

@@ -1,7 +1,11 @@
 //! Calls on a shared flow, each with what it is to answer.
 use crate::compare::compare;
-use crate::limited::{are, list_of, number_of};
-use crate::many::Repeated;
+use crate::drains::DRAINS;
+use crate::held::HELD;
+use crate::limited::{are, copied, list_of, number_of};
+use crate::many::MANY;
+use crate::own_values::OWN_VALUES;
+use crate::shared::SHARED;
 use flow_core::{SharedCore, SubId};
 use flow_law::{Config, Drained, Emit, FlowFault, Next, Overflow, Refused};
 use flow_testing::CopyLimited;
@@ -24,6 +28,7 @@ pub struct Example {
 }
 
 /// A call, and what it answers. Subscribers are named by the order in which they came, from 0.
+#[derive(Drop)]
 pub enum Call {
     /// The value, and whether the flow took or dropped it.
     TryEmit(i64, bool),
@@ -58,25 +63,41 @@ pub enum Call {
     Each(Repeated, i64, i64),
 }
 
+/// A call that is made with one value after the other.
+#[derive(Drop)]
+pub enum Repeated {
+    /// The flow takes or drops each value.
+    TryEmit,
+    /// No emission waits.
+    Emit,
+    /// Each emission waits. The first one has this number, and the others the next ones.
+    Queue(u64),
+    /// The subscriber receives the values.
+    Receive(usize),
+}
+
+impl Repeated {
+    /// The call with the value that comes after so many others.
+    fn with(&self, value: i64, place: u64) -> Call {
+        match self {
+            Repeated::TryEmit => Call::TryEmit(value, true),
+            Repeated::Emit => Call::Emit(value, Emit::Done),
+            Repeated::Queue(number) => Call::Emit(value, Emit::Queued(number.wrapping_add(place))),
+            Repeated::Receive(index) => Call::Next(*index, Next::Value(value)),
+        }
+    }
+}
+
 /// A flow of values that hold more than they mean, and its subscribers.
 #[derive(Drop)]
-pub struct Caller<'a> {
-    pub flow: SharedCore<CopyLimited<'a>>,
-    pub copies: &'a Cell<u64>,
+struct Caller<'a> {
+    flow: SharedCore<CopyLimited<'a>>,
+    copies: &'a Cell<u64>,
     subscribers: Vec<SubId>,
     drained: Vec<CopyLimited<'a>>,
 }
 
 impl<'a> Caller<'a> {
-    fn new(rt: &impl Abort, alloc: Global, config: Config, copies: &'a Cell<u64>) -> Caller<'a> {
-        Caller {
-            flow: SharedCore::new(alloc, config).expect(rt, "a flow"),
-            copies,
-            subscribers: Vec::new(alloc),
-            drained: Vec::new(alloc),
-        }
-    }
-
     /// Names the next subscriber, and tells its number.
     fn add(&mut self, rt: &impl Abort, id: SubId) -> u64 {
         self.subscribers.push(id).expect(rt, "memory");
@@ -100,23 +121,26 @@ impl<'a> Caller<'a> {
         }
     }
 
-    pub fn subscriber(&self, rt: &impl Abort, index: usize) -> SubId {
+    fn subscriber(&self, rt: &impl Abort, index: usize) -> SubId {
         *self.subscribers.get(index).expect(rt, "a subscriber")
-    }
-
-    fn cache(&self, rt: &impl Abort) -> Vec<CopyLimited<'a>> {
-        let Ok(values) = self.flow.replay_cache() else {
-            panic!(rt; "memory")
-        };
-        values
     }
 
     /// Makes a call that changes nothing, and compares what it answers.
     fn ask(&self, rt: &impl Abort, place: usize, call: &Call) {
         match call {
             Call::Poll(number, waits) => compare(rt, place, self.flow.poll(*number), *waits),
-            Call::Cache(values) => are(rt, place, self.cache(rt).as_slice(), values),
-            Call::CacheLength(length) => compare(rt, place, self.cache(rt).len(), *length),
+            Call::Cache(values) => {
+                let cache = copied(rt, self.flow.replay_cache());
+                are(rt, place, cache.as_slice(), values);
+            }
+            Call::CacheLength(length) => {
+                compare(
+                    rt,
+                    place,
+                    copied(rt, self.flow.replay_cache()).len(),
+                    *length,
+                );
+            }
             Call::Count(count) => compare(rt, place, self.flow.subscription_count(), *count),
             Call::Held(held) => compare(rt, place, self.flow.held(), *held),
             Call::Values(values) => are(rt, place, self.drained.as_slice(), values),
@@ -165,27 +189,53 @@ impl<'a> Caller<'a> {
                 let answer = self.flow.drain(id, *most, &mut self.drained);
                 compare(rt, place, answer, *wanted);
             }
-            Call::Each(repeated, first, last) => {
-                self.make_each(rt, place, repeated, *first, *last);
-            }
             _ => self.ask(rt, place, call),
         }
     }
 }
 
-fn play_one(rt: &impl Abort, alloc: Global, place: usize, example: &Example) {
-    let copies = Cell::new(0);
-    let mut caller = Caller::new(rt, alloc, example.config, &copies);
-    for number in 0..example.calls.len() {
-        let place = place.saturating_add(number);
-        caller.make(rt, alloc, place, &example.calls[number]);
+/// Makes the call at this place, with each of its values.
+fn make_each(rt: &impl Abort, alloc: Global, caller: &mut Caller<'_>, place: usize, call: &Call) {
+    let Call::Each(repeated, first, last) = call else {
+        return caller.make(rt, alloc, place, call);
+    };
+    let mut made = 0;
+    for value in *first..=*last {
+        caller.make(rt, alloc, place, &repeated.with(value, made));
+        made = made.wrapping_add(1);
     }
 }
 
-/// Makes the calls of each example on a new flow, and compares what they answer. Call 7 of the example 3 has the place
-/// 307, both counted from 0.
-pub fn play(rt: &impl Abort, alloc: Global, examples: &[Example]) {
-    for number in 0..examples.len() {
-        play_one(rt, alloc, number.saturating_mul(100), &examples[number]);
+fn play(rt: &impl Abort, alloc: Global, place: usize, example: &Example) {
+    let copies = Cell::new(0);
+    let mut caller = Caller {
+        flow: SharedCore::new(alloc, example.config).expect(rt, "a flow"),
+        copies: &copies,
+        subscribers: Vec::new(alloc),
+        drained: Vec::new(alloc),
+    };
+    for number in 0..example.calls.len() {
+        let place = place.saturating_add(number);
+        make_each(rt, alloc, &mut caller, place, &example.calls[number]);
     }
+}
+
+/// Makes the calls of each example on a new flow, and compares what they answer. Call 7 of the example 3 of the table 2 has
+/// the place 20307, all counted from 0.
+#[test]
+fn calls_of_shared_flows(rt: HostRuntime) {
+    let tables = [SHARED, DRAINS, HELD, OWN_VALUES, MANY];
+    for table in 0..tables.len() {
+        for number in 0..tables[table].len() {
+            let place = table.saturating_mul(100).saturating_add(number);
+            let example = &tables[table][number];
+            play(&rt, rt.alloc(), place.saturating_mul(100), example);
+        }
+    }
+}
+
+#[test]
+fn a_strategy_that_drops_needs_a_buffer(rt: HostRuntime) {
+    let refused = SharedCore::<i64>::new(rt.alloc(), Config::new().overflow(Overflow::DropLatest));
+    compare(&rt, 0, refused.err(), Some(FlowFault::NeedsBuffer));
 }

@@ -3,11 +3,11 @@ use crate::state_calls::Call::{
     Cache, CompareAndSet, Count, Current, Drain, Next, Reset, Set, Subscribe, TryEmit, Unsubscribe,
     Values,
 };
-use crate::state_calls::{Example, play};
+use crate::state_calls::Example;
 use flow_law::Drained;
 use flow_law::Next::{Empty, Value};
 
-const EXAMPLES: &[Example] = &[
+pub const STATE: &[Example] = &[
     // A subscriber gets no value twice in a row.
     Example {
         initial: 0,
@@ -50,8 +50,3 @@ const EXAMPLES: &[Example] = &[
         ],
     },
 ];
-
-#[test]
-fn calls_of_a_state_flow(rt: HostRuntime) {
-    play(&rt, rt.alloc(), EXAMPLES);
-}

@@ -1,6 +1,7 @@
 //! Calls on a state flow, each with what it is to answer.
 use crate::compare::compare;
-use crate::limited::{are, number_of};
+use crate::limited::{are, copied, number_of};
+use crate::state::STATE;
 use flow_core::{StateCore, SubId};
 use flow_law::{Drained, FlowFault, Next};
 use flow_testing::CopyLimited;
@@ -55,21 +56,19 @@ impl<'a> Caller<'a> {
         self.subscriber.expect(rt, "a subscriber")
     }
 
-    fn cache(&self, rt: &impl Abort) -> Vec<CopyLimited<'a>> {
-        let Ok(values) = self.flow.replay_cache() else {
-            panic!(rt; "memory")
-        };
-        values
-    }
-
     /// Makes a call that changes nothing, and compares what it answers.
     fn ask(&self, rt: &impl Abort, place: usize, call: &Call) {
         match call {
             Call::Current(number) => {
-                let answer = self.flow.value().map(Next::Value);
-                compare(rt, place, number_of(answer), Ok(Next::Value(*number)));
+                let Ok(value) = self.flow.value() else {
+                    panic!(rt; "memory")
+                };
+                compare(rt, place, value.number(), *number);
             }
-            Call::Cache(numbers) => are(rt, place, self.cache(rt).as_slice(), numbers),
+            Call::Cache(numbers) => {
+                let cache = copied(rt, self.flow.replay_cache());
+                are(rt, place, cache.as_slice(), numbers);
+            }
             Call::Count(count) => compare(rt, place, self.flow.subscription_count(), *count),
             Call::Values(numbers) => are(rt, place, self.drained.as_slice(), numbers),
             _ => panic!(rt; "call {place} is no such call"),
@@ -119,7 +118,7 @@ impl<'a> Caller<'a> {
     }
 }
 
-fn play_one(rt: &impl Abort, alloc: Global, place: usize, example: &Example) {
+fn play(rt: &impl Abort, alloc: Global, place: usize, example: &Example) {
     let memory = Cell::new(0);
     let initial = CopyLimited::new(example.initial, &memory);
     let mut caller = Caller {
@@ -136,8 +135,9 @@ fn play_one(rt: &impl Abort, alloc: Global, place: usize, example: &Example) {
 
 /// Makes the calls of each example on a new flow, and compares what they answer. Call 7 of the example 3 has the place
 /// 307, both counted from 0.
-pub fn play(rt: &impl Abort, alloc: Global, examples: &[Example]) {
-    for number in 0..examples.len() {
-        play_one(rt, alloc, number.saturating_mul(100), &examples[number]);
+#[test]
+fn calls_of_a_state_flow(rt: HostRuntime) {
+    for number in 0..STATE.len() {
+        play(&rt, rt.alloc(), number.saturating_mul(100), &STATE[number]);
     }
 }

@@ -17,12 +17,10 @@ fn set_and_receive<T: FlowValue>(flow: &mut StateCore<T>, reader: SubId, value: 
     }
 }
 
-/// The list of these values, with room for so many.
-fn items(rt: &impl Abort, alloc: Global, capacity: usize, values: &[i64]) -> Items<i64> {
-    let mut list = Vec::with_capacity(alloc, capacity).expect(rt, "memory");
-    for value in values {
-        list.push(*value).expect(rt, "memory");
-    }
+/// The list of these values, with room for so many more.
+fn items(rt: &impl Abort, alloc: Global, room: usize, values: &[i64]) -> Items<i64> {
+    let mut list = values.to_vec(alloc).expect(rt, "memory");
+    list.reserve(room).expect(rt, "memory");
     Items::new(list)
 }
 
@@ -37,21 +35,21 @@ fn is_list(rt: &impl Abort, place: usize, list: Option<Items<i64>>, values: Opti
     }
 }
 
-/// For how many values a list that is set has room, its values, and what the subscriber receives then. The same values in a
+/// For how many more values a list that is set has room, its values, and what the subscriber receives then. The same values in a
 /// list with more room are no new value.
 const LISTS: [(usize, &[i64], Option<&[i64]>); 3] = [
-    (2, &[1, 2], Some(&[1, 2])),
-    (100, &[1, 2], None),
-    (1, &[1], Some(&[1])),
+    (0, &[1, 2], Some(&[1, 2])),
+    (98, &[1, 2], None),
+    (0, &[1], Some(&[1])),
 ];
 
 #[test]
 fn a_list_is_its_values(rt: HostRuntime) {
-    let mut flow = StateCore::new(rt.alloc(), items(&rt, rt.alloc(), 2, &[1, 2]), u64::MAX);
+    let mut flow = StateCore::new(rt.alloc(), items(&rt, rt.alloc(), 0, &[1, 2]), u64::MAX);
     let reader = flow.subscribe().expect(&rt, "a subscription");
     for place in 0..LISTS.len() {
-        let (capacity, values, wanted) = LISTS[place];
-        let list = items(&rt, rt.alloc(), capacity, values);
+        let (room, values, wanted) = LISTS[place];
+        let list = items(&rt, rt.alloc(), room, values);
         is_list(&rt, place, set_and_receive(&mut flow, reader, list), wanted);
     }
 }
@@ -89,18 +87,14 @@ fn is_copied_again<T: FlowValue>(rt: &impl Abort, value: &T) {
 }
 
 #[test]
-fn a_list_is_not_copied_where_a_part_is_not(rt: HostRuntime) {
+fn nothing_is_copied_where_a_part_is_not(rt: HostRuntime) {
     let copies = Cell::new(0);
     let list = Items::new(list_of(&rt, rt.alloc(), &copies, &[1, 2]));
     copies.set(2);
     is_copied_again(&rt, &list);
-}
-
-#[test]
-fn a_box_is_not_copied_where_its_value_is_not(rt: HostRuntime) {
-    let copies = Cell::new(1);
     let Ok(content) = Box::new(rt.alloc(), CopyLimited::new(1, &copies)) else {
         panic!(rt; "memory")
     };
+    copies.set(1);
     is_copied_again(&rt, &Boxed::new(content));
 }
