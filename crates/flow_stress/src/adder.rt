@@ -59,9 +59,8 @@ impl<'a> Adder<'a> {
     }
 
     /// So many rounds of calls.
-    pub fn run<R: Wait>(self, rt: &R, dice: Pcg32, rounds: u32) -> Found {
+    pub fn run<R: Wait>(self, rt: &R, dice: &mut Pcg32, rounds: u32) -> Found {
         let mut adder = self;
-        let mut dice = dice;
         for _ in 0..rounds {
             match dice.next_word() % 4 {
                 0 => adder.add(rt),

@@ -1,7 +1,7 @@
 //! A thread that emits into a shared flow, in each of the ways that there are.
 ghost use Rattle.std.specs.Prelude.{◌≡◌};
 
-use crate::found::Found;
+use crate::found::{Found, NOTHING};
 use crate::order::Value;
 use flow_shared::{Emission, Emitted, Polled, Seat, SharedFlow};
 use rand_core::utils::NextWord;
@@ -9,13 +9,12 @@ use rand_pcg::Pcg32;
 use std::sync::Wait;
 use std::thread::yield_now;
 
-/// A flow, a seat of it, the number of the thread, and how many values it has emitted.
+/// A flow, a seat of it, and the value that is emitted next.
 #[derive(Drop)]
 pub struct Emitter<'a> {
     pub flow: &'a SharedFlow<Value>,
     pub seat: Seat<Value>,
-    pub number: u32,
-    pub emitted: u32,
+    pub value: Value,
     ghost of_flow: { seat.table_id ≡ flow.now.table_id },
 }
 
@@ -24,45 +23,41 @@ pub struct Emitter<'a> {
 struct Waiting<'a> {
     flow: &'a SharedFlow<Value>,
     emission: Emission<Value>,
-    number: u32,
-    emitted: u32,
+    value: Value,
     ghost of_flow: { emission.token.table_id ≡ flow.now.table_id },
 }
 
 /// How often an emission that waits is polled before it is cancelled.
 const POLLS: u32 = 100;
 
+/// The value that its emitter emits after this one.
+pub fn next_value(value: Value) -> Value {
+    (value.0, value.1.wrapping_add(1))
+}
+
 impl<'a> Emitter<'a> {
-    /// Whether the flow took the value.
-    fn try_emit<R: Wait>(&mut self, rt: &R) -> Option<bool> {
-        let value = (self.number, self.emitted);
-        let is_taken = self.flow.try_emit(rt, &mut self.seat, value).ok()?;
-        if is_taken {
-            self.emitted = self.emitted.wrapping_add(1);
+    /// Emits a value, if it need not wait.
+    fn try_emit<R: Wait>(&mut self, rt: &R) -> Option<()> {
+        if self.flow.try_emit(rt, &mut self.seat, self.value).ok()? {
+            self.value = next_value(self.value);
+        } else {
+            yield_now();
         }
-        Some(is_taken)
+        Some(())
     }
 
     /// Emits a value. Where it waits too long it is cancelled.
     fn emit<R: Wait>(self, rt: &R) -> Option<Emitter<'a>> {
-        let Emitter {
-            flow,
-            seat,
-            number,
-            emitted,
-        } = self;
-        match flow.emit(rt, seat, (number, emitted)) {
-            Emitted::Done(seat) => Some(Emitter {
-                flow,
-                seat,
-                number,
-                emitted: emitted.wrapping_add(1),
-            }),
+        let Emitter { flow, seat, value } = self;
+        match flow.emit(rt, seat, value) {
+            Emitted::Done(seat) => {
+                let value = next_value(value);
+                Some(Emitter { flow, seat, value })
+            }
             Emitted::Queued(emission) => Some(Waiting {
                 flow,
                 emission,
-                number,
-                emitted,
+                value,
             }
             .wait(rt)),
             Emitted::Refused(_seat, _value, _fault) => None,
@@ -70,17 +65,16 @@ impl<'a> Emitter<'a> {
     }
 
     /// So many rounds of calls. `None` for want of memory.
-    pub fn run<R: Wait>(self, rt: &R, dice: Pcg32, rounds: u32) -> Option<Found> {
+    pub fn run<R: Wait>(self, rt: &R, dice: &mut Pcg32, rounds: u32) -> Option<Found> {
         let mut emitter = self;
-        let mut dice = dice;
         for _ in 0..rounds {
             if dice.next_word() % 2 == 0 {
                 emitter = emitter.emit(rt)?;
-            } else if !emitter.try_emit(rt)? {
-                yield_now();
+            } else {
+                emitter.try_emit(rt)?;
             }
         }
-        Some(Found::nothing())
+        Some(NOTHING)
     }
 }
 
@@ -90,42 +84,22 @@ impl<'a> Waiting<'a> {
         let Waiting {
             flow,
             emission,
-            number,
-            emitted,
+            value,
         } = self;
         match flow.poll_emit(rt, emission) {
-            Polled::Done(seat) => Ok(Emitter {
-                flow,
-                seat,
-                number,
-                emitted: emitted.wrapping_add(1),
-            }),
+            Polled::Done(seat) => {
+                let value = next_value(value);
+                Ok(Emitter { flow, seat, value })
+            }
             Polled::Waiting(emission) => Err(Waiting {
                 flow,
                 emission,
-                number,
-                emitted,
+                value,
             }),
         }
     }
 
-    /// The emitter. A value that still waited is emitted to nobody, and comes next.
-    fn cancel<R: Wait>(self, rt: &R) -> Emitter<'a> {
-        let Waiting {
-            flow,
-            emission,
-            number,
-            emitted,
-        } = self;
-        let (seat, was_waiting) = flow.cancel(rt, emission);
-        Emitter {
-            flow,
-            seat,
-            number,
-            emitted: emitted.wrapping_add(u32::from(!was_waiting)),
-        }
-    }
-
+    /// The emitter. A value that waits too long is emitted to nobody, and comes next.
     fn wait<R: Wait>(self, rt: &R) -> Emitter<'a> {
         let mut waiting = self;
         for _ in 0..POLLS {
@@ -135,6 +109,17 @@ impl<'a> Waiting<'a> {
                 Err(back) => waiting = back,
             }
         }
-        waiting.cancel(rt)
+        let Waiting {
+            flow,
+            emission,
+            value,
+        } = waiting;
+        let (seat, was_waiting) = flow.cancel(rt, emission);
+        let value = if was_waiting {
+            value
+        } else {
+            next_value(value)
+        };
+        Emitter { flow, seat, value }
     }
 }

@@ -1,6 +1,7 @@
 //! A thread that emits and receives by futures.
 ghost use Rattle.std.specs.Prelude.{◌≡◌};
 
+use crate::emitter::next_value;
 use crate::found::Found;
 use crate::order::{Order, Value};
 use flow_shared::{EmitFuture, NextFuture, Seat, Sent, SharedFlow, Subscription};
@@ -39,7 +40,7 @@ impl<'a> Exchanger<'a> {
             flow,
             seat,
             subscription,
-            value: (value.0, value.1.wrapping_add(1)),
+            value: next_value(value),
             order,
         })
     }

@@ -7,23 +7,13 @@ pub struct Found {
     pub added: u64,
 }
 
-impl Found {
-    pub fn nothing() -> Found {
-        Found { wrong: 0, added: 0 }
-    }
+pub const NOTHING: Found = Found { wrong: 0, added: 0 };
 
+impl Found {
     /// This has to hold.
     pub fn check(&mut self, holds: bool) {
         if !holds {
             self.wrong = self.wrong.saturating_add(1);
-        }
-    }
-
-    /// What both found.
-    pub fn with(self, other: Found) -> Found {
-        Found {
-            wrong: self.wrong.saturating_add(other.wrong),
-            added: self.added.saturating_add(other.added),
         }
     }
 }

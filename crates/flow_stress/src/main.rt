@@ -8,10 +8,10 @@
 
 mod adder;
 mod arguments;
+mod calls;
 mod emitter;
 mod exchanger;
 mod found;
-mod job;
 mod order;
 mod reader;
 mod stress;

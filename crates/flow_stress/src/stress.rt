@@ -1,12 +1,12 @@
 //! The flows, the threads, and what must hold at the end.
-ghost use Rattle.std.specs.Prelude.{◌≡◌, IfSome};
+ghost use Rattle.std.specs.Prelude.{◌≡◌};
 
 use crate::adder::Adder;
 use crate::arguments::Size;
+use crate::calls::{Calls, Job};
 use crate::emitter::Emitter;
 use crate::exchanger::Exchanger;
-use crate::found::Found;
-use crate::job::{Calls, Job};
+use crate::found::{Found, NOTHING};
 use crate::order::{Order, Value};
 use crate::reader::Reader;
 use flow_law::{Config, Overflow};
@@ -16,87 +16,21 @@ use rand_pcg::Pcg32;
 use std::alloc::{AllocGlobal, Global};
 use std::random::RandomSource;
 use std::sync::Wait;
-use std::thread;
-use std::thread::{JoinHandle, Scope, Threads};
+use std::thread::{Threads, for_each_mut};
 
-/// A shared flow, and a seat of it, through which other tokens are made.
-#[derive(Drop)]
-struct Shared<'a> {
-    flow: &'a SharedFlow<Value>,
-    seat: Seat<Value>,
-    ghost of_flow: { seat.table_id ≡ flow.now.table_id },
-}
-
-/// A word state, and a seat of it.
-#[derive(Drop)]
-struct Word<'a> {
-    flow: &'a WordState<u64>,
-    seat: WordSeat<u64>,
-    ghost of_flow: { seat.table_id ≡ flow.now.table_id },
-}
-
-impl<'a> Shared<'a> {
-    fn emitter(&mut self, number: u32) -> Emitter<'a> {
-        Emitter {
-            flow: self.flow,
-            seat: self.flow.seat(&mut self.seat),
-            number,
-            emitted: 0,
-        }
-    }
-
-    fn reader(&mut self, order: Order) -> Reader<'a> {
-        Reader {
-            flow: self.flow,
-            seat: self.flow.seat(&mut self.seat),
-            order,
-        }
-    }
-
-    fn exchanger<R: Wait>(&mut self, rt: &R, order: Order, number: u32) -> Option<Exchanger<'a>> {
-        let subscription = self.flow.subscribe(rt, &mut self.seat).ok()?;
-        Some(Exchanger {
-            flow: self.flow,
-            seat: self.flow.seat(&mut self.seat),
-            subscription,
-            value: (number, 0),
-            order,
-        })
-    }
-
-    /// Everybody has left.
-    fn check<R: Wait>(&mut self, rt: &R, found: &mut Found) {
-        let count = self.flow.subscription_count(rt, &mut self.seat);
-        found.check(count == 0);
-    }
-}
-
-impl<'a> Word<'a> {
-    fn adder(&mut self) -> Adder<'a> {
-        Adder {
-            flow: self.flow,
-            seat: self.flow.seat(&mut self.seat),
-            last: 0,
-            found: Found::nothing(),
-        }
-    }
-
-    /// Everybody has left, and no addition is lost or doubled.
-    fn check(&mut self, found: &mut Found) {
-        let count = self.flow.subscription_count(&mut self.seat);
-        found.check(count == 0);
-        let value = self.flow.value(&mut self.seat);
-        let added = found.added;
-        found.check(value == added);
-    }
-}
-
-/// The flows: one that suspends, one that drops the oldest, and a word state.
+/// The flows: one that suspends, one that drops the oldest, and a word state. Each has a seat, through which other tokens
+/// are made.
 #[derive(Drop)]
 struct Flows<'a> {
-    suspending: Shared<'a>,
-    dropping: Shared<'a>,
-    word: Word<'a>,
+    suspending: &'a SharedFlow<Value>,
+    suspending_seat: Seat<Value>,
+    dropping: &'a SharedFlow<Value>,
+    dropping_seat: Seat<Value>,
+    word: &'a WordState<u64>,
+    word_seat: WordSeat<u64>,
+    ghost of_suspending: { suspending_seat.table_id ≡ suspending.now.table_id },
+    ghost of_dropping: { dropping_seat.table_id ≡ dropping.now.table_id },
+    ghost of_word: { word_seat.table_id ≡ word.now.table_id },
 }
 
 impl<'a> Flows<'a> {
@@ -108,91 +42,100 @@ impl<'a> Flows<'a> {
         size: Size,
         number: u32,
     ) -> Option<Calls<'a>> {
-        let is_whole = number % 4 == 1;
-        let order = Order::new(alloc, size.threads as usize, is_whole).ok()?;
+        let order = Order {
+            last: vec![in alloc; None; size.threads as usize].ok()?,
+            is_whole: number % 4 == 1,
+            found: NOTHING,
+        };
         Some(match number % 4 {
-            0 => Calls::Emit(self.suspending.emitter(number)),
-            1 => Calls::Read(self.suspending.reader(order)),
-            2 => Calls::Exchange(self.dropping.exchanger(rt, order, number)?),
-            _ => Calls::Add(self.word.adder()),
+            0 => Calls::Emit(Emitter {
+                flow: self.suspending,
+                seat: self.suspending.seat(&mut self.suspending_seat),
+                value: (number, 0),
+            }),
+            1 => Calls::Read(Reader {
+                flow: self.suspending,
+                subscription: self
+                    .suspending
+                    .subscribe(rt, &mut self.suspending_seat)
+                    .ok()?,
+                order,
+            }),
+            2 => Calls::Exchange(Exchanger {
+                flow: self.dropping,
+                subscription: self.dropping.subscribe(rt, &mut self.dropping_seat).ok()?,
+                seat: self.dropping.seat(&mut self.dropping_seat),
+                value: (number, 0),
+                order,
+            }),
+            _ => Calls::Add(Adder {
+                flow: self.word,
+                seat: self.word.seat(&mut self.word_seat),
+                last: 0,
+                found: NOTHING,
+            }),
         })
     }
 
+    /// What each thread is to do.
     fn jobs<R: Wait>(&mut self, rt: &R, alloc: Global, size: Size) -> Option<Vec<Job<'a>>> {
         let mut jobs = Vec::new(alloc);
         for number in 0..size.threads {
-            let calls = self.calls(rt, alloc, size, number)?;
+            let calls = Some(self.calls(rt, alloc, size, number)?);
             let dice = Pcg32::new(size.seed, u64::from(number));
-            let rounds = size.rounds;
-            jobs.push(Job {
-                calls,
-                dice,
-                rounds,
-            })
-            .ok()?;
+            let found = None;
+            jobs.push(Job { calls, dice, found }).ok()?;
         }
         Some(jobs)
     }
 
+    /// Everybody has left, and no addition is lost or doubled.
     fn check<R: Wait>(&mut self, rt: &R, found: &mut Found) {
-        self.suspending.check(rt, found);
-        self.dropping.check(rt, found);
-        self.word.check(found);
+        let suspending = self
+            .suspending
+            .subscription_count(rt, &mut self.suspending_seat);
+        let dropping = self
+            .dropping
+            .subscription_count(rt, &mut self.dropping_seat);
+        let word = self.word.subscription_count(&mut self.word_seat);
+        let value = self.word.value(&mut self.word_seat);
+        let added = found.added;
+        found.check(suspending == 0);
+        found.check(dropping == 0);
+        found.check(word == 0);
+        found.check(value == added);
     }
-}
-
-/// Starts a thread for each job. `None` where one cannot be made.
-fn start_all<'s, E, R: Wait + RandomSource + AllocGlobal + Sync>(
-    rt: &'s R,
-    alloc: Global,
-    scope: &Scope<'s, E>,
-    jobs: Vec<Job<'s>>,
-) -> Option<Vec<JoinHandle<Option<Found>>>> {
-    let mut handles = Vec::new(alloc);
-    for job in jobs {
-        let handle = scope.spawn(move || job.run(rt)).ok()?;
-        handles.push(handle).ok()?;
-    }
-    Some(handles)
 }
 
 /// What all threads found.
-fn join_all<R: Threads>(rt: &R, handles: Vec<JoinHandle<Option<Found>>>) -> Option<Found> {
-    let mut all = Found::nothing();
-    for handle in handles {
-        all = all.with(handle.join(rt)?);
+fn sum(jobs: &[Job<'_>]) -> Option<Found> {
+    let mut all = NOTHING;
+    for job in jobs {
+        let Found { wrong, added } = job.found?;
+        all.wrong = all.wrong.saturating_add(wrong);
+        all.added = all.added.saturating_add(added);
     }
     Some(all)
 }
 
-/// Does each job in a thread of its own.
-fn run_all<'a, R: Threads + Wait + RandomSource + AllocGlobal + Sync>(
-    rt: &'a R,
-    alloc: Global,
-    jobs: Vec<Job<'a>>,
-) -> Option<Found> {
-    thread::scope(thread::scope_env(), rt, move |scope| {
-        join_all(rt, start_all(rt, alloc, scope, jobs)?)
-    })
-}
-
-/// Makes the tokens, runs the threads, and looks at the flows then.
-fn run_made<'a, R: Threads + Wait + RandomSource + AllocGlobal + Sync>(
-    rt: &'a R,
+/// Makes the tokens, does each job in a thread of its own, and looks at the flows then.
+fn run_all<R: Threads + Wait + RandomSource + AllocGlobal + Sync>(
+    rt: &R,
     alloc: Global,
     size: Size,
-    flows: &mut Flows<'a>,
+    flows: &mut Flows<'_>,
 ) -> Option<Found> {
-    let jobs = flows.jobs(rt, alloc, size)?;
-    let mut found = run_all(rt, alloc, jobs)?;
-    flows.check(rt, &mut found);
-    Some(found)
-}
-
-fn new_flow(alloc: Global, config: Config) -> Option<(SharedFlow<Value>, Seat<Value>)>
-    ensures { IfSome result (λ made. made.1.table_id ≡ made.0.table_id) }
-{
-    SharedFlow::new(alloc, config).ok()
+    let mut jobs = flows.jobs(rt, alloc, size)?;
+    let threads = jobs.len().max(1);
+    for_each_mut(
+        rt,
+        &mut jobs,
+        threads,
+        &|_, job| { job.run(rt, size.rounds) },
+    );
+    let mut all = sum(&jobs)?;
+    flows.check(rt, &mut all);
+    Some(all)
 }
 
 /// Puts new flows under the calls of all threads. `None` for want of memory.
@@ -202,22 +145,17 @@ pub fn stress<R: Threads + Wait + RandomSource + AllocGlobal + Sync>(
     size: Size,
 ) -> Option<Found> {
     let config = Config::new().replay(2).extra(4);
-    let (suspending, first) = new_flow(alloc, config)?;
-    let (dropping, second) = new_flow(alloc, config.overflow(Overflow::DropOldest))?;
-    let (word, third) = WordState::new(alloc, 0, u32::MAX).ok()?;
+    let (suspending, suspending_seat) = SharedFlow::new(alloc, config).ok()?;
+    let config = config.overflow(Overflow::DropOldest);
+    let (dropping, dropping_seat) = SharedFlow::new(alloc, config).ok()?;
+    let (word, word_seat) = WordState::new(alloc, 0, u32::MAX).ok()?;
     let mut flows = Flows {
-        suspending: Shared {
-            flow: &suspending,
-            seat: first,
-        },
-        dropping: Shared {
-            flow: &dropping,
-            seat: second,
-        },
-        word: Word {
-            flow: &word,
-            seat: third,
-        },
+        suspending: &suspending,
+        suspending_seat,
+        dropping: &dropping,
+        dropping_seat,
+        word: &word,
+        word_seat,
     };
-    run_made(rt, alloc, size, &mut flows)
+    run_all(rt, alloc, size, &mut flows)
 }
