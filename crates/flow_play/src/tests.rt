@@ -3,17 +3,18 @@
 use flow_program::run;
 use flow_script::Watched;
 use std::alloc::AllocGlobal;
+use std::io::Read;
 use std::process::Abort;
 use std::sync::Wait;
 use std::thread::Threads;
 
 mod chains;
 mod crowd;
-mod draft;
 mod examples;
 mod limits;
 mod many;
 mod refused;
+mod script;
 mod several;
 mod several_refused;
 mod share;
@@ -27,33 +28,26 @@ pub trait Host: Abort + Threads + Wait + Sync + AllocGlobal {}
 
 impl<H: Abort + Threads + Wait + Sync + AllocGlobal> Host for H {}
 
-/// Plays a text, and compares the status and what was printed.
-pub fn expect<H: Host>(rt: &H, name: &str, script: &[u8], status: u8, lines: &str) {
-    expect_of(rt, name, &[], script, status, lines);
-}
-
-/// Runs the program with these arguments on a text, and compares the status and what was printed.
-pub fn expect_of<H: Host>(
+/// Runs the program with these arguments on what a reader gives, and compares the status and what was printed.
+pub fn expect<H: Host, R: Read + Drop>(
     rt: &H,
     name: &str,
     args: &[String],
-    script: &[u8],
+    script: R,
     status: u8,
-    lines: &str,
+    lines: &[u8],
 ) {
     let mut printed = Vec::new(rt.alloc());
     let mut input = Watched::new(script);
     let mut output = Watched::new(&mut printed);
     let answered = run(rt, args, &mut input, &mut output);
-    compare(rt, name, printed.as_slice(), lines.as_bytes());
+    compare(rt, name, printed.as_slice(), lines);
     assert_eq!(rt; answered, status, "the status of {name}");
 }
 
 /// What was printed is what is wanted.
 pub fn compare<H: Host>(rt: &H, name: &str, printed: &[u8], wanted: &[u8]) {
-    assert_eq!(rt; text_of(printed), text_of(wanted), "{name}");
-}
-
-fn text_of(bytes: &[u8]) -> &str {
-    str::from_utf8(bytes).unwrap_or("no UTF-8")
+    let printed = str::from_utf8(printed).unwrap_or("no UTF-8");
+    let wanted = str::from_utf8(wanted).unwrap_or("no UTF-8");
+    assert_eq!(rt; printed, wanted, "{name}");
 }

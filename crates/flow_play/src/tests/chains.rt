@@ -1,8 +1,8 @@
 //! Worked examples of collected chains.
-use crate::tests::draft::NO_FLOW;
 use crate::tests::examples::Example;
+use crate::tests::script::NO_FLOW;
 
-pub const CHAINS: [Example; 3] = [
+pub const CHAINS: &[Example] = &[
     Example {
         name: "a script without a flow may have no step",
         flow: NO_FLOW,

@@ -1,5 +1,5 @@
 //! Crowds and counts, and arguments that name none.
-use crate::tests::expect_of;
+use crate::tests::{Host, expect};
 use std::alloc::{AllocError, Global};
 
 /// The arguments that a line of words gives.
@@ -14,7 +14,7 @@ fn words(alloc: Global, line: &str) -> Result<Vec<String>, AllocError> {
 const USAGE: &str = "usage: flow_play [crowd E S N | count T N]\n";
 
 /// Arguments, the status, and what is printed.
-const RUNS: [(&str, u8, &str); 19] = [
+const RUNS: &[(&str, u8, &str)] = &[
     (
         "crowd 2 2 100",
         0,
@@ -40,10 +40,22 @@ const RUNS: [(&str, u8, &str); 19] = [
     ("other", 2, USAGE),
 ];
 
+fn run_each<H: Host>(rt: &H, runs: &[(&str, u8, &str)]) {
+    for (line, status, printed) in runs {
+        let args = words(rt.alloc(), line).expect(rt, "memory");
+        let script = b"".as_slice();
+        expect(
+            rt,
+            line,
+            args.as_slice(),
+            script,
+            *status,
+            printed.as_bytes(),
+        );
+    }
+}
+
 #[test]
 fn arguments_name_a_crowd_or_a_count_or_print_the_usage(rt: HostRuntime) {
-    for (line, status, printed) in RUNS {
-        let args = words(rt.alloc(), line).expect(&rt, "memory");
-        expect_of(&rt, line, args.as_slice(), b"", status, printed);
-    }
+    run_each(&rt, RUNS);
 }

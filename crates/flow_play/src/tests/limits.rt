@@ -1,10 +1,9 @@
-//! Scripts at each limit and one above it.
-use crate::tests::draft::{Draft, Form, NO_FLOW};
-use crate::tests::{Host, expect};
+//! Scripts at each limit and one above it, and faults that come before a limit.
+use crate::tests::Host;
+use crate::tests::script::{Form, NO_FLOW, play};
 use std::alloc::AllocError;
 
-/// A step with a part that stands again and again: how often it may, and what is printed then and with one more.
-#[derive(Clone, Copy)]
+/// A step with a part that stands again and again.
 struct Limit {
     name: &'static str,
     /// The keys of the flow; or the flows with their names, where the step names its own.
@@ -13,11 +12,8 @@ struct Limit {
     part: &'static str,
     separator: &'static str,
     after: &'static str,
-    most: usize,
-    lines: &'static str,
-    /// What is printed with one part more, and the status.
-    above: &'static str,
-    status: u8,
+    /// How often the part stands, the status then, and what is printed: at the limit and above it.
+    runs: &'static [(usize, u8, &'static str)],
 }
 
 const STEP_REFUSED: &str = "script refused 8 TooLarge at step 1\n";
@@ -26,7 +22,7 @@ const HEAD_REFUSED: &str = "script refused 8 TooLarge at step 0\n";
 
 const BAD_STEP: &str = "script refused 5 BadShape at step 1\n";
 
-const LIMITS: [Limit; 5] = [
+const LIMITS: &[Limit] = &[
     Limit {
         name: "the items of a list",
         flow: NO_FLOW,
@@ -34,10 +30,7 @@ const LIMITS: [Limit; 5] = [
         part: "1",
         separator: ",",
         after: r#"]},"ops":[{"op":"take","n":1}]}"#,
-        most: 10_000,
-        lines: "[1] completed\n",
-        above: STEP_REFUSED,
-        status: 2,
+        runs: &[(10_000, 0, "[1] completed\n"), (10_001, 2, STEP_REFUSED)],
     },
     Limit {
         name: "the entries of a script",
@@ -46,10 +39,7 @@ const LIMITS: [Limit; 5] = [
         part: "1",
         separator: ",",
         after: r#"]},"ops":[{"op":"take","n":1}]}"#,
-        most: 10_000,
-        lines: "[1] completed\n",
-        above: STEP_REFUSED,
-        status: 2,
+        runs: &[(10_000, 0, "[1] completed\n"), (10_001, 2, STEP_REFUSED)],
     },
     Limit {
         name: "the entries of a transform",
@@ -58,10 +48,7 @@ const LIMITS: [Limit; 5] = [
         part: "1",
         separator: ",",
         after: r#"]},{"op":"take","n":1}]}"#,
-        most: 16,
-        lines: "[2] completed\n",
-        above: STEP_REFUSED,
-        status: 2,
+        runs: &[(16, 0, "[2] completed\n"), (17, 2, STEP_REFUSED)],
     },
     Limit {
         name: "the letters of a name",
@@ -70,10 +57,7 @@ const LIMITS: [Limit; 5] = [
         part: "a",
         separator: "",
         after: "\"",
-        most: 32,
-        lines: "subscribed\n",
-        above: BAD_STEP,
-        status: 2,
+        runs: &[(32, 0, "subscribed\n"), (33, 2, BAD_STEP)],
     },
     Limit {
         name: "the depth of a chain",
@@ -82,15 +66,12 @@ const LIMITS: [Limit; 5] = [
         part: r#"{"op":"map","by":"add","k":1}"#,
         separator: ",",
         after: "]}",
-        most: 63,
-        lines: "[63] completed\n",
-        above: "refused 5 TooDeep\n",
-        status: 0,
+        runs: &[(63, 0, "[63] completed\n"), (64, 0, "refused 5 TooDeep\n")],
     },
 ];
 
 /// Limits that only version 2 has.
-const SEVERAL: [Limit; 4] = [
+const SEVERAL: &[Limit] = &[
     Limit {
         name: "a subscriber's own first values",
         flow: r#""p":{"kind":"shared","replay":0,"extra":0,"overflow":"suspend"}"#,
@@ -98,10 +79,7 @@ const SEVERAL: [Limit; 4] = [
         part: "1",
         separator: ",",
         after: "]",
-        most: 10_000,
-        lines: "subscribed\n",
-        above: STEP_REFUSED,
-        status: 2,
+        runs: &[(10_000, 0, "subscribed\n"), (10_001, 2, STEP_REFUSED)],
     },
     Limit {
         name: "the letters of a flow's name",
@@ -110,10 +88,7 @@ const SEVERAL: [Limit; 4] = [
         part: "a",
         separator: "",
         after: "\"",
-        most: 32,
-        lines: "0\n",
-        above: BAD_STEP,
-        status: 2,
+        runs: &[(32, 0, "0\n"), (33, 2, BAD_STEP)],
     },
     Limit {
         name: "the depth of a chain that drops",
@@ -122,10 +97,7 @@ const SEVERAL: [Limit; 4] = [
         part: r#"{"op":"drop_while","by":"ne","k":0}"#,
         separator: ",",
         after: "]}",
-        most: 63,
-        lines: "[0] completed\n",
-        above: "refused 5 TooDeep\n",
-        status: 0,
+        runs: &[(63, 0, "[0] completed\n"), (64, 0, "refused 5 TooDeep\n")],
     },
     Limit {
         name: "the depth of a chain of running results",
@@ -134,14 +106,75 @@ const SEVERAL: [Limit; 4] = [
         part: r#"{"op":"running_reduce","by":"mul"}"#,
         separator: ",",
         after: "]}",
-        most: 63,
-        lines: "[1, 1] completed\n",
-        above: "refused 5 TooDeep\n",
-        status: 0,
+        runs: &[
+            (63, 0, "[1, 1] completed\n"),
+            (64, 0, "refused 5 TooDeep\n"),
+        ],
     },
 ];
 
-fn write_parts(keys: &mut String, limit: &Limit, count: usize) -> Result<(), AllocError> {
+const P_AND_Q: &str =
+    r#""p":{"kind":"shared","replay":1,"extra":0,"overflow":"suspend"},"q":{"kind":"state","initial":0}"#;
+
+/// A limit of first values comes after the flow and before the name.
+const FIRST: &[Limit] = &[
+    Limit {
+        name: "the first values of one subscriber",
+        flow: P_AND_Q,
+        before: r#""do":"subscribe","flow":"p","name":"a","first":["#,
+        part: "1,",
+        separator: "",
+        after: "1]",
+        runs: &[(10_000, 2, "script refused 8 TooLarge at step 1\n")],
+    },
+    Limit {
+        name: "the first values of the same name",
+        flow: P_AND_Q,
+        before: r#""do":"subscribe","flow":"p","name":"a"},{"do":"subscribe","flow":"p","name":"a","first":["#,
+        part: "1,",
+        separator: "",
+        after: "1]",
+        runs: &[(10_000, 2, "script refused 8 TooLarge at step 2\n")],
+    },
+    Limit {
+        name: "a form before the limit",
+        flow: P_AND_Q,
+        before: r#""do":"subscribe","flow":"p","name":"a","first":["#,
+        part: "1,",
+        separator: "",
+        after: r#"1],"at":1"#,
+        runs: &[(10_000, 2, "script refused 5 BadShape at step 1\n")],
+    },
+    Limit {
+        name: "a first value that is no integer",
+        flow: P_AND_Q,
+        before: r#""do":"subscribe","flow":"p","name":"a","first":["#,
+        part: "1,",
+        separator: "",
+        after: "1.5]",
+        runs: &[(10_000, 2, "script refused 5 BadShape at step 1\n")],
+    },
+    Limit {
+        name: "an unknown flow before the limit",
+        flow: P_AND_Q,
+        before: r#""do":"subscribe","flow":"z","name":"a","first":["#,
+        part: "1,",
+        separator: "",
+        after: "1]",
+        runs: &[(10_000, 2, "script refused 6 UnknownName at step 1\n")],
+    },
+    Limit {
+        name: "first values of a state flow",
+        flow: P_AND_Q,
+        before: r#""do":"subscribe","flow":"q","name":"a","first":["#,
+        part: "1,",
+        separator: "",
+        after: "1]",
+        runs: &[(10_000, 2, "script refused 5 BadShape at step 1\n")],
+    },
+];
+
+fn write_keys(keys: &mut String, limit: &Limit, count: usize) -> Result<(), AllocError> {
     keys.push_str(limit.before)?;
     let mut separator = "";
     for _ in 0..count {
@@ -152,62 +185,47 @@ fn write_parts(keys: &mut String, limit: &Limit, count: usize) -> Result<(), All
     keys.push_str(limit.after)
 }
 
-fn write_step(draft: &mut Draft, flow: &str, keys: &str) -> Result<(), AllocError> {
-    draft.begin(flow)?;
-    draft.step(keys)?;
-    draft.end()
+fn play_runs<H: Host>(rt: &H, form: &Form, limit: &Limit) {
+    for (count, status, lines) in limit.runs {
+        let mut keys = String::new(rt.alloc());
+        write_keys(&mut keys, limit, *count).expect(rt, "memory");
+        let steps = [(keys.as_str(), "")];
+        play(rt, limit.name, form, limit.flow, &steps, *status, lines);
+    }
 }
 
-fn play<H: Host>(rt: &H, form: Form, limit: &Limit, count: usize, status: u8, lines: &str) {
-    let mut keys = String::new(rt.alloc());
-    let mut draft = Draft::new(rt.alloc(), form);
-    write_parts(&mut keys, limit, count).expect(rt, "memory");
-    write_step(&mut draft, limit.flow, keys.as_str()).expect(rt, "memory");
-    expect(rt, limit.name, draft.text.as_bytes(), status, lines);
-}
-
-/// Plays each script with as many parts as it may have, and with one more.
-fn keep_to<H: Host>(rt: &H, form: Form, limits: &[Limit]) {
+fn keep_to<H: Host>(rt: &H, form: &Form, limits: &[Limit]) {
     for limit in limits {
-        play(rt, form, limit, limit.most, 0, limit.lines);
-        play(
-            rt,
-            form,
-            limit,
-            limit.most.saturating_add(1),
-            limit.status,
-            limit.above,
-        );
+        play_runs(rt, form, limit);
     }
-}
-
-fn write_steps(draft: &mut Draft, flow: &str, keys: &str, count: usize) -> Result<(), AllocError> {
-    draft.begin(flow)?;
-    for _ in 0..count {
-        draft.step(keys)?;
-    }
-    draft.end()
-}
-
-fn play_steps<H: Host>(rt: &H, form: Form, count: usize, status: u8, lines: &str) {
-    let mut draft = Draft::new(rt.alloc(), form);
-    let flow = r#""kind":"state","initial":7"#;
-    write_steps(&mut draft, flow, r#""do":"value""#, count).expect(rt, "memory");
-    expect(rt, "many steps", draft.text.as_bytes(), status, lines);
-}
-
-#[test]
-fn a_script_has_at_most_10_000_steps(rt: HostRuntime) {
-    let lines = "7\n".repeat(rt.alloc(), 10_000).expect(&rt, "memory");
-    play_steps(&rt, Form::One, 10_000, 0, lines.as_str());
-    play_steps(&rt, Form::Named, 10_000, 0, lines.as_str());
-    play_steps(&rt, Form::One, 10_001, 2, HEAD_REFUSED);
-    play_steps(&rt, Form::Named, 10_001, 2, HEAD_REFUSED);
 }
 
 #[test]
 fn each_limit_is_kept(rt: HostRuntime) {
-    keep_to(&rt, Form::One, &LIMITS);
-    keep_to(&rt, Form::Named, &LIMITS);
-    keep_to(&rt, Form::Several, &SEVERAL);
+    keep_to(&rt, &Form::One, LIMITS);
+    keep_to(&rt, &Form::Named, LIMITS);
+    keep_to(&rt, &Form::Several, SEVERAL);
+    keep_to(&rt, &Form::Several, FIRST);
+}
+
+const STATE: &str = r#""kind":"state","initial":7"#;
+
+const VALUE: &str = r#""do":"value""#;
+
+#[test]
+fn a_script_has_at_most_10_000_steps(rt: HostRuntime) {
+    let most = vec![in rt.alloc(); (VALUE, "7"); 10_000].expect(&rt, "memory");
+    let above = vec![in rt.alloc(); (VALUE, ""); 10_001].expect(&rt, "memory");
+    for form in &[Form::One, Form::Named] {
+        play(&rt, "10,000 steps", form, STATE, most.as_slice(), 0, "");
+        play(
+            &rt,
+            "10,001 steps",
+            form,
+            STATE,
+            above.as_slice(),
+            2,
+            HEAD_REFUSED,
+        );
+    }
 }

@@ -1,8 +1,8 @@
-//! Scripts that are written step by step, in either version.
-use std::alloc::{AllocError, Global};
+//! Scripts that are written by their steps, in either version, and played.
+use crate::tests::{Host, expect};
+use std::alloc::AllocError;
 
 /// The form that a script is written in.
-#[derive(Clone, Copy)]
 pub enum Form {
     /// Version 1: the keys of one flow, and steps on it.
     One,
@@ -12,59 +12,63 @@ pub enum Form {
     Several,
 }
 
+/// The keys of a step, and the line that it is to print, if any.
+pub type Step<'a> = (&'a str, &'a str);
+
 /// The keys of a head without a flow.
 pub const NO_FLOW: &str = r#""kind":"none""#;
 
+const VERSION_1: &str = r#"{"version":1,"flow":{"#;
+
+const VERSION_2: &str = r#"{"version":2,"flows":{"#;
+
 const COLLECT: &str = r#""do":"collect""#;
 
-/// A script that is being written.
-#[derive(Drop)]
-pub struct Draft {
-    pub text: String,
-    form: Form,
-    separator: &'static str,
+/// Writes a script of these steps, with the keys of its flow, or with its flows. Without a flow the row of version 2 is
+/// empty. A collection names no flow.
+fn write(text: &mut String, form: &Form, flow: &str, steps: &[Step<'_>]) -> Result<(), AllocError> {
+    let (before, flow, after) = match form {
+        Form::One => (VERSION_1, flow, "}"),
+        Form::Named if flow == NO_FLOW => (VERSION_2, "", "}"),
+        Form::Named => (r#"{"version":2,"flows":{"f":{"#, flow, "}}"),
+        Form::Several => (VERSION_2, flow, "}"),
+    };
+    write!(text, r#"{before}{flow}{after},"steps":["#)?;
+    let mut separator = "";
+    for (keys, _) in steps {
+        let name = match form {
+            Form::Named if !keys.starts_with(COLLECT) => r#""flow":"f","#,
+            _ => "",
+        };
+        write!(text, "{separator}{{{name}{keys}}}")?;
+        separator = ",";
+    }
+    text.push_str("]}")
 }
 
-impl Draft {
-    pub fn new(alloc: Global, form: Form) -> Self {
-        Draft {
-            text: String::new(alloc),
-            form,
-            separator: "",
+fn write_lines(lines: &mut String, first: &str, steps: &[Step<'_>]) -> Result<(), AllocError> {
+    lines.push_str(first)?;
+    for (_, line) in steps {
+        if !line.is_empty() {
+            writeln!(lines, "{line}")?;
         }
     }
+    Ok(())
+}
 
-    /// The head, with the keys of its flow, or with its flows. Without a flow the row of version 2 is empty.
-    pub fn begin(&mut self, flow: &str) -> Result<(), AllocError> {
-        match self.form {
-            Form::One => self.add(r#"{"version":1,"flow":{"#, flow, r#"},"steps":["#),
-            Form::Named if flow == NO_FLOW => self.add(
-                r#"{"version":2,"flows":{"#,
-                "",
-                r#"},"steps":["#,
-            ),
-            Form::Named => self.add(r#"{"version":2,"flows":{"f":{"#, flow, r#"}},"steps":["#),
-            Form::Several => self.add(r#"{"version":2,"flows":{"#, flow, r#"},"steps":["#),
-        }
-    }
-
-    /// A step, of which these are the keys. A collection names no flow.
-    pub fn step(&mut self, keys: &str) -> Result<(), AllocError> {
-        self.text.push_str(self.separator)?;
-        self.separator = ",";
-        match self.form {
-            Form::Named if !keys.starts_with(COLLECT) => self.add(r#"{"flow":"f","#, keys, "}"),
-            _ => self.add("{", keys, "}"),
-        }
-    }
-
-    pub fn end(&mut self) -> Result<(), AllocError> {
-        self.text.push_str("]}")
-    }
-
-    fn add(&mut self, before: &str, middle: &str, after: &str) -> Result<(), AllocError> {
-        self.text.push_str(before)?;
-        self.text.push_str(middle)?;
-        self.text.push_str(after)
-    }
+/// Plays a script in this form. What it prints before the lines of its steps is why it is refused, or which flows are.
+pub fn play<H: Host>(
+    rt: &H,
+    name: &str,
+    form: &Form,
+    flow: &str,
+    steps: &[Step<'_>],
+    status: u8,
+    first: &str,
+) {
+    let mut text = String::new(rt.alloc());
+    let mut lines = String::new(rt.alloc());
+    write(&mut text, form, flow, steps).expect(rt, "memory");
+    write_lines(&mut lines, first, steps).expect(rt, "memory");
+    expect(rt, name, &[], text.as_bytes(), status, lines.as_bytes());
 }

@@ -1,9 +1,8 @@
 //! Worked examples of scripts with several flows.
-use crate::tests::draft::Form;
-use crate::tests::examples::{Example, play};
+use crate::tests::examples::Example;
 
 /// Each with the lines of the flows that are refused, which come first.
-const EXAMPLES: [(Example, &str); 13] = [
+pub const SEVERAL: &[(Example, &str)] = &[
     (
         Example {
             name: "own first values, a state flow, a refused flow, and the two operators of version 2",
@@ -154,6 +153,10 @@ const EXAMPLES: [(Example, &str); 13] = [
         },
         "",
     ),
+];
+
+/// What shared chains keep until it expires, and the operators of version 2.
+pub const EXPIRING: &[(Example, &str)] = &[
     (
         Example {
             name: "a shared chain that nobody reads forgets what it kept",
@@ -298,10 +301,3 @@ const EXAMPLES: [(Example, &str); 13] = [
         "",
     ),
 ];
-
-#[test]
-fn several_flows_play_in_one_script(rt: HostRuntime) {
-    for (example, refused) in EXAMPLES {
-        play(&rt, Form::Several, &example, refused);
-    }
-}

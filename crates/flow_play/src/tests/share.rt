@@ -1,10 +1,7 @@
 //! Worked examples of chains that are shared.
-use crate::tests::draft::{Draft, Form};
 use crate::tests::examples::Example;
-use crate::tests::{Host, expect};
-use std::alloc::AllocError;
 
-pub const SHARE: [Example; 5] = [
+pub const SHARE: &[Example] = &[
     Example {
         name: "a chain runs while it has subscribers",
         flow: r#""kind":"share","chain":{"from":{"of":[10,20,30,40]},"ops":[]},"started":{"stop":100},"replay":0"#,
@@ -81,52 +78,80 @@ pub const SHARE: [Example; 5] = [
             (r#""do":"turn","at":4"#, "keep completed"),
         ],
     },
+    // Its subscriber reads nothing until the chain has given 64 items and more: the 65th waits, and then the 66th.
+    Example {
+        name: "a slow subscriber holds the chain",
+        flow: r#""kind":"share","chain":{"from":{"range":[1,66]},"ops":[]},"started":"eagerly","replay":0"#,
+        steps: &[
+            (r#""do":"subscribe","name":"a""#, "subscribed"),
+            (r#""do":"turn","at":0"#, "start put"),
+            (r#""do":"turn","at":1"#, "keep put"),
+            (r#""do":"turn","at":2"#, "keep put"),
+            (r#""do":"turn","at":3"#, "keep put"),
+            (r#""do":"turn","at":4"#, "keep put"),
+            (r#""do":"turn","at":5"#, "keep put"),
+            (r#""do":"turn","at":6"#, "keep put"),
+            (r#""do":"turn","at":7"#, "keep put"),
+            (r#""do":"turn","at":8"#, "keep put"),
+            (r#""do":"turn","at":9"#, "keep put"),
+            (r#""do":"turn","at":10"#, "keep put"),
+            (r#""do":"turn","at":11"#, "keep put"),
+            (r#""do":"turn","at":12"#, "keep put"),
+            (r#""do":"turn","at":13"#, "keep put"),
+            (r#""do":"turn","at":14"#, "keep put"),
+            (r#""do":"turn","at":15"#, "keep put"),
+            (r#""do":"turn","at":16"#, "keep put"),
+            (r#""do":"turn","at":17"#, "keep put"),
+            (r#""do":"turn","at":18"#, "keep put"),
+            (r#""do":"turn","at":19"#, "keep put"),
+            (r#""do":"turn","at":20"#, "keep put"),
+            (r#""do":"turn","at":21"#, "keep put"),
+            (r#""do":"turn","at":22"#, "keep put"),
+            (r#""do":"turn","at":23"#, "keep put"),
+            (r#""do":"turn","at":24"#, "keep put"),
+            (r#""do":"turn","at":25"#, "keep put"),
+            (r#""do":"turn","at":26"#, "keep put"),
+            (r#""do":"turn","at":27"#, "keep put"),
+            (r#""do":"turn","at":28"#, "keep put"),
+            (r#""do":"turn","at":29"#, "keep put"),
+            (r#""do":"turn","at":30"#, "keep put"),
+            (r#""do":"turn","at":31"#, "keep put"),
+            (r#""do":"turn","at":32"#, "keep put"),
+            (r#""do":"turn","at":33"#, "keep put"),
+            (r#""do":"turn","at":34"#, "keep put"),
+            (r#""do":"turn","at":35"#, "keep put"),
+            (r#""do":"turn","at":36"#, "keep put"),
+            (r#""do":"turn","at":37"#, "keep put"),
+            (r#""do":"turn","at":38"#, "keep put"),
+            (r#""do":"turn","at":39"#, "keep put"),
+            (r#""do":"turn","at":40"#, "keep put"),
+            (r#""do":"turn","at":41"#, "keep put"),
+            (r#""do":"turn","at":42"#, "keep put"),
+            (r#""do":"turn","at":43"#, "keep put"),
+            (r#""do":"turn","at":44"#, "keep put"),
+            (r#""do":"turn","at":45"#, "keep put"),
+            (r#""do":"turn","at":46"#, "keep put"),
+            (r#""do":"turn","at":47"#, "keep put"),
+            (r#""do":"turn","at":48"#, "keep put"),
+            (r#""do":"turn","at":49"#, "keep put"),
+            (r#""do":"turn","at":50"#, "keep put"),
+            (r#""do":"turn","at":51"#, "keep put"),
+            (r#""do":"turn","at":52"#, "keep put"),
+            (r#""do":"turn","at":53"#, "keep put"),
+            (r#""do":"turn","at":54"#, "keep put"),
+            (r#""do":"turn","at":55"#, "keep put"),
+            (r#""do":"turn","at":56"#, "keep put"),
+            (r#""do":"turn","at":57"#, "keep put"),
+            (r#""do":"turn","at":58"#, "keep put"),
+            (r#""do":"turn","at":59"#, "keep put"),
+            (r#""do":"turn","at":60"#, "keep put"),
+            (r#""do":"turn","at":61"#, "keep put"),
+            (r#""do":"turn","at":62"#, "keep put"),
+            (r#""do":"turn","at":63"#, "keep put"),
+            (r#""do":"turn","at":64"#, "keep queued"),
+            (r#""do":"turn","at":65"#, "keep waiting"),
+            (r#""do":"next","name":"a""#, "value 1"),
+            (r#""do":"turn","at":66"#, "keep queued"),
+        ],
+    },
 ];
-
-/// Its subscriber reads nothing until the chain has given 64 items and more: the 65th waits, and then the 66th.
-const SLOW: &str =
-    r#""kind":"share","chain":{"from":{"range":[1,66]},"ops":[]},"started":"eagerly","replay":0"#;
-
-fn write_turns(draft: &mut Draft, keys: &mut String, lines: &mut String) -> Result<(), AllocError> {
-    for at in 1..64 {
-        keys.clear();
-        write!(keys, r#""do":"turn","at":{at}"#)?;
-        draft.step(keys.as_str())?;
-        lines.push_str("keep put\n")?;
-    }
-    Ok(())
-}
-
-fn write_slow(draft: &mut Draft, keys: &mut String, lines: &mut String) -> Result<(), AllocError> {
-    draft.begin(SLOW)?;
-    draft.step(r#""do":"subscribe","name":"a""#)?;
-    draft.step(r#""do":"turn","at":0"#)?;
-    lines.push_str("subscribed\nstart put\n")?;
-    write_turns(draft, keys, lines)?;
-    draft.step(r#""do":"turn","at":64"#)?;
-    draft.step(r#""do":"turn","at":65"#)?;
-    draft.step(r#""do":"next","name":"a""#)?;
-    draft.step(r#""do":"turn","at":66"#)?;
-    lines.push_str("keep queued\nkeep waiting\nvalue 1\nkeep queued\n")?;
-    draft.end()
-}
-
-fn hold<H: Host>(rt: &H, form: Form) {
-    let mut draft = Draft::new(rt.alloc(), form);
-    let mut lines = String::new(rt.alloc());
-    let mut keys = String::new(rt.alloc());
-    write_slow(&mut draft, &mut keys, &mut lines).expect(rt, "memory");
-    expect(
-        rt,
-        "a slow subscriber",
-        draft.text.as_bytes(),
-        0,
-        lines.as_str(),
-    );
-}
-
-#[test]
-fn a_slow_subscriber_holds_the_chain(rt: HostRuntime) {
-    hold(&rt, Form::One);
-    hold(&rt, Form::Named);
-}

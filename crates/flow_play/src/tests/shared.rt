@@ -1,7 +1,7 @@
 //! Worked examples over a shared flow.
 use crate::tests::examples::Example;
 
-pub const SHARED: [Example; 13] = [
+pub const SHARED: &[Example] = &[
     Example {
         name: "a value without a subscriber is gone",
         flow: r#""kind":"shared","replay":0,"extra":0,"overflow":"suspend""#,

@@ -1,7 +1,7 @@
 //! A worked example over a state flow.
 use crate::tests::examples::Example;
 
-pub const STATE: [Example; 1] = [Example {
+pub const STATE: &[Example] = &[Example {
     name: "a subscriber gets the newest value once",
     flow: r#""kind":"state","initial":0"#,
     steps: &[

@@ -1,5 +1,5 @@
 //! Readers and writers that give or take little, or fail.
-use crate::tests::{Host, compare};
+use crate::tests::{Host, compare, expect};
 use flow_program::run;
 use flow_script::{ScriptLines, Watched, read_script};
 use std::io;
@@ -84,19 +84,6 @@ impl<'a> Write for Sluggish<'a> {
     }
 }
 
-/// Plays from a reader that fails after so many bytes.
-fn play_from<H: Host>(rt: &H, left: usize, wanted: u8, lines: &[u8]) {
-    let mut printed = Vec::new(rt.alloc());
-    let mut input = Watched::new(Trickle {
-        bytes: SCRIPT.as_bytes(),
-        left,
-    });
-    let mut output = Watched::new(&mut printed);
-    let status = run(rt, &[], &mut input, &mut output);
-    assert_eq!(rt; status, wanted, "from {left} bytes");
-    compare(rt, "a script in single bytes", printed.as_slice(), lines);
-}
-
 /// Plays to a writer that stops after so many bytes.
 fn play_to<H: Host>(rt: &H, left: usize, fails: bool, wanted: u8, lines: &[u8]) {
     let mut taken = Vec::new(rt.alloc());
@@ -113,7 +100,12 @@ fn play_to<H: Host>(rt: &H, left: usize, fails: bool, wanted: u8, lines: &[u8]) 
 
 #[test]
 fn a_slow_reader_or_writer_changes_nothing(rt: HostRuntime) {
-    play_from(&rt, usize::MAX, 0, LINES.as_bytes());
+    let name = "a script in single bytes";
+    let slow = Trickle {
+        bytes: SCRIPT.as_bytes(),
+        left: usize::MAX,
+    };
+    expect(&rt, name, &[], slow, 0, LINES.as_bytes());
     play_to(&rt, usize::MAX, true, 0, LINES.as_bytes());
 }
 
@@ -126,8 +118,10 @@ fn a_script_that_was_read_has_the_same_lines(rt: HostRuntime) {
 
 #[test]
 fn a_reader_that_fails_prints_its_line_alone(rt: HostRuntime) {
+    let bytes = SCRIPT.as_bytes();
     for left in 0..=SCRIPT.len() {
-        play_from(&rt, left, 3, b"read failed\n");
+        let fails = Trickle { bytes, left };
+        expect(&rt, "a reader that fails", &[], fails, 3, b"read failed\n");
     }
 }
 
@@ -143,12 +137,8 @@ fn a_writer_that_stops_has_the_first_bytes(rt: HostRuntime) {
 #[test]
 fn a_reader_without_end_is_left(rt: HostRuntime) {
     let mut given = 0;
-    let mut printed = Vec::new(rt.alloc());
-    let mut input = Watched::new(Endless { given: &mut given });
-    let mut output = Watched::new(&mut printed);
-    let status = run(&rt, &[], &mut input, &mut output);
+    let endless = Endless { given: &mut given };
     let line = b"script refused 8 TooLarge at step 0\n";
-    compare(&rt, "spaces without end", printed.as_slice(), line);
-    assert_eq!(rt; status, 2);
+    expect(&rt, "spaces without end", &[], endless, 2, line);
     assert_eq!(rt; given, 1_048_577);
 }

@@ -1,7 +1,7 @@
 //! Texts that are no script: cut, spoilt, nested too deep, too long, or of another version.
 use crate::tests::streams::{LINES, SCRIPT};
 use crate::tests::{Host, expect};
-use std::alloc::{AllocError, Global};
+use std::mem;
 
 const NOT_JSON: &str = "script refused 3 NotJson\n";
 
@@ -15,7 +15,7 @@ const TOO_LARGE: &str = "script refused 8 TooLarge at step 0\n";
 const TWO_FLOWS: &str =
     r#"{"version":2,"flows":{"p":{"kind":"shared","replay":1,"extra":0,"overflow":"suspend"},"q":{"kind":"state","initial":0}},"steps":[{"do":"subscribe","flow":"p","name":"a","first":[8]},{"do":"set","flow":"q","value":3},{"do":"next","flow":"p","name":"a"}]}"#;
 
-const TEXTS: [(&str, &str); 25] = [
+const TEXTS: &[(&str, &str)] = &[
     ("", NOT_JSON),
     ("{", NOT_JSON),
     ("[]", BAD_HEAD),
@@ -74,87 +74,62 @@ const TEXTS: [(&str, &str); 25] = [
     ),
 ];
 
+fn refuse<H: Host>(rt: &H, texts: &[(&str, &str)]) {
+    for (text, line) in texts {
+        expect(rt, text, &[], text.as_bytes(), 2, line.as_bytes());
+    }
+}
+
 #[test]
 fn a_text_that_is_no_script_is_told_so(rt: HostRuntime) {
-    for (text, line) in TEXTS {
-        expect(&rt, text, text.as_bytes(), 2, line);
-    }
+    refuse(&rt, TEXTS);
 }
 
-fn cut<H: Host>(rt: &H, script: &[u8]) {
-    for length in 0..script.len() {
-        expect(rt, "a part of a script", &script[..length], 2, NOT_JSON);
-    }
-}
-
-/// The script with a byte 0 in the place of another.
-fn spoilt(alloc: Global, script: &str, at: usize) -> Result<Vec<u8>, AllocError> {
-    let mut bytes = script.as_bytes().to_vec(alloc)?;
-    if let Some(byte) = bytes.get_mut(at) {
-        *byte = 0;
-    }
-    Ok(bytes)
-}
-
-fn spoil<H: Host>(rt: &H, script: &str) {
+/// Each first part of the script, and the script with a byte 0 in the place of each other.
+fn spoil<H: Host>(rt: &H, script: &[u8]) {
+    let line = NOT_JSON.as_bytes();
+    let mut spoilt = script.to_vec(rt.alloc()).expect(rt, "memory");
     for at in 0..script.len() {
-        let bytes = spoilt(rt.alloc(), script, at).expect(rt, "memory");
-        expect(rt, "a script with a byte 0", bytes.as_slice(), 2, NOT_JSON);
+        expect(rt, "a part of a script", &[], &script[..at], 2, line);
+        let byte = mem::replace(&mut spoilt[at], 0);
+        expect(rt, "a byte 0", &[], spoilt.as_slice(), 2, line);
+        spoilt[at] = byte;
     }
 }
 
 #[test]
 fn a_part_or_a_spoilt_script_is_no_json(rt: HostRuntime) {
-    expect(
-        &rt,
-        "two flows",
-        TWO_FLOWS.as_bytes(),
-        0,
-        "subscribed\nset\nvalue 8\n",
-    );
-    cut(&rt, SCRIPT.as_bytes());
-    cut(&rt, TWO_FLOWS.as_bytes());
-    spoil(&rt, SCRIPT);
-    spoil(&rt, TWO_FLOWS);
+    let text = TWO_FLOWS.as_bytes();
+    let lines = b"subscribed\nset\nvalue 8\n";
+    expect(&rt, "two flows", &[], text, 0, lines);
+    spoil(&rt, SCRIPT.as_bytes());
+    spoil(&rt, text);
 }
 
-/// So many brackets that open, and as many that close.
-fn nested(alloc: Global, depth: usize) -> Result<Vec<u8>, AllocError> {
-    let mut text = vec![in alloc; b'['; depth]?;
-    text.resize(depth.saturating_mul(2), b']')?;
-    Ok(text)
-}
+/// A text, the bytes that then stand after it and how many of each, what is printed, and the status.
+type Sized = (&'static str, &'static [(usize, u8)], &'static str, u8);
 
-fn nest<H: Host>(rt: &H, depth: usize, line: &str) {
-    let text = nested(rt.alloc(), depth).expect(rt, "memory");
-    expect(rt, "nested brackets", text.as_slice(), 2, line);
-}
-
-/// The text with spaces after it, so many bytes in all.
-fn padded(alloc: Global, text: &str, size: usize) -> Result<Vec<u8>, AllocError> {
-    let mut bytes = text.as_bytes().to_vec(alloc)?;
-    bytes.resize(size, b' ')?;
-    Ok(bytes)
-}
-
-/// Texts that are padded to a size, what is printed then, and the status.
-const SIZES: [(&str, usize, &str, u8); 4] = [
-    (SCRIPT, 1_048_576, LINES, 0),
-    (SCRIPT, 1_048_577, TOO_LARGE, 2),
-    ("", 1_048_576, NOT_JSON, 2),
-    ("", 1_048_577, TOO_LARGE, 2),
+const SIZES: &[Sized] = &[
+    ("", &[(127, b'['), (127, b']')], BAD_HEAD, 2),
+    ("", &[(128, b'['), (128, b']')], NOT_JSON, 2),
+    (SCRIPT, &[(1_048_576 - SCRIPT.len(), b' ')], LINES, 0),
+    (SCRIPT, &[(1_048_577 - SCRIPT.len(), b' ')], TOO_LARGE, 2),
+    ("", &[(1_048_576, b' ')], NOT_JSON, 2),
+    ("", &[(1_048_577, b' ')], TOO_LARGE, 2),
 ];
 
-fn pad<H: Host>(rt: &H, text: &str, size: usize, lines: &str, status: u8) {
-    let bytes = padded(rt.alloc(), text, size).expect(rt, "memory");
-    expect(rt, "a padded text", bytes.as_slice(), status, lines);
+fn pad<H: Host>(rt: &H, sizes: &[Sized]) {
+    for (text, padding, lines, status) in sizes {
+        let mut bytes = text.as_bytes().to_vec(rt.alloc()).expect(rt, "memory");
+        for (count, byte) in *padding {
+            let length = bytes.len().saturating_add(*count);
+            bytes.resize(length, *byte).expect(rt, "memory");
+        }
+        expect(rt, text, &[], bytes.as_slice(), *status, lines.as_bytes());
+    }
 }
 
 #[test]
 fn a_text_nests_at_most_127_deep_in_1_048_576_bytes(rt: HostRuntime) {
-    nest(&rt, 127, BAD_HEAD);
-    nest(&rt, 128, NOT_JSON);
-    for (text, size, lines, status) in SIZES {
-        pad(&rt, text, size, lines, status);
-    }
+    pad(&rt, SIZES);
 }
