@@ -12,19 +12,15 @@ fn come_back<T: Packed + Copy + PartialEq + Drop>(rt: &impl Abort, place: usize,
 }
 
 #[test]
-fn signed_numbers(rt: HostRuntime) {
+fn numbers(rt: HostRuntime) {
     come_back(&rt, 0, &[i64::MIN, -1, 0, 1, i64::MAX]);
     come_back(&rt, 1, &[i32::MIN, -1, 0, 1, i32::MAX]);
     come_back(&rt, 2, &[i16::MIN, -1, 0, 1, i16::MAX]);
     come_back(&rt, 3, &[i8::MIN, -1, 0, 1, i8::MAX]);
-}
-
-#[test]
-fn unsigned_numbers(rt: HostRuntime) {
-    come_back(&rt, 0, &[0, 1, u64::MAX]);
-    come_back(&rt, 1, &[0, 1, u32::MAX]);
-    come_back(&rt, 2, &[0, 1, u16::MAX]);
-    come_back(&rt, 3, &[0, 1, u8::MAX]);
+    come_back(&rt, 4, &[0, 1, u64::MAX]);
+    come_back(&rt, 5, &[0, 1, u32::MAX]);
+    come_back(&rt, 6, &[0, 1, u16::MAX]);
+    come_back(&rt, 7, &[0, 1, u8::MAX]);
 }
 
 #[test]
