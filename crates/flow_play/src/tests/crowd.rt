@@ -1,5 +1,5 @@
 //! Crowds and counts, and arguments that name none.
-use crate::tests::{Host, expect};
+use crate::tests::expect;
 use std::alloc::{AllocError, Global};
 
 /// The arguments that a line of words gives.
@@ -40,12 +40,13 @@ const RUNS: &[(&str, u8, &str)] = &[
     ("other", 2, USAGE),
 ];
 
-fn run_each<H: Host>(rt: &H, runs: &[(&str, u8, &str)]) {
-    for (line, status, printed) in runs {
-        let args = words(rt.alloc(), line).expect(rt, "memory");
+#[test]
+fn arguments_name_a_crowd_or_a_count_or_print_the_usage(rt: HostRuntime) {
+    for (line, status, printed) in RUNS {
+        let args = words(rt.alloc(), line).expect(&rt, "memory");
         let script = b"".as_slice();
         expect(
-            rt,
+            &rt,
             line,
             args.as_slice(),
             script,
@@ -53,9 +54,4 @@ fn run_each<H: Host>(rt: &H, runs: &[(&str, u8, &str)]) {
             printed.as_bytes(),
         );
     }
-}
-
-#[test]
-fn arguments_name_a_crowd_or_a_count_or_print_the_usage(rt: HostRuntime) {
-    run_each(&rt, RUNS);
 }

@@ -1,5 +1,4 @@
 //! As many flows as a script may have, and one more.
-use crate::tests::Host;
 use crate::tests::script::{Form, play};
 use std::alloc::AllocError;
 
@@ -58,17 +57,13 @@ const FLOWS: &[(usize, &str, &str, u8, &str)] = &[
     (65, "", r#""do":"fly""#, 2, TOO_MANY),
 ];
 
-fn play_each<H: Host>(rt: &H, rows: &[(usize, &str, &str, u8, &str)]) {
-    for (count, last, keys, status, lines) in rows {
-        let mut flows = String::new(rt.alloc());
-        write_flows(&mut flows, *count, last).expect(rt, "memory");
-        let steps = [(*keys, "")];
-        let form = &Form::Several;
-        play(rt, keys, form, flows.as_str(), &steps, *status, lines);
-    }
-}
-
 #[test]
 fn a_script_has_at_most_64_flows(rt: HostRuntime) {
-    play_each(&rt, FLOWS);
+    for (count, last, keys, status, lines) in FLOWS {
+        let mut flows = String::new(rt.alloc());
+        write_flows(&mut flows, *count, last).expect(&rt, "memory");
+        let steps = [(*keys, "")];
+        let form = &Form::Several;
+        play(&rt, keys, form, flows.as_str(), &steps, *status, lines);
+    }
 }

@@ -186,16 +186,12 @@ const COUNT: &str = r#""do":"count""#;
 const COLLECT: &str = r#""do":"collect","chain":{"from":{"of":[1]},"ops":[]}"#;
 
 /// Version 1 plays no step; in version 2 a step on the flow prints that there is no flow, and the chain is collected.
-fn refuse_flows<H: Host>(rt: &H, flows: &[(&str, &str, &str)]) {
-    for (flow, line, named) in flows {
-        let steps = [(COUNT, ""), (COLLECT, "")];
-        play(rt, flow, &Form::One, flow, &steps, 0, line);
-        let steps = [(COUNT, "no flow"), (COLLECT, "[1] completed")];
-        play(rt, flow, &Form::Named, flow, &steps, 0, named);
-    }
-}
-
 #[test]
 fn a_refused_flow_plays_no_step(rt: HostRuntime) {
-    refuse_flows(&rt, FLOWS);
+    for (flow, line, named) in FLOWS {
+        let steps = [(COUNT, ""), (COLLECT, "")];
+        play(&rt, flow, &Form::One, flow, &steps, 0, line);
+        let steps = [(COUNT, "no flow"), (COLLECT, "[1] completed")];
+        play(&rt, flow, &Form::Named, flow, &steps, 0, named);
+    }
 }

@@ -74,15 +74,11 @@ const TEXTS: &[(&str, &str)] = &[
     ),
 ];
 
-fn refuse<H: Host>(rt: &H, texts: &[(&str, &str)]) {
-    for (text, line) in texts {
-        expect(rt, text, &[], text.as_bytes(), 2, line.as_bytes());
-    }
-}
-
 #[test]
 fn a_text_that_is_no_script_is_told_so(rt: HostRuntime) {
-    refuse(&rt, TEXTS);
+    for (text, line) in TEXTS {
+        expect(&rt, text, &[], text.as_bytes(), 2, line.as_bytes());
+    }
 }
 
 /// Each first part of the script, and the script with a byte 0 in the place of each other.
@@ -118,18 +114,14 @@ const SIZES: &[Sized] = &[
     ("", &[(1_048_577, b' ')], TOO_LARGE, 2),
 ];
 
-fn pad<H: Host>(rt: &H, sizes: &[Sized]) {
-    for (text, padding, lines, status) in sizes {
-        let mut bytes = text.as_bytes().to_vec(rt.alloc()).expect(rt, "memory");
-        for (count, byte) in *padding {
-            let length = bytes.len().saturating_add(*count);
-            bytes.resize(length, *byte).expect(rt, "memory");
-        }
-        expect(rt, text, &[], bytes.as_slice(), *status, lines.as_bytes());
-    }
-}
-
 #[test]
 fn a_text_nests_at_most_127_deep_in_1_048_576_bytes(rt: HostRuntime) {
-    pad(&rt, SIZES);
+    for (text, padding, lines, status) in SIZES {
+        let mut bytes = text.as_bytes().to_vec(rt.alloc()).expect(&rt, "memory");
+        for (count, byte) in *padding {
+            let length = bytes.len().saturating_add(*count);
+            bytes.resize(length, *byte).expect(&rt, "memory");
+        }
+        expect(&rt, text, &[], bytes.as_slice(), *status, lines.as_bytes());
+    }
 }
