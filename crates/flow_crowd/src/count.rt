@@ -48,10 +48,6 @@ impl<'a> Counter<'a> {
         }
     }
 
-    fn value(&mut self) -> i64 {
-        self.state.value(&mut self.seat)
-    }
-
     /// As many counters as threads, made through this one.
     fn others(&mut self, alloc: Global, size: CountSize) -> Result<Vec<Counter<'a>>, FlowFault>
         ensures { IfErr result (λ fault. fault ≡ FlowFault.OutOfMemory) }
@@ -95,5 +91,5 @@ pub fn run_count<R: Threads + Wait + Sync>(
         threads,
         &|_, counter| { counter.count_up(rt, size.updates) },
     );
-    Ok(maker.value())
+    Ok(maker.state.value(&mut maker.seat))
 }

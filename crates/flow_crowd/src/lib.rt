@@ -10,12 +10,13 @@
 //! then stop, and the answer is want of memory.
 #![tactic(auto)]
 
+mod caller;
 mod count;
 mod crowd;
-mod emitter;
 mod order;
 mod reader;
 mod size;
+mod worker;
 
 pub use count::{CountSize, run_count};
 pub use crowd::run_crowd;

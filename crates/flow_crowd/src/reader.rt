@@ -21,30 +21,14 @@ pub struct Received {
 /// A flow, a subscription to it, the flag that makes all stop, and what is kept of each emitter.
 #[derive(Drop)]
 pub struct Reader<'a> {
-    flow: &'a SharedFlow<i64>,
-    subscription: Subscription<i64>,
-    stop: &'a AtomicCell<bool>,
-    orders: Vec<Order>,
+    pub flow: &'a SharedFlow<i64>,
+    pub subscription: Subscription<i64>,
+    pub stop: &'a AtomicCell<bool>,
+    pub orders: Vec<Order>,
     ghost of_flow: { subscription.token.table_id ≡ flow.now.table_id },
 }
 
 impl<'a> Reader<'a> {
-    pub fn new(
-        flow: &'a SharedFlow<i64>,
-        subscription: Subscription<i64>,
-        stop: &'a AtomicCell<bool>,
-        orders: Vec<Order>,
-    ) -> Reader<'a>
-        requires { subscription.token.table_id ≡ flow.now.table_id }
-    {
-        Reader {
-            flow,
-            subscription,
-            stop,
-            orders,
-        }
-    }
-
     /// The next value, once there is one. `None` where all are to stop.
     fn next<R: Wait>(&mut self, rt: &R) -> Option<i64> {
         for _ in rt.forever() {
@@ -86,23 +70,18 @@ impl<'a> Reader<'a> {
 
 /// Adds a value to what came of its emitter, and answers whether all of that is in order.
 fn add(orders: &mut [Order], size: CrowdSize, value: i64) -> bool {
-    let Some((emitter, place)) = place_of(size, value) else {
+    let values = u64::from(size.values);
+    let Ok(value) = u64::try_from(value) else {
         return false;
     };
-    let Some(order) = orders.get_mut(emitter) else {
+    if values == 0 {
         return false;
-    };
-    order.add(place);
-    order.is_kept()
-}
-
-/// Which emitter emits the value, and at which place among its values.
-fn place_of(size: CrowdSize, value: i64) -> Option<(usize, u64)> {
-    let value = u64::try_from(value).ok()?;
-    let count = u64::from(size.values);
-    if count == 0 {
-        return None;
     }
-    let emitter = usize::try_from(value / count).ok()?;
-    Some((emitter, value % count))
+    match orders.get_mut((value / values) as usize) {
+        Some(order) => {
+            order.add(value % values);
+            order.is_kept()
+        }
+        None => false,
+    }
 }
