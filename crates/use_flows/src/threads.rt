@@ -14,8 +14,11 @@ use std::thread::{Threads, join};
 pub fn add_up<R: Wait + Threads + Sync>(rt: &R, alloc: Global) -> Result<i64, FlowFault> {
     let (flow, mut seat) = SharedFlow::new(alloc, Config::new().extra(16))?;
     let subscription = flow.subscribe(rt, &mut seat)?;
-    let mut sender = Sender::new(&flow, seat);
-    let mut reader = Reader::new(&flow, subscription);
+    let mut sender = Sender { flow: &flow, seat };
+    let mut reader = Reader {
+        flow: &flow,
+        subscription,
+    };
     let (sent, sum) = join(rt, || sender.send(rt, 1..6), || reader.add_up(rt, 5));
     sent?;
     sum

@@ -9,18 +9,12 @@ use std::sync::Wait;
 /// A flow, and a seat of it.
 #[derive(Drop)]
 pub struct Sender<'a> {
-    flow: &'a SharedFlow<i64>,
-    seat: Seat<i64>,
+    pub flow: &'a SharedFlow<i64>,
+    pub seat: Seat<i64>,
     ghost of_flow: { seat.table_id ≡ flow.now.table_id },
 }
 
 impl<'a> Sender<'a> {
-    pub fn new(flow: &'a SharedFlow<i64>, seat: Seat<i64>) -> Sender<'a>
-        requires { seat.table_id ≡ flow.now.table_id }
-    {
-        Sender { flow, seat }
-    }
-
     /// Emits the values one after the other.
     pub fn send<R: Wait>(&mut self, rt: &R, values: Range<i64>) -> Result<(), FlowFault> {
         for value in values {
