@@ -14,7 +14,7 @@ use Rattle.flow_law.specs.SharedStep.{settle, advance, keep_own, read, next_from
 use Rattle.flow_law.specs.SharedHistory.{reply_by, hands_out, is_refused, Replies}
 use Rattle.flow_law.specs.Standing.{Core}
 use Rattle.flow_law.specs.Covering.{Covers}
-use Rattle.flow_core.proofs.QueueLemmas.{unequal}
+use Rattle.flow_containers.proofs.QueueLemmas.{unequal}
 
 module _ {T : Type 0} where
   pub not_exhausted : (core : Core T) (s : SharedFlowState T) → Covers core s → (core.issued ≡ core.config.limit → ⊥) → is_exhausted s ≡ false

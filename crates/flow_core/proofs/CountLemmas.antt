@@ -11,8 +11,8 @@ use Rattle.flow_law.specs.declared.states.Subscriber.{Subscriber}
 use Rattle.flow_law.specs.SharedFlow.{position_of, stand_at, move_to, raise_to}
 use Rattle.flow_law.specs.Standing.{least_position}
 use Rattle.flow_law.proofs.CoveringLemmas.{least_position_bound}
-use Rattle.flow_core.specs.PositionCounts.{IsLeast, AreWithin, count_of, Fits, take_out}
-use Rattle.flow_core.proofs.PlaceLemmas.{same_place, same_place_in, other_place}
+use Rattle.flow_containers.specs.PositionCounts.{IsLeast, AreWithin, count_of, Fits, take_out}
+use Rattle.flow_containers.proofs.PlaceLemmas.{same_place, same_place_in, other_place}
 
 pub unequal : (a b : ℕ) → a ≢ b → (a == b) ≡ false
 unequal a b other = elim (a == b) as (λ t. (a == b) ≡ t → t ≡ false) [ true ↦ λ e. absurd (other ((Decides-eqb a b).0 e)) | false ↦ λ _. refl ] refl

@@ -2,12 +2,6 @@ pub mod CountLemmas
 pub mod RaisedLemmas
 pub mod SubscribersLemmas
 pub mod ReceivingLemmas
-pub mod PlaceLemmas
-pub mod QueueLemmas
-pub mod SlotLemmas
-pub mod MemberLemmas
-pub mod FoundLemmas
-pub mod MembershipLemmas
 pub mod SubscriberLemmas
 pub mod RingLemmas
 pub mod SoundLemmas

@@ -3,12 +3,12 @@ use Rattle.std.proofs.Common.{◌≡◌, ℕ, suc, ◌≤◌, ◌==◌, max, tru
 use Rattle.std.specs.Option.{option_map, option_map_or}
 use Rattle.flow_law.specs.declared.states.Subscriber.{Subscriber}
 use Rattle.flow_law.specs.SharedFlow.{position_of, stand_at, move_to, raise_to, without, own_of, leave_own, with_own}
-use Rattle.flow_core.specs.declared.members.Member.{Member}
-use Rattle.flow_core.specs.declared.members.enroll.Row.{Row}
-use Rattle.flow_core.specs.Members.{row_of, with_row, without_number, take_out}
-use Rattle.flow_core.specs.Rows.{moved, left}
-use Rattle.flow_core.specs.PositionCounts as counts
-use Rattle.flow_core.specs.PositionCounts.{AreWithin}
+use Rattle.flow_containers.specs.declared.members.Member.{Member}
+use Rattle.flow_containers.specs.declared.members.enroll.Row.{Row}
+use Rattle.flow_containers.specs.Members.{row_of, with_row, without_number, take_out}
+use Rattle.flow_containers.specs.Rows.{moved, left}
+use Rattle.flow_containers.specs.PositionCounts as counts
+use Rattle.flow_containers.specs.PositionCounts.{AreWithin}
 use Rattle.flow_core.specs.Subscribers.{subscriber_of, read}
 use Rattle.flow_core.proofs.SubscriberLemmas as seen
 

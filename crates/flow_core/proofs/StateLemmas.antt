@@ -6,8 +6,8 @@ use Rattle.flow_law.specs.declared.fault.FlowFault.{FlowFault}
 use Rattle.flow_law.specs.declared.fault.FlowFault.TheVariants.{OutOfMemory}
 use Rattle.flow_law.specs.declared.states.StateFlowState.{StateFlowState}
 use Rattle.flow_law.specs.StateFlow.{last_of, with_last, IsDue, Replies}
-use Rattle.flow_core.specs.declared.members.Member.{Member}
-use Rattle.flow_core.specs.Members.{row_of, with_row}
+use Rattle.flow_containers.specs.declared.members.Member.{Member}
+use Rattle.flow_containers.specs.Members.{row_of, with_row}
 use Rattle.flow_core.proofs.SubscriberLemmas.{last_of-row, with_last-row}
 use Rattle.std.proofs.lemmas.Iterator.Adapters.{option_map_id}
 use Rattle.flow_core.specs.StateCore.{subscriber_of}

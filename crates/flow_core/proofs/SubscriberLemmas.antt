@@ -9,8 +9,8 @@ use Rattle.flow_law.specs.declared.states.Subscriber.{Subscriber}
 use Rattle.flow_law.specs.declared.states.StateSubscriber.{StateSubscriber}
 use Rattle.flow_law.specs.SharedFlow.{position_of, stand_at, move_to, own_of, leave_own, with_own, without}
 use Rattle.flow_law.specs.StateFlow.{last_of, with_last, without_subscriber}
-use Rattle.flow_core.specs.declared.members.Member.{Member}
-use Rattle.flow_core.specs.Members.{row_of, member_with, with_row, without_number}
+use Rattle.flow_containers.specs.declared.members.Member.{Member}
+use Rattle.flow_containers.specs.Members.{row_of, member_with, with_row, without_number}
 
 module _ {R U : Type 0} (f : Member R → U) (number_in : U → ℕ) (same : (member : Member R) → number_in (f member) ≡ member.number) (number : ℕ) where
   -- the subscriber that f makes of a row under this number

@@ -1,10 +1,5 @@
 pub mod SubId
-pub mod PositionCounts
-pub mod Queue
-pub mod Members
-pub mod Rows
 pub mod Subscribers
 pub mod Receiving
-pub mod MembersLends
 pub mod SharedCore
 pub mod StateCore

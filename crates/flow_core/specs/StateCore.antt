@@ -11,7 +11,7 @@ use Rattle.flow_law.specs.declared.states.StateSubscriber.{StateSubscriber}
 use Rattle.flow_law.specs.Standing.{StateConforms}
 use Rattle.flow_law.specs.StateFlow.{state_flow}
 use Rattle.flow_core.specs.declared.sub_id.SubId.{SubId}
-use Rattle.flow_core.specs.declared.members.Member.{Member}
+use Rattle.flow_containers.specs.declared.members.Member.{Member}
 use Rattle.flow_core.specs.declared.state.StateCore.TheInside.{Inside}
 use Rattle.flow_core.specs.SubId.{number_of}
 

@@ -2,10 +2,10 @@
 use Rattle.std.specs.Prelude.{◌≡◌, ℕ, ◌+◌, ◌-◌, ◌<◌, ◌≤◌, ◌^◌, max, Bool, nat_le, List, [], ◌∷◌, map, length, Option, Some, None}
 use Rattle.std.specs.List.{list_any}
 use Rattle.flow_law.specs.declared.states.Subscriber.{Subscriber}
-use Rattle.flow_core.specs.declared.members.Member.{Member}
-use Rattle.flow_core.specs.declared.members.enroll.Row.{Row}
+use Rattle.flow_containers.specs.declared.members.Member.{Member}
+use Rattle.flow_containers.specs.declared.members.enroll.Row.{Row}
 use Rattle.flow_core.specs.declared.subscribers.Subscribers.TheInside.{Inside}
-use Rattle.flow_core.specs.PositionCounts.{Fits}
+use Rattle.flow_containers.specs.PositionCounts.{Fits}
 
 -- the subscribers, and what the row of counts knows besides
 pub record Standing (T : Type 0) : Type 0 where

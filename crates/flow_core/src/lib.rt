@@ -31,10 +31,6 @@
 mod copies;
 mod drain;
 mod kind;
-mod members;
-mod own_values;
-mod position_counts;
-mod queue;
 mod shared;
 mod state;
 mod sub_id;

@@ -16,10 +16,10 @@ mod kind;
 mod subscribe;
 
 use crate::copies::copies;
-use crate::queue::Queue;
 use crate::sub_id::SubId;
 use crate::subscribers::{Received, Subscribers};
 use circular_buffer::HeapCircularBuffer;
+use flow_containers::Queue;
 use flow_law::{Config, FlowFault, FlowValue, Next, Overflow};
 use std::alloc::{Allocator, Global};
 use std::marker::Model;

@@ -9,8 +9,8 @@ ghost use Rattle.flow_core.specs.StateCore.{value_reply, subscribe_reply, next_r
 
 mod kind;
 
-use crate::members::Members;
 use crate::sub_id::SubId;
+use flow_containers::Members;
 use flow_law::{FlowFault, FlowValue, Next};
 use std::alloc::{Allocator, Global};
 use std::marker::Model;
@@ -117,9 +117,9 @@ impl<T: FlowValue, A: Allocator + Copy> StateCore<T, A> {
         }
         let number = self.issued + 1;
         match self.subscribers.insert(number, None) {
-            Ok(id) => {
+            Ok(key) => {
                 self.issued = number;
-                Ok(id)
+                Ok(SubId { number, key })
             }
             Err(_refused) => Err(FlowFault::OutOfMemory),
         }
@@ -131,7 +131,7 @@ impl<T: FlowValue, A: Allocator + Copy> StateCore<T, A> {
         ensures documented { StateConforms self.old (call.TakeNext (number_of id))
             (next_reply result) self.new }
     {
-        let Some(last) = self.subscribers.get(id) else {
+        let Some(last) = self.subscribers.get(id.number, id.key) else {
             return Ok(Next::Gone);
         };
         if has_got(last, &self.value) {
@@ -142,7 +142,7 @@ impl<T: FlowValue, A: Allocator + Copy> StateCore<T, A> {
             Ok(last) => match self.value.try_copy() {
                 Err(fault) => Err(fault),
                 Ok(value) => {
-                    self.subscribers.set(id, Some(last));
+                    self.subscribers.set(id.number, id.key, Some(last));
                     Ok(Next::Value(value))
                 }
             },
@@ -154,7 +154,7 @@ impl<T: FlowValue, A: Allocator + Copy> StateCore<T, A> {
         ensures documented { StateConforms self.old (call.Unsubscribe (number_of id))
             (reply.Answered result) self.new }
     {
-        self.subscribers.remove(id).is_some()
+        self.subscribers.remove(id.number, id.key).is_some()
     }
 
     /// The current value alone: that is a state flow's replay cache. `Err` is want of memory.

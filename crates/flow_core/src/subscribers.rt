@@ -7,9 +7,8 @@ ghost use Rattle.flow_core.specs.Subscribers.{is_full};
 
 mod receive;
 
-use crate::members::{Members, Row};
-use crate::position_counts::PositionCounts;
 use crate::sub_id::SubId;
+use flow_containers::{Members, PositionCounts, Row};
 pub(crate) use receive::Received;
 use std::alloc::{AllocError, Allocator};
 use std::marker::Model;
@@ -137,9 +136,9 @@ impl<T: Drop, A: Allocator> Subscribers<T, A> {
             (λ refused. (refused ≡ first) × self.new ≡ self.old) }
     {
         match self.members.enroll(number, first, position) {
-            Ok(id) => {
+            Ok(key) => {
                 self.counts.enter(position);
-                Ok(id)
+                Ok(SubId { number, key })
             }
             Err(first) => Err(first),
         }
@@ -150,7 +149,7 @@ impl<T: Drop, A: Allocator> Subscribers<T, A> {
         ensures there { result ≡ is_some (flow.position_of (number_of id) self.old.list) }
         ensures removed { self.new ≡ record self.old { list = flow.without (number_of id) self.old.list } }
     {
-        match self.members.remove(id) {
+        match self.members.remove(id.number, id.key) {
             Some(row) => {
                 self.counts.leave(row.position.max(self.floor));
                 true

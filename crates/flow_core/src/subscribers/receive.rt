@@ -35,7 +35,7 @@ impl<T: FlowValue, A: Allocator> Subscribers<T, A> {
             (λ position. self.old.emitted - length values.now.items ≤ position) }
         ensures { Receives (number_of id) values.now.items self.old result self.new }
     {
-        let Some(row) = self.members.get_mut(id) else {
+        let Some(row) = self.members.get_mut(id.number, id.key) else {
             return Ok(Received::Gone);
         };
         if let Some(value) = row.own.pop_front() {

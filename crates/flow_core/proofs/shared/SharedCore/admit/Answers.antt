@@ -6,7 +6,7 @@ use Rattle.flow_law.specs.Laws.{RisesTo}
 use Rattle.flow_law.proofs.Rows.{rises_from}
 use Rattle.flow_law.proofs.CoveringLemmas.{settle_first, settle_blocked}
 use Rattle.flow_core.specs.SharedCore.{fields_of, kept_full}
-use Rattle.flow_core.specs.Queue.{numbered_of}
+use Rattle.flow_containers.specs.Queue.{numbered_of}
 use Rattle.flow_core.proofs.SoundLemmas.{sound_queue}
 use Rattle.flow_core.proofs.EmissionLemmas.{covers-admitted, near_free}
 use Rattle.flow_core.proofs.shared.SharedCore.admit.Goals as goal

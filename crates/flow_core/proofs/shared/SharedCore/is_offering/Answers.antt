@@ -2,7 +2,7 @@ use Rattle.std.proofs.Common.{◌≡◌, ◌∙◌, ◌&&◌, ◌==◌, ◌+◌,
 use Rattle.flow_law.specs.Covering.{Covers}
 use Rattle.flow_core.specs.Subscribers.{is_full}
 use Rattle.flow_core.specs.SharedCore.{fields_of, kept_full}
-use Rattle.flow_core.proofs.QueueLemmas.{equal}
+use Rattle.flow_containers.proofs.QueueLemmas.{equal}
 use Rattle.flow_core.proofs.EmissionLemmas.{offering_is}
 use Rattle.flow_core.proofs.shared.SharedCore.is_offering.Goals as goal
 

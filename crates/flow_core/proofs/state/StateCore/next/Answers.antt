@@ -4,7 +4,7 @@ use Rattle.flow_law.specs.declared.call.StateReply.TheVariants as reply
 use Rattle.flow_law.specs.declared.states.StateFlowState.{StateFlowState}
 use Rattle.flow_law.specs.declared.call.StateCall.TheVariants as call
 use Rattle.flow_law.specs.StateFlow.{last_of, with_last, Receives, Replies}
-use Rattle.flow_core.specs.Members.{with_row}
+use Rattle.flow_containers.specs.Members.{with_row}
 use Rattle.flow_core.specs.StateCore.{subscriber_of, fields_of}
 use Rattle.flow_core.proofs.StateLemmas.{last_is, got, copy_refused}
 use Rattle.flow_core.proofs.state.StateCore.next.Goals as goal

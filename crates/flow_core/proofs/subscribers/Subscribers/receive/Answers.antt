@@ -5,9 +5,9 @@ use Rattle.std.specs.Prelude.{Ok, Err}
 use Rattle.std.proofs.lemmas.List.{length-set}
 use Rattle.flow_law.specs.SharedFlow.{position_of}
 use Rattle.flow_core.specs.declared.subscribers.receive.Received.TheVariants.{Gone, Own, Emitted, Empty}
-use Rattle.flow_core.specs.Members.{row_of, with_row}
-use Rattle.flow_core.specs.Rows.{left}
-use Rattle.flow_core.specs.PositionCounts.{entered, left_at}
+use Rattle.flow_containers.specs.Members.{row_of, with_row}
+use Rattle.flow_containers.specs.Rows.{left}
+use Rattle.flow_containers.specs.PositionCounts.{entered, left_at}
 use Rattle.flow_core.specs.Subscribers.{Standing, standing_of, AreSound}
 use Rattle.flow_core.specs.Receiving.{Receives}
 use Rattle.flow_core.proofs.RingLemmas.{found_below}

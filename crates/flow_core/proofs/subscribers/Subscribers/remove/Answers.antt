@@ -3,10 +3,10 @@ use Rattle.std.specs.Prelude.{is_some}
 use Rattle.std.specs.Option.{option_map}
 use Rattle.std.proofs.lemmas.List.{length-set}
 use Rattle.flow_law.specs.SharedFlow.{position_of, without}
-use Rattle.flow_core.specs.declared.members.enroll.Row.{Row}
-use Rattle.flow_core.specs.Members.{row_of}
+use Rattle.flow_containers.specs.declared.members.enroll.Row.{Row}
+use Rattle.flow_containers.specs.Members.{row_of}
 use Rattle.flow_core.specs.Subscribers.{Standing, read}
-use Rattle.flow_core.proofs.MemberLemmas.{without_number_absent}
+use Rattle.flow_containers.proofs.MemberLemmas.{without_number_absent}
 use Rattle.flow_core.proofs.RaisedLemmas.{position_of-row, without-row}
 use Rattle.flow_core.proofs.SubscribersLemmas.{standing_same, found_near, leave_some, removed}
 use Rattle.flow_core.proofs.subscribers.Subscribers.remove.Goals as goal

@@ -1,0 +1,5 @@
+pub mod PositionCounts
+pub mod Queue
+pub mod Members
+pub mod Rows
+pub mod MembersLends

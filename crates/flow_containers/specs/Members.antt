@@ -1,0 +1,65 @@
+-- Subscribers in a slab, seen as a list in the order of their numbers. No public clause cites this module.
+--   slots      None   Some 7   Some 2   None   Some 5      by key
+--   members      2  5  7                                     by number
+-- Begin with `Membership`. The key facts on it are in proofs/MemberLemmas.
+use Rattle.std.specs.Prelude.{◌≡◌, ℕ, zero, suc, ◌<◌, ◌≤◌, ◌==◌, not, if◌then◌else◌, [], ◌∷◌, ◌++◌, List, map, filter, length, Option, Some, None}
+use Rattle.slab.specs.Slab.{get, slab_len}
+use Rattle.flow_containers.specs.declared.members.Member.{Member}
+use Rattle.flow_containers.specs.declared.members.Members.TheInside.{Inside}
+
+-- the subscribers in the order of their numbers, and the greatest number that any has had
+pub record Membership (R : Type 0) : Type 0 where
+  pub members : List (Member R)
+  pub last : ℕ
+
+module _ {R : Type 0} where
+  abbrev pub numbers : List (Member R) → List ℕ
+  numbers = map (λ member. member.number)
+
+  -- what is kept of the subscriber of this number, if there is one
+  abbrev pub row_of : ℕ → List (Member R) → Option R
+  row_of number [] = None
+  row_of number (member ∷ members) = if member.number == number then Some member.row else row_of number members
+
+  abbrev pub member_with : R → Member R → Member R
+  member_with row member = record { number = member.number; row = row }
+
+  -- this is kept of the subscriber of this number instead
+  abbrev pub with_row : ℕ → R → List (Member R) → List (Member R)
+  with_row number row [] = []
+  with_row number row (member ∷ members) = if member.number == number then member_with row member ∷ members else member ∷ with_row number row members
+
+  -- the subscribers without all of this number
+  abbrev pub without_number : ℕ → List (Member R) → List (Member R)
+  without_number number = filter (λ member. not (member.number == number))
+
+  -- the subscribers without the first of this number
+  abbrev pub take_out : ℕ → List (Member R) → List (Member R)
+  take_out number [] = []
+  take_out number (member ∷ members) = if member.number == number then members else member ∷ take_out number members
+
+  -- ---- the slab as a list in the order of numbers
+
+  -- the member of the first slot with this number
+  abbrev pub seek : ℕ → List (Option (Member R)) → Option (Member R)
+  seek number [] = None
+  seek number (None ∷ slots) = seek number slots
+  seek number (Some member ∷ slots) = if member.number == number then Some member else seek number slots
+
+  abbrev pub listed : Option (Member R) → List (Member R)
+  listed None = []
+  listed (Some member) = member ∷ []
+
+  -- what is found of the numbers from 1 on
+  abbrev pub found_to : (ℕ → Option (Member R)) → ℕ → List (Member R)
+  found_to find zero = []
+  found_to find (suc n) = found_to find n ++ listed (find (suc n))
+
+  abbrev pub membership_of : {A : Type 0} → Inside R A → Membership R
+  membership_of s = record { members = found_to (λ number. seek number s.slab.slots) s.last; last = s.last }
+
+  -- no two keys have one number, and every number is within the bound
+  pub record IsSound {A : Type 0} (s : Inside R A) : Type 0 where
+    pub distinct : (a b : ℕ) (x y : Member R) → get s.slab a ≡ Some x → get s.slab b ≡ Some y → x.number ≡ y.number → a ≡ b
+    pub within : (key : ℕ) (member : Member R) → get s.slab key ≡ Some member → (0 < member.number) × (member.number ≤ s.last)
+    pub count : slab_len s.slab ≡ length (membership_of s).members

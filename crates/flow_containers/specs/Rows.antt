@@ -1,0 +1,10 @@
+-- What a shared core keeps of a subscriber, and how that changes. No public clause cites this module.
+use Rattle.std.specs.Prelude.{ℕ, List}
+use Rattle.flow_containers.specs.declared.members.enroll.Row.{Row}
+
+module _ {T A : Type 0} where
+  abbrev pub moved : ℕ → Row T A → Row T A
+  moved position row = record row { position = position }
+
+  abbrev pub left : List T → Row T A → Row T A
+  left own row = record row { own = own }

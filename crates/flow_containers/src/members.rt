@@ -1,0 +1,152 @@
+//! The subscribers of a flow, each under a key of a slab.
+//!
+//! A subscriber is asked for by its number, with the key where it stood last as a hint: whoever is not there, because the
+//! hint came from elsewhere, is looked for through the whole slab.
+ghost use Rattle.std.specs.Prelude.{◌≡◌, ℕ, ◌+◌, ◌<◌, ◌≤◌, ◌++◌, [], ◌∷◌, length, Some, IfSome, IfNone, IsSomeAnd, MatchResult, MatchOption, is_some, option_copied};
+ghost use Rattle.std.specs.Option.{option_copied_mut};
+ghost use Rattle.std.specs.Borrow.{sem};
+ghost use Rattle.slab.specs.Slab.{get};
+ghost use Rattle.flow_law.specs.Laws.{RisesTo};
+ghost use Rattle.flow_containers.specs.Members.{numbers, row_of, with_row, without_number, take_out};
+
+mod enroll;
+
+pub use enroll::Row;
+use slab::Slab;
+use std::alloc::Allocator;
+use std::marker::Model;
+
+/// What is kept of one subscriber.
+#[derive(Drop)]
+pub struct Member<R> {
+    /// The number that its subscription took.
+    pub number: u64,
+    /// What its flow knows of it.
+    pub row: R,
+}
+
+/// The subscribers in the order of their numbers.
+#[derive(Drop)]
+pub struct Members<R: Drop, A: Allocator> {
+    slab: Slab<Member<R>, A>,
+    last: u64,
+}
+
+impl<R: Drop, A: Allocator> Model for Members<R, A> {
+    ghost use Rattle.flow_containers.specs.Members.{Membership, membership_of, IsSound};
+
+    ghost Value = { Membership R };
+
+    ghost view = { membership_of };
+
+    ghost invariant = { IsSound };
+}
+
+/// The key of the subscriber of this number: at the hint, or else wherever it is found.
+fn key_of<R: Drop, A: Allocator>(
+    slab: &Slab<Member<R>, A>,
+    number: u64,
+    hint: usize,
+) -> Option<usize>
+    ensures found { IfSome result (λ key. IsSomeAnd (get slab.now key) (λ member. member.number ≡ number)) }
+    ensures absent { IfNone result ((key : ℕ) (member : Member R) → get slab.now key ≡ Some member → member.number ≡ number → ⊥) }
+{
+    if let Some(member) = slab.get(hint)
+        && member.number == number
+    {
+        return Some(hint);
+    }
+    for (key, member) in slab.iter() {
+        if member.number == number {
+            return Some(key);
+        }
+    }
+    None
+}
+
+impl<R: Drop, A: Allocator> Members<R, A> {
+    ghost use Rattle.flow_containers.specs.MembersLends.{lends_row};
+
+    /// Nobody. It takes no memory.
+    pub fn new(alloc: A) -> Self
+        ensures empty { result.members ≡ [] }
+        ensures last { result.last ≡ 0 }
+    {
+        Members {
+            slab: Slab::new(alloc),
+            last: 0,
+        }
+    }
+
+    /// How many subscribers there are.
+    pub fn len(&self) -> usize
+        ensures value { result ≡ length self.now.members }
+        // In every state, so that a caller may take it from here: no two have one number.
+        ensures rising { RisesTo 0 (numbers self.now.members) self.now.last }
+    {
+        self.slab.len()
+    }
+
+    /// What is kept of a subscriber.
+    pub fn get(&self, number: u64, hint: usize) -> Option<&R>
+        ensures { option_copied result ≡ row_of number self.now.members }
+    {
+        let key = key_of(&self.slab, number, hint)?;
+        match self.slab.get(key) {
+            Some(member) => Some(&member.row),
+            None => None,
+        }
+    }
+
+    /// Adds a subscriber, and gives its key. A refusal for want of memory hands the row back.
+    pub fn insert(&mut self, number: u64, row: R) -> Result<usize, R>
+        requires { self.old.last < number }
+        ensures { MatchResult result
+            (λ _key. (self.new.members ≡ self.old.members ++ record { number = number; row = row } ∷ [])
+            × (self.new.last ≡ number))
+            (λ refused. (refused ≡ row) × (self.new ≡ self.old)) }
+    {
+        match self.slab.insert(Member { number, row }) {
+            Ok(key) => {
+                self.last = number;
+                Ok(key)
+            }
+            Err(refused) => Err(refused.value.row),
+        }
+    }
+
+    /// What is kept of a subscriber, for writing.
+    pub fn get_mut(&mut self, number: u64, hint: usize) -> Option<&mut R>
+        ensures* writes_back { sem 𝓛 (lends_row R.row A.row A.Allocator self.entry number result) }
+        ensures value { option_copied_mut result ≡ row_of number self.old.members }
+    {
+        match key_of(&self.slab, number, hint) {
+            Some(key) => match self.slab.get_mut(key) {
+                Some(member) => Some(&mut member.row),
+                None => None,
+            },
+            None => None,
+        }
+    }
+
+    /// Keeps this row of a subscriber in place of the one before, if there is such a subscriber.
+    pub fn set(&mut self, number: u64, hint: usize, row: R)
+        ensures members { self.new.members ≡ with_row number row self.old.members }
+        ensures last { self.new.last ≡ self.old.last }
+    {
+        if let Some(kept) = self.get_mut(number, hint) {
+            *kept = row;
+        }
+    }
+
+    /// Removes a subscriber, and gives what was kept of it.
+    pub fn remove(&mut self, number: u64, hint: usize) -> Option<R>
+        ensures value { result ≡ row_of number self.old.members }
+        ensures members { self.new.members ≡ without_number number self.old.members }
+        ensures one { self.new.members ≡ take_out number self.old.members }
+        ensures last { self.new.last ≡ self.old.last }
+    {
+        let key = key_of(&self.slab, number, hint)?;
+        Some(self.slab.remove(key).row)
+    }
+}

@@ -1,0 +1,40 @@
+//! How a subscriber with its own first values is added.
+ghost use Rattle.std.specs.Prelude.{◌≡◌, ◌<◌, ◌++◌, ◌∷◌, [], MatchResult};
+
+use super::{Member, Members};
+use crate::own_values::OwnValues;
+use std::alloc::Allocator;
+
+/// What is left of a subscriber's own first values, and how many emitted values lay behind it when it last moved.
+#[derive(Drop)]
+pub struct Row<T: Drop, A: Allocator> {
+    pub own: OwnValues<T, A>,
+    pub position: u64,
+}
+
+impl<T: Drop, A: Allocator> Members<Row<T, A>, A> {
+    /// Adds a subscriber with its own first values, and gives its key. A refusal for want of memory hands them back.
+    pub fn enroll(
+        &mut self,
+        number: u64,
+        first: Vec<T, A>,
+        position: u64,
+    ) -> Result<usize, Vec<T, A>>
+        requires { self.old.last < number }
+        ensures { MatchResult result
+            (λ _key. (self.new.members ≡ self.old.members ++ record { number = number; row = record { own = first.items; position = position } } ∷ [])
+            × (self.new.last ≡ number))
+            (λ refused. (refused ≡ first) × (self.new ≡ self.old)) }
+    {
+        if self.slab.reserve(1).is_err() {
+            return Err(first);
+        }
+        let row = Row {
+            own: OwnValues::new(first),
+            position,
+        };
+        let key = self.slab.insert_reserved(Member { number, row });
+        self.last = number;
+        Ok(key)
+    }
+}

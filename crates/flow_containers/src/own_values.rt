@@ -1,0 +1,38 @@
+//! A subscriber's own first values.
+ghost use Rattle.std.specs.Prelude.{◌≡◌, ◌∷◌, [], MatchOption};
+
+use std::alloc::Allocator;
+use std::marker::Model;
+
+/// Values that leave from the front, the others unmoved: the next one stands last.
+#[derive(Drop)]
+pub struct OwnValues<T: Drop, A: Allocator> {
+    reversed: Vec<T, A>,
+}
+
+impl<T: Drop, A: Allocator> Model for OwnValues<T, A> {
+    ghost use Rattle.std.specs.Prelude.{List, reverse};
+
+    ghost Value = { List T };
+
+    ghost view = { λ o. reverse o.reversed.items };
+}
+
+impl<T: Drop, A: Allocator> OwnValues<T, A> {
+    /// These values, the first one next.
+    pub fn new(first: Vec<T, A>) -> Self
+        ensures { result ≡ first.items }
+    {
+        let mut reversed = first;
+        reversed.reverse();
+        OwnValues { reversed }
+    }
+
+    /// Takes the next value out.
+    pub fn pop_front(&mut self) -> Option<T>
+        ensures { MatchOption result ((self.old ≡ []) × self.new ≡ [])
+            (λ first. self.old ≡ first ∷ self.new) }
+    {
+        self.reversed.pop()
+    }
+}

@@ -1,8 +1,0 @@
-use Rattle.std.proofs.Common.{subst}
-use Rattle.flow_law.specs.Laws.{RisesTo}
-use Rattle.flow_core.specs.Members.{Membership, numbers}
-use Rattle.flow_core.proofs.MembershipLemmas.{rises}
-use Rattle.flow_core.proofs.members.Members.len.Goals as goal
-
-pub returns-clause-rising : goal.returns-clause-rising
-returns-clause-rising g c = subst (λ (v : Membership _). RisesTo 0 (numbers v.members) v.last) c.self.view_is (rises c.self.inside)
