@@ -9,7 +9,7 @@ use flow_cold::{Arithmetic, Joining, Spread, Test};
 use serde_json::Value;
 
 /// What an operator does, by the text of its key `op`.
-#[derive(Clone, Copy, Debug, PartialEq, Eq)]
+#[derive(Clone, Copy)]
 pub enum OpName {
     Map,
     Filter,

@@ -8,7 +8,7 @@ pub type Build = Result<ScriptChain, ChainFault>;
 
 /// A step about a flow. A name is known by how many names of its kind were introduced before it for that flow: emissions
 /// and subscribers are counted apart.
-#[derive(Clone, Copy, Debug, PartialEq, Eq)]
+#[derive(Clone, Copy)]
 pub enum FlowStep {
     TryEmit(i64),
     /// It introduces an emission.
