@@ -16,4 +16,12 @@ impl Found {
             self.wrong = self.wrong.saturating_add(1);
         }
     }
+
+    /// What both found.
+    pub fn plus(self, other: Found) -> Found {
+        Found {
+            wrong: self.wrong.saturating_add(other.wrong),
+            added: self.added.saturating_add(other.added),
+        }
+    }
 }

@@ -6,14 +6,14 @@
 //! what is looked at.
 #![tactic(auto)]
 
-mod adder;
+mod adding;
 mod arguments;
-mod calls;
-mod emitter;
-mod exchanger;
+mod caller;
+mod emitting;
+mod exchanging;
 mod found;
 mod order;
-mod reader;
+mod reading;
 mod stress;
 
 use arguments::{Size, size_of};

@@ -1,32 +1,39 @@
 //! Whether what a subscriber gets of each emitter is in the order in which that emitted it, and nothing twice.
-use crate::found::Found;
+use crate::arguments::MOST_THREADS;
+use crate::found::{Found, NOTHING};
 
 /// An emitter, and which of its values it is, from 0.
 pub type Value = (u32, u32);
 
 /// What a subscriber keeps of what it got: the last value of each emitter, and what was wrong.
-#[derive(Drop)]
+#[derive(Clone, Copy)]
 pub struct Order {
-    pub last: Vec<Option<u32>>,
+    last: [Option<u32>; MOST_THREADS as usize],
     /// Whether it is to get each value after the first one that it got.
-    pub is_whole: bool,
+    is_whole: bool,
     pub found: Found,
 }
 
 impl Order {
+    /// Nothing came yet.
+    pub fn new(is_whole: bool) -> Order {
+        Order {
+            last: [None; MOST_THREADS as usize],
+            is_whole,
+            found: NOTHING,
+        }
+    }
+
     /// The value came.
     pub fn add(&mut self, value: Value) {
         let (emitter, place) = value;
         let is_whole = self.is_whole;
         let is_next = match self.last.get_mut(emitter as usize) {
-            Some(last) => {
-                let before = last.replace(place);
-                match before {
-                    None => true,
-                    Some(before) if is_whole => before.checked_add(1) == Some(place),
-                    Some(before) => before < place,
-                }
-            }
+            Some(last) => match last.replace(place) {
+                None => true,
+                Some(before) if is_whole => before.checked_add(1) == Some(place),
+                Some(before) => before < place,
+            },
             None => false,
         };
         self.found.check(is_next);

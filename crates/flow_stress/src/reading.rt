@@ -1,0 +1,56 @@
+//! A thread that reads from a shared flow, leaves, and subscribes again, again and again.
+ghost use Rattle.std.specs.Prelude.{◌≡◌};
+
+use crate::caller::Caller;
+use crate::found::{Found, NOTHING};
+use crate::order::{Order, Value};
+use flow_law::{FlowFault, Next};
+use flow_shared::{SharedFlow, Subscription};
+use rand_core::utils::NextWord;
+use rand_pcg::Pcg32;
+use std::sync::Wait;
+use std::thread::yield_now;
+
+/// How many calls of `next` a subscription makes.
+const CALLS: u32 = 64;
+
+/// Calls `next` in either way, as the dice say, and leaves. A live subscription is never gone. `None` for want of memory.
+fn read<R: Wait>(
+    rt: &R,
+    flow: &SharedFlow<Value>,
+    subscription: Subscription<Value>,
+    dice: &mut Pcg32,
+) -> Option<Found>
+    requires { subscription.token.table_id ≡ flow.now.table_id }
+{
+    let mut subscription = subscription;
+    let mut order = Order::new(true);
+    for _ in 0..CALLS {
+        let next = if dice.next_word() % 2 == 0 {
+            flow.next(rt, &mut subscription)
+        } else {
+            flow.next_now(&mut subscription)
+        };
+        match next {
+            Ok(Next::Value(value)) => order.add(value),
+            Ok(Next::Empty) | Err(FlowFault::Busy) => yield_now(),
+            Ok(Next::Gone) => order.found.check(false),
+            Err(_fault) => return None,
+        }
+    }
+    let _seat = flow.unsubscribe(rt, subscription);
+    Some(order.found)
+}
+
+impl Caller<'_> {
+    /// So many calls, by one subscription after another.
+    pub fn read_all<R: Wait>(&mut self, rt: &R, rounds: u32) -> Option<Found> {
+        let mut found = NOTHING;
+        for _ in 0..rounds / CALLS {
+            let subscribed = self.suspending.subscribe(rt, &mut self.suspending_seat);
+            let more = read(rt, self.suspending, subscribed.ok()?, &mut self.dice)?;
+            found = found.plus(more);
+        }
+        Some(found)
+    }
+}
