@@ -1,0 +1,10 @@
+//! Callers of cold chains: one that is proved from a list to what was collected, and tests of worked examples, of how
+//! often a chain is asked, and of chains as streams.
+mod asks;
+mod callers;
+mod gives;
+mod methods;
+mod operators;
+mod refused_copies;
+mod script_chains;
+mod streams;

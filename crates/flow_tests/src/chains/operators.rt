@@ -1,0 +1,140 @@
+//! Each operator once, by its constructor.
+ghost use Rattle.std.specs.Prelude.{◌≡◌};
+ghost use Rattle.std.proofs.Common.{rules};
+ghost use Rattle.flow_tests.specs.Meanings.{GivesTwice, OpensTwice, add, add_one, is_above_one, twice, twice_run};
+
+use crate::chains::gives::gives;
+use crate::compare::compare;
+use flow_cold::{
+    Chain, ChainFault, Distinct, DropFirst, DropWhile, End, Entry, Filter, FlatMapConcat, Greater,
+    InnerMeaning, ItemMeaning, Less, ListMeaning, Map, OfRange, PairComputation, PairMeaning,
+    RunningReduce, Scripted, Take, TakeWhile, TestMeaning, Transform, WithMeaning, Zip,
+};
+use std::alloc::Global;
+
+#[derive(Drop)]
+pub struct AddOne;
+
+impl ItemMeaning<i64, i64> for AddOne {
+    ghost image = { λ _. add_one };
+}
+
+#[derive(Drop)]
+pub struct Add;
+
+impl PairMeaning<i64, i64, i64> for Add {
+    ghost image = { λ _. add };
+}
+
+impl PairComputation<i64, i64, i64> for Add {
+    fn compute(&self, first: i64, second: i64) -> Result<i64, ChainFault> {
+        sum(first, second)
+    }
+
+    ghost counts = { Prim.search rules };
+}
+
+#[derive(Drop)]
+pub struct IsAboveOne;
+
+impl TestMeaning<i64> for IsAboveOne {
+    ghost passes = { λ _. is_above_one };
+}
+
+#[derive(Drop)]
+struct Twice;
+
+impl ListMeaning<i64, i64> for Twice {
+    ghost images = { λ _. twice };
+}
+
+#[derive(Drop)]
+struct TwiceRun;
+
+impl InnerMeaning<i64, i64> for TwiceRun {
+    ghost inner = { λ _. twice_run };
+}
+
+pub fn increased(x: i64) -> Result<i64, ChainFault>
+    ensures { result ≡ add_one x }
+{
+    sum(x, 1)
+}
+
+pub fn sum(x: i64, y: i64) -> Result<i64, ChainFault>
+    ensures { result ≡ add (x, y) }
+{
+    match x.checked_add(y) {
+        Some(sum) => Ok(sum),
+        None => Err(ChainFault::Overflow),
+    }
+}
+
+pub fn above_one(x: &i64) -> bool
+    ensures { result ≡ is_above_one x.now }
+{
+    *x > 1
+}
+
+/// A take of nothing is refused.
+#[test]
+fn operators_are_constructed(rt: HostRuntime) {
+    let alloc = rt.alloc();
+    let computation = WithMeaning::new(AddOne, increased);
+    let mapped = Map::new(OfRange::new(-1, 2), computation);
+    let tested = Filter::new(mapped, Greater { k: 1 });
+    gives(&rt, alloc, 0, tested, &[2, 3], End::Completed);
+    let dropped = DropWhile::new(OfRange::new(1, 5), Less { k: 3 });
+    let reduced = RunningReduce::new(dropped, Add);
+    gives(&rt, alloc, 1, reduced, &[3, 7, 12], End::Completed);
+    let zipped = Zip::new(OfRange::new(1, 2), OfRange::new(10, 12), Add);
+    gives(&rt, alloc, 2, zipped, &[11, 13], End::Completed);
+    let later = DropFirst::new(Distinct::new(OfRange::new(1, 9)), 2);
+    let below = TakeWhile::new(later, Less { k: 8 });
+    let chain = Take::new(below, 4).expect(&rt, "a take");
+    gives(&rt, alloc, 3, chain, &[3, 4, 5, 6], End::Completed);
+    let refused = Take::new(OfRange::new(1, 5), 0).err();
+    compare(&rt, 4, refused, Some(ChainFault::NotPositive));
+}
+
+fn listed(alloc: Global, x: i64) -> Result<Vec<i64>, ChainFault>
+    ensures { GivesTwice x result }
+{
+    let mut items = Vec::new(alloc);
+    if items.push(x).is_err() {
+        return Err(ChainFault::OutOfMemory);
+    }
+    if items.push(x).is_err() {
+        return Err(ChainFault::OutOfMemory);
+    }
+    Ok(items)
+}
+
+fn opened(alloc: Global, x: i64) -> Result<Scripted<i64>, ChainFault>
+    ensures { OpensTwice x result }
+{
+    let mut entries = Vec::new(alloc);
+    if entries.push(Entry::Item(x)).is_err() {
+        return Err(ChainFault::OutOfMemory);
+    }
+    if entries.push(Entry::Item(x)).is_err() {
+        return Err(ChainFault::OutOfMemory);
+    }
+    Ok(Scripted::new(entries))
+}
+
+/// By the constructor, and by the method.
+#[test]
+fn items_become_several(rt: HostRuntime) {
+    let alloc = rt.alloc();
+    let twice = |x: i64| listed(alloc, x);
+    let made = Transform::new(OfRange::new(1, 2), Twice, &twice);
+    gives(&rt, alloc, 0, made, &[1, 1, 2, 2], End::Completed);
+    let chain = OfRange::new(1, 2).transform(Twice, &twice);
+    gives(&rt, alloc, 1, chain, &[1, 1, 2, 2], End::Completed);
+    let twice = |x: i64| opened(alloc, x);
+    let made = FlatMapConcat::new(OfRange::new(1, 2), TwiceRun, &twice);
+    gives(&rt, alloc, 2, made, &[1, 1, 2, 2], End::Completed);
+    let chain = OfRange::new(1, 2).flat_map_concat(TwiceRun, &twice);
+    gives(&rt, alloc, 3, chain, &[1, 1, 2, 2], End::Completed);
+}

@@ -1,0 +1,42 @@
+//! Memory that is wanted inside a chain is the end of the chain, and no refusal of the collection.
+
+use crate::compare::compare;
+use crate::one_thread::limited::{are, list_of};
+use flow_cold::{ChainFault, Cold, Distinct, End, OfList, collect_all};
+use flow_testing::CopyLimited;
+use std::alloc::Global;
+use std::cell::Cell;
+use std::process::Abort;
+
+/// Collects the chain, and compares its items and its end.
+fn gives<'a, C: Cold<Item = CopyLimited<'a>>>(
+    rt: &impl Abort,
+    alloc: Global,
+    chain: &mut C,
+    numbers: &[i64],
+    end: End,
+)
+    requires { C.sound chain.old }
+    ensures { C.sound chain.new }
+{
+    let Ok(got) = collect_all(alloc, chain) else {
+        panic!(rt; "memory")
+    };
+    are(rt, 0, got.items.as_slice(), numbers);
+    compare(rt, 0, got.end, end);
+}
+
+const WANTED: End = End::Failed(ChainFault::OutOfMemory);
+
+/// A list copies each item, and `Distinct` copies each item that it keeps: the fourth copy is its second.
+#[test]
+fn a_refused_copy_ends_a_chain(rt: HostRuntime) {
+    let copies = Cell::new(3);
+    let mut list = OfList::new(list_of(&rt, rt.alloc(), &copies, &[1, 2, 3]));
+    gives(&rt, rt.alloc(), &mut list, &[1, 2], WANTED);
+    gives(&rt, rt.alloc(), &mut list, &[1, 2, 3], End::Completed);
+    copies.set(4);
+    let mut distinct = Distinct::new(OfList::new(list_of(&rt, rt.alloc(), &copies, &[1, 2, 3])));
+    gives(&rt, rt.alloc(), &mut distinct, &[1], WANTED);
+    gives(&rt, rt.alloc(), &mut distinct, &[1, 2, 3], End::Completed);
+}

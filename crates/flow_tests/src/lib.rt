@@ -1,0 +1,15 @@
+//! Tests of flows for one thread, of the word state, of crowds and of cold chains, and callers of them of which something is
+//! proved. What each call answers is proved; here the values come from kotlinx.coroutines' documentation.
+//!
+//! A worked example is a list of calls, each with what it is to answer. Another module makes the calls.
+#![tactic(auto)]
+
+#[cfg(test)]
+mod chains;
+#[cfg(test)]
+mod compare;
+#[cfg(test)]
+mod crowds;
+#[cfg(test)]
+mod one_thread;
+pub mod word;

@@ -1,0 +1,12 @@
+//! Tests of flows for one thread, and of values that own memory. The values come from kotlinx.coroutines' documentation of
+//! `MutableSharedFlow`, `BufferOverflow` and `MutableStateFlow`.
+mod drains;
+mod held;
+pub mod limited;
+mod many;
+mod own_values;
+mod shared;
+mod shared_calls;
+mod state;
+mod state_calls;
+mod values;

@@ -1,0 +1,66 @@
+//! Draining flows. The values are those that kotlinx.coroutines documents for the same collector.
+use crate::one_thread::shared_calls::Call::{
+    Drain, Emit, RefuseCopy, Subscribe, TryEmit, Unsubscribe, Values,
+};
+use crate::one_thread::shared_calls::{Example, UNBUFFERED};
+use flow_law::Drained::{Empty, Gone, Most};
+use flow_law::Emit::{Done, Queued};
+use flow_law::{Config, FlowFault};
+
+/// A cache of three values.
+const THREE: Config = Config {
+    replay: 3,
+    ..UNBUFFERED
+};
+
+pub const DRAINS: &[Example] = &[
+    // A shared flow gives all that is there.
+    Example {
+        config: THREE,
+        calls: &[
+            TryEmit(1, true),
+            TryEmit(2, true),
+            TryEmit(3, true),
+            Subscribe(4),
+            Drain(0, 2, Ok(Most)),
+            Values(&[1, 2]),
+            Drain(0, 10, Ok(Empty)),
+            Values(&[1, 2, 3]),
+            Unsubscribe(0, true),
+            Drain(0, 10, Ok(Gone)),
+            Drain(0, 0, Ok(Most)),
+            Values(&[1, 2, 3]),
+        ],
+    },
+    // A drain makes room, so a value that waited in the queue comes with the others.
+    Example {
+        config: Config {
+            extra: 1,
+            ..UNBUFFERED
+        },
+        calls: &[
+            Subscribe(1),
+            Emit(1, Done),
+            Emit(2, Queued(3)),
+            Emit(3, Queued(4)),
+            Drain(0, 10, Ok(Empty)),
+            Values(&[1, 2, 3]),
+        ],
+    },
+    // Nothing is lost where memory is wanting: the second copy is refused, its value stays in the flow, and the first one
+    // in the list.
+    Example {
+        config: THREE,
+        calls: &[
+            Emit(1, Done),
+            Emit(2, Done),
+            Emit(3, Done),
+            Subscribe(4),
+            RefuseCopy(2),
+            Drain(0, 10, Err(FlowFault::OutOfMemory)),
+            Values(&[1]),
+            Drain(0, 10, Ok(Empty)),
+            Values(&[1, 2, 3]),
+        ],
+    },
+];

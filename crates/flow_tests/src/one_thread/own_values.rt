@@ -1,0 +1,101 @@
+//! Worked examples of subscribers with first values of their own (`onSubscription`).
+use crate::one_thread::shared_calls::Call::{
+    Cache, Cancel, Emit, Next, NextRefused, Poll, RefuseCopy, SubscribeWith, TryEmit,
+};
+use crate::one_thread::shared_calls::{Example, UNBUFFERED};
+use flow_law::Emit::{Done, Queued};
+use flow_law::Next::{Empty, Value};
+use flow_law::{Config, FlowFault, Overflow};
+
+/// A cache of one value, and room for one more.
+const ROOM_FOR_TWO: Config = Config {
+    replay: 1,
+    extra: 1,
+    overflow: Overflow::DropOldest,
+    ..UNBUFFERED
+};
+
+pub const OWN_VALUES: &[Example] = &[
+    // Own values come before the cache, and are never dropped.
+    Example {
+        config: ROOM_FOR_TWO,
+        calls: &[
+            TryEmit(1, true),
+            SubscribeWith(&[8, 9], Ok(2)),
+            Emit(2, Done),
+            Emit(3, Done),
+            Emit(4, Done),
+            Next(0, Value(8)),
+            Next(0, Value(9)),
+            Next(0, Value(3)),
+            Next(0, Value(4)),
+            Next(0, Empty),
+            Cache(&[4]),
+        ],
+    },
+    // An own value lets an emission wait.
+    Example {
+        config: UNBUFFERED,
+        calls: &[
+            SubscribeWith(&[8], Ok(1)),
+            Emit(7, Queued(2)),
+            Next(0, Value(8)),
+            Poll(2, true),
+            Next(0, Value(7)),
+            Poll(2, false),
+        ],
+    },
+    // A cancel leaves an own value.
+    Example {
+        config: UNBUFFERED,
+        calls: &[
+            SubscribeWith(&[8], Ok(1)),
+            Emit(7, Queued(2)),
+            Cancel(2, true),
+            Next(0, Value(8)),
+            Next(0, Empty),
+        ],
+    },
+    // A refused subscription hands its values back.
+    Example {
+        config: Config {
+            limit: 0,
+            ..UNBUFFERED
+        },
+        calls: &[SubscribeWith(&[1, 2], Err(FlowFault::Exhausted))],
+    },
+    // An own value is not copied: the copy that is refused is the first one, that of a value of the flow.
+    Example {
+        config: ROOM_FOR_TWO,
+        calls: &[
+            Emit(1, Done),
+            SubscribeWith(&[8, 9], Ok(2)),
+            Emit(2, Done),
+            Emit(3, Done),
+            Emit(4, Done),
+            RefuseCopy(1),
+            Next(0, Value(8)),
+            Next(0, Value(9)),
+            NextRefused(0),
+            Next(0, Value(3)),
+            Next(0, Value(4)),
+        ],
+    },
+    // The same, where it is the second one.
+    Example {
+        config: ROOM_FOR_TWO,
+        calls: &[
+            Emit(1, Done),
+            SubscribeWith(&[8, 9], Ok(2)),
+            Emit(2, Done),
+            Emit(3, Done),
+            Emit(4, Done),
+            RefuseCopy(2),
+            Next(0, Value(8)),
+            Next(0, Value(9)),
+            Next(0, Value(3)),
+            NextRefused(0),
+            Next(0, Value(4)),
+        ],
+    },
+];

@@ -1,0 +1,236 @@
+//! Calls on a shared flow, each with what it is to answer.
+use crate::compare::compare;
+use crate::one_thread::drains::DRAINS;
+use crate::one_thread::held::HELD;
+use crate::one_thread::limited::{are, copied, list_of, number_of};
+use crate::one_thread::many::MANY;
+use crate::one_thread::own_values::OWN_VALUES;
+use crate::one_thread::shared::SHARED;
+use flow_core::{SharedCore, SubId};
+use flow_law::{Config, Drained, Emit, FlowFault, Next, Overflow, Refused};
+use flow_testing::CopyLimited;
+use std::alloc::Global;
+use std::cell::Cell;
+use std::process::Abort;
+
+/// The configuration of a flow without a buffer (`MutableSharedFlow()`).
+pub const UNBUFFERED: Config = Config {
+    replay: 0,
+    extra: 0,
+    overflow: Overflow::Suspend,
+    limit: u64::MAX,
+};
+
+/// A worked example: the configuration of a flow, and calls on it.
+pub struct Example {
+    pub config: Config,
+    pub calls: &'static [Call],
+}
+
+/// A call, and what it answers. Subscribers are named by the order in which they came, from 0.
+#[derive(Drop)]
+pub enum Call {
+    /// The value, and whether the flow took or dropped it.
+    TryEmit(i64, bool),
+    Emit(i64, Emit),
+    /// The number of an emission, and whether it waits.
+    Poll(u64, bool),
+    /// The number of an emission, and whether it waited.
+    Cancel(u64, bool),
+    /// The number of the new subscription.
+    Subscribe(u64),
+    /// The subscriber's own first values, and the number of the new subscription. Where it is refused the values come back.
+    SubscribeWith(&'static [i64], Result<u64, FlowFault>),
+    Next(usize, Next<i64>),
+    /// It is refused for want of memory.
+    NextRefused(usize),
+    /// A subscriber, and whether the subscription was there.
+    Unsubscribe(usize, bool),
+    Cache(&'static [i64]),
+    /// How many values the cache has.
+    CacheLength(usize),
+    Reset,
+    Count(u64),
+    /// How many values the flow keeps.
+    Held(usize),
+    /// A subscriber, how many values it takes at most, and why it stopped, or was refused.
+    Drain(usize, usize, Result<Drained, FlowFault>),
+    /// All that was drained so far.
+    Values(&'static [i64]),
+    /// Of the copies that are made from now on, this one is refused, from 1.
+    RefuseCopy(u64),
+    /// The same call with each value from the first to the last.
+    Each(Repeated, i64, i64),
+}
+
+/// A call that is made with one value after the other.
+#[derive(Drop)]
+pub enum Repeated {
+    /// The flow takes or drops each value.
+    TryEmit,
+    /// No emission waits.
+    Emit,
+    /// Each emission waits. The first one has this number, and the others the next ones.
+    Queue(u64),
+    /// The subscriber receives the values.
+    Receive(usize),
+}
+
+impl Repeated {
+    /// The call with the value that comes after so many others.
+    fn with(&self, value: i64, place: u64) -> Call {
+        match self {
+            Repeated::TryEmit => Call::TryEmit(value, true),
+            Repeated::Emit => Call::Emit(value, Emit::Done),
+            Repeated::Queue(number) => Call::Emit(value, Emit::Queued(number.wrapping_add(place))),
+            Repeated::Receive(index) => Call::Next(*index, Next::Value(value)),
+        }
+    }
+}
+
+/// A flow of values that hold more than they mean, and its subscribers.
+#[derive(Drop)]
+struct Caller<'a> {
+    flow: SharedCore<CopyLimited<'a>>,
+    copies: &'a Cell<u64>,
+    subscribers: Vec<SubId>,
+    drained: Vec<CopyLimited<'a>>,
+}
+
+impl<'a> Caller<'a> {
+    /// Names the next subscriber, and tells its number.
+    fn add(&mut self, rt: &impl Abort, id: SubId) -> u64 {
+        self.subscribers.push(id).expect(rt, "memory");
+        id.number()
+    }
+
+    fn subscribe_with(
+        &mut self,
+        rt: &impl Abort,
+        alloc: Global,
+        place: usize,
+        first: &[i64],
+    ) -> Result<u64, FlowFault> {
+        let values = list_of(rt, alloc, self.copies, first);
+        match self.flow.subscribe_with(values) {
+            Ok(id) => Ok(self.add(rt, id)),
+            Err(Refused { value, fault }) => {
+                are(rt, place, value.as_slice(), first);
+                Err(fault)
+            }
+        }
+    }
+
+    fn subscriber(&self, rt: &impl Abort, index: usize) -> SubId {
+        *self.subscribers.get(index).expect(rt, "a subscriber")
+    }
+
+    /// Makes a call that changes nothing, and compares what it answers.
+    fn ask(&self, rt: &impl Abort, place: usize, call: &Call) {
+        match call {
+            Call::Poll(number, waits) => compare(rt, place, self.flow.poll(*number), *waits),
+            Call::Cache(values) => {
+                let cache = copied(rt, self.flow.replay_cache());
+                are(rt, place, cache.as_slice(), values);
+            }
+            Call::CacheLength(length) => {
+                compare(
+                    rt,
+                    place,
+                    copied(rt, self.flow.replay_cache()).len(),
+                    *length,
+                );
+            }
+            Call::Count(count) => compare(rt, place, self.flow.subscription_count(), *count),
+            Call::Held(held) => compare(rt, place, self.flow.held(), *held),
+            Call::Values(values) => are(rt, place, self.drained.as_slice(), values),
+            Call::RefuseCopy(copy) => self.copies.set(*copy),
+            _ => panic!(rt; "call {place} is no such call"),
+        }
+    }
+
+    /// Makes a call, and compares what it answers.
+    fn make(&mut self, rt: &impl Abort, alloc: Global, place: usize, call: &Call) {
+        match call {
+            Call::TryEmit(value, taken) => {
+                let value = CopyLimited::new(*value, self.copies);
+                compare(rt, place, self.flow.try_emit(value).ok(), Some(*taken));
+            }
+            Call::Emit(value, emission) => {
+                let value = CopyLimited::new(*value, self.copies);
+                compare(rt, place, self.flow.emit(value).ok(), Some(*emission));
+            }
+            Call::Cancel(number, waited) => compare(rt, place, self.flow.cancel(*number), *waited),
+            Call::Subscribe(number) => {
+                let id = self.flow.subscribe().expect(rt, "a subscription");
+                compare(rt, place, self.add(rt, id), *number);
+            }
+            Call::SubscribeWith(first, wanted) => {
+                let answer = self.subscribe_with(rt, alloc, place, first);
+                compare(rt, place, answer, *wanted);
+            }
+            Call::Next(index, next) => {
+                let id = self.subscriber(rt, *index);
+                let answer = number_of(self.flow.next(id));
+                compare(rt, place, answer.as_ref(), Ok(next));
+            }
+            Call::NextRefused(index) => {
+                let id = self.subscriber(rt, *index);
+                let answer = number_of(self.flow.next(id));
+                compare(rt, place, answer, Err(FlowFault::OutOfMemory));
+            }
+            Call::Unsubscribe(index, was_there) => {
+                let id = self.subscriber(rt, *index);
+                compare(rt, place, self.flow.unsubscribe(id), *was_there);
+            }
+            Call::Reset => self.flow.reset_replay_cache(),
+            Call::Drain(index, most, wanted) => {
+                let id = self.subscriber(rt, *index);
+                let answer = self.flow.drain(id, *most, &mut self.drained);
+                compare(rt, place, answer, *wanted);
+            }
+            _ => self.ask(rt, place, call),
+        }
+    }
+}
+
+/// Makes the call at this place, with each of its values.
+fn make_each(rt: &impl Abort, alloc: Global, caller: &mut Caller<'_>, place: usize, call: &Call) {
+    let Call::Each(repeated, first, last) = call else {
+        return caller.make(rt, alloc, place, call);
+    };
+    let mut made = 0;
+    for value in *first..=*last {
+        caller.make(rt, alloc, place, &repeated.with(value, made));
+        made = made.wrapping_add(1);
+    }
+}
+
+fn play(rt: &impl Abort, alloc: Global, place: usize, example: &Example) {
+    let copies = Cell::new(0);
+    let mut caller = Caller {
+        flow: SharedCore::new(alloc, example.config).expect(rt, "a flow"),
+        copies: &copies,
+        subscribers: Vec::new(alloc),
+        drained: Vec::new(alloc),
+    };
+    for number in 0..example.calls.len() {
+        let place = place.saturating_add(number);
+        make_each(rt, alloc, &mut caller, place, &example.calls[number]);
+    }
+}
+
+const TABLES: &[&[Example]] = &[SHARED, DRAINS, HELD, OWN_VALUES, MANY];
+
+/// Makes the calls of each example on a new flow, and compares what they answer. Call 7 of the example 3 of the table 2 has
+/// the place 20307, all counted from 0.
+#[test]
+fn calls_of_shared_flows(rt: HostRuntime) {
+    for table in 0..TABLES.len() {
+        for number in 0..TABLES[table].len() {
+            let place = table.saturating_mul(100).saturating_add(number);
+            let example = &TABLES[table][number];
+            play(&rt, rt.alloc(), place.saturating_mul(100), example);
+        }
+    }
+}

@@ -1,0 +1,100 @@
+//! Lists and boxed values in flows. Two are the same where what they contain is, as `StateFlow` compares by `equals`.
+use crate::compare::compare;
+use crate::one_thread::limited::list_of;
+use flow_core::{StateCore, SubId};
+use flow_law::{Boxed, FlowFault, FlowValue, Items, Next};
+use flow_testing::CopyLimited;
+use std::alloc::Global;
+use std::cell::Cell;
+use std::process::Abort;
+
+/// Sets the value, and answers what the subscriber receives then, if that is a new value.
+fn set_and_receive<T: FlowValue>(flow: &mut StateCore<T>, reader: SubId, value: T) -> Option<T> {
+    flow.set(value);
+    match flow.next(reader) {
+        Ok(Next::Value(value)) => Some(value),
+        _ => None,
+    }
+}
+
+/// The list of these values, with room for so many more.
+fn items(rt: &impl Abort, alloc: Global, room: usize, values: &[i64]) -> Items<i64> {
+    let mut list = values.to_vec(alloc).expect(rt, "memory");
+    list.reserve(room).expect(rt, "memory");
+    Items::new(list)
+}
+
+/// The list has these values, if it is there.
+fn is_list(rt: &impl Abort, place: usize, list: Option<Items<i64>>, values: Option<&[i64]>) {
+    match list {
+        Some(list) => {
+            compare(rt, place, Some(list.as_slice()), values);
+            compare(rt, place, Some(list.into_inner().as_slice()), values);
+        }
+        None => compare(rt, place, None, values),
+    }
+}
+
+/// For how many more values a list that is set has room, its values, and what the subscriber receives then. The same values in a
+/// list with more room are no new value.
+const LISTS: &[(usize, &[i64], Option<&[i64]>)] = &[
+    (0, &[1, 2], Some(&[1, 2])),
+    (98, &[1, 2], None),
+    (0, &[1], Some(&[1])),
+];
+
+#[test]
+fn a_list_is_its_values(rt: HostRuntime) {
+    let mut flow = StateCore::new(rt.alloc(), items(&rt, rt.alloc(), 0, &[1, 2]), u64::MAX);
+    let reader = flow.subscribe().expect(&rt, "a subscription");
+    for place in 0..LISTS.len() {
+        let (room, values, wanted) = LISTS[place];
+        let list = items(&rt, rt.alloc(), room, values);
+        is_list(&rt, place, set_and_receive(&mut flow, reader, list), wanted);
+    }
+}
+
+fn boxed(rt: &impl Abort, alloc: Global, number: i64) -> Boxed<i64> {
+    Boxed::new(Box::new(alloc, number).expect(rt, "memory"))
+}
+
+/// The number in the box, if it is there.
+fn number_in(rt: &impl Abort, place: usize, boxed: Option<Boxed<i64>>) -> Option<i64> {
+    let boxed = boxed?;
+    let number = *boxed.value();
+    compare(rt, place, Box::into_inner(boxed.into_inner()), number);
+    Some(number)
+}
+
+/// The number in a box that is set, and the one that the subscriber receives then.
+const BOXES: &[(i64, Option<i64>)] = &[(7, Some(7)), (7, None), (8, Some(8))];
+
+#[test]
+fn a_boxed_value_is_what_the_box_contains(rt: HostRuntime) {
+    let mut flow = StateCore::new(rt.alloc(), boxed(&rt, rt.alloc(), 7), u64::MAX);
+    let reader = flow.subscribe().expect(&rt, "a subscription");
+    for place in 0..BOXES.len() {
+        let (number, wanted) = BOXES[place];
+        let received = set_and_receive(&mut flow, reader, boxed(&rt, rt.alloc(), number));
+        compare(&rt, place, number_in(&rt, place, received), wanted);
+    }
+}
+
+/// The next copy is refused, and the one after it is not.
+fn is_copied_again<T: FlowValue>(rt: &impl Abort, value: &T) {
+    compare(rt, 0, value.try_copy().err(), Some(FlowFault::OutOfMemory));
+    compare(rt, 1, value.try_copy().is_ok(), true);
+}
+
+#[test]
+fn nothing_is_copied_where_a_part_is_not(rt: HostRuntime) {
+    let copies = Cell::new(0);
+    let list = Items::new(list_of(&rt, rt.alloc(), &copies, &[1, 2]));
+    copies.set(2);
+    is_copied_again(&rt, &list);
+    let Ok(content) = Box::new(rt.alloc(), CopyLimited::new(1, &copies)) else {
+        panic!(rt; "memory")
+    };
+    copies.set(1);
+    is_copied_again(&rt, &Boxed::new(content));
+}

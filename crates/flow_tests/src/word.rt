@@ -1,0 +1,10 @@
+//! Tests of the word state: worked examples by one caller and by several threads, and packs.
+#[cfg(test)]
+mod caller;
+pub mod celsius;
+#[cfg(test)]
+mod one_caller;
+#[cfg(test)]
+mod packs;
+#[cfg(test)]
+mod threads;
