@@ -8,5 +8,4 @@ mod own_values;
 mod shared;
 mod shared_calls;
 mod state;
-mod state_calls;
 mod values;

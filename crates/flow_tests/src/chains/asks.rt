@@ -1,7 +1,7 @@
 //! How often a chain is asked.
 
 use crate::chains::gives::{COLLECTIONS, gives};
-use crate::chains::operators::{Add, sum};
+use crate::chains::operators::Add;
 use crate::compare::compare;
 use flow_cold::{Asked, Chain, Cold, End, OfRange, Take};
 use std::cell::Cell;
@@ -49,7 +49,7 @@ fn a_take_asks_no_more_than_it_gives(rt: HostRuntime) {
         chain: OfRange::new(1, 5),
         asks: &asks,
     };
-    let chain = Take::new(counted.scan(0, Add, sum), 3).expect(&rt, "a take");
+    let chain = Take::new(counted.scan_by(0, Add), 3).expect(&rt, "a take");
     gives(&rt, rt.alloc(), 1, chain, &[0, 1, 3], End::Completed);
     compare(&rt, 1, asks.get(), 2 * COLLECTIONS);
 }

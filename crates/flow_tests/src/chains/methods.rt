@@ -82,16 +82,14 @@ fn a_chain_comes_to_one_answer(rt: HostRuntime) {
 
 #[test]
 fn each_item_is_visited_up_to_a_fault(rt: HostRuntime) {
-    let mut visited = Vec::new(rt.alloc());
+    let mut digits = 0i64;
     let answer = OfRange::new(1, 4).for_each(|x| {
         if x == 3 {
             return Err(ChainFault::Source(9));
         }
-        match visited.push(x) {
-            Ok(()) => Ok(()),
-            Err(_) => Err(ChainFault::OutOfMemory),
-        }
+        digits = digits.wrapping_mul(10).wrapping_add(x);
+        Ok(())
     });
     compare(&rt, 0, answer, Err(ChainFault::Source(9)));
-    compare(&rt, 1, visited.as_slice(), [1, 2].as_slice());
+    compare(&rt, 1, digits, 12);
 }

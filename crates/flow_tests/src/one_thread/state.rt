@@ -1,52 +1,36 @@
-//! Worked examples over a state flow.
-use crate::one_thread::state_calls::Call::{
-    Cache, CompareAndSet, Count, Current, Drain, Next, Reset, Set, Subscribe, TryEmit, Unsubscribe,
-    Values,
-};
-use crate::one_thread::state_calls::Example;
+//! A state flow without a subscriber, and a drain of one, which no script shows.
+use crate::compare::compare;
+use flow_core::StateCore;
 use flow_law::Drained;
-use flow_law::Next::{Empty, Value};
 
-pub const STATE: &[Example] = &[
-    // A subscriber gets no value twice in a row.
-    Example {
-        initial: 0,
-        limit: u64::MAX,
-        calls: &[
-            Subscribe,
-            Next(Value(0)),
-            Set(1),
-            Set(0),
-            Next(Empty),
-            CompareAndSet(0, 0, true),
-            CompareAndSet(1, 2, false),
-            Set(5),
-            Next(Value(5)),
-            Cache(&[5]),
-            Reset,
-            TryEmit(6, true),
-            Current(6),
-            Count(1),
-            Unsubscribe(true),
-            Unsubscribe(false),
-        ],
-    },
-    // A state flow without a subscriber has a cache: the current value alone.
-    Example {
-        initial: 0,
-        limit: 0,
-        calls: &[Cache(&[0]), Current(0), Set(7), Cache(&[7]), Current(7)],
-    },
-    // A drain gives the value once.
-    Example {
-        initial: 0,
-        limit: u64::MAX,
-        calls: &[
-            Subscribe,
-            Set(4),
-            Set(5),
-            Drain(10, Drained::Empty),
-            Values(&[5]),
-        ],
-    },
-];
+/// Its cache is the current value alone.
+#[test]
+fn a_state_flow_without_a_subscriber_has_a_cache(rt: HostRuntime) {
+    let mut flow = StateCore::new(rt.alloc(), 0, 0);
+    compare(&rt, 0, flow.value(), Ok(0));
+    flow.set(7);
+    let cache = flow.replay_cache().expect(&rt, "memory");
+    compare(&rt, 1, cache.as_slice(), [7].as_slice());
+}
+
+/// Of two values that were set the subscriber gets the last one, once, and nothing after it has left.
+#[test]
+fn a_drain_of_a_state_flow_gives_the_value_once(rt: HostRuntime) {
+    let mut flow = StateCore::new(rt.alloc(), 0, u64::MAX);
+    let reader = flow.subscribe().expect(&rt, "a subscription");
+    flow.set(4);
+    flow.set(5);
+    let mut drained = Vec::new(rt.alloc());
+    let first = flow.drain(reader, 10, &mut drained);
+    let was_there = flow.unsubscribe(reader);
+    let second = flow.drain(reader, 10, &mut drained);
+    compare(
+        &rt,
+        0,
+        (first, second),
+        (Ok(Drained::Empty), Ok(Drained::Gone)),
+    );
+    compare(&rt, 1, drained.as_slice(), [5].as_slice());
+    let is_there = flow.unsubscribe(reader);
+    compare(&rt, 2, (was_there, is_there), (true, false));
+}
