@@ -1,5 +1,5 @@
-//! Whole runs of the program over memory: worked examples of the documented flows, refused scripts, limits, and
-//! streams that give or take little. Each script is a row of a table, and those of one flow play in both versions.
+//! Whole runs of the program over memory: streams that give or take little, texts at each limit and above it, and threads.
+//! The cases of `cases/` at the top of the repository are played by the program as it was built (`.ci/cases`).
 use flow_program::run;
 use flow_script::Watched;
 use std::alloc::AllocGlobal;
@@ -8,18 +8,10 @@ use std::process::Abort;
 use std::sync::Wait;
 use std::thread::Threads;
 
-mod chains;
 mod crowd;
-mod examples;
+mod explained;
 mod limits;
 mod many;
-mod refused;
-mod script;
-mod several;
-mod several_refused;
-mod share;
-mod shared;
-mod state;
 mod streams;
 mod texts;
 

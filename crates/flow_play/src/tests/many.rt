@@ -1,18 +1,6 @@
 //! As many flows as a script may have, and one more.
-use crate::tests::script::{Form, play};
-use std::alloc::AllocError;
-
-const STATE: &str = r#"{"kind":"state","initial":7}"#;
-
-/// So many flows by number, and then this one, if it is any.
-fn write_flows(flows: &mut String, count: usize, last: &str) -> Result<(), AllocError> {
-    let mut separator = "";
-    for number in 0..count {
-        write!(flows, r#"{separator}"f{number}":{STATE}"#)?;
-        separator = ",";
-    }
-    flows.push_str(last)
-}
+use crate::tests::expect;
+use std::alloc::{AllocError, Global};
 
 const TOO_MANY: &str = "script refused 8 TooLarge at step 0\n";
 
@@ -57,13 +45,26 @@ const FLOWS: &[(usize, &str, &str, u8, &str)] = &[
     (65, "", r#""do":"fly""#, 2, TOO_MANY),
 ];
 
+/// A script of so many flows by number and then this one, if it is any, with a step of these keys.
+fn written(alloc: Global, count: usize, last: &str, keys: &str) -> Result<String, AllocError> {
+    let mut text = String::from_str(alloc, r#"{"version":2,"flows":{"#)?;
+    let mut separator = "";
+    for number in 0..count {
+        write!(
+            text,
+            r#"{separator}"f{number}":{{"kind":"state","initial":7}}"#
+        )?;
+        separator = ",";
+    }
+    write!(text, r#"{last}}},"steps":[{{{keys}}}]}}"#)?;
+    Ok(text)
+}
+
 #[test]
 fn a_script_has_at_most_64_flows(rt: HostRuntime) {
     for (count, last, keys, status, lines) in FLOWS {
-        let mut flows = String::new(rt.alloc());
-        write_flows(&mut flows, *count, last).expect(&rt, "memory");
-        let steps = [(*keys, "")];
-        let form = &Form::Several;
-        play(&rt, keys, form, flows.as_str(), &steps, *status, lines);
+        let text = written(rt.alloc(), *count, last, keys).expect(&rt, "memory");
+        let (script, lines) = (text.as_bytes(), lines.as_bytes());
+        expect(&rt, keys, &[], script, *status, lines);
     }
 }

@@ -1,11 +1,9 @@
-//! Texts that are no script: cut, spoilt, nested too deep, too long, or of another version.
+//! Texts that are no script: cut, spoilt, nested too deep, or too long.
 use crate::tests::streams::{LINES, SCRIPT};
 use crate::tests::{Host, expect};
 use std::mem;
 
 const NOT_JSON: &str = "script refused 3 NotJson\n";
-
-const BAD_VERSION: &str = "script refused 4 BadVersion\n";
 
 const BAD_HEAD: &str = "script refused 5 BadShape at step 0\n";
 
@@ -14,72 +12,6 @@ const TOO_LARGE: &str = "script refused 8 TooLarge at step 0\n";
 /// A script of version 2 with two flows.
 const TWO_FLOWS: &str =
     r#"{"version":2,"flows":{"p":{"kind":"shared","replay":1,"extra":0,"overflow":"suspend"},"q":{"kind":"state","initial":0}},"steps":[{"do":"subscribe","flow":"p","name":"a","first":[8]},{"do":"set","flow":"q","value":3},{"do":"next","flow":"p","name":"a"}]}"#;
-
-const TEXTS: &[(&str, &str)] = &[
-    ("", NOT_JSON),
-    ("{", NOT_JSON),
-    ("[]", BAD_HEAD),
-    ("{}", BAD_VERSION),
-    (
-        r#"{"version":9,"flow":{"kind":"shared","replay":1,"extra":0,"overflow":"suspend"},"steps":[]}"#,
-        BAD_VERSION,
-    ),
-    (
-        r#"{"version":0,"flow":{"kind":"none"},"steps":[]}"#,
-        BAD_VERSION,
-    ),
-    (r#"{"version":3,"flows":{},"steps":[]}"#, BAD_VERSION),
-    (r#"{"version":"2","flows":{},"steps":[]}"#, BAD_VERSION),
-    (r#"{"version":2.0,"flows":{},"steps":[]}"#, BAD_VERSION),
-    (
-        r#"{"version":3,"flows":[],"steps":{},"more":1}"#,
-        BAD_VERSION,
-    ),
-    (r#"{"flows":{},"steps":[]}"#, BAD_VERSION),
-    (r#"{"version":1,"flows":{},"steps":[]}"#, BAD_HEAD),
-    (
-        r#"{"version":1,"flow":{"kind":"none"},"flows":{},"steps":[]}"#,
-        BAD_HEAD,
-    ),
-    (
-        r#"{"version":2,"flow":{"kind":"none"},"steps":[]}"#,
-        BAD_HEAD,
-    ),
-    (
-        r#"{"version":2,"flows":{},"flow":{"kind":"none"},"steps":[]}"#,
-        BAD_HEAD,
-    ),
-    (r#"{"version":2,"flows":[],"steps":[]}"#, BAD_HEAD),
-    (r#"{"version":2,"flows":null,"steps":[]}"#, BAD_HEAD),
-    (r#"{"version":2,"steps":[]}"#, BAD_HEAD),
-    (r#"{"version":2,"flows":{}}"#, BAD_HEAD),
-    (r#"{"version":2,"flows":{},"steps":{}}"#, BAD_HEAD),
-    (r#"{"version":2,"flows":{},"steps":[],"more":1}"#, BAD_HEAD),
-    (
-        r#"{"version":1,"flow":{"kind":"share","chain":{"from":{"range":[1,10001]},"ops":[]},"started":"eagerly","replay":0},"steps":{}}"#,
-        BAD_HEAD,
-    ),
-    (
-        r#"{"version":2,"flows":{"f":{"kind":"share","chain":{"from":{"range":[1,10001]},"ops":[]},"started":"eagerly","replay":0}},"steps":{}}"#,
-        BAD_HEAD,
-    ),
-    // A step that is no object is told by its number.
-    (
-        r#"{"version":1,"flow":{"kind":"none"},"steps":[[]]}"#,
-        "script refused 5 BadShape at step 1\n",
-    ),
-    (
-        r#"{"version":2,"flows":{},"steps":[null]}"#,
-        "script refused 5 BadShape at step 1\n",
-    ),
-];
-
-#[test]
-fn a_text_that_is_no_script_is_told_so(rt: HostRuntime) {
-    for (text, line) in TEXTS {
-        expect(&rt, text, &[], text.as_bytes(), 2, line.as_bytes());
-    }
-}
 
 /// Each first part of the script, and the script with a byte 0 in the place of each other.
 fn spoil<H: Host>(rt: &H, script: &[u8]) {

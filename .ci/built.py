@@ -1,0 +1,35 @@
+"""The programs as they were built last."""
+import pathlib
+import subprocess
+import sys
+
+top = pathlib.Path(__file__).resolve().parent.parent
+
+
+def sources(name):
+    """The code that a program is built of."""
+    lines = [line.partition(":") for line in (top / "crates.txt").read_text().splitlines()]
+    below = {name.split()[0]: names.split() for name, _, names in lines if names and not name.startswith("#")}
+    left, taken = [name], set()
+    while left:
+        name = left.pop()
+        if name in below and name not in taken:
+            taken.add(name)
+            left += below[name]
+    files = [file for name in taken for file in (top / "crates" / name / "src").rglob("*.rt")]
+    return [file for file in files if "tests" not in file.parts and file.stem != "tests"]
+
+
+def programs(name):
+    """What `rt ci` built last, by each of its two compilers, or else what `rt run` proves and builds."""
+    crate = top / "crates" / name
+    built = [crate / "out" / name, crate / "out" / f"{name}.by-rattle"]
+    newest = max(file.stat().st_mtime for file in sources(name))
+    fresh = [file for file in built if file.exists() and file.stat().st_mtime >= newest]
+    if not fresh:
+        script = (crate / "stdin").read_bytes()
+        said = subprocess.run(["rt", "run"], cwd=crate, input=script, capture_output=True)
+        if said.returncode != 0:
+            sys.exit((said.stdout + said.stderr).decode(errors="replace"))
+        fresh = built[:1]
+    return fresh

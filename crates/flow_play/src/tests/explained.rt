@@ -1,0 +1,86 @@
+//! What people are told of a script: the faults and the lines that no script comes to, and one of each that some do.
+use crate::tests::Host;
+use flow_explain::explain_refusal;
+use flow_picture::rule_of;
+use flow_script::ScriptFault;
+use serde_json::Value;
+
+const NO_STEPS: &str = r#"{"version":2,"flows":{},"steps":[]}"#;
+
+/// Texts with a fault, and what is told of it.
+const REFUSALS: &[(&str, ScriptFault, &str)] = &[
+    (
+        r#"{"version":1,"flow":{"kind":"shared","replay":1,"extra":0,"overflow":"suspend"},
+"steps":[{"do":"try_emit","valeu":1}]}"#,
+        ScriptFault::BadShape(1),
+        r#"line 2, column 27: step 1: "valeu" is no key of try_emit
+  expected: "value", a whole number of 64 bits with a sign
+  nearest: "value"
+"#,
+    ),
+    (
+        NO_STEPS,
+        ScriptFault::ReadFailed,
+        "the script could not be read\n",
+    ),
+    (
+        NO_STEPS,
+        ScriptFault::TooLarge(7),
+        "line 1, column 1: step 7: step 7 passes a limit\n",
+    ),
+    (
+        NO_STEPS,
+        ScriptFault::DuplicateName(0),
+        "line 1, column 1: head: step 0 introduces a name that is taken\n",
+    ),
+    (
+        NO_STEPS,
+        ScriptFault::NotJson,
+        "line 1, column 1: the text is JSON\n",
+    ),
+];
+
+#[test]
+fn a_refusal_is_told_with_its_place(rt: HostRuntime) {
+    for (text, fault, words) in REFUSALS {
+        let told = explain_refusal(rt.alloc(), text.as_bytes(), *fault).expect(&rt, "memory");
+        assert_eq!(rt; told.as_str(), *words, "of {text}");
+    }
+}
+
+/// A flow, a step, its line, and the rule: none, where the step writes no such line.
+const RULES: &[(&str, &str, &str, &str)] = &[
+    (
+        r#"{"kind":"shared","replay":0,"extra":2,"overflow":"drop_oldest"}"#,
+        r#"{"do":"try_emit"}"#,
+        "true",
+        "taken: where the buffer is full its oldest value is dropped",
+    ),
+    (
+        r#"{"kind":"shared","replay":0,"extra":2,"overflow":"drop_oldest"}"#,
+        r#"{"do":"try_emit"}"#,
+        "false",
+        "",
+    ),
+    (
+        r#"{"kind":"shared","replay":2,"extra":0,"overflow":"suspend"}"#,
+        r#"{"do":"bogus"}"#,
+        "true",
+        "",
+    ),
+];
+
+/// Compares the rule of a line with the one that is wanted.
+fn expect_rule<H: Host>(rt: &H, flow: &str, step: &str, line: &str, rule: &str) {
+    let flow = Value::from_str(rt.alloc(), flow).expect(rt, "a flow");
+    let step = Value::from_str(rt.alloc(), step).expect(rt, "a step");
+    let told = rule_of(Some(&flow), &step, line);
+    assert_eq!(rt; told, rule, "the rule of {line}");
+}
+
+#[test]
+fn a_line_has_its_rule(rt: HostRuntime) {
+    for (flow, step, line, rule) in RULES {
+        expect_rule(&rt, flow, step, line, rule);
+    }
+}
