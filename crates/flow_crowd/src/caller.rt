@@ -6,7 +6,7 @@ use crate::reader::Reader;
 use crate::size::CrowdSize;
 use crate::worker::Worker;
 use crossbeam_utils::atomic::AtomicCell;
-use flow_shared::{Emission, Emitted, Polled, Seat, SharedFlow};
+use flow_shared::{Emitted, Polled, Seat, SharedFlow};
 use std::alloc::Global;
 use std::ops::Range;
 use std::sync::Wait;
@@ -21,13 +21,36 @@ pub struct Caller<'a> {
     ghost of_flow: { seat.table_id ≡ flow.now.table_id },
 }
 
-/// An emitter whose value waits.
-#[derive(Drop)]
-struct Waiting<'a> {
-    flow: &'a SharedFlow<i64>,
-    emission: Emission<i64>,
-    stop: &'a AtomicCell<bool>,
-    ghost of_flow: { emission.token.table_id ≡ flow.now.table_id },
+/// Emits a value, and waits until every subscriber has room for it. False where all are to stop: a value that waits stays
+/// queued then.
+fn emit<R: Wait>(
+    rt: &R,
+    flow: &SharedFlow<i64>,
+    seat: Seat<i64>,
+    stop: &AtomicCell<bool>,
+    value: i64,
+) -> bool
+    requires { seat.table_id ≡ flow.now.table_id }
+{
+    let mut emission = match flow.emit(rt, seat, value) {
+        Emitted::Done(_seat) => return true,
+        Emitted::Queued(emission) => emission,
+        Emitted::Refused(_seat, _value, _fault) => {
+            stop.store(true);
+            return false;
+        }
+    };
+    for _ in rt.forever() {
+        if stop.load() {
+            return false;
+        }
+        thread::yield_now();
+        match flow.poll_emit(rt, emission) {
+            Polled::Done(_seat) => return true,
+            Polled::Waiting(back) => emission = back,
+        }
+    }
+    unreachable!()
 }
 
 impl<'a> Caller<'a> {
@@ -73,67 +96,13 @@ impl<'a> Caller<'a> {
         Some(workers)
     }
 
-    /// Emits a value, and waits until every subscriber has room for it. `None` where all are to stop: a value that waits
-    /// stays queued then.
-    fn emit<R: Wait>(self, rt: &R, value: i64) -> Option<Caller<'a>> {
-        let Caller { flow, seat, stop } = self;
-        match flow.emit(rt, seat, value) {
-            Emitted::Done(seat) => Some(Caller { flow, seat, stop }),
-            Emitted::Queued(emission) => Waiting {
-                flow,
-                emission,
-                stop,
-            }
-            .wait(rt),
-            Emitted::Refused(_seat, _value, _fault) => {
-                stop.store(true);
-                None
-            }
-        }
-    }
-
     /// Emits the values one after the other.
-    pub fn emit_all<R: Wait>(self, rt: &R, values: Range<i64>) {
-        let mut emitter = self;
+    pub fn emit_all<R: Wait>(&mut self, rt: &R, values: Range<i64>) {
         for value in values {
-            match emitter.emit(rt, value) {
-                Some(back) => emitter = back,
-                None => return,
+            let seat = self.flow.seat(&mut self.seat);
+            if !emit(rt, self.flow, seat, self.stop, value) {
+                return;
             }
         }
-    }
-}
-
-impl<'a> Waiting<'a> {
-    /// The emitter, once its value was emitted; before that, this.
-    fn poll<R: Wait>(self, rt: &R) -> Result<Caller<'a>, Waiting<'a>> {
-        let Waiting {
-            flow,
-            emission,
-            stop,
-        } = self;
-        match flow.poll_emit(rt, emission) {
-            Polled::Done(seat) => Ok(Caller { flow, seat, stop }),
-            Polled::Waiting(emission) => Err(Waiting {
-                flow,
-                emission,
-                stop,
-            }),
-        }
-    }
-
-    fn wait<R: Wait>(self, rt: &R) -> Option<Caller<'a>> {
-        let mut waiting = self;
-        for _ in rt.forever() {
-            if waiting.stop.load() {
-                return None;
-            }
-            thread::yield_now();
-            match waiting.poll(rt) {
-                Ok(emitter) => return Some(emitter),
-                Err(back) => waiting = back,
-            }
-        }
-        unreachable!()
     }
 }

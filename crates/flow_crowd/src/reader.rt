@@ -45,19 +45,12 @@ impl<'a> Reader<'a> {
         unreachable!()
     }
 
-    /// Takes the next value, and answers whether its emitter's values are in order. `None` where all are to stop.
-    fn take<R: Wait>(&mut self, rt: &R, size: CrowdSize) -> Option<bool> {
-        let value = self.next(rt)?;
-        Some(add(&mut self.orders, size, value))
-    }
-
     /// Reads until all values of the crowd came, or all are to stop.
-    pub fn read_all<R: Wait>(self, rt: &R, size: CrowdSize) -> Received {
-        let mut reader = self;
+    pub fn read_all<R: Wait>(&mut self, rt: &R, size: CrowdSize) -> Received {
         let mut is_in_order = true;
         for count in 0..size.emitted() {
-            match reader.take(rt, size) {
-                Some(is_kept) => is_in_order = is_kept && is_in_order,
+            match self.next(rt) {
+                Some(value) => is_in_order = add(&mut self.orders, size, value) && is_in_order,
                 None => return Received { count, is_in_order },
             }
         }

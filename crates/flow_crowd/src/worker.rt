@@ -16,11 +16,11 @@ impl<'a> Worker<'a> {
     /// What a subscriber got.
     pub fn run<R: Wait>(self, rt: &R, size: CrowdSize) -> Option<Received> {
         match self {
-            Worker::Emit(emitter, values) => {
+            Worker::Emit(mut emitter, values) => {
                 emitter.emit_all(rt, values);
                 None
             }
-            Worker::Read(reader) => Some(reader.read_all(rt, size)),
+            Worker::Read(mut reader) => Some(reader.read_all(rt, size)),
         }
     }
 }
