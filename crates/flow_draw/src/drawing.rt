@@ -7,7 +7,7 @@ ghost use Rattle.flow_draw.specs.Listing.{told};
 use crate::lines::split_lines;
 use crate::listing::add_listing;
 use flow_picture::{Frame, Played, explained_frame, items_of, svg_frame, text_frame};
-use flow_script::{Script, ScriptFault, ScriptLines, lines_of, read_script};
+use flow_script::{ScriptFault, ScriptLines, lines_of, read_script};
 use serde_json::Value;
 use std::alloc::{AllocError, Global};
 
@@ -23,11 +23,8 @@ pub enum Form {
 /// How many lines come before that of the first step: those of flows that were refused when they were made. They are what
 /// the script writes without its steps.
 fn refused_flows(alloc: Global, bytes: &[u8]) -> Result<usize, ScriptFault> {
-    let Script { flows, .. } = read_script(alloc, bytes)?;
-    let script = Script {
-        flows,
-        steps: Vec::new(alloc),
-    };
+    let mut script = read_script(alloc, bytes)?;
+    script.steps.clear();
     let text = script.lines(alloc)?;
     Ok(text.as_str().lines().count())
 }

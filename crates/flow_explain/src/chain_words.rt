@@ -46,7 +46,7 @@ const SCRIPTED: Key = Key {
 };
 
 /// The sources, by the one key that each has.
-static SOURCE_ROWS: [Row; 3] = [
+const SOURCE_ROWS: &[Row] = &[
     Row {
         word: "of",
         name: "a source with \"of\"",
@@ -69,7 +69,7 @@ static SOURCE_ROWS: [Row; 3] = [
 
 /// The keys of a source by the first one that it has, since it has no other.
 pub fn source_shape(source: &Value) -> Shape {
-    for row in &SOURCE_ROWS {
+    for row in SOURCE_ROWS {
         if source.get(row.word).is_some() {
             return Shape {
                 name: row.name,
@@ -183,7 +183,7 @@ macro_rules! operator {
 }
 
 /// The operators, by their tags.
-pub static OPERATOR_ROWS: [Row; 12] = [
+pub const OPERATOR_ROWS: &[Row] = &[
     operator!("map", &[OP, BY_ARITHMETIC, K], Need::Always),
     operator!("filter", &[OP, BY_TEST, MAYBE_K], Need::Always),
     operator!("take_while", &[OP, BY_TEST, MAYBE_K], Need::Always),

@@ -3,7 +3,7 @@
 use crate::head::text_at;
 use crate::step_words::{STEP_ROWS, is_allowed};
 use crate::words::{Key, Presence, Row, Version};
-use serde_json::Value;
+use serde_json::{Map, Value};
 use std::alloc::AllocError;
 
 /// Words of which one is right. Some of a list may be out of place.
@@ -16,6 +16,8 @@ pub enum Choices<'a> {
     Tags(&'static [Row], Version),
     /// The steps that a kind of flow allows.
     StepsOf(&'a str),
+    /// The names of these flows.
+    Flows(&'a Map<String, Value>),
     /// The names that those of these steps introduce that have this tag and are about this flow.
     Names(&'a [Value], &'static str, &'a str),
 }
@@ -38,6 +40,10 @@ impl<'a> Choices<'a> {
             Choices::StepsOf(kind) => {
                 let row = STEP_ROWS.get(index)?;
                 Some((row.word, is_allowed(row.word, kind)))
+            }
+            Choices::Flows(flows) => {
+                let name = flows.keys().nth(index)?;
+                Some((name.as_str(), true))
             }
             Choices::Names(steps, tag, flow) => {
                 let step = steps.get(index)?;

@@ -88,7 +88,7 @@ const STARTED: Key = Key {
 };
 
 /// The flows, by their tags.
-pub static FLOW_ROWS: [Row; 5] = [
+pub const FLOW_ROWS: &[Row] = &[
     Row {
         word: "none",
         name: "a script without a flow",
@@ -122,7 +122,7 @@ pub static FLOW_ROWS: [Row; 5] = [
 ];
 
 /// The words that say when a shared chain runs.
-pub const STARTED_WORDS: [&str; 2] = ["eagerly", "lazily"];
+pub const STARTED_WORDS: &[&str] = &["eagerly", "lazily"];
 
 /// A shared chain that runs while it has subscribers.
 pub const STOP: Shape = Shape {

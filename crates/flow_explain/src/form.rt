@@ -78,7 +78,7 @@ impl Form {
             }
             Form::Started => {
                 value.is_object()
-                    || Choices::Words(&STARTED_WORDS)
+                    || Choices::Words(STARTED_WORDS)
                         .find(value.as_str().unwrap_or(""))
                         .is_some()
             }
@@ -119,7 +119,7 @@ impl Form {
     pub fn choices(self) -> &'static [&'static str] {
         match self {
             Form::OneOf(words) => words,
-            Form::Started => &STARTED_WORDS,
+            Form::Started => STARTED_WORDS,
             Form::Entry => &["pending"],
             _ => &[],
         }

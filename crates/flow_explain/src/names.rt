@@ -4,21 +4,20 @@ use crate::choices::Choices;
 use crate::complaint::{Complaint, Expected, Found, What};
 use crate::head::{Script, text_at};
 use crate::introduced::{Named, introduced_before};
-use crate::nearest::{nearest, nearest_of};
+use crate::nearest::nearest_of;
 use crate::words::Version;
 use flow_places::Spot;
 use serde_json::Value;
 
 /// No flow has the name that a step gives.
 fn unknown_flow<'a>(script: Script<'a>, found: Spot<'a>) -> Found<'a> {
-    let mut names = Vec::new(script.text.alloc);
-    if let Some(Value::Object(flows)) = script.root.value.get("flows") {
-        for (name, _) in flows {
-            names.push(name.as_str())?;
-        }
-    }
     let word = found.value.as_str().unwrap_or("");
-    let near = nearest(script.text.alloc, word, names.as_slice())?;
+    let near = match script.root.value.get("flows") {
+        Some(Value::Object(flows)) => {
+            nearest_of(script.text.alloc, word, Choices::Flows(flows))?
+        }
+        _ => None,
+    };
     Ok(Some(Complaint {
         at: found.at,
         what: What::Told(" is no flow of the script"),

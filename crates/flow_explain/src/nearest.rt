@@ -10,7 +10,7 @@ const LONGEST: usize = 64;
 
 /// The word that the fewest edits make of this one, if it is near: a letter more, a letter less, another letter, or two that
 /// changed places. It is near by edits of a third of its letters, or by one of a short word.
-pub fn nearest<'a>(
+fn nearest<'a>(
     alloc: Global,
     word: &str,
     choices: &[&'a str],

@@ -14,7 +14,7 @@ pub fn not_allowed<'a>(script: Script<'a>, step: Spot<'a>) -> Found<'a> {
     };
     let kind = text_at(flow, "kind");
     // What a reader is told a flow of this kind is.
-    let name = match row_named(&FLOW_ROWS, kind) {
+    let name = match row_named(FLOW_ROWS, kind) {
         Some(row) => row.name,
         None => "this flow",
     };

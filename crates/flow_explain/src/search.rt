@@ -171,8 +171,8 @@ impl<'a> Search<'a> {
         let spot = task.spot;
         match task.form {
             Form::Script => self.object(tasks, spot, SCRIPT),
-            Form::Step => self.tagged(tasks, spot, DO.word, &STEP_ROWS),
-            Form::Flow => self.tagged(tasks, spot, KIND.word, &FLOW_ROWS),
+            Form::Step => self.tagged(tasks, spot, DO.word, STEP_ROWS),
+            Form::Flow => self.tagged(tasks, spot, KIND.word, FLOW_ROWS),
             Form::Flows => self.flows(tasks, spot),
             Form::Started if spot.value.is_object() => self.object(tasks, spot, STOP),
             Form::Chain => self.object(tasks, spot, CHAIN),
@@ -181,7 +181,7 @@ impl<'a> Search<'a> {
             }
             Form::Source => self.object(tasks, spot, source_shape(spot.value)),
             Form::Operators => self.items(tasks, task, Form::Operator),
-            Form::Operator => self.tagged(tasks, spot, OP.word, &OPERATOR_ROWS),
+            Form::Operator => self.tagged(tasks, spot, OP.word, OPERATOR_ROWS),
             Form::Numbers(_) => self.items(tasks, task, Form::Signed),
             Form::Entries => self.items(tasks, task, Form::Entry),
             _ => Ok(None),

@@ -70,7 +70,7 @@ macro_rules! step {
 }
 
 /// The steps, by their tags.
-pub static STEP_ROWS: [Row; 15] = [
+pub const STEP_ROWS: &[Row] = &[
     step!("try_emit", &[DO, VALUE, ON_FLOW]),
     step!("emit", &[DO, NAME, VALUE, ON_FLOW]),
     step!("poll", &[DO, NAME, ON_FLOW]),
@@ -88,15 +88,25 @@ pub static STEP_ROWS: [Row; 15] = [
     step!("collect", &[DO, CHAIN]),
 ];
 
+/// The steps that not every kind of flow allows, each with the kinds that do.
+const LIMITED: &[(&str, &[&str])] = &[
+    ("try_emit", &["shared", "state"]),
+    ("reset", &["shared", "state"]),
+    ("emit", &["shared"]),
+    ("poll", &["shared"]),
+    ("cancel", &["shared"]),
+    ("value", &["state", "state_in"]),
+    ("set", &["state"]),
+    ("compare_and_set", &["state"]),
+    ("turn", &["share", "state_in"]),
+];
+
 /// Whether a step is allowed in a script with a flow of this kind.
 pub fn is_allowed(step: &str, kind: &str) -> bool {
-    match step {
-        "collect" => true,
-        "try_emit" | "reset" => matches!(kind, "shared" | "state"),
-        "emit" | "poll" | "cancel" => kind == "shared",
-        "value" => matches!(kind, "state" | "state_in"),
-        "set" | "compare_and_set" => kind == "state",
-        "turn" => matches!(kind, "share" | "state_in"),
-        _ => matches!(kind, "shared" | "state" | "share" | "state_in"),
+    for (word, kinds) in LIMITED {
+        if *word == step {
+            return kinds.contains(&kind);
+        }
     }
+    step == "collect" || kind != "none"
 }

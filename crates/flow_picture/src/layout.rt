@@ -49,6 +49,8 @@ pub enum Part<'a> {
     EndLane,
     /// A band ends that is so wide with the names before it.
     EndBand(usize),
+    /// The picture of a collection comes: the number of its step, and its chain.
+    Collection(usize, &'a Value),
 }
 
 /// Columns that stand beside each other.
@@ -187,14 +189,14 @@ impl<'a> Band<'_, 'a> {
     }
 }
 
-/// The parts of a picture, with these steps above their columns. A band without marks is left out.
-pub fn parts_of<'a>(
+/// Adds the parts of a picture, with these steps above their columns. A band without marks is left out.
+pub fn add_parts<'a>(
     alloc: Global,
+    parts: &mut Vec<Part<'a>>,
     picture: &Picture<'a>,
     steps: &'a [Value],
-) -> Result<Vec<Part<'a>>, AllocError> {
+) -> Result<(), AllocError> {
     let widths = widths_of(alloc, picture)?;
-    let mut parts = Vec::new(alloc);
     let mut from = 0;
     let mut first = 0;
     for _ in 0..widths.len() {
@@ -206,7 +208,7 @@ pub fn parts_of<'a>(
             marks: picture.marks.get(first..last).unwrap_or(&[]),
         };
         if !band.marks.is_empty() {
-            band.add_to(alloc, &mut parts, picture.lanes.as_slice(), steps)?;
+            band.add_to(alloc, parts, picture.lanes.as_slice(), steps)?;
         }
         if to >= widths.len() {
             break;
@@ -214,5 +216,5 @@ pub fn parts_of<'a>(
         from = to;
         first = last;
     }
-    Ok(parts)
+    Ok(())
 }

@@ -6,8 +6,9 @@
 //! wrote, and from nothing else. The table in `marks` has the marks of a step by its tag and its line.
 //!
 //! # Where the marks stand
-//! `parts_of` gives each column a width in characters, cuts a picture into bands that are at most `MOST_WIDTH` wide, and tells
-//! the parts of it from left to right, line by line. `text_frame` and `svg_frame` write each part in their way.
+//! `add_parts` gives each column of a picture a width in characters, cuts it into bands that are at most `MOST_WIDTH` wide, and
+//! tells its parts from left to right, line by line. `parts_of` has the parts of all pictures of a script; `text_frame` and
+//! `svg_frame` write each in their way.
 //!
 //! # Words
 //! `Played::add_words_before` has what stands before a line: the step that writes it, in words.
@@ -22,6 +23,7 @@ mod collection;
 mod frame;
 mod layout;
 mod marks;
+mod parts;
 mod picture;
 mod played;
 mod rules;

@@ -48,7 +48,7 @@ struct Marks(&'static str, Line, Option<Sign>, Named, Content);
 const OTHER: Line = Line::Begins("");
 
 /// The marks of the steps that do not only tell what their flow answers. Of a tag and a line the first row counts.
-static MARKS: [Marks; 21] = [
+const MARKS: &[Marks] = &[
     Marks(
         "try_emit",
         Line::Is("true"),
@@ -194,7 +194,7 @@ static MARKS: [Marks; 21] = [
 
 /// The marks of a step with this tag and line, where the emission that it is about goes on or does not.
 fn marks_of(tag: &str, line: &str, goes_on: bool) -> Marks {
-    for marks in &MARKS {
+    for marks in MARKS {
         if marks.0 == tag
             && marks.1.fits(line)
             && (goes_on || !matches!(marks.4, Content::Emission))

@@ -80,9 +80,9 @@ impl Case {
 /// The rules of steps on a flow.
 fn rules_for(flow: &Value, step: &str) -> &'static [Rule] {
     match text_of(flow, "kind") {
-        _ if step == "turn" => &TURN_RULES,
-        "shared" | "share" => &SHARED_RULES,
-        "state" | "state_in" => &STATE_RULES,
+        _ if step == "turn" => TURN_RULES,
+        "shared" | "share" => SHARED_RULES,
+        "state" | "state_in" => STATE_RULES,
         _ => &[],
     }
 }
@@ -95,7 +95,7 @@ fn rules_for(flow: &Value, step: &str) -> &'static [Rule] {
 pub fn rule_of(flow: Option<&Value>, step: &Value, line: &str) -> &'static str {
     let word = text_of(step, "do");
     let (flow, rules) = match flow {
-        _ if word == "collect" => (step, &COLLECT_RULES as &[Rule]),
+        _ if word == "collect" => (step, COLLECT_RULES),
         _ if line == "no flow" => {
             return "the flow was refused when it was made, so it answers nothing";
         }

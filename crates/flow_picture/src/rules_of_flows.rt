@@ -22,7 +22,7 @@ const NOBODY_TO_WAIT_FOR: &str = "taken: there is no subscriber for whom the emi
 const SUBSCRIBERS: &str = "how many subscribers there are; at first there is none";
 
 /// The rules of shared flows. Of a step and a line the first one counts.
-pub static SHARED_RULES: [Rule; 32] = [
+pub const SHARED_RULES: &[Rule] = &[
     Rule(
         "try_emit",
         Case::Drops("drop_oldest"),
@@ -198,7 +198,7 @@ pub static SHARED_RULES: [Rule; 32] = [
 ];
 
 /// The rules of state flows.
-pub static STATE_RULES: [Rule; 15] = [
+pub const STATE_RULES: &[Rule] = &[
     Rule(
         "try_emit",
         Case::Always,

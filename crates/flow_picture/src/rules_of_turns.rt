@@ -3,7 +3,7 @@
 use crate::rules::{Case, Line, Rule};
 
 /// The rules of turns. Of a line the first one counts.
-pub static TURN_RULES: [Rule; 16] = [
+pub const TURN_RULES: &[Rule] = &[
     Rule(
         "turn",
         Case::Started("eagerly"),
@@ -103,7 +103,7 @@ pub static TURN_RULES: [Rule; 16] = [
 ];
 
 /// The rules of collections. Of a line the first one counts.
-pub static COLLECT_RULES: [Rule; 5] = [
+pub const COLLECT_RULES: &[Rule] = &[
     Rule(
         "collect",
         Case::Always,

@@ -27,29 +27,16 @@ pub fn items_of<'a>(value: &'a Value, key: &str) -> &'a [Value] {
     }
 }
 
-/// A member of a step, after a space.
-fn add_member(text: &mut String, step: &Value, key: &str) -> Result<(), AllocError> {
-    let Some(value) = step.get(key) else {
-        return Ok(());
-    };
-    text.push(' ')?;
-    add_value(text, value)
-}
-
 /// A number or a word, and anything else in short.
 fn add_value(text: &mut String, value: &Value) -> Result<(), AllocError> {
-    if let Some(word) = value.as_str() {
-        return text.push_str(word);
-    }
-    if let Some(number) = value.as_i64() {
-        return write!(text, "{number}");
-    }
-    if let Some(number) = value.as_u64() {
-        return write!(text, "{number}");
-    }
-    match value.as_array() {
-        Some(items) => add_items(text, items.as_slice()),
-        None => text.push_str("{..}"),
+    match value {
+        Value::String(word) => text.push_str(word.as_str()),
+        Value::Array(items) => add_items(text, items.as_slice()),
+        _ => match (value.as_i64(), value.as_u64()) {
+            (Some(number), _) => write!(text, "{number}"),
+            (None, Some(number)) => write!(text, "{number}"),
+            (None, None) => text.push_str("{..}"),
+        },
     }
 }
 
@@ -59,20 +46,20 @@ const MOST_ITEMS: usize = 12;
 /// Numbers, words and faults.
 fn add_items(text: &mut String, items: &[Value]) -> Result<(), AllocError> {
     text.push('[')?;
-    for (index, item) in items.iter().enumerate() {
+    for (index, item) in items.iter().take(MOST_ITEMS).enumerate() {
         if index > 0 {
             text.push_str(", ")?;
-        }
-        if index == MOST_ITEMS {
-            text.push_str("..")?;
-            break;
         }
         match item.as_i64() {
             Some(number) => write!(text, "{number}")?,
             None => text.push_str(item.as_str().unwrap_or("fault"))?,
         }
     }
-    text.push(']')
+    text.push_str(if items.len() > MOST_ITEMS {
+        ", ..]"
+    } else {
+        "]"
+    })
 }
 
 /// The members of an object but one, each with its key.
@@ -82,9 +69,7 @@ fn add_members(text: &mut String, object: &Value, but: &str) -> Result<(), Alloc
     };
     for (key, value) in members {
         if key.as_str() != but {
-            text.push(' ')?;
-            text.push_str(key.as_str())?;
-            text.push(' ')?;
+            write!(text, " {key} ")?;
             add_value(text, value)?;
         }
     }
@@ -97,47 +82,55 @@ pub fn add_chain(text: &mut String, chain: &Value) -> Result<(), AllocError> {
         add_members(text, source, "")?;
     }
     for op in items_of(chain, "ops") {
-        text.push_str(", ")?;
-        text.push_str(text_of(op, "op"))?;
+        let word = text_of(op, "op");
+        write!(text, ", {word}")?;
         add_members(text, op, "op")?;
     }
     Ok(())
 }
 
-/// A step in words.
-pub fn add_step(text: &mut String, step: &Value) -> Result<(), AllocError> {
-    text.push_str(text_of(step, "do"))?;
-    for key in ["flow", "name", "first", "value", "expect", "update", "at"] {
-        add_member(text, step, key)?;
-    }
-    match step.get("chain") {
-        Some(chain) => add_chain(text, chain),
-        None => Ok(()),
+/// The value of a key, after a space: of a chain its source and its operators, and of another object its members.
+fn add_member(text: &mut String, key: &str, value: &Value) -> Result<(), AllocError> {
+    match value {
+        Value::Object(_) if key == "chain" => add_chain(text, value),
+        Value::Object(_) => add_members(text, value, ""),
+        _ => {
+            text.push(' ')?;
+            add_value(text, value)
+        }
     }
 }
 
+/// The keys of a step, in the order of its words.
+const STEP_KEYS: &[&str] = &[
+    "flow", "name", "first", "value", "expect", "update", "at", "chain",
+];
+
+/// A step in words.
+pub fn add_step(text: &mut String, step: &Value) -> Result<(), AllocError> {
+    text.push_str(text_of(step, "do"))?;
+    for key in STEP_KEYS {
+        if let Some(value) = step.get(*key) {
+            add_member(text, key, value)?;
+        }
+    }
+    Ok(())
+}
+
+/// The keys of a flow, in the order of its words.
+const FLOW_KEYS: &[&str] = &[
+    "replay", "extra", "overflow", "initial", "limit", "chain", "started",
+];
+
 /// A flow in words, in a line of its own.
 pub fn add_flow(text: &mut String, name: &str, flow: &Value) -> Result<(), AllocError> {
-    text.push_str(name)?;
-    text.push_str(": ")?;
-    text.push_str(text_of(flow, "kind"))?;
-    for key in ["replay", "extra", "overflow", "initial", "limit"] {
-        if flow.get(key).is_some() {
-            text.push_str(", ")?;
-            text.push_str(key)?;
-            add_member(text, flow, key)?;
+    let kind = text_of(flow, "kind");
+    write!(text, "{name}: {kind}")?;
+    for key in FLOW_KEYS {
+        if let Some(value) = flow.get(*key) {
+            write!(text, ", {key}")?;
+            add_member(text, key, value)?;
         }
-    }
-    if let Some(chain) = flow.get("chain") {
-        text.push_str(", chain")?;
-        add_chain(text, chain)?;
-    }
-    if let Some(started) = flow.get("started") {
-        text.push_str(", started")?;
-        if started.is_string() {
-            add_member(text, flow, "started")?;
-        }
-        add_members(text, started, "")?;
     }
     text.push('\n')
 }

@@ -70,3 +70,16 @@ pub fn add_heads(text: &mut String, script: &Value) -> Result<(), AllocError> {
     }
     Ok(())
 }
+
+/// What the flows are, and the lines of those that were refused.
+pub fn add_all_heads(
+    text: &mut String,
+    script: &Value,
+    played: Played<'_>,
+) -> Result<(), AllocError> {
+    add_heads(text, script)?;
+    for line in played.lines.iter().take(played.refused) {
+        writeln!(text, "{line}")?;
+    }
+    Ok(())
+}

@@ -5,8 +5,9 @@ pub const LEAST_WIDTH: usize = 660;
 
 pub const LEGEND_HEIGHT: usize = 72;
 
-/// Colours for a light background and for a dark one. A value has one colour wherever it comes.
+/// The end of the description, and colours for a light background and for a dark one. A value has one colour wherever it comes.
 pub const STYLE: &str = "\
+</desc>
 <style>
 text{font:13px ui-monospace,SFMono-Regular,Menlo,Consolas,'DejaVu Sans Mono',monospace;fill:#1f2328}
 .p{fill:#ffffff}

@@ -1,12 +1,11 @@
 //! A picture as text for a terminal.
 
-use crate::collection::collected;
 use crate::frame::Frame;
-use crate::layout::{Cell, MOST_WIDTH, Part, parts_of};
-use crate::picture::Picture;
+use crate::layout::{Cell, MOST_WIDTH, Part};
+use crate::parts::parts_of;
 use crate::played::Played;
 use crate::script_words::add_chain;
-use crate::steps::{add_heads, steps_picture};
+use crate::steps::add_all_heads;
 use crate::widths::{NAME_WIDTH, add_cut, add_words, brackets, mark_width, number_width};
 use serde_json::Value;
 use std::alloc::{AllocError, Global};
@@ -73,44 +72,12 @@ fn add_part(text: &mut String, part: Part<'_>) -> Result<(), AllocError> {
         Part::Cell(cell) => add_cell(text, cell),
         Part::EndNumbers | Part::EndLane => end_line(text),
         Part::EndBand(_) => text.push('\n'),
-    }
-}
-
-/// A picture, with the numbers of these steps above their columns.
-fn add_picture(
-    alloc: Global,
-    text: &mut String,
-    picture: &Picture<'_>,
-    steps: &[Value],
-) -> Result<(), AllocError> {
-    for part in &parts_of(alloc, picture, steps)? {
-        add_part(text, *part)?;
-    }
-    Ok(())
-}
-
-/// The collections of a script, each with its chain in words.
-fn add_collections(alloc: Global, text: &mut String, played: Played<'_>) -> Result<(), AllocError> {
-    for (place, step) in played.steps.iter().enumerate() {
-        if let Some(chain) = step.get("chain") {
-            write!(text, "step {}: collect", place.saturating_add(1))?;
+        Part::Collection(step, chain) => {
+            write!(text, "step {step}: collect")?;
             add_chain(text, chain)?;
-            text.push('\n')?;
-            let picture = collected(alloc, chain, played.line(place))?;
-            add_picture(alloc, text, &picture, &[])?;
+            text.push('\n')
         }
     }
-    Ok(())
-}
-
-fn add_steps(
-    alloc: Global,
-    text: &mut String,
-    script: &Value,
-    played: Played<'_>,
-) -> Result<(), AllocError> {
-    let picture = steps_picture(alloc, script, played)?;
-    add_picture(alloc, text, &picture, played.steps)
 }
 
 fn add_all(
@@ -119,14 +86,11 @@ fn add_all(
     script: &Value,
     played: Played<'_>,
 ) -> Result<(), AllocError> {
-    add_heads(text, script)?;
-    for line in played.lines.iter().take(played.refused) {
-        text.push_str(line)?;
-        text.push('\n')?;
-    }
+    add_all_heads(text, script, played)?;
     text.push('\n')?;
-    add_steps(alloc, text, script, played)?;
-    add_collections(alloc, text, played)?;
+    for part in &parts_of(alloc, script, played)? {
+        add_part(text, *part)?;
+    }
     text.push_str(LEGEND)
 }
 
