@@ -7,8 +7,6 @@
 #![tactic(auto)]
 
 #[cfg(test)]
-mod at_most;
-#[cfg(test)]
 mod awaiting;
 #[cfg(test)]
 mod compare;

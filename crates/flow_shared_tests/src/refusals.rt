@@ -4,7 +4,7 @@
 
 mod awaiting;
 mod chains;
+mod cores;
 mod flows;
 mod gates;
-mod own_values;
 mod sharings;

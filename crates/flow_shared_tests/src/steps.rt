@@ -62,8 +62,6 @@ pub enum Step {
     /// A subscription, which is dropped.
     DropSubscription(usize),
     Count(u64),
-    /// A subscriber, how many values it takes at most, and why it stopped.
-    Drain(usize, usize, Drained),
-    /// All that was drained so far.
-    Values(&'static [i64]),
+    /// A subscriber, how many values it takes at most, why it stopped, and the values.
+    Drain(usize, usize, Drained, &'static [i64]),
 }

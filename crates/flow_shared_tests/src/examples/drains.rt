@@ -1,6 +1,6 @@
 //! Draining flows, by one caller.
 use crate::steps::Kind::{Shared, State};
-use crate::steps::Step::{Drain, Set, Subscribe, TryEmit, Values};
+use crate::steps::Step::{Drain, Set, Subscribe, TryEmit};
 use crate::steps::{Example, UNBUFFERED};
 use flow_law::Config;
 use flow_law::Drained::{Empty, Most};
@@ -16,14 +16,13 @@ pub const EXAMPLES: &[Example] = &[
             Subscribe,
             TryEmit(1, Ok(true)),
             TryEmit(2, Ok(true)),
-            Drain(0, 1, Most),
-            Drain(0, 9, Empty),
-            Values(&[1, 2]),
+            Drain(0, 1, Most, &[1]),
+            Drain(0, 9, Empty, &[2]),
         ],
     },
     // A state flow gives its value once.
     Example {
         kind: State(u64::MAX),
-        steps: &[Subscribe, Set(5), Drain(0, 9, Empty), Values(&[5])],
+        steps: &[Subscribe, Set(5), Drain(0, 9, Empty, &[5])],
     },
 ];

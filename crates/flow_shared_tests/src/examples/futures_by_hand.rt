@@ -87,14 +87,13 @@ fn an_emission_is_pending_until_each_subscriber_has_it(rt: HostRuntime) {
 /// One that is cancelled before a poll was never made.
 #[test]
 fn a_cancelled_emission_is_not_received(rt: HostRuntime) {
-    let (flow, seat, first, second) = unbuffered(&rt, rt.alloc());
+    let (flow, mut seat, first, second) = unbuffered(&rt, rt.alloc());
     let task = MockTask::new(&rt).expect(&rt, "a task");
+    let other = flow.seat(&mut seat);
     let mut emit = EmitFuture::new(&flow, seat, 7);
     pends(&rt, &task, &mut emit);
     receives(&rt, &task, &flow, first, Some(7));
     is_cancelled(&rt, emit);
+    is_cancelled(&rt, EmitFuture::new(&flow, other, 7));
     receives(&rt, &task, &flow, second, None);
-    let (flow, seat, first, _second) = unbuffered(&rt, rt.alloc());
-    is_cancelled(&rt, EmitFuture::new(&flow, seat, 7));
-    receives(&rt, &task, &flow, first, None);
 }

@@ -1,15 +1,12 @@
 //! A gate whose state counts the events of its history.
 ghost use Rattle.std.specs.Prelude.{◌≡◌, ◌%◌, ◌^◌, [], ◌∷◌, length};
-ghost use Rattle.std.specs.Option.{ForSome};
 
 use crate::compare::compare;
-use crate::work::{Work, run_all};
 use flow_gate::{Adds, Gate, Held, Seat};
 use flow_law::Guarded;
-use std::alloc::{AllocGlobal, Global};
+use std::alloc::Global;
 use std::marker::Brand;
 use std::process::Abort;
-use std::random::RandomSource;
 use std::sync::Wait;
 
 /// It begins at 0 again after 2^64 events.
@@ -40,18 +37,6 @@ fn add_one(held: Held<'_, Count>) -> Seat<Count>
     let state = held.state();
     state.events = state.events.wrapping_add(1);
     held.leave_adding::<Once>()
-}
-
-/// Enters 1,000 times, and adds one event each time.
-fn add_thousand<R: Wait>(rt: &R, gate: &Gate<Count>, seat: Seat<Count>) -> Seat<Count>
-    requires { seat.table_id ≡ gate.now.table_id }
-    ensures { result.table_id ≡ gate.entry.now.table_id }
-{
-    let mut seat = seat;
-    for _ in 0..1000 {
-        seat = add_one(gate.enter(rt, seat));
-    }
-    seat
 }
 
 /// Two seats that met have seen one history.
@@ -127,39 +112,4 @@ fn two_seats_meet_and_go_on(rt: HostRuntime) {
     let _seat = add_one(gate.enter(&rt, seat));
     let _other = gate.enter(&rt, other).leave::<Brand, _>(&());
     had(&rt, gate.close(), 3);
-}
-
-/// Who adds 1,000 events.
-#[derive(Drop)]
-struct Adder<'a> {
-    gate: &'a Gate<Count>,
-    seat: Option<Seat<Count>>,
-    ghost of_gate: { ForSome seat (λ seat. seat.table_id ≡ gate.now.table_id) },
-}
-
-impl<'a> Work for Adder<'a> {
-    fn run<R: Wait + RandomSource + AllocGlobal>(&mut self, rt: &R) {
-        if let Some(seat) = self.seat.take() {
-            self.seat = Some(add_thousand(rt, self.gate, seat));
-        }
-    }
-}
-
-#[test]
-fn two_threads_lose_no_addition(rt: HostRuntime) {
-    let (gate, mut seat) = new_gate(&rt, rt.alloc());
-    let other = gate.seat(&mut seat);
-    let mut adders = [
-        Adder {
-            gate: &gate,
-            seat: Some(seat),
-        },
-        Adder {
-            gate: &gate,
-            seat: Some(other),
-        },
-    ];
-    run_all(&rt, &mut adders);
-    drop(adders);
-    had(&rt, gate.close(), 2000);
 }

@@ -2,18 +2,14 @@
 ghost use Rattle.std.specs.Prelude.{◌≡◌, IfSome};
 
 use crate::compare::compare;
-use crate::examples::worker::Role;
-use crate::playing::FlowPlayer;
 use crate::reading::set_and_read;
 use crate::work::{Work, run_all};
-use flow_core::SharedCore;
 use flow_law::{Config, Next};
 use flow_shared::{Emitted, PolledNow, Seat, SharedFlow, StateFlow, StateSeat, Subscription};
 use std::alloc::{AllocGlobal, Global};
 use std::process::Abort;
 use std::random::RandomSource;
 use std::sync::Wait;
-use std::thread::Threads;
 
 /// A flow, a seat, and a subscriber.
 pub fn one_subscriber<R: Wait + Abort>(
@@ -26,35 +22,6 @@ pub fn one_subscriber<R: Wait + Abort>(
     let (flow, mut seat) = SharedFlow::new(alloc, config).expect(rt, "a flow");
     let subscription = flow.subscribe(rt, &mut seat).expect(rt, "a subscription");
     (flow, seat, subscription)
-}
-
-/// One thread emits a value through a new seat, and another one counts the subscribers.
-pub fn emit_on_a_thread<R: Threads + Wait + Abort + RandomSource + AllocGlobal + Sync>(
-    rt: &R,
-    player: &mut FlowPlayer<'_, i64, SharedCore<i64>>,
-    value: i64,
-    subscribers: u64,
-) {
-    let mut workers = [
-        player.worker(Role::Emit(value)),
-        player.worker(Role::Count(subscribers)),
-    ];
-    run_all(rt, &mut workers);
-    for worker in &workers {
-        compare(rt, 0, worker.is_done, true);
-    }
-}
-
-#[test]
-fn what_a_thread_emitted_is_received(rt: HostRuntime) {
-    let config = Config::new().extra(4);
-    let (flow, mut seat, mut subscription) = one_subscriber(&rt, rt.alloc(), config);
-    let own = flow.seat(&mut seat);
-    let mut player = FlowPlayer::new(rt.alloc(), rt.alloc(), &flow, own);
-    emit_on_a_thread(&rt, &mut player, 8, 1);
-    flow.meet_subscription(&mut subscription, &mut seat);
-    let received = flow.next(&rt, &mut subscription);
-    compare(&rt, 1, received, Ok(Next::Value(8)));
 }
 
 /// A value is emitted and received, twice, at once.
@@ -104,12 +71,13 @@ fn rounds<R: Wait>(
 /// 10,000 rounds; and an emission that waits is polled and cancelled.
 #[test]
 fn alone_no_call_is_busy(rt: HostRuntime) {
-    let config = Config::new().extra(4);
-    let (flow, seat, mut subscription) = one_subscriber(&rt, rt.alloc(), config);
-    compare(&rt, 0, rounds(&rt, &flow, seat, &mut subscription), 10_000);
-    let (flow, mut seat, _subscription) = one_subscriber(&rt, rt.alloc(), Config::new());
+    let config = Config::new().extra(1);
+    let (flow, mut seat, mut subscription) = one_subscriber(&rt, rt.alloc(), config);
+    let own = flow.seat(&mut seat);
+    compare(&rt, 0, rounds(&rt, &flow, own, &mut subscription), 10_000);
     compare(&rt, 1, flow.count_now(&mut seat), Ok(1));
     compare(&rt, 2, flow.reset_now(&mut seat), Ok(()));
+    compare(&rt, 3, flow.try_emit(&rt, &mut seat, 6).ok(), Some(true));
     let Emitted::Queued(emission) = flow.emit_now(seat, 7) else {
         panic!(rt; "it waits")
     };
@@ -141,14 +109,16 @@ impl<'a> Work for Setter<'a> {
     }
 }
 
+/// The core of a closed flow has the value that was set last.
 #[test]
 fn a_thread_reads_what_it_set_or_what_another_set(rt: HostRuntime) {
     let (flow, mut seat) = StateFlow::new(rt.alloc(), 0, u64::MAX).expect(&rt, "a flow");
+    let one = flow.seat(&mut seat);
     let other = flow.seat(&mut seat);
     let mut setters = [
         Setter {
             flow: &flow,
-            seat,
+            seat: one,
             value: 9,
             found: 0,
         },
@@ -163,9 +133,13 @@ fn a_thread_reads_what_it_set_or_what_another_set(rt: HostRuntime) {
     for setter in &setters {
         compare(&rt, 0, setter.found == 9 || setter.found == 4, true);
     }
+    drop(setters);
+    let core = flow.close(seat).expect(&rt, "nobody is inside");
+    let value = core.value().expect(&rt, "a value");
+    compare(&rt, 1, value == 9 || value == 4, true);
 }
 
-/// What one seat sets at once, another reads that has met it, and its subscriber receives.
+/// What one seat sets at once, the subscriber of another receives that has met it.
 #[test]
 fn a_state_flow_is_set_at_once(rt: HostRuntime) {
     let (flow, mut seat) = StateFlow::new(rt.alloc(), 0, u64::MAX).expect(&rt, "a flow");
@@ -173,16 +147,9 @@ fn a_state_flow_is_set_at_once(rt: HostRuntime) {
     compare(&rt, 0, flow.set_now(&mut other, 5), Ok(()));
     compare(&rt, 1, flow.count_now(&mut other), Ok(0));
     flow.meet(&mut seat, &mut other);
-    compare(&rt, 2, flow.value(&rt, &mut seat), Ok(5));
     let subscribed = flow.subscribe(&rt, &mut seat);
     let mut subscription = subscribed.expect(&rt, "a subscription");
     flow.meet_subscription(&mut subscription, &mut other);
-    compare(
-        &rt,
-        3,
-        flow.next(&rt, &mut subscription),
-        Ok(Next::Value(5)),
-    );
-    let mut seat = flow.unsubscribe(&rt, subscription);
-    compare(&rt, 4, flow.subscription_count(&rt, &mut seat), 0);
+    let received = flow.next(&rt, &mut subscription);
+    compare(&rt, 2, received, Ok(Next::Value(5)));
 }

@@ -2,12 +2,13 @@
 ghost use Rattle.std.specs.Prelude.{◌≡◌};
 
 use crate::examples::futures_awaited::{receive_all, send_all};
-use crate::playing::{FlowPlayer, Reader, Waiting};
+use crate::playing::{FlowPlayer, Reader, Waiting, token};
 use crate::work::Work;
 use flow_core::SharedCore;
 use flow_law::Next;
-use flow_shared::{Emission, Emitted, Polled, Seat, SharedFlow};
+use flow_shared::{Seat, SharedFlow};
 use std::alloc::AllocGlobal;
+use std::process::Abort;
 use std::random::RandomSource;
 use std::sync::Wait;
 use std::thread::yield_now;
@@ -22,8 +23,8 @@ pub enum Role {
     Emit(i64),
     /// It counts so many subscribers.
     Count(u64),
-    /// It receives what its subscriber gets next.
-    Read,
+    /// Its subscriber gets one of these.
+    Read(&'static [Next<i64>]),
     /// It ends its subscription.
     Leave,
     /// It cancels its emission, which waited.
@@ -42,51 +43,65 @@ pub struct Worker<'a> {
     pub role: Role,
     pub reader: Option<Reader<'a, SharedCore<i64>>>,
     pub emission: Option<Waiting<'a, i64>>,
-    /// What its subscriber got last.
-    pub received: Option<Next<i64>>,
     /// Whether it did what it was to do.
     pub is_done: bool,
     ghost of_flow: { seat.table_id ≡ flow.now.table_id },
 }
 
 impl<'a> FlowPlayer<'a, i64, SharedCore<i64>> {
-    /// Another caller at the flow, for another thread, who has neither a subscriber nor an emission yet.
-    pub fn worker(&mut self, role: Role) -> Worker<'a> {
+    /// Another caller at the flow, for another thread. Who reads, leaves or receives has the first subscriber, and who cancels
+    /// the first emission.
+    pub fn worker(&mut self, rt: &impl Abort, role: Role) -> Worker<'a> {
         let flow = self.flow;
+        let seat = flow.seat(&mut self.seat);
+        let (reader, emission) = match role {
+            Role::Read(_) | Role::Leave | Role::Receive(_) => {
+                (Some(token(rt, &mut self.readers, 0)), None)
+            }
+            Role::Cancel => (None, Some(token(rt, &mut self.emissions, 0))),
+            Role::Emit(_) | Role::Count(_) | Role::Send(_) => (None, None),
+        };
         Worker {
             flow,
-            seat: flow.seat(&mut self.seat),
+            seat,
             role,
-            reader: None,
-            emission: None,
-            received: None,
+            reader,
+            emission,
             is_done: false,
         }
     }
 }
 
 impl<'a> Worker<'a> {
-    /// Emits the value, and waits until there is room for it.
-    fn emits<R: Wait>(&mut self, rt: &R, value: i64) -> bool {
+    /// What it does of its own. It is done, or not.
+    fn call<R: Wait + RandomSource + AllocGlobal>(&mut self, rt: &R) -> bool {
         let flow = self.flow;
-        let seat = flow.seat(&mut self.seat);
-        match flow.emit(rt, seat, value) {
-            Emitted::Done(_seat) => true,
-            Emitted::Queued(emission) => is_emitted(rt, flow, emission),
-            Emitted::Refused(_seat, _value, _fault) => false,
+        match self.role {
+            Role::Emit(value) => {
+                let seat = flow.seat(&mut self.seat);
+                match Waiting::emit(rt, flow, seat, value) {
+                    Ok(emission) => is_emitted(rt, emission),
+                    Err(_refused) => false,
+                }
+            }
+            Role::Count(count) => flow.subscription_count(rt, &mut self.seat) == count,
+            Role::Send(count) => send_all(rt, flow, flow.seat(&mut self.seat), count) == count,
+            Role::Cancel => match self.emission.take() {
+                Some(emission) => emission.cancel(rt),
+                None => false,
+            },
+            _ => false,
         }
     }
 }
 
 /// Polls the emission until it is done. Between two polls other threads go first.
-fn is_emitted<R: Wait>(rt: &R, flow: &SharedFlow<i64>, emission: Emission<i64>) -> bool
-    requires { emission.token.table_id ≡ flow.now.table_id }
-{
-    let mut emission = emission;
+fn is_emitted<R: Wait>(rt: &R, emission: Option<Waiting<'_, i64>>) -> bool {
+    let mut left = emission;
     for _ in 0..POLLS {
-        match flow.poll_emit(rt, emission) {
-            Polled::Waiting(back) => emission = back,
-            Polled::Done(_seat) => return true,
+        match left {
+            Some(emission) => left = emission.poll(rt),
+            None => return true,
         }
         yield_now();
     }
@@ -95,40 +110,22 @@ fn is_emitted<R: Wait>(rt: &R, flow: &SharedFlow<i64>, emission: Emission<i64>) 
 
 impl<'a> Work for Worker<'a> {
     fn run<R: Wait + RandomSource + AllocGlobal>(&mut self, rt: &R) {
-        self.is_done = match self.role {
-            Role::Emit(value) => self.emits(rt, value),
-            Role::Count(count) => self.flow.subscription_count(rt, &mut self.seat) == count,
-            Role::Read => match &mut self.reader {
-                Some(reader) => {
-                    self.received = reader.flow.next(rt, &mut reader.subscription).ok();
-                    self.received.is_some()
-                }
-                None => false,
-            },
-            Role::Leave => match self.reader.take() {
-                Some(Reader { flow, subscription }) => {
-                    let _seat = flow.unsubscribe(rt, subscription);
-                    true
-                }
-                None => false,
-            },
-            Role::Cancel => match self.emission.take() {
-                Some(Waiting { flow, emission }) => {
-                    let (_seat, was_waiting) = flow.cancel(rt, emission);
-                    was_waiting
-                }
-                None => false,
-            },
-            Role::Send(count) => {
-                let seat = self.flow.seat(&mut self.seat);
-                send_all(rt, self.flow, seat, count) == count
+        self.is_done = match (self.role, self.reader.take()) {
+            (Role::Read(wanted), Some(reader)) => {
+                let mut reader = reader;
+                let received = reader.flow.next(rt, &mut reader.subscription);
+                self.reader = Some(reader);
+                matches!(received, Ok(next) if wanted.contains(&next))
             }
-            Role::Receive(count) => match self.reader.take() {
-                Some(Reader { flow, subscription }) => {
-                    receive_all(rt, flow, subscription, count) == count
-                }
-                None => false,
-            },
+            (Role::Leave, Some(reader)) => {
+                reader.leave(rt);
+                true
+            }
+            (Role::Receive(count), Some(reader)) => {
+                let Reader { flow, subscription } = reader;
+                receive_all(rt, flow, subscription, count) == count
+            }
+            (_, _) => self.call(rt),
         };
     }
 }

@@ -2,30 +2,15 @@
 ghost use Rattle.std.specs.Prelude.{◌≡◌};
 
 use crate::compare::compare;
+use crate::playing::tokens::{Reader, Waiting, at, token};
 use crate::steps::Step;
-use crate::values::{Numbered, are, by_number};
+use crate::values::Numbered;
 use flow_core::FlowCore;
 use flow_law::FlowFault;
-use flow_shared::{Emission, Flow, FlowSeat, FlowSubscription, SharedFlow};
+use flow_shared::{Flow, FlowSeat};
 use std::alloc::{Allocator, Global};
 use std::process::Abort;
 use std::sync::Wait;
-
-/// A subscriber, and its flow.
-#[derive(Drop)]
-pub struct Reader<'a, S: FlowCore + Drop, A: Allocator + Copy = Global> {
-    pub flow: &'a Flow<S, A>,
-    pub subscription: FlowSubscription<S, A>,
-    ghost of_flow: { subscription.token.table_id ≡ flow.now.table_id },
-}
-
-/// An emission that waits, and its flow.
-#[derive(Drop)]
-pub struct Waiting<'a, T: Numbered, A: Allocator + Copy = Global> {
-    pub flow: &'a SharedFlow<T, A>,
-    pub emission: Emission<T, A>,
-    ghost of_flow: { emission.token.table_id ≡ flow.now.table_id },
-}
 
 /// A caller with a seat of a flow. Emissions that need not wait, and tokens that are gone, have left their places.
 #[derive(Drop)]
@@ -35,22 +20,26 @@ pub struct FlowPlayer<'a, T: Numbered, S: FlowCore<Item = T> + Drop, A: Allocato
     pub memory: A,
     pub emissions: Vec<Option<Waiting<'a, T, A>>>,
     pub readers: Vec<Option<Reader<'a, S, A>>>,
-    pub drained: Vec<T>,
     ghost of_flow: { seat.table_id ≡ flow.now.table_id },
 }
 
-/// Takes a token out of its place.
-pub fn token<X>(rt: &impl Abort, tokens: &mut Vec<Option<X>>, index: usize) -> X {
-    let Some(place) = tokens.get_mut(index) else {
-        panic!(rt; "no token {index}")
-    };
-    match place.take() {
-        Some(token) => token,
-        None => panic!(rt; "token {index} is gone"),
-    }
+/// A core whose flows for several threads take steps of their own beside those of subscribers.
+pub trait Played<T: Numbered, A: Allocator + Copy>: FlowCore<Item = T> + Drop {
+    /// Takes a step, and compares what it answers. `Err` where it is refused for want of memory.
+    fn take<R: Wait + Abort>(
+        player: &mut FlowPlayer<'_, T, Self, A>,
+        rt: &R,
+        place: usize,
+        step: &Step,
+    ) -> Result<(), FlowFault>;
 }
 
-impl<'a, T: Numbered, S: FlowCore<Item = T> + Drop, A: Allocator + Copy> FlowPlayer<'a, T, S, A> {
+impl<'a, T: Numbered<Memory = A>, S: FlowCore<Item = T> + Drop, A: Allocator + Copy> FlowPlayer<
+    'a,
+    T,
+    S,
+    A,
+> {
     /// The caller who has this seat of the flow. Nobody subscribes yet.
     pub fn new(
         alloc: Global,
@@ -66,7 +55,6 @@ impl<'a, T: Numbered, S: FlowCore<Item = T> + Drop, A: Allocator + Copy> FlowPla
             memory,
             emissions: Vec::new(alloc),
             readers: Vec::new(alloc),
-            drained: Vec::new(alloc),
         }
     }
 
@@ -80,12 +68,8 @@ impl<'a, T: Numbered, S: FlowCore<Item = T> + Drop, A: Allocator + Copy> FlowPla
                 Ok(self.readers.push(Some(reader)).expect(rt, "memory"))
             }
             Err(fault) => {
-                compare(
-                    rt,
-                    place,
-                    flow.subscription_count(rt, &mut self.seat),
-                    count,
-                );
+                let left = flow.subscription_count(rt, &mut self.seat);
+                compare(rt, place, left, count);
                 Err(fault)
             }
         }
@@ -103,34 +87,37 @@ impl<'a, T: Numbered, S: FlowCore<Item = T> + Drop, A: Allocator + Copy> FlowPla
             Step::SubscribeRefused(fault) => {
                 Ok(compare(rt, place, self.subscribe(rt, place), Err(*fault)))
             }
-            Step::Next(index, wanted) => match self.readers.get_mut(*index) {
-                Some(Some(reader)) => {
-                    let next = reader.flow.next(rt, &mut reader.subscription)?;
-                    Ok(compare(rt, place, &by_number(next), wanted))
-                }
-                _ => panic!(rt; "no subscriber {index}"),
-            },
-            Step::Drain(index, most, ended) => match self.readers.get_mut(*index) {
-                Some(Some(reader)) => {
-                    let drained = &mut self.drained;
-                    let answer = reader
-                        .flow
-                        .drain(rt, &mut reader.subscription, *most, drained)?;
-                    Ok(compare(rt, place, answer, *ended))
-                }
-                _ => panic!(rt; "no subscriber {index}"),
-            },
-            Step::Values(numbers) => Ok(are(rt, place, self.drained.as_slice(), numbers)),
-            Step::Unsubscribe(index) => {
-                let Reader { flow, subscription } = token(rt, &mut self.readers, *index);
-                Ok(drop(flow.unsubscribe(rt, subscription)))
+            Step::Next(index, wanted) => at(rt, &mut self.readers, *index).next(rt, place, wanted),
+            Step::Drain(index, most, ended, numbers) => {
+                let wanted = (*ended, *numbers);
+                at(rt, &mut self.readers, *index).drain(rt, self.memory, place, *most, wanted)
             }
+            Step::Unsubscribe(index) => Ok(token(rt, &mut self.readers, *index).leave(rt)),
             Step::DropSubscription(index) => Ok(drop(token(rt, &mut self.readers, *index))),
             Step::Count(count) => {
                 let answer = self.flow.subscription_count(rt, &mut self.seat);
                 Ok(compare(rt, place, answer, *count))
             }
             _ => panic!(rt; "step {place}: not on this flow"),
+        }
+    }
+}
+
+/// Takes the steps, and those that are refused again, whose places are told. A wrong answer is told by the place of its step,
+/// from this one on.
+pub fn take_all<R: Wait + Abort, T: Numbered, S: Played<T, A>, A: Allocator + Copy>(
+    rt: &R,
+    player: &mut FlowPlayer<'_, T, S, A>,
+    first: usize,
+    steps: &[Step],
+    refused: &mut Vec<usize>,
+) {
+    for index in 0..steps.len() {
+        let place = first.saturating_add(index);
+        if let Err(fault) = S::take(player, rt, place, &steps[index]) {
+            compare(rt, place, fault, FlowFault::OutOfMemory);
+            compare(rt, place, S::take(player, rt, place, &steps[index]), Ok(()));
+            refused.push(index).expect(rt, "memory");
         }
     }
 }

@@ -1,11 +1,11 @@
 //! Steps on shared flows for several threads.
 use crate::compare::compare;
-use crate::playing::on_flows::{FlowPlayer, Reader, Waiting, token};
+use crate::playing::on_flows::{FlowPlayer, Played};
+use crate::playing::tokens::{Reader, Waiting, token};
 use crate::steps::Step;
 use crate::values::{Numbered, are, list_of};
 use flow_core::SharedCore;
 use flow_law::FlowFault;
-use flow_shared::{Emitted, Polled};
 use std::alloc::Allocator;
 use std::process::Abort;
 use std::sync::Wait;
@@ -18,29 +18,24 @@ impl<'a, T: Numbered<Memory = A>, A: Allocator + Copy> FlowPlayer<'a, T, SharedC
         place: usize,
         number: i64,
     ) -> Result<bool, FlowFault> {
-        let flow = self.flow;
         let value = T::of(rt, self.memory, number);
-        let seat = flow.seat(&mut self.seat);
-        let emission = match flow.emit(rt, seat, value) {
-            Emitted::Done(_seat) => None,
-            Emitted::Queued(emission) => Some(Waiting { flow, emission }),
-            Emitted::Refused(_seat, value, fault) => {
-                compare(rt, place, value.number(), number);
-                return Err(fault);
+        let seat = self.flow.seat(&mut self.seat);
+        match Waiting::emit(rt, self.flow, seat, value) {
+            Ok(emission) => {
+                let waits = emission.is_some();
+                self.emissions.push(emission).expect(rt, "memory");
+                Ok(waits)
             }
-        };
-        let waits = emission.is_some();
-        self.emissions.push(emission).expect(rt, "memory");
-        Ok(waits)
+            Err(refused) => {
+                compare(rt, place, refused.value.number(), number);
+                Err(refused.fault)
+            }
+        }
     }
 
     /// Asks an emission whether it still waits, and keeps it if it does.
     fn poll<R: Wait + Abort>(&mut self, rt: &R, index: usize) -> bool {
-        let Waiting { flow, emission } = token(rt, &mut self.emissions, index);
-        let left = match flow.poll_emit(rt, emission) {
-            Polled::Waiting(emission) => Some(Waiting { flow, emission }),
-            Polled::Done(_seat) => None,
-        };
+        let left = token(rt, &mut self.emissions, index).poll(rt);
         let waits = left.is_some();
         if let Some(place) = self.emissions.get_mut(index) {
             *place = left;
@@ -56,19 +51,13 @@ impl<'a, T: Numbered<Memory = A>, A: Allocator + Copy> FlowPlayer<'a, T, SharedC
         step: &Step,
     ) -> Result<(), FlowFault> {
         let (answer, wanted) = match step {
-            Step::TryEmit(number, taken) => {
-                let value = T::of(rt, self.memory, *number);
-                match self.flow.try_emit(rt, &mut self.seat, value) {
-                    Ok(answer) => (Ok(answer), *taken),
-                    Err(refused) => (Err(refused.fault), *taken),
-                }
-            }
             Step::Emit(number, waits) => (self.emit(rt, place, *number), *waits),
             Step::Poll(index, waits) => (Ok(self.poll(rt, *index)), *waits),
             Step::Cancel(index, waited) => {
-                let Waiting { flow, emission } = token(rt, &mut self.emissions, *index);
-                let (_seat, was_waiting) = flow.cancel(rt, emission);
-                (Ok(was_waiting), *waited)
+                (
+                    Ok(token(rt, &mut self.emissions, *index).cancel(rt)),
+                    *waited,
+                )
             }
             Step::DropEmission(index) => {
                 return Ok(drop(token(rt, &mut self.emissions, *index)));
@@ -104,45 +93,35 @@ impl<'a, T: Numbered<Memory = A>, A: Allocator + Copy> FlowPlayer<'a, T, SharedC
             }
         }
     }
+}
 
-    /// Takes a step, and compares what it answers. `Err` where it is refused for want of memory.
-    pub fn take<R: Wait + Abort>(
-        &mut self,
+impl<T: Numbered<Memory = A>, A: Allocator + Copy> Played<T, A> for SharedCore<T, A> {
+    fn take<R: Wait + Abort>(
+        player: &mut FlowPlayer<'_, T, SharedCore<T, A>, A>,
         rt: &R,
         place: usize,
         step: &Step,
     ) -> Result<(), FlowFault> {
         match step {
-            Step::SubscribeWith(first) => self.subscribe_with(rt, place, first),
+            Step::TryEmit(number, taken) => {
+                let value = T::of(rt, player.memory, *number);
+                let answer = match player.flow.try_emit(rt, &mut player.seat, value) {
+                    Ok(answer) => Ok(answer),
+                    Err(refused) => Err(refused.fault),
+                };
+                Ok(compare(rt, place, answer, *taken))
+            }
+            Step::SubscribeWith(first) => player.subscribe_with(rt, place, first),
             Step::SubscribeWithRefused(first, fault) => {
-                let answer = self.subscribe_with(rt, place, first);
+                let answer = player.subscribe_with(rt, place, first);
                 Ok(compare(rt, place, answer, Err(*fault)))
             }
             Step::Cache(numbers) => {
-                let cache = self.flow.replay_cache(rt, &mut self.seat)?;
+                let cache = player.flow.replay_cache(rt, &mut player.seat)?;
                 Ok(are(rt, place, cache.as_slice(), numbers))
             }
-            Step::Reset => Ok(self.flow.reset_replay_cache(rt, &mut self.seat)),
-            _ => self.emission_step(rt, place, step),
-        }
-    }
-
-    /// Takes the steps, and those that are refused again, whose places are told. A wrong answer is told by the place of its
-    /// step, from this one on.
-    pub fn take_all<R: Wait + Abort>(
-        &mut self,
-        rt: &R,
-        first: usize,
-        steps: &[Step],
-        refused: &mut Vec<usize>,
-    ) {
-        for index in 0..steps.len() {
-            let place = first.saturating_add(index);
-            if let Err(fault) = self.take(rt, place, &steps[index]) {
-                compare(rt, place, fault, FlowFault::OutOfMemory);
-                compare(rt, place, self.take(rt, place, &steps[index]), Ok(()));
-                refused.push(index).expect(rt, "memory");
-            }
+            Step::Reset => Ok(player.flow.reset_replay_cache(rt, &mut player.seat)),
+            _ => player.emission_step(rt, place, step),
         }
     }
 }

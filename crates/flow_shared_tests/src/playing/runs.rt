@@ -1,12 +1,12 @@
 //! Runs of a worked example, each with another allocation refused.
+ghost use Rattle.std.specs.Prelude.{◌≡◌};
+
 use crate::compare::compare;
-use crate::playing::on_cores::CorePlayer;
-use crate::playing::on_flows::FlowPlayer;
-use crate::steps::{Example, Kind};
+use crate::playing::on_flows::{FlowPlayer, Played, take_all};
+use crate::steps::{Example, Kind, Step};
 use crate::values::Numbered;
-use flow_core::{SharedCore, StateCore};
 use flow_law::{Boxed, FlowFault};
-use flow_shared::{SharedFlow, StateFlow};
+use flow_shared::{Flow, FlowSeat, SharedFlow, StateFlow};
 use flow_testing::Refusing;
 use std::alloc::{Allocator, Global};
 use std::process::Abort;
@@ -15,47 +15,25 @@ use std::sync::Wait;
 /// More runs than an example has.
 pub const MANY: u64 = 200;
 
-/// Who takes steps on a flow for one thread.
-pub trait Player {
-    /// A step, and what it answers.
-    type Step;
-
-    /// Takes a step, and compares what it answers. `Err` where it is refused for want of memory.
-    fn take<R: Wait + Abort>(
-        &mut self,
-        rt: &R,
-        place: usize,
-        step: &Self::Step,
-    ) -> Result<(), FlowFault>;
-}
-
-/// For how many threads a flow is.
-pub enum Threads {
-    One,
-    Several,
-}
-
-/// Takes the steps, and those that are refused again, whose places are told. A wrong answer is told by the place of its
-/// step, from this one on.
-fn take_all<R: Wait + Abort, P: Player>(
+/// Takes the steps on a flow.
+fn take_on<R: Wait + Abort, T: Numbered<Memory = A>, S: Played<T, A>, A: Allocator + Copy>(
     rt: &R,
+    alloc: Global,
+    memory: A,
+    flow: Flow<S, A>,
+    seat: FlowSeat<S, A>,
     first: usize,
-    player: &mut P,
-    steps: &[P::Step],
+    steps: &[Step],
     refused: &mut Vec<usize>,
-) {
-    for index in 0..steps.len() {
-        let place = first.saturating_add(index);
-        if let Err(fault) = player.take(rt, place, &steps[index]) {
-            compare(rt, place, fault, FlowFault::OutOfMemory);
-            compare(rt, place, player.take(rt, place, &steps[index]), Ok(()));
-            refused.push(index).expect(rt, "memory");
-        }
-    }
+)
+    requires { seat.table_id ≡ flow.table_id }
+{
+    let mut player = FlowPlayer::new(alloc, memory, &flow, seat);
+    take_all(rt, &mut player, first, steps, refused);
 }
 
-/// Plays the example on a new flow for one thread. `Err` where the flow is refused.
-fn on_one<R: Wait + Abort, A: Allocator + Copy>(
+/// Plays the example on a new flow. `Err` where the flow is refused.
+fn play_once<R: Wait + Abort, A: Allocator + Copy>(
     rt: &R,
     alloc: Global,
     memory: A,
@@ -63,101 +41,50 @@ fn on_one<R: Wait + Abort, A: Allocator + Copy>(
     example: &Example,
     refused: &mut Vec<usize>,
 ) -> Result<(), FlowFault> {
-    let ids = Vec::new(alloc);
-    match example.kind {
-        Kind::Shared(config) => {
-            let core = SharedCore::<Boxed<i64, A>, A>::new(memory, config)?;
-            let mut player = CorePlayer { core, ids, memory };
-            Ok(take_all(rt, first, &mut player, example.steps, refused))
-        }
-        Kind::State(limit) => {
-            let core = StateCore::new(memory, Boxed::of(rt, memory, 0), limit);
-            let mut player = CorePlayer { core, ids, memory };
-            Ok(take_all(rt, first, &mut player, example.steps, refused))
-        }
-    }
-}
-
-/// The same on one for several threads.
-fn on_several<R: Wait + Abort, A: Allocator + Copy>(
-    rt: &R,
-    alloc: Global,
-    memory: A,
-    first: usize,
-    example: &Example,
-    refused: &mut Vec<usize>,
-) -> Result<(), FlowFault> {
+    let steps = example.steps;
     match example.kind {
         Kind::Shared(config) => {
             let (flow, seat) = SharedFlow::<Boxed<i64, A>, A>::new(memory, config)?;
-            let mut player = FlowPlayer::new(alloc, memory, &flow, seat);
-            Ok(player.take_all(rt, first, example.steps, refused))
+            Ok(take_on(rt, alloc, memory, flow, seat, first, steps, refused))
         }
         Kind::State(limit) => {
             let (flow, seat) = StateFlow::new(memory, Boxed::of(rt, memory, 0), limit)?;
-            let mut player = FlowPlayer::new(alloc, memory, &flow, seat);
-            Ok(player.take_all(rt, first, example.steps, refused))
+            Ok(take_on(rt, alloc, memory, flow, seat, first, steps, refused))
         }
     }
 }
 
-/// Plays the example on a new flow, which is made again where it is refused. Whether it was.
-fn is_refused<R: Wait + Abort, A: Allocator + Copy>(
-    rt: &R,
-    alloc: Global,
-    memory: A,
-    threads: &Threads,
-    first: usize,
-    example: &Example,
-    refused: &mut Vec<usize>,
-) -> bool {
-    for is_again in [false, true] {
-        let played = match threads {
-            Threads::One => on_one(rt, alloc, memory, first, example, refused),
-            Threads::Several => on_several(rt, alloc, memory, first, example, refused),
-        };
-        match played {
-            Ok(()) => return is_again,
-            Err(fault) => compare(rt, first, fault, FlowFault::OutOfMemory),
-        }
-    }
-    panic!(rt; "the flow is refused again")
-}
-
-/// Plays the example with each allocation refused in turn, until none is. Whether the flow was refused, and the places of the
-/// steps that were.
+/// Plays the example with each allocation refused in turn, until none is. In some run the flow is refused, which is
+/// made again. The places of the steps that were refused.
 pub fn refuse_each<R: Wait + Abort>(
     rt: &R,
     alloc: Global,
-    threads: &Threads,
     first: usize,
     example: &Example,
-) -> (bool, Vec<usize>) {
+) -> Vec<usize> {
     let memory = Refusing::new(alloc);
     let mut refused = Vec::new(alloc);
     let mut flow_is_refused = false;
     for number in 1..MANY {
         memory.refuse(number);
-        flow_is_refused |= is_refused(rt, alloc, &memory, threads, first, example, &mut refused);
+        if let Err(fault) = play_once(rt, alloc, &memory, first, example, &mut refused) {
+            compare(rt, first, fault, FlowFault::OutOfMemory);
+            let again = play_once(rt, alloc, &memory, first, example, &mut refused);
+            compare(rt, first, again, Ok(()));
+            flow_is_refused = true;
+        }
         if memory.is_waiting() {
             break;
         }
     }
-    compare(rt, first, memory.is_waiting(), true);
-    (flow_is_refused, refused)
+    compare(rt, first, memory.is_waiting() && flow_is_refused, true);
+    refused
 }
 
-/// Plays the examples on flows for several threads. Step 7 of the example 3 has the place 307, from this one on.
+/// Plays the examples. Step 7 of the example 3 has the place 307, from this one on.
 pub fn play<R: Wait + Abort>(rt: &R, alloc: Global, first: usize, examples: &[Example]) {
     for number in 0..examples.len() {
         let place = first.saturating_add(number.saturating_mul(100));
-        let (flow_is_refused, _steps) = refuse_each(
-            rt,
-            alloc,
-            &Threads::Several,
-            place,
-            &examples[number],
-        );
-        compare(rt, place, flow_is_refused, true);
+        let _refused = refuse_each(rt, alloc, place, &examples[number]);
     }
 }

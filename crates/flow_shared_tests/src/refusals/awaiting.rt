@@ -3,10 +3,9 @@ ghost use Rattle.std.specs.Prelude.{◌≡◌};
 
 use crate::compare::compare;
 use crate::refusals::flows::SMALL;
-use crate::refusals::own_values::receives_its_own;
-use crate::values::Numbered;
-use flow_law::{Boxed, FlowFault};
-use flow_shared::{EmitFuture, NextFuture, Seat, Sent, SharedFlow, Subscription};
+use crate::values::{Numbered, by_number};
+use flow_law::{Boxed, FlowFault, Next};
+use flow_shared::{EmitFuture, Emitted, NextFuture, Seat, Sent, SharedFlow, Subscription};
 use flow_testing::Refusing;
 use futures::task::Poll;
 use futures::test::MockTask;
@@ -15,8 +14,8 @@ use std::process::Abort;
 use std::sync::Wait;
 
 /// The emission is refused, and the seat and the value come back. Then it waits.
-fn emits<A: Allocator + Copy>(
-    rt: &impl Abort,
+fn emits<R: Wait + Abort, A: Allocator + Copy>(
+    rt: &R,
     task: &MockTask,
     flow: &SharedFlow<Boxed<i64, A>, A>,
     seat: Seat<Boxed<i64, A>, A>,
@@ -33,13 +32,12 @@ fn emits<A: Allocator + Copy>(
     };
     compare(rt, 1, fault, FlowFault::OutOfMemory);
     compare(rt, 2, value.number(), 3);
-    let mut again = EmitFuture::new(flow, seat, value);
-    assert!(rt; task.poll(&mut again).is_pending());
+    assert!(rt; matches!(flow.emit(rt, seat, value), Emitted::Queued(_)));
 }
 
 /// The subscriber is refused the first value, and its subscription comes back. Then it receives it.
-fn receives<A: Allocator + Copy>(
-    rt: &impl Abort,
+fn receives<R: Wait + Abort, A: Allocator + Copy>(
+    rt: &R,
     task: &MockTask,
     flow: &SharedFlow<Boxed<i64, A>, A>,
     subscription: Subscription<Boxed<i64, A>, A>,
@@ -49,16 +47,12 @@ fn receives<A: Allocator + Copy>(
 {
     refusing.refuse(1);
     let mut next = NextFuture::new(flow, subscription);
-    let Poll::Ready((subscription, refused)) = task.poll(&mut next) else {
+    let Poll::Ready((mut subscription, refused)) = task.poll(&mut next) else {
         panic!(rt; "it is refused")
     };
     compare(rt, 3, refused.err(), Some(FlowFault::OutOfMemory));
-    let mut again = NextFuture::new(flow, subscription);
-    let Poll::Ready((_subscription, received)) = task.poll(&mut again) else {
-        panic!(rt; "there is a value")
-    };
-    match received {
-        Ok(value) => compare(rt, 4, value.number(), 1),
+    match flow.next(rt, &mut subscription) {
+        Ok(next) => compare(rt, 4, by_number(next), Next::Value(1)),
         Err(fault) => panic!(rt; "{fault}"),
     }
 }
@@ -85,9 +79,8 @@ fn play<R: Wait + Abort, A: Allocator + Copy>(
 }
 
 #[test]
-fn futures_are_refused_once_and_own_values_never(rt: HostRuntime) {
+fn futures_are_refused_once(rt: HostRuntime) {
     let memory = Refusing::new(rt.alloc());
     let task = MockTask::new(&rt).expect(&rt, "a task");
     play(&rt, &task, &memory, &memory);
-    receives_its_own(&rt, &memory, &memory);
 }

@@ -1,7 +1,7 @@
-//! Worked examples of flows, for one thread and for several, each with the places of the steps that take memory: each of them
-//! is refused in some run, and no other step is.
+//! Worked examples of flows, each with the places of the steps that take memory: each of them is refused in some run, and no
+//! other step is.
 use crate::compare::compare;
-use crate::playing::{Threads, refuse_each};
+use crate::playing::refuse_each;
 use crate::steps::Kind::{Shared, State};
 use crate::steps::Step::{
     Cache, Count, Current, Emit, Next, Set, Subscribe, SubscribeWith, TryEmit,
@@ -10,9 +10,6 @@ use crate::steps::{DONE, Example, TAKEN, WAITS};
 use flow_law::Config;
 use flow_law::Next::{Empty, Value};
 use flow_law::Overflow::{DropOldest, Suspend};
-use std::alloc::Global;
-use std::process::Abort;
-use std::sync::Wait;
 
 /// A flow that keeps one value for new subscribers, and one more.
 pub const SMALL: Config = Config {
@@ -36,7 +33,7 @@ const REPLAYING: Config = Config {
 };
 
 /// The examples, each with the places of the steps that take memory, from 0.
-const EXAMPLES: &[(Example, &[usize])] = &[
+pub const EXAMPLES: &[(Example, &[usize])] = &[
     // An emission waits for a slow subscriber.
     (
         Example {
@@ -122,27 +119,15 @@ const EXAMPLES: &[(Example, &[usize])] = &[
     ),
 ];
 
-/// Each step at one of these places was refused in some run, and no other one was. A new state flow for one thread has the
-/// value that it is given, and is not refused.
-fn are_refused<R: Wait + Abort>(
-    rt: &R,
-    alloc: Global,
-    threads: &Threads,
-    example: &Example,
-    places: &[usize],
-) {
-    let (flow_is_refused, refused) = refuse_each(rt, alloc, threads, 0, example);
-    let takes_memory = matches!(threads, Threads::Several) || matches!(example.kind, Shared(_));
-    compare(rt, 0, flow_is_refused, takes_memory);
-    for place in 0..example.steps.len() {
-        compare(rt, place, refused.contains(&place), places.contains(&place));
-    }
-}
-
+/// Each step at one of these places was refused in some run, and no other one was.
 #[test]
 fn each_growth_of_a_flow_is_refused(rt: HostRuntime) {
-    for (example, places) in EXAMPLES {
-        are_refused(&rt, rt.alloc(), &Threads::One, example, places);
-        are_refused(&rt, rt.alloc(), &Threads::Several, example, places);
+    for number in 0..EXAMPLES.len() {
+        let (example, places) = &EXAMPLES[number];
+        let refused = refuse_each(&rt, rt.alloc(), 0, example);
+        for place in 0..example.steps.len() {
+            let is_refused = refused.contains(&place);
+            compare(&rt, place, is_refused, places.contains(&place));
+        }
     }
 }

@@ -1,4 +1,4 @@
-//! A gate, which takes memory when it is made, and never again, and memory of which one allocation is refused.
+//! A gate, which takes memory when it is made, and never again.
 ghost use Rattle.std.specs.Prelude.{⊤};
 
 use crate::compare::compare;
@@ -31,14 +31,4 @@ fn a_new_gate_is_refused(rt: HostRuntime) {
     }
     let made = Gate::new(&memory, Named { name: 7 });
     compare(&rt, 1, made.is_ok(), true);
-}
-
-#[test]
-fn one_allocation_is_refused(rt: HostRuntime) {
-    let memory = Refusing::new(rt.alloc());
-    memory.refuse(2);
-    for (number, is_made) in [(1, true), (2, false), (3, true)] {
-        compare(&rt, number, memory.is_waiting(), number < 3);
-        compare(&rt, number, Box::new(&memory, 7).is_ok(), is_made);
-    }
 }

@@ -9,10 +9,10 @@ use flow_cold::OfList;
 use flow_law::Command::{Keep, Start};
 use flow_law::report::Event::{Put, Queued, Waiting};
 use flow_law::report::ShareFault::{Chain, Ended, Flow};
-use flow_law::{Boxed, ChainFault, FlowFault, Next, Started};
-use flow_sharing::share_in;
+use flow_law::{Boxed, ChainFault, FlowFault, FlowValue, Next, Started};
+use flow_sharing::{Hub, Sharing, share_in};
 use flow_testing::Refusing;
-use std::alloc::Global;
+use std::alloc::{Allocator, Global};
 use std::process::Abort;
 
 const OUT_OF_MEMORY: FlowFault = FlowFault::OutOfMemory;
@@ -45,16 +45,26 @@ fn puts_again(rt: &impl Abort, alloc: Global, memory: &Refusing<Global>) {
     }
 }
 
-/// The copy of the chain's first item is refused, which is told once, and ends the sharing.
-fn ends_with_its_chain(rt: &impl Abort, memory: &Refusing<Global>) {
-    let chain = OfList::new(list_of::<Boxed<i64, &Refusing<Global>>>(rt, memory, &[1, 2]));
-    let Ok(mut sharing) = share_in(memory, chain, Started::Eagerly, 0, u64::MAX) else {
-        panic!(rt; "a sharing")
-    };
+/// The next allocation is refused to the chain, which is told once, and ends the sharing.
+fn ends<T: FlowValue, A: Allocator, H: Hub<Item = T>>(
+    rt: &impl Abort,
+    memory: &Refusing<Global>,
+    sharing: Sharing<OfList<T, A>, H>,
+) {
+    let mut sharing = sharing;
     memory.refuse(1);
     let refused = Chain(ChainFault::OutOfMemory);
     compare(rt, 7, sharing.turn(0), Err(refused));
     compare(rt, 8, sharing.turn(1), Err(Ended));
+}
+
+/// The copy of the chain's first item is refused.
+fn ends_with_its_chain(rt: &impl Abort, memory: &Refusing<Global>) {
+    let chain = OfList::new(list_of::<Boxed<i64, &Refusing<Global>>>(rt, memory, &[1, 2]));
+    match share_in(memory, chain, Started::Eagerly, 0, u64::MAX) {
+        Ok(sharing) => ends(rt, memory, sharing),
+        Err(fault) => panic!(rt; "{fault}"),
+    }
 }
 
 #[test]

@@ -1,13 +1,11 @@
-//! Worked examples of `shareIn` and `stateIn`, which are the same over flows for one thread and for several.
+//! Worked examples of `shareIn` and `stateIn`, over flows for several threads. Those over flows for one thread are scripts.
 use crate::compare::compare;
-use crate::playing::{FlowPlayer, core_step};
+use crate::playing::{FlowPlayer, Played};
 use crate::sharing::sharing_steps::{Step, turn};
-use crate::steps::Step::Cache;
-use crate::values::are;
-use flow_cold::{Entry, OfList, OfRange, ScriptChain, Scripted, Source};
+use flow_cold::{Entry, Scripted};
 use flow_law::{Config, Started};
 use flow_shared::{SharedFlow, StateFlow};
-use flow_sharing::{SharedFlowHub, Sharing, StateFlowHub, share_in, state_in};
+use flow_sharing::{Hub, SharedFlowHub, Sharing, StateFlowHub};
 use std::alloc::Global;
 use std::process::Abort;
 use std::sync::Wait;
@@ -38,116 +36,75 @@ pub enum Flow {
 }
 
 impl Chain {
-    pub fn make(&self, rt: &impl Abort, alloc: Global) -> ScriptChain {
-        let source = match self {
+    pub fn make(&self, rt: &impl Abort, alloc: Global) -> Scripted<i64> {
+        let mut entries = Vec::new(alloc);
+        match self {
             Chain::List(items) => {
-                Source::List(OfList::new(items.to_vec(alloc).expect(rt, "memory")))
+                for item in *items {
+                    entries.push(Entry::Item(*item)).expect(rt, "memory");
+                }
             }
-            Chain::SixtySix => Source::Range(OfRange::new(1, 66)),
+            Chain::SixtySix => {
+                for item in 1..67 {
+                    entries.push(Entry::Item(item)).expect(rt, "memory");
+                }
+            }
             Chain::Failing => {
-                let entries = [Entry::Pending, Entry::Item(1), Entry::Fault(7)];
-                let entries = Vec::from_array(alloc, entries).expect(rt, "memory");
-                Source::Scripted(Scripted::new(entries))
+                for entry in [Entry::Pending, Entry::Item(1), Entry::Fault(7)] {
+                    entries.push(entry).expect(rt, "memory");
+                }
             }
-        };
-        ScriptChain::source(source)
+        }
+        Scripted::new(entries)
     }
 }
 
-/// Takes the steps of a chain that is shared by a shared flow of its own (`shareIn`).
-fn share<R: Wait + Abort>(rt: &R, alloc: Global, first: usize, example: &Example, replay: u32) {
-    let chain = example.chain.make(rt, alloc);
-    let Ok(mut sharing) = share_in(alloc, chain, example.started, replay, u64::MAX) else {
-        panic!(rt; "a sharing")
-    };
-    let mut ids = Vec::new(alloc);
-    for index in 0..example.steps.len() {
+/// Takes the steps of a sharing into a flow that is lent to its hub, and on which the player takes steps.
+fn lend<R: Wait + Abort, S: Played<i64, Global>, H: Hub<Item = i64>>(
+    rt: &R,
+    first: usize,
+    steps: &[Step],
+    sharing: Sharing<Scripted<i64>, H>,
+    player: FlowPlayer<'_, i64, S>,
+) {
+    let mut sharing = sharing;
+    let mut player = player;
+    for index in 0..steps.len() {
         let place = first.saturating_add(index);
-        match &example.steps[index] {
-            Step::Flow(Cache(values)) => {
-                let cache = sharing.hub_mut().core_mut().replay_cache();
-                are(rt, place, cache.expect(rt, "memory").as_slice(), values);
-            }
-            Step::Flow(step) => {
-                let answer = core_step(rt, sharing.hub_mut().core_mut(), &mut ids, place, step);
-                compare(rt, place, answer, Ok(()));
-            }
+        match &steps[index] {
+            Step::Flow(step) => compare(rt, place, S::take(&mut player, rt, place, step), Ok(())),
             step => turn(rt, &mut sharing, place, step),
         }
     }
 }
 
-/// Takes the steps of a chain that is shared by a state flow of its own (`stateIn`), whose first value is 0.
-fn share_state<R: Wait + Abort>(rt: &R, alloc: Global, first: usize, example: &Example) {
+/// Takes the steps of an example. A shared flow has room for 64 values, those included that it replays. A state flow has the
+/// value 0 first.
+fn play_one<R: Wait + Abort>(rt: &R, alloc: Global, first: usize, example: &Example) {
     let chain = example.chain.make(rt, alloc);
-    let Ok(mut sharing) = state_in(alloc, chain, example.started, 0, u64::MAX) else {
-        panic!(rt; "a sharing")
-    };
-    let mut ids = Vec::new(alloc);
-    for index in 0..example.steps.len() {
-        let place = first.saturating_add(index);
-        match &example.steps[index] {
-            Step::Flow(Cache(values)) => {
-                let cache = sharing.hub_mut().core_mut().replay_cache();
-                are(rt, place, cache.expect(rt, "memory").as_slice(), values);
-            }
-            Step::Flow(step) => {
-                let answer = core_step(rt, sharing.hub_mut().core_mut(), &mut ids, place, step);
-                compare(rt, place, answer, Ok(()));
-            }
-            step => turn(rt, &mut sharing, place, step),
+    match example.flow {
+        Flow::Shared(replay) => {
+            let config = Config::new().replay(replay).extra(64 - replay.min(64));
+            let (flow, mut seat) = SharedFlow::new(alloc, config).expect(rt, "a flow");
+            let hub = SharedFlowHub::new(&flow, &mut seat);
+            let sharing = Sharing::new(chain, example.started, hub);
+            let player = FlowPlayer::new(alloc, alloc, &flow, seat);
+            lend(rt, first, example.steps, sharing, player);
+        }
+        Flow::State => {
+            let (flow, mut seat) = StateFlow::new(alloc, 0, u64::MAX).expect(rt, "a flow");
+            let hub = StateFlowHub::new(&flow, &mut seat, 0);
+            let sharing = Sharing::new(chain, example.started, hub);
+            let player = FlowPlayer::new(alloc, alloc, &flow, seat);
+            lend(rt, first, example.steps, sharing, player);
         }
     }
 }
 
-/// Takes the steps of a chain that is shared into a shared flow of 64 values, of which so many are replayed, and which is lent to the
-/// hub.
-fn lend<R: Wait + Abort>(rt: &R, alloc: Global, first: usize, example: &Example, replay: u32) {
-    let chain = example.chain.make(rt, alloc);
-    let config = Config::new().replay(replay).extra(64 - replay.min(64));
-    let (flow, mut seat) = SharedFlow::new(alloc, config).expect(rt, "a flow");
-    let hub = SharedFlowHub::new(&flow, &mut seat);
-    let mut player = FlowPlayer::new(alloc, alloc, &flow, seat);
-    let mut sharing = Sharing::new(chain, example.started, hub);
-    for index in 0..example.steps.len() {
-        let place = first.saturating_add(index);
-        match &example.steps[index] {
-            Step::Flow(step) => compare(rt, place, player.take(rt, place, step), Ok(())),
-            step => turn(rt, &mut sharing, place, step),
-        }
-    }
-}
-
-/// Takes the steps of a chain that is shared into a state flow, whose first value is 0, and which is lent to the hub.
-fn lend_state<R: Wait + Abort>(rt: &R, alloc: Global, first: usize, example: &Example) {
-    let chain = example.chain.make(rt, alloc);
-    let (flow, mut seat) = StateFlow::new(alloc, 0, u64::MAX).expect(rt, "a flow");
-    let hub = StateFlowHub::new(&flow, &mut seat, 0);
-    let mut player = FlowPlayer::new(alloc, alloc, &flow, seat);
-    let mut sharing = Sharing::new(chain, example.started, hub);
-    for index in 0..example.steps.len() {
-        let place = first.saturating_add(index);
-        match &example.steps[index] {
-            Step::Flow(step) => compare(rt, place, player.take(rt, place, step), Ok(())),
-            step => turn(rt, &mut sharing, place, step),
-        }
-    }
-}
-
-/// Plays the examples, over flows for one thread and for several. Step 7 of the example 3 has the place 307, from this one on.
+/// Plays the examples. Step 7 of the example 3 has the place 307, from this one on.
 pub fn play<R: Wait + Abort>(rt: &R, alloc: Global, first: usize, examples: &[Example]) {
     for number in 0..examples.len() {
         let place = first.saturating_add(number.saturating_mul(100));
-        let example = &examples[number];
-        match example.flow {
-            Flow::Shared(replay) => {
-                share(rt, alloc, place, example, replay);
-                lend(rt, alloc, place, example, replay);
-            }
-            Flow::State => {
-                share_state(rt, alloc, place, example);
-                lend_state(rt, alloc, place, example);
-            }
-        }
+        play_one(rt, alloc, place, &examples[number]);
     }
 }

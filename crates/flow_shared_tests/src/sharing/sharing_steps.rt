@@ -2,7 +2,7 @@
 use crate::compare::compare;
 use crate::sharing::test_hub::Behaviour;
 use crate::steps;
-use flow_cold::ScriptChain;
+use flow_cold::Scripted;
 use flow_law::Command;
 use flow_law::report::{Event, Report, ShareFault};
 use flow_sharing::{Hub, Sharing};
@@ -37,7 +37,7 @@ pub enum Step {
 /// Takes a step of the sharing itself, and compares what it answers.
 pub fn turn<H: Hub<Item = i64>>(
     rt: &impl Abort,
-    sharing: &mut Sharing<ScriptChain, H>,
+    sharing: &mut Sharing<Scripted<i64>, H>,
     place: usize,
     step: &Step,
 ) {

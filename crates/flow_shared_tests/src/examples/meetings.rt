@@ -1,0 +1,234 @@
+//! Several threads at a shared flow: whichever comes first, what is documented of the flow comes of all of them. Where all
+//! have ended the flow is closed, and its core has what all calls led to.
+use crate::compare::compare;
+use crate::examples::worker::Role::{self, Cancel, Emit, Leave, Read, Receive, Send};
+use crate::examples::worker::Worker;
+use crate::playing::{FlowPlayer, take_all};
+use crate::steps::Step::{self, Cache, Next, Subscribe, TryEmit};
+use crate::steps::{self, TAKEN, UNBUFFERED, WAITS};
+use crate::work::run_all;
+use flow_core::SharedCore;
+use flow_law::Config;
+use flow_law::Next::{Empty, Value};
+use flow_shared::SharedFlow;
+use std::alloc::{AllocGlobal, Global};
+use std::process::Abort;
+use std::random::RandomSource;
+use std::sync::Wait;
+use std::thread::Threads;
+
+/// Threads at a new flow.
+struct Meeting {
+    config: Config,
+    /// What comes before.
+    before: &'static [Step],
+    /// What the threads do that are there at once. Those of the next list start where these have ended.
+    rounds: &'static [&'static [Role]],
+    /// What follows, where an emission that was to be cancelled was,
+    after: &'static [Step],
+    /// and where it was not, if that may be.
+    emitted: Option<&'static [Step]>,
+    /// How many subscribers are left at the end,
+    subscribers: u64,
+    /// and what is left of the values: one of these caches.
+    caches: &'static [&'static [i64]],
+}
+
+const MEETINGS: &[Meeting] = &[
+    // What a thread emitted is received.
+    Meeting {
+        config: Config {
+            extra: 4,
+            ..UNBUFFERED
+        },
+        before: &[Subscribe],
+        rounds: &[&[Emit(8), Role::Count(1)]],
+        after: &[Next(0, Value(8))],
+        emitted: None,
+        subscribers: 1,
+        caches: &[&[]],
+    },
+    // A closed flow has what two threads emitted, one after the other.
+    Meeting {
+        config: Config {
+            replay: 2,
+            ..UNBUFFERED
+        },
+        before: &[],
+        rounds: &[&[Emit(1), Role::Count(0)], &[Emit(2), Role::Count(0)]],
+        after: &[Cache(&[1, 2])],
+        emitted: None,
+        subscribers: 0,
+        caches: &[&[1, 2]],
+    },
+    // Three emit 2, 3 and 4, where there is no room, and the one subscriber, who has not read 1, leaves. Then nobody subscribes
+    // any more, and the cache has one of the three values.
+    Meeting {
+        config: Config {
+            replay: 1,
+            ..UNBUFFERED
+        },
+        before: &[Subscribe, TryEmit(1, TAKEN)],
+        rounds: &[&[Emit(2), Emit(3), Emit(4), Leave]],
+        after: &[steps::Step::Count(0)],
+        emitted: None,
+        subscribers: 0,
+        caches: &[&[2], &[3], &[4]],
+    },
+    // Without a buffer each value is received before the next one is emitted.
+    Meeting {
+        config: UNBUFFERED,
+        before: &[Subscribe],
+        rounds: &[&[Send(100), Receive(100)]],
+        after: &[],
+        emitted: None,
+        subscribers: 1,
+        caches: &[&[]],
+    },
+    // With room an emission that is awaited is done at once.
+    Meeting {
+        config: Config {
+            extra: 1,
+            ..UNBUFFERED
+        },
+        before: &[Subscribe],
+        rounds: &[&[Send(1)]],
+        after: &[Next(0, Value(0))],
+        emitted: None,
+        subscribers: 1,
+        caches: &[&[]],
+    },
+];
+
+/// How often two calls race.
+const TIMES: u32 = 100;
+
+const RACES: &[Meeting] = &[
+    // An emission that waits for room is cancelled while the subscriber makes room. It is received by nobody, or by all.
+    Meeting {
+        config: Config {
+            extra: 1,
+            ..UNBUFFERED
+        },
+        before: &[Subscribe, TryEmit(1, TAKEN), Step::Emit(2, WAITS)],
+        rounds: &[&[Read(&[Value(1)]), Cancel]],
+        after: &[Next(0, Empty)],
+        emitted: Some(&[Next(0, Value(2)), Next(0, Empty)]),
+        subscribers: 1,
+        caches: &[&[]],
+    },
+    // A value that two subscribers are offered is cancelled while one of them takes it, before or not at all.
+    Meeting {
+        config: UNBUFFERED,
+        before: &[Subscribe, Subscribe, Step::Emit(7, WAITS)],
+        rounds: &[&[Read(&[Value(7), Empty]), Cancel]],
+        after: &[Next(1, Empty), Next(0, Empty)],
+        emitted: None,
+        subscribers: 2,
+        caches: &[&[]],
+    },
+];
+
+/// The thread has done what it was to do; only a cancel may come too late. Its subscriber comes back. Whether it was done.
+fn has_ended<'a>(
+    rt: &impl Abort,
+    player: &mut FlowPlayer<'a, i64, SharedCore<i64>>,
+    worker: Worker<'a>,
+) -> bool {
+    let Worker {
+        role,
+        reader,
+        is_done,
+        ..
+    } = worker;
+    compare(rt, 100, is_done || matches!(role, Cancel), true);
+    if let (Some(place), Some(reader)) = (player.readers.get_mut(0), reader) {
+        *place = Some(reader);
+    }
+    is_done
+}
+
+/// These threads run at once. Whether no cancel came too late.
+fn run_round<'a, R: Threads + Wait + Abort + RandomSource + AllocGlobal + Sync>(
+    rt: &R,
+    alloc: Global,
+    player: &mut FlowPlayer<'a, i64, SharedCore<i64>>,
+    roles: &[Role],
+) -> bool {
+    let mut workers = Vec::new(alloc);
+    for role in roles {
+        workers.push(player.worker(rt, *role)).expect(rt, "memory");
+    }
+    run_all(rt, workers.as_mut_slice());
+    let mut all_done = true;
+    for worker in workers {
+        all_done &= has_ended(rt, player, worker);
+    }
+    all_done
+}
+
+/// What comes before, the threads, and what follows.
+fn meet<R: Threads + Wait + Abort + RandomSource + AllocGlobal + Sync>(
+    rt: &R,
+    alloc: Global,
+    player: FlowPlayer<'_, i64, SharedCore<i64>>,
+    meeting: &Meeting,
+) {
+    let mut player = player;
+    let mut refused = Vec::new(alloc);
+    take_all(rt, &mut player, 0, meeting.before, &mut refused);
+    let mut all_done = true;
+    for roles in meeting.rounds {
+        all_done &= run_round(rt, alloc, &mut player, *roles);
+    }
+    let then = match (all_done, meeting.emitted) {
+        (true, _) => meeting.after,
+        (false, Some(steps)) => steps,
+        (false, None) => panic!(rt; "the emission waits"),
+    };
+    take_all(rt, &mut player, 200, then, &mut refused);
+}
+
+/// A core has so many subscribers, one of these caches, and no other value.
+fn is_left(rt: &impl Abort, core: SharedCore<i64>, meeting: &Meeting) {
+    compare(rt, 300, core.subscription_count(), meeting.subscribers);
+    let cache = core.replay_cache().expect(rt, "memory");
+    compare(rt, 301, core.held(), cache.len());
+    let mut is_one_of_them = false;
+    for wanted in meeting.caches {
+        is_one_of_them |= cache.as_slice() == *wanted;
+    }
+    compare(rt, 302, is_one_of_them, true);
+}
+
+/// The threads meet at a new flow, which is closed at last.
+fn hold<R: Threads + Wait + Abort + RandomSource + AllocGlobal + Sync>(
+    rt: &R,
+    alloc: Global,
+    meeting: &Meeting,
+) {
+    let (flow, mut seat) = SharedFlow::new(alloc, meeting.config).expect(rt, "a flow");
+    let own = flow.seat(&mut seat);
+    meet(
+        rt,
+        alloc,
+        FlowPlayer::new(alloc, alloc, &flow, own),
+        meeting,
+    );
+    match flow.close(seat) {
+        Some(core) => is_left(rt, core, meeting),
+        None => panic!(rt; "somebody is inside"),
+    }
+}
+
+#[test]
+fn threads_meet_at_shared_flows(rt: HostRuntime) {
+    for meeting in MEETINGS {
+        hold(&rt, rt.alloc(), meeting);
+    }
+    for _ in 0..TIMES {
+        for race in RACES {
+            hold(&rt, rt.alloc(), race);
+        }
+    }
+}
