@@ -3,7 +3,7 @@ ghost use Rattle.std.specs.Prelude.{◌≡◌};
 
 use crate::fault::FlowFault;
 use crate::outcome::{Emit, Next};
-use std::collections::LinkedList;
+use crate::sequence::Sequence;
 
 /// A call of a shared flow.
 pub enum SharedCall<T> {
@@ -14,7 +14,7 @@ pub enum SharedCall<T> {
     /// With the emission's number.
     Cancel(u64),
     /// `subscribe` and `subscribe_with`, with the name of the subscription and its own first values.
-    Subscribe(LinkedList<u64>, LinkedList<T>),
+    Subscribe(Sequence<u64>, Sequence<T>),
     /// `next`, with the subscriber's number.
     TakeNext(u64),
     /// With the subscriber's number.
@@ -32,7 +32,7 @@ pub enum SharedReply<T> {
     /// With the subscriber's number.
     Subscribed(u64),
     Received(Next<T>),
-    Cached(LinkedList<T>),
+    Cached(Sequence<T>),
     Reset,
     Counted(u64),
     Refused(FlowFault),
@@ -45,7 +45,7 @@ pub enum StateCall<T> {
     TryEmit(T),
     CompareAndSet(T, T),
     /// With the name of the subscription.
-    Subscribe(LinkedList<u64>),
+    Subscribe(Sequence<u64>),
     /// `next`, with the subscriber's number.
     TakeNext(u64),
     /// With the subscriber's number.
@@ -65,6 +65,6 @@ pub enum StateReply<T> {
     Subscribed(u64),
     Received(Next<T>),
     Counted(u64),
-    Cached(LinkedList<T>),
+    Cached(Sequence<T>),
     Refused(FlowFault),
 }

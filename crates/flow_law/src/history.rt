@@ -1,12 +1,12 @@
 //! Histories of flows, as contracts speak of them.
 ghost use Rattle.std.specs.Prelude.{◌≡◌};
 
-use std::collections::LinkedList;
+use crate::sequence::Sequence;
 
 /// One event of a history: the name of the token through which the call was made, and what the event says. Contracts
 /// alone speak of events; no value of this type is made.
 pub struct Event<E> {
-    pub name: LinkedList<u64>,
+    pub name: Sequence<u64>,
     pub what: E,
 }
 
@@ -19,11 +19,11 @@ pub struct Said<C, R> {
 /// What a token of a flow for several threads knows. Contracts alone speak of it; no value of this type is made.
 pub struct Knowledge<E> {
     /// The first seat's name is empty, and the j-th that is made through a seat has that seat's name followed by j.
-    pub name: LinkedList<u64>,
+    pub name: Sequence<u64>,
     /// How many seats were made through it.
     pub made: u64,
     /// How many exchanges at the gate it lost.
     pub lost: u64,
     /// The history that it has seen.
-    pub seen: LinkedList<Event<E>>,
+    pub seen: Sequence<Event<E>>,
 }

@@ -14,6 +14,7 @@ mod history;
 mod laws;
 mod outcome;
 pub mod report;
+mod sequence;
 mod sharing;
 mod states;
 mod value;
@@ -26,6 +27,7 @@ pub use guarded::Guarded;
 pub use history::{Event, Knowledge, Said};
 pub use laws::{law_conflated, law_delivered, law_idle_since, law_no_idle_queue, law_turn_account};
 pub use outcome::{Drained, Emit, Next};
+pub use sequence::Sequence;
 pub use sharing::{Command, NEVER, SharingObservation, Started};
 pub use states::{
     EmittingFlow, Numbered, SharedFlowState, StateAndInitial, StateFlowState, StateSubscriber,

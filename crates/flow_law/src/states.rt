@@ -2,7 +2,7 @@
 ghost use Rattle.std.specs.Prelude.{◌≡◌};
 
 use crate::config::Config;
-use std::collections::LinkedList;
+use crate::sequence::Sequence;
 
 /// A value with the number that it took when it was accepted.
 pub struct Numbered<T> {
@@ -13,7 +13,7 @@ pub struct Numbered<T> {
 /// A subscriber: its number, what is left of its own first values, and how many emitted values lie behind it.
 pub struct Subscriber<T> {
     pub number: u64,
-    pub own: LinkedList<T>,
+    pub own: Sequence<T>,
     pub position: u64,
 }
 
@@ -21,13 +21,13 @@ pub struct Subscriber<T> {
 pub struct SharedFlowState<T> {
     pub config: Config,
     /// Every value ever emitted, in order. It is never cut.
-    pub emitted: LinkedList<Numbered<T>>,
+    pub emitted: Sequence<Numbered<T>>,
     /// How many values had been emitted at the last reset.
     pub reset_mark: u64,
     /// The values whose emitters wait, the first one in front.
-    pub queue: LinkedList<Numbered<T>>,
+    pub queue: Sequence<Numbered<T>>,
     /// In the order in which they subscribed, so in the order of their numbers.
-    pub subscribers: LinkedList<Subscriber<T>>,
+    pub subscribers: Sequence<Subscriber<T>>,
     /// How many numbers were issued. The next one is one more.
     pub issued: u64,
 }
@@ -44,7 +44,7 @@ pub struct StateFlowState<T> {
     pub limit: u64,
     pub value: T,
     /// In the order in which they subscribed.
-    pub subscribers: LinkedList<StateSubscriber<T>>,
+    pub subscribers: Sequence<StateSubscriber<T>>,
     /// How many numbers were issued. The next one is one more.
     pub issued: u64,
 }

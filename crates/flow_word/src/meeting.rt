@@ -9,15 +9,14 @@ use crate::plays::{Blank, Meet, Observe, Part};
 use crate::token::{WordSeat, WordState, WordSubscription};
 use crate::view::Known;
 use atomic_table::Seat;
-use flow_law::Packed;
-use std::collections::LinkedList;
+use flow_law::{Packed, Sequence};
 use std::mem;
 
 impl<T: Packed> WordState<T> {
     fn meet_by(
         &self,
-        one: &mut Seat<(), LinkedList<Known<T>>>,
-        other: &mut Seat<(), LinkedList<Known<T>>>,
+        one: &mut Seat<(), Sequence<Known<T>>>,
+        other: &mut Seat<(), Sequence<Known<T>>>,
     )
         requires flow { ((token_of one.old).table_id ≡ self.now.table_id)
             × ((token_of other.old).table_id ≡ self.now.table_id) }

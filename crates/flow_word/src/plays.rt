@@ -6,69 +6,68 @@ ghost use Rattle.flow_word.specs.Steps.{reads, sets, exchanges, counts_live, rec
 
 use crate::view::Known;
 use atomic_table::{Join, Play, Split};
-use flow_law::Packed;
-use std::collections::LinkedList;
+use flow_law::{Packed, Sequence};
 
 /// A load of the value's word, for `value`.
 pub(crate) struct Read;
 
-impl<T: Packed> Play<(), LinkedList<Known<T>>> for Read {
+impl<T: Packed> Play<(), Sequence<Known<T>>> for Read {
     ghost then = { reads T.packs T.value_of };
 }
 
 /// A swap of the value's word.
 pub(crate) struct Put;
 
-impl<T: Packed> Play<(), LinkedList<Known<T>>> for Put {
+impl<T: Packed> Play<(), Sequence<Known<T>>> for Put {
     ghost then = { sets T.value_of };
 }
 
 /// An exchange of the value's word.
 pub(crate) struct Exchange;
 
-impl<T: Packed> Play<(), LinkedList<Known<T>>> for Exchange {
+impl<T: Packed> Play<(), Sequence<Known<T>>> for Exchange {
     ghost then = { exchanges T.value_of };
 }
 
 /// A load of the counts, for `subscription_count`.
 pub(crate) struct Count;
 
-impl<T: Packed> Play<(), LinkedList<Known<T>>> for Count {
+impl<T: Packed> Play<(), Sequence<Known<T>>> for Count {
     ghost then = { counts_live T.value_of };
 }
 
 /// A load of the value's word, for `next`.
 pub(crate) struct Receive;
 
-impl<T: Packed> Play<(), LinkedList<Known<T>>> for Receive {
+impl<T: Packed> Play<(), Sequence<Known<T>>> for Receive {
     ghost then = { receives T.packs T.value_of };
 }
 
 /// One subscriber fewer.
 pub(crate) struct Leave;
 
-impl<T: Packed> Play<(), LinkedList<Known<T>>> for Leave {
+impl<T: Packed> Play<(), Sequence<Known<T>>> for Leave {
     ghost then = { leaves T.value_of };
 }
 
 /// A load of the counts, before a subscription.
 pub(crate) struct FindRoom;
 
-impl<T: Packed> Play<(), LinkedList<Known<T>>> for FindRoom {
+impl<T: Packed> Play<(), Sequence<Known<T>>> for FindRoom {
     ghost then = { finds_room T.value_of };
 }
 
 /// An exchange of the counts for those with one subscription more.
 pub(crate) struct Enter;
 
-impl<T: Packed> Play<(), LinkedList<Known<T>>> for Enter {
+impl<T: Packed> Play<(), Sequence<Known<T>>> for Enter {
     ghost then = { enters T.packs T.value_of };
 }
 
 /// A token is made through another.
 pub(crate) struct Make;
 
-impl<T> Split<LinkedList<Known<T>>> for Make {
+impl<T> Split<Sequence<Known<T>>> for Make {
     ghost left = { map (with_knows makes) };
 
     ghost right = { map (with_knows child) };
@@ -77,7 +76,7 @@ impl<T> Split<LinkedList<Known<T>>> for Make {
 /// A view of no token, to stand in for one that is taken out of its place.
 pub(crate) struct Blank;
 
-impl<T> Split<LinkedList<Known<T>>> for Blank {
+impl<T> Split<Sequence<Known<T>>> for Blank {
     ghost left = { λ v. v };
 
     ghost right = { λ v. [] };
@@ -86,7 +85,7 @@ impl<T> Split<LinkedList<Known<T>>> for Blank {
 /// Two tokens meet in one view.
 pub(crate) struct Meet;
 
-impl<T> Join<LinkedList<Known<T>>> for Meet {
+impl<T> Join<Sequence<Known<T>>> for Meet {
     ghost both = { λ v w. v ++ w };
 
     ghost spent = { [] };
@@ -95,14 +94,14 @@ impl<T> Join<LinkedList<Known<T>>> for Meet {
 /// A load, by which both see the whole history so far.
 pub(crate) struct Observe;
 
-impl<T: Packed> Play<(), LinkedList<Known<T>>> for Observe {
+impl<T: Packed> Play<(), Sequence<Known<T>>> for Observe {
     ghost then = { observes T.value_of };
 }
 
 /// They part again.
 pub(crate) struct Part;
 
-impl<T> Split<LinkedList<Known<T>>> for Part {
+impl<T> Split<Sequence<Known<T>>> for Part {
     ghost left = { first_of };
 
     ghost right = { others_of };

@@ -1,13 +1,12 @@
 //! The rule of the table.
 use crate::view::{Known, Start};
 use atomic_table::TableRule;
-use flow_law::Packed;
-use std::collections::LinkedList;
+use flow_law::{Packed, Sequence};
 
 /// The rule that the two words and what all tokens know keep between any two steps.
 pub struct WordRule;
 
-impl<T: Packed> TableRule<(), LinkedList<Known<T>>, Start> for WordRule {
+impl<T: Packed> TableRule<(), Sequence<Known<T>>, Start> for WordRule {
     ghost use Rattle.flow_word.specs.View.{first_view};
     ghost use Rattle.flow_word.specs.Rule.{WordHolds};
 

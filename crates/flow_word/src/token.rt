@@ -7,9 +7,8 @@ ghost use Rattle.flow_word.specs.Tokens.{Token, Origin, NumberedToken, word_id, 
 use crate::rule::WordRule;
 use crate::view::{Known, Start};
 use atomic_table::{Seat, Table};
-use flow_law::Packed;
+use flow_law::{Packed, Sequence};
 use std::alloc::Global;
-use std::collections::LinkedList;
 use std::marker::Model;
 
 /// A state flow (`MutableStateFlow`) of a value that fits a word, for callers on several threads, none of
@@ -18,7 +17,7 @@ use std::marker::Model;
 pub struct WordState<T: Packed> {
     /// Word 0 is the pack of the current value; word 1 is how many numbers were issued, times 2^32, and how
     /// many subscribers there are.
-    pub(crate) table: Table<(), LinkedList<Known<T>>, Start, WordRule, Global>,
+    pub(crate) table: Table<(), Sequence<Known<T>>, Start, WordRule, Global>,
     pub(crate) limit: u32,
 }
 
@@ -36,7 +35,7 @@ impl<T: Packed> Model for WordState<T> {
 /// A seat that is dropped is lost; the flow goes on without it.
 #[derive(Drop)]
 pub struct WordSeat<T> {
-    pub(crate) seat: Seat<(), LinkedList<Known<T>>>,
+    pub(crate) seat: Seat<(), Sequence<Known<T>>>,
 }
 
 impl<T> Model for WordSeat<T> {
@@ -53,7 +52,7 @@ impl<T> Model for WordSeat<T> {
 /// A subscription that is dropped stays and is counted. Its seat is lost. To end it, `unsubscribe`.
 #[derive(Drop)]
 pub struct WordSubscription<T: Packed> {
-    pub(crate) seat: Seat<(), LinkedList<Known<T>>>,
+    pub(crate) seat: Seat<(), Sequence<Known<T>>>,
     pub(crate) number: u64,
     pub(crate) last: Option<u64>,
 }

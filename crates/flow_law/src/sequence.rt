@@ -1,0 +1,17 @@
+//! Lists, as contracts speak of them.
+ghost use Rattle.std.specs.Prelude.{◌≡◌, List, []};
+
+use std::marker::{Model, PhantomData};
+
+/// A list in a type of which contracts alone speak. No value of this type is made, so it has no room for items, and
+/// nothing is to be dropped with it.
+#[derive(Drop)]
+pub struct Sequence<T> {
+    items: PhantomData<T>,
+}
+
+impl<T> Model for Sequence<T> {
+    ghost Value = { List T };
+
+    ghost view = { λ _. [] };
+}
