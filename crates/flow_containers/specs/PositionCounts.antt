@@ -42,7 +42,7 @@ module _ {T : Type 0} where
   count_of n r (u ∷ us) = if (u.position % n) == r then suc (count_of n r us) else count_of n r us
 
   -- a row that counts the subscribers by their positions
-  pub record Fits (w emitted : ℕ) (row : List ℕ) (us : List (Subscriber T)) : Type 0 where
+  pub record CountsPositions (w emitted : ℕ) (row : List ℕ) (us : List (Subscriber T)) : Type 0 where
     pub long : length row ≡ w + 1
     pub counts : (r : ℕ) → r < w + 1 → get_or row r 0 ≡ count_of (w + 1) r us
     pub window : AreWithin w emitted us

@@ -11,7 +11,7 @@ use Rattle.flow_law.specs.declared.states.Subscriber.{Subscriber}
 use Rattle.flow_law.specs.SharedFlow.{position_of, stand_at, move_to, raise_to}
 use Rattle.flow_law.specs.Standing.{least_position}
 use Rattle.flow_law.proofs.CoveringLemmas.{least_position_bound}
-use Rattle.flow_containers.specs.PositionCounts.{IsLeast, AreWithin, count_of, Fits, take_out}
+use Rattle.flow_containers.specs.PositionCounts.{IsLeast, AreWithin, count_of, CountsPositions, take_out}
 use Rattle.flow_containers.proofs.PlaceLemmas.{same_place, same_place_in, other_place}
 
 pub unequal : (a b : ℕ) → a ≢ b → (a == b) ≡ false
@@ -44,7 +44,7 @@ any_at_end w n (u ∷ us) h =
     ∙ ap (λ t. t || nat_lt 0 (count_of (w + 1) ((n + 1) % (w + 1)) us)) (at_end w n u.position h.0 h.1)
     ∙ ap (λ t. nat_le w (n - u.position) || t) (any_at_end w n us h.2)
 
-pub blocked_by_count : {T : Type 0} (w n : ℕ) (row : List ℕ) (us : List (Subscriber T)) → Fits w n row us
+pub blocked_by_count : {T : Type 0} (w n : ℕ) (row : List ℕ) (us : List (Subscriber T)) → CountsPositions w n row us
     → nat_lt 0 (get_or row ((n + 1) % (w + 1)) 0) ≡ list_any (λ u. nat_le w (n - u.position)) us
 blocked_by_count w n row us fits =
     ap (nat_lt 0) (fits.counts ((n + 1) % (w + 1)) (mod_below (n + 1) (w + 1) (omega arith))) ∙ any_at_end w n us fits.window
@@ -69,7 +69,7 @@ within-append w n (u ∷ us) h none =
     let less : n - u.position < w = elim (leb_tells w (n - u.position)) [ inl whole ↦ absurd (differ (sym whole.0 ∙ here)) | inr less ↦ less.1 ] in
     (omega (arith, h.0), omega (arith, h.0, h.1, less), within-append w n us h.2 (or_right (nat_le w (n - u.position)) (list_any (λ v. nat_le w (n - v.position)) us) none))
 
-pub fits-append : {T : Type 0} (w n : ℕ) (row : List ℕ) (us : List (Subscriber T)) → Fits w n row us → list_any (λ u. nat_le w (n - u.position)) us ≡ false → Fits w (n + 1) row us
+pub fits-append : {T : Type 0} (w n : ℕ) (row : List ℕ) (us : List (Subscriber T)) → CountsPositions w n row us → list_any (λ u. nat_le w (n - u.position)) us ≡ false → CountsPositions w (n + 1) row us
 fits-append w n row us fits none = record { long = fits.long; counts = fits.counts; window = within-append w n us fits.window none }
 
 -- ---- the floor rises by one place: all who stand at the last place go one further
@@ -138,8 +138,8 @@ module _ (w p : ℕ) (h : 0 < w) where
   raised_within (u ∷ us) within = (omega (arith, within.0, h), omega arith, raised_within us within.2)
 
   -- the row after the shift
-  pub fits-shift : {T : Type 0} (row : List ℕ) (us : List (Subscriber T)) → Fits w (p + w) row us
-      → Fits w (p + w + 1) (set (set row ((p + 1) % (w + 1)) (get_or row (p % (w + 1)) 0 + get_or row ((p + 1) % (w + 1)) 0)) (p % (w + 1)) 0) (raise_to (p + 1) us)
+  pub fits-shift : {T : Type 0} (row : List ℕ) (us : List (Subscriber T)) → CountsPositions w (p + w) row us
+      → CountsPositions w (p + w + 1) (set (set row ((p + 1) % (w + 1)) (get_or row (p % (w + 1)) 0 + get_or row ((p + 1) % (w + 1)) 0)) (p % (w + 1)) 0) (raise_to (p + 1) us)
   fits-shift row us fits = record {
     long = length-set _ (p % (w + 1)) 0 ∙ length-set row _ _ ∙ fits.long;
     counts = λ r below. at r below;
@@ -210,9 +210,9 @@ within-enroll w n [] v h le near = (le, near, tt)
 within-enroll w n (u ∷ us) v h le near = (h.0, h.1, within-enroll w n us v h.2 le near)
 
 -- a row where one more is counted at a position
-pub fits_more : {T : Type 0} (w n p : ℕ) (row : List ℕ) (us more : List (Subscriber T)) → Fits w n row us → AreWithin w n more
+pub fits_more : {T : Type 0} (w n p : ℕ) (row : List ℕ) (us more : List (Subscriber T)) → CountsPositions w n row us → AreWithin w n more
     → ((r : ℕ) → count_of (w + 1) r more ≡ (if p % (w + 1) == r then suc (count_of (w + 1) r us) else count_of (w + 1) r us))
-    → Fits w n (set row (p % (w + 1)) (get_or row (p % (w + 1)) 0 + 1)) more
+    → CountsPositions w n (set row (p % (w + 1)) (get_or row (p % (w + 1)) 0 + 1)) more
 fits_more w n p row us more fits within counted = record {
   long = length-set row _ _ ∙ fits.long;
   counts = λ r below.
@@ -230,8 +230,8 @@ fits_more w n p row us more fits within counted = record {
           | false ↦ λ e. fits.counts r below
         ] refl
 
-pub fits-enroll : {T : Type 0} (w n : ℕ) (row : List ℕ) (us : List (Subscriber T)) (v : Subscriber T) → Fits w n row us → v.position ≤ n → n ≤ v.position + w
-    → Fits w n (set row (v.position % (w + 1)) (get_or row (v.position % (w + 1)) 0 + 1)) (us ++ v ∷ [])
+pub fits-enroll : {T : Type 0} (w n : ℕ) (row : List ℕ) (us : List (Subscriber T)) (v : Subscriber T) → CountsPositions w n row us → v.position ≤ n → n ≤ v.position + w
+    → CountsPositions w n (set row (v.position % (w + 1)) (get_or row (v.position % (w + 1)) 0 + 1)) (us ++ v ∷ [])
 fits-enroll w n row us v fits le near =
     fits_more w n v.position row us (us ++ v ∷ []) fits (within-enroll w n us v fits.window le near) (λ r. count-append (w + 1) r us v)
 
@@ -307,8 +307,8 @@ found_counted n number p us found =
     omega (arith, all)
 
 -- a row where one less is counted
-pub fits-take_out : {T : Type 0} (w n number p : ℕ) (row : List ℕ) (us : List (Subscriber T)) → Fits w n row us → position_of number us ≡ Some p
-    → Fits w n (set row (p % (w + 1)) (get_or row (p % (w + 1)) 0 - 1)) (take_out number us)
+pub fits-take_out : {T : Type 0} (w n number p : ℕ) (row : List ℕ) (us : List (Subscriber T)) → CountsPositions w n row us → position_of number us ≡ Some p
+    → CountsPositions w n (set row (p % (w + 1)) (get_or row (p % (w + 1)) 0 - 1)) (take_out number us)
 fits-take_out w n number p row us fits found = record {
   long = length-set row _ _ ∙ fits.long;
   counts = λ r below.
@@ -326,8 +326,8 @@ fits-take_out w n number p row us fits found = record {
           | false ↦ λ e f. fits.counts r below ∙ f
         ] refl (count-take_out (w + 1) r number p us found)
 
-pub fits-move_to : {T : Type 0} (w n number p q : ℕ) (row : List ℕ) (us : List (Subscriber T)) → Fits w n row us → position_of number us ≡ Some p → q ≤ n → n ≤ q + w
-    → Fits w n (set (set row (p % (w + 1)) (get_or row (p % (w + 1)) 0 - 1)) (q % (w + 1)) (get_or (set row (p % (w + 1)) (get_or row (p % (w + 1)) 0 - 1)) (q % (w + 1)) 0 + 1)) (move_to number q us)
+pub fits-move_to : {T : Type 0} (w n number p q : ℕ) (row : List ℕ) (us : List (Subscriber T)) → CountsPositions w n row us → position_of number us ≡ Some p → q ≤ n → n ≤ q + w
+    → CountsPositions w n (set (set row (p % (w + 1)) (get_or row (p % (w + 1)) 0 - 1)) (q % (w + 1)) (get_or (set row (p % (w + 1)) (get_or row (p % (w + 1)) 0 - 1)) (q % (w + 1)) 0 + 1)) (move_to number q us)
 fits-move_to w n number p q row us fits found le near =
     fits_more w n q _ (take_out number us) (move_to number q us) (fits-take_out w n number p row us fits found)
     (within-move_to w n number q us fits.window le near) (λ r. count-move_to (w + 1) r number p q us found)
@@ -391,7 +391,7 @@ somebody_at w n low first q (u ∷ us) h from a b c some =
           omega (arith, somebody_at w n low first q us h.2 (omega (arith, from)) a b c more)
     ]
 
-pub least_is : {T : Type 0} (w n start first q : ℕ) (row : List ℕ) (us : List (Subscriber T)) → Fits w n row us → IsLeast row start first q
+pub least_is : {T : Type 0} (w n start first q : ℕ) (row : List ℕ) (us : List (Subscriber T)) → CountsPositions w n row us → IsLeast row start first q
     → start ≤ least_position first us → first ≤ n → n ≤ start + w → least_position first us ≡ q
 least_is w n start first q row us fits least from le near =
     let below : (p : ℕ) → p % (w + 1) < w + 1 = λ p. mod_below p (w + 1) (omega arith) in

@@ -11,7 +11,7 @@ use Rattle.flow_containers.specs.declared.members.enroll.Row.{Row}
 use Rattle.flow_containers.specs.Members.{row_of, with_row}
 use Rattle.flow_containers.specs.Members as slab
 use Rattle.flow_containers.specs.Rows.{moved, left}
-use Rattle.flow_containers.specs.PositionCounts.{AreWithin, count_of, Fits, take_out, entered, left_at}
+use Rattle.flow_containers.specs.PositionCounts.{AreWithin, count_of, CountsPositions, take_out, entered, left_at}
 use Rattle.flow_core.specs.Subscribers.{Standing, read, AreSound}
 use Rattle.flow_core.proofs.CountLemmas.{blocked_by_count, fits-append, fits-shift, apart, fits-enroll, fits-take_out, fits-move_to, found_within, found_counted, count_bound, counts_bound}
 use Rattle.flow_containers.proofs.MemberLemmas.{length-with_row}
@@ -86,15 +86,15 @@ module _ {T A : Type 0} (row : List ℕ) (emitted floor last : ℕ) (members : L
   pub shift_room : (p : ℕ) → get_or row (p % length row) 0 + get_or row ((p + 1) % length row) 0 < 2 ^ 64
   shift_room p = omega (arith, count_at p, count_at (p + 1), counts_bound (w + 1) (p % (w + 1)) ((p + 1) % (w + 1)) us (apart w p sound.some), bounded)
 
-  shift_fits : (p : ℕ) → p + w ≡ emitted → Fits w (emitted + 1) (shifted row p) (read (p + 1) members)
+  shift_fits : (p : ℕ) → p + w ≡ emitted → CountsPositions w (emitted + 1) (shifted row p) (read (p + 1) members)
   shift_fits p at =
       let below : floor ≤ p + 1 = omega (arith, sound.floor, at) in
-      let was : Fits w (p + w) row us = subst (λ k. Fits w k row us) (sym at) sound.fits in
-      let now : Fits w (p + w + 1) (shifted row p) (raise_to (p + 1) us) =
-      subst (λ k. Fits w (p + w + 1) (set (set row ((p + 1) % k) (get_or row (p % k) 0 + get_or row ((p + 1) % k) 0)) (p % k) 0) (raise_to (p + 1) us)) (sym long)
+      let was : CountsPositions w (p + w) row us = subst (λ k. CountsPositions w k row us) (sym at) sound.fits in
+      let now : CountsPositions w (p + w + 1) (shifted row p) (raise_to (p + 1) us) =
+      subst (λ k. CountsPositions w (p + w + 1) (set (set row ((p + 1) % k) (get_or row (p % k) 0 + get_or row ((p + 1) % k) 0)) (p % k) 0) (raise_to (p + 1) us)) (sym long)
       (fits-shift w p sound.some row us was) in
-      let raised : Fits w (p + w + 1) (shifted row p) (read (p + 1) members) = subst (Fits w (p + w + 1) (shifted row p)) (read_higher floor (p + 1) members below) now in
-      subst (λ k. Fits w (k + 1) (shifted row p) (read (p + 1) members)) at raised
+      let raised : CountsPositions w (p + w + 1) (shifted row p) (read (p + 1) members) = subst (CountsPositions w (p + w + 1) (shifted row p)) (read_higher floor (p + 1) members below) now in
+      subst (λ k. CountsPositions w (k + 1) (shifted row p) (read (p + 1) members)) at raised
 
   pub dropped : (p : ℕ) → p + w ≡ emitted → AreSound (length (shifted row p) - 1) (shifted row p) (emitted + 1) (p + 1) members last
   dropped p at = resized row (shifted row p) (emitted + 1) (p + 1) last members (length-shifted row p) (record {
@@ -118,8 +118,8 @@ module _ {T A : Type 0} (row : List ℕ) (emitted floor last : ℕ) (members : L
 
   pub gathered : (p : ℕ) → w ≡ 1 → p + 1 ≡ emitted → AreSound (length (shifted row p) - 1) (shifted row p) emitted emitted members last
   gathered p one at =
-      let shift : Fits w (emitted + 1) (shifted row p) (read (p + 1) members) = shift_fits p (omega (arith, one, at)) in
-      let there : Fits w (emitted + 1) (shifted row p) (read emitted members) = subst (λ k. Fits w (emitted + 1) (shifted row p) (read k members)) at shift in
+      let shift : CountsPositions w (emitted + 1) (shifted row p) (read (p + 1) members) = shift_fits p (omega (arith, one, at)) in
+      let there : CountsPositions w (emitted + 1) (shifted row p) (read emitted members) = subst (λ k. CountsPositions w (emitted + 1) (shifted row p) (read k members)) at shift in
       let here : AreWithin 1 emitted (read emitted members) = subst (AreWithin 1 emitted) (sym (gathered_list one)) (within_same emitted us) in
       resized row (shifted row p) emitted emitted last members (length-shifted row p) (record {
         some = sound.some;
@@ -138,8 +138,8 @@ module _ {T A : Type 0} (row : List ℕ) (emitted floor last : ℕ) (members : L
       → AreSound (length (entered row p) - 1) (entered row p) emitted floor (members ++ record { number = number; row = r } ∷ []) number
   enrolled number p r at past near above more fits = resized row (entered row p) emitted floor number (members ++ record { number = number; row = r } ∷ []) (length-set row _ _) (record {
     some = sound.some;
-    fits = subst (Fits w emitted (entered row p)) (sym (append-row floor members number p r at above))
-        (subst (λ k. Fits w emitted (set row (p % k) (get_or row (p % k) 0 + 1)) (us ++ record { number = number; own = r.own; position = p } ∷ [])) (sym long)
+    fits = subst (CountsPositions w emitted (entered row p)) (sym (append-row floor members number p r at above))
+        (subst (λ k. CountsPositions w emitted (set row (p % k) (get_or row (p % k) 0 + 1)) (us ++ record { number = number; own = r.own; position = p } ∷ [])) (sym long)
         (fits-enroll w emitted row us (record { number = number; own = r.own; position = p }) sound.fits past near));
     floor = sound.floor;
     count = omega (arith, length-append members (record { number = number; row = r } ∷ []), sound.count, more);
@@ -155,13 +155,13 @@ module _ {T A : Type 0} (row : List ℕ) (emitted floor last : ℕ) (members : L
     pub leave_some : 0 < get_or row (p % length row) 0
     leave_some = omega (arith, count_at p, found_counted (w + 1) number p us found)
 
-    left_fits : Fits w emitted (left_at row p) (take_out number us)
-    left_fits = subst (λ k. Fits w emitted (set row (p % k) (get_or row (p % k) 0 - 1)) (take_out number us)) (sym long) (fits-take_out w emitted number p row us sound.fits found)
+    left_fits : CountsPositions w emitted (left_at row p) (take_out number us)
+    left_fits = subst (λ k. CountsPositions w emitted (set row (p % k) (get_or row (p % k) 0 - 1)) (take_out number us)) (sym long) (fits-take_out w emitted number p row us sound.fits found)
 
     pub removed : AreSound (length (left_at row p) - 1) (left_at row p) emitted floor (slab.take_out number members) last
     removed = resized row (left_at row p) emitted floor last (slab.take_out number members) (length-set row _ _) (record {
       some = sound.some;
-      fits = subst (Fits w emitted (left_at row p)) (sym (take_out-row floor number members)) left_fits;
+      fits = subst (CountsPositions w emitted (left_at row p)) (sym (take_out-row floor number members)) left_fits;
       floor = sound.floor;
       count = omega (arith, shorter number members, sound.count);
       last = sound.last;
@@ -202,13 +202,13 @@ module _ {T A : Type 0} (row : List ℕ) (emitted floor last : ℕ) (members : L
         let high : floor ≤ p + 1 = omega (arith, above_floor r at) in
         let within = found_within w emitted number p us sound.fits.window found in
         let same : length (left_at row p) ≡ w + 1 = length-set row _ _ ∙ long in
-        let moves : Fits w emitted (entered (left_at row p) (p + 1)) (move_to number (p + 1) us) =
-        subst (λ k. Fits w emitted (set (left_at row p) ((p + 1) % k) (get_or (left_at row p) ((p + 1) % k) 0 + 1)) (move_to number (p + 1) us)) (sym same)
-        (subst (λ k. Fits w emitted (set (set row (p % k) (get_or row (p % k) 0 - 1)) ((p + 1) % (w + 1)) (get_or (set row (p % k) (get_or row (p % k) 0 - 1)) ((p + 1) % (w + 1)) 0 + 1)) (move_to number (p + 1) us)) (sym long)
+        let moves : CountsPositions w emitted (entered (left_at row p) (p + 1)) (move_to number (p + 1) us) =
+        subst (λ k. CountsPositions w emitted (set (left_at row p) ((p + 1) % k) (get_or (left_at row p) ((p + 1) % k) 0 + 1)) (move_to number (p + 1) us)) (sym same)
+        (subst (λ k. CountsPositions w emitted (set (set row (p % k) (get_or row (p % k) 0 - 1)) ((p + 1) % (w + 1)) (get_or (set row (p % k) (get_or row (p % k) 0 - 1)) ((p + 1) % (w + 1)) 0 + 1)) (move_to number (p + 1) us)) (sym long)
         (fits-move_to w emitted number p (p + 1) row us sound.fits found (omega (arith, more)) (omega (arith, within.1)))) in
         resized row (entered (left_at row p) (p + 1)) emitted floor last (with_row number (moved (p + 1) r) members) kept (record {
           some = sound.some;
-          fits = subst (Fits w emitted (entered (left_at row p) (p + 1))) (sym (move_to-row floor number (p + 1) r members high at)) moves;
+          fits = subst (CountsPositions w emitted (entered (left_at row p) (p + 1))) (sym (move_to-row floor number (p + 1) r members high at)) moves;
           floor = sound.floor;
           count = omega (arith, length-with_row number (moved (p + 1) r) members, sound.count);
           last = sound.last;
@@ -217,7 +217,7 @@ module _ {T A : Type 0} (row : List ℕ) (emitted floor last : ℕ) (members : L
   pub took_own : (number : ℕ) (own : List T) (r : Row T A) → row_of number members ≡ Some r → AreSound w row emitted floor (with_row number (left own r) members) last
   took_own number own r at = record {
     some = sound.some;
-    fits = subst (Fits w emitted row) (sym (with_own-row floor number own r members at)) (record {
+    fits = subst (CountsPositions w emitted row) (sym (with_own-row floor number own r members at)) (record {
       long = sound.fits.long;
       counts = λ k below. sound.fits.counts k below ∙ sym (count-with_own (w + 1) k number own us);
       window = within-with_own w emitted number own us sound.fits.window;

@@ -106,11 +106,11 @@ abbrev pub kept_full : {T : Type 0} → Core T → Bool
 kept_full core = is_full (window_of core.config) core.appended core.subscribers
 
 -- what a core finds for an emission that is to be appended
-abbrev pub Finds : {T : Type 0} → EmitCase → Core T → Type 0
-Finds Appends core = kept_full core ≡ false
-Finds Offers core = kept_full core ≡ false
-Finds DropsOldest core = (kept_full core ≡ true) × (core.config.overflow ≡ DropOldest)
-Finds _ core = Unit {0}
+abbrev pub MayAppend : {T : Type 0} → EmitCase → Core T → Type 0
+MayAppend Appends core = kept_full core ≡ false
+MayAppend Offers core = kept_full core ≡ false
+MayAppend DropsOldest core = (kept_full core ≡ true) × (core.config.overflow ≡ DropOldest)
+MayAppend _ core = Unit {0}
 
 -- in each state that the core covers, what is read off it is this
 abbrev pub Shows : {T R : Type 0} → Core T → (SharedFlowState T → R) → R → Type 0

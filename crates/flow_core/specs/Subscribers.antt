@@ -5,7 +5,7 @@ use Rattle.flow_law.specs.declared.states.Subscriber.{Subscriber}
 use Rattle.flow_containers.specs.declared.members.Member.{Member}
 use Rattle.flow_containers.specs.declared.members.enroll.Row.{Row}
 use Rattle.flow_core.specs.declared.subscribers.Subscribers.TheInside.{Inside}
-use Rattle.flow_containers.specs.PositionCounts.{Fits}
+use Rattle.flow_containers.specs.PositionCounts.{CountsPositions}
 
 -- the subscribers, and what the row of counts knows besides
 pub record Standing (T : Type 0) : Type 0 where
@@ -44,7 +44,7 @@ module _ {T A : Type 0} where
   pub record AreSound (window : ℕ) (row : List ℕ) (emitted lowest : ℕ) (members : List (Member (Row T A))) (greatest : ℕ) : Type 0 where
     pub some : 0 < window
     -- the row counts the subscribers, and nobody is further behind than the window
-    pub fits : Fits window emitted row (read lowest members)
+    pub fits : CountsPositions window emitted row (read lowest members)
     pub floor : lowest ≤ emitted + 1 - window
     pub count : length members ≤ greatest
     pub last : greatest < 2 ^ 64

@@ -14,36 +14,36 @@ use Rattle.flow_law.proofs.Moves.{Keeps, history_keeps, admit_keeps}
 use Rattle.flow_law.proofs.Rows.{any-with_own}
 
 -- only a flow that suspends has a queue
-abbrev pub Fits : {X : Type 0} → Overflow → List X → Type 0
-Fits Suspend q = Unit {0}
-Fits DropOldest q = q ≡ []
-Fits DropLatest q = q ≡ []
+abbrev pub OnlySuspends : {X : Type 0} → Overflow → List X → Type 0
+OnlySuspends Suspend q = Unit {0}
+OnlySuspends DropOldest q = q ≡ []
+OnlySuspends DropLatest q = q ≡ []
 
 module _ {X : Type 0} where
-  pub fits_shorter : (o : Overflow) (x : X) (q r : List X) → Fits o (x ∷ q) → Fits o r
+  pub fits_shorter : (o : Overflow) (x : X) (q r : List X) → OnlySuspends o (x ∷ q) → OnlySuspends o r
   fits_shorter Suspend x q r h = tt
   fits_shorter DropOldest x q r h = absurd (cc)
   fits_shorter DropLatest x q r h = absurd (cc)
 
-  pub fits_filter : (o : Overflow) (p : X → Bool) (q : List X) → Fits o q → Fits o (filter p q)
+  pub fits_filter : (o : Overflow) (p : X → Bool) (q : List X) → OnlySuspends o q → OnlySuspends o (filter p q)
   fits_filter Suspend p q h = tt
   fits_filter DropOldest p q h = ap (filter p) h
   fits_filter DropLatest p q h = ap (filter p) h
 
-  pub fits_suspend : (o : Overflow) (q : List X) → o ≡ Suspend → Fits o q
-  fits_suspend o q e = subst (λ o. Fits o q) (sym e) tt
+  pub fits_suspend : (o : Overflow) (q : List X) → o ≡ Suspend → OnlySuspends o q
+  fits_suspend o q e = subst (λ o. OnlySuspends o q) (sym e) tt
 
-  pub fits_drops : (o : Overflow) (q : List X) → o ≡ DropOldest → Fits o q → q ≡ []
-  fits_drops o q e h = subst (λ o. Fits o q) e h
+  pub fits_drops : (o : Overflow) (q : List X) → o ≡ DropOldest → OnlySuspends o q → q ≡ []
+  fits_drops o q e h = subst (λ o. OnlySuspends o q) e h
 
-pub opened_fits : (X : Type 0) (o : Overflow) → Fits {X = X} o []
+pub opened_fits : (X : Type 0) (o : Overflow) → OnlySuspends {X = X} o []
 opened_fits X Suspend = tt
 opened_fits X DropOldest = refl
 opened_fits X DropLatest = refl
 
 module _ {T : Type 0} where
   pub record Calm (s : SharedFlowState T) : Type 0 where
-    pub fits : Fits s.config.overflow s.queue
+    pub fits : OnlySuspends s.config.overflow s.queue
     pub idle : NoIdleQueue s
 
   pub admit_idle : (s : SharedFlowState T) (q : List (Numbered T)) → NoIdleQueue (admit s q)
@@ -52,15 +52,15 @@ module _ {T : Type 0} where
       (λ b free. absurd (both_ways (is_blocked s) free b))
       (λ _. admit_idle (record s { emitted = s.emitted ++ e ∷ [] }) q)
 
-  pub settle_calm : (s : SharedFlowState T) → Fits s.config.overflow s.queue → Calm (settle s)
+  pub settle_calm : (s : SharedFlowState T) → OnlySuspends s.config.overflow s.queue → Calm (settle s)
   settle_calm s h = record {
-    fits = admit_keeps (λ t. Fits t.config.overflow t.queue) (λ t e q _ g. fits_shorter t.config.overflow e q q g) s s.queue h;
+    fits = admit_keeps (λ t. OnlySuspends t.config.overflow t.queue) (λ t e q _ g. fits_shorter t.config.overflow e q q g) s s.queue h;
     idle = admit_idle s s.queue;
   }
 
-  pub withdraw_fits : (e : ℕ) (s : SharedFlowState T) → Fits s.config.overflow s.queue → Fits (withdraw e s).config.overflow (withdraw e s).queue
+  pub withdraw_fits : (e : ℕ) (s : SharedFlowState T) → OnlySuspends s.config.overflow s.queue → OnlySuspends (withdraw e s).config.overflow (withdraw e s).queue
   withdraw_fits e s h = cond_both (is_offered_as e s) (record s { subscribers = map (stand_at (length s.emitted)) s.subscribers }) (record s { queue = filter (λ q. not (q.number == e)) s.queue })
-      (λ t. Fits t.config.overflow t.queue) (λ _. h) (λ _. fits_filter s.config.overflow _ s.queue h)
+      (λ t. OnlySuspends t.config.overflow t.queue) (λ _. h) (λ _. fits_filter s.config.overflow _ s.queue h)
 
   pub calm_keeps : (s : SharedFlowState T) → Calm s → Keeps Calm s
   calm_keeps s h = record {

@@ -12,7 +12,7 @@ use Rattle.flow_law.specs.declared.states.SharedFlowState.{SharedFlowState}
 use Rattle.flow_law.specs.Tokens.{IsBusy}
 use Rattle.flow_gate.specs.Tokens.{Origin}
 use Rattle.flow_shared.specs.Futures.{SharedNumbered, OneEach, PollsOnce}
-use Rattle.flow_shared.specs.NextFutures.{Receiving, Received, IsRefusedIfDue, NextPolls, FindsAfter, Finds, Receives, GivesReceived, Says, held, token_after}
+use Rattle.flow_shared.specs.NextFutures.{Receiving, Received, IsRefusedIfDue, NextPolls, FindsAfter, FindsInTheEnd, Receives, GivesReceived, Says, held, token_after}
 use Rattle.flow_shared.specs.SharedReplies.{SharedToken, CallsAtOnce}
 use Rattle.flow_shared.proofs.EmitRuns.{called_later}
 use Rattle.flow_shared.proofs.Refusals.{next_fault}
@@ -26,13 +26,13 @@ module _ {T : Type 0} (flow : Origin (SharedFlowState T)) where
   finds_by [] c r t u w busy h = called_later flow t u w c r busy h
   finds_by (x ∷ us) c r t u w busy h = (called_later flow t u x c (reply.Received Empty) busy h.0, h.1)
 
-  waits_finds : (s u : SharedNumbered T) (r : SharedReply T) (w : SharedToken T) → Waits s u → Finds flow (call.TakeNext s.number) r u.token w → Finds flow (call.TakeNext s.number) r s.token w
+  waits_finds : (s u : SharedNumbered T) (r : SharedReply T) (w : SharedToken T) → Waits s u → FindsInTheEnd flow (call.TakeNext s.number) r u.token w → FindsInTheEnd flow (call.TakeNext s.number) r s.token w
   waits_finds s u r w (inl busy) h = (h.0, finds_by h.0 (call.TakeNext s.number) r s.token u.token w busy h.1)
   waits_finds s u r w (inr called) h = (u.token ∷ h.0, (called.0, h.1))
 
   waited_same : (s u : SharedNumbered T) → (u.number ≡ s.number) × Waits s u → (x : Received T) → Receives flow (Some u) x → Receives flow (Some s) x
-  waited_same s u p (w, Ok v) h = (h.0 ∙ p.0, waits_finds s u (reply.Received (Value v)) w.token p.1 (subst (λ n. Finds flow (call.TakeNext n) (reply.Received (Value v)) u.token w.token) p.0 h.1))
-  waited_same s u p (w, Err fault) h = (h.0 ∙ p.0, h.1, waits_finds s u (reply.Refused fault) w.token p.1 (subst (λ n. Finds flow (call.TakeNext n) (reply.Refused fault) u.token w.token) p.0 h.2))
+  waited_same s u p (w, Ok v) h = (h.0 ∙ p.0, waits_finds s u (reply.Received (Value v)) w.token p.1 (subst (λ n. FindsInTheEnd flow (call.TakeNext n) (reply.Received (Value v)) u.token w.token) p.0 h.1))
+  waited_same s u p (w, Err fault) h = (h.0 ∙ p.0, h.1, waits_finds s u (reply.Refused fault) w.token p.1 (subst (λ n. FindsInTheEnd flow (call.TakeNext n) (reply.Refused fault) u.token w.token) p.0 h.2))
 
   receives_same : (s s' : Option (SharedNumbered T)) → NextPolls flow s Pending s' → (x : Received T) → Receives flow s' x → Receives flow s x
   receives_same (Some s) (Some u) p = waited_same s u p

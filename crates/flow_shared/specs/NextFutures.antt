@@ -70,13 +70,13 @@ module _ {T : Type 0} where
     FindsAfter [] next r t after = Calls flow t next r after
     FindsAfter (u ∷ us) next r t after = Calls flow t next (reply.Received Empty) u × FindsAfter us next r u after
 
-    abbrev pub Finds : SharedCall T → SharedReply T → SharedToken T → SharedToken T → Type 0
-    Finds next r t after = (us : List (SharedToken T)) × FindsAfter us next r t after
+    abbrev pub FindsInTheEnd : SharedCall T → SharedReply T → SharedToken T → SharedToken T → Type 0
+    FindsInTheEnd next r t after = (us : List (SharedToken T)) × FindsAfter us next r t after
 
     -- what the future may give: of so many calls of `next` the last one's value, or its refusal
     abbrev pub Receives : Option (SharedNumbered T) → Received T → Type 0
-    Receives (Some s) (u, Ok v) = (u.number ≡ s.number) × Finds (call.TakeNext s.number) (reply.Received (Value v)) s.token u.token
-    Receives (Some s) (u, Err fault) = (u.number ≡ s.number) × (fault ≡ OutOfMemory) × Finds (call.TakeNext s.number) (reply.Refused fault) s.token u.token
+    Receives (Some s) (u, Ok v) = (u.number ≡ s.number) × FindsInTheEnd (call.TakeNext s.number) (reply.Received (Value v)) s.token u.token
+    Receives (Some s) (u, Err fault) = (u.number ≡ s.number) × (fault ≡ OutOfMemory) × FindsInTheEnd (call.TakeNext s.number) (reply.Refused fault) s.token u.token
     Receives None r = ⊥
 
   -- what the future may give, and that the subscription which comes back is to its flow

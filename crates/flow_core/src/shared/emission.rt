@@ -7,7 +7,7 @@ ghost use Rattle.flow_law.specs.SharedStep as step;
 ghost use Rattle.flow_law.specs.Standing.{Conforms};
 ghost use Rattle.flow_law.specs.declared.call.SharedCall.TheVariants as call;
 ghost use Rattle.flow_law.specs.declared.call.SharedReply.TheVariants as reply;
-ghost use Rattle.flow_core.specs.SharedCore.{try_emit_reply, emit_reply, case_of, kept_full, pushed, dropped, Finds, Shows, Leads, Keeps, Reaches, IsExhausted, RefusedFor};
+ghost use Rattle.flow_core.specs.SharedCore.{try_emit_reply, emit_reply, case_of, kept_full, pushed, dropped, MayAppend, Shows, Leads, Keeps, Reaches, IsExhausted, RefusedFor};
 
 use super::SharedCore;
 use flow_law::{Emit, FlowFault, FlowValue, Overflow, Refused};
@@ -25,7 +25,7 @@ enum EmitCase {
 
 impl<T: FlowValue, A: Allocator + Copy> SharedCore<T, A> {
     fn emit_case(&self) -> EmitCase
-        ensures found { Finds result self.now }
+        ensures found { MayAppend result self.now }
         ensures shown { Shows self.now rule.emit_case (case_of result) }
     {
         if self.subscribers.len() == 0 {
