@@ -1,4 +1,4 @@
-//! Futures that are refused. An emission that waits for a slow subscriber takes memory, and so does the copy of a value.
+//! Futures, and calls made at once, that are refused. An emission that waits for a slow subscriber takes memory, and so does the copy of a value.
 ghost use Rattle.std.specs.Prelude.{◌≡◌};
 
 use crate::compare::compare;
@@ -13,7 +13,7 @@ use std::alloc::{Allocator, Global};
 use std::process::Abort;
 use std::sync::Wait;
 
-/// The emission is refused, and the seat and the value come back. Then it waits.
+/// The emission is refused, at once and by a future, and the seat and the value come back. Then it waits.
 fn emits<R: Wait + Abort, A: Allocator + Copy>(
     rt: &R,
     task: &MockTask,
@@ -26,6 +26,11 @@ fn emits<R: Wait + Abort, A: Allocator + Copy>(
 {
     let value = Boxed::of(rt, memory, 3);
     refusing.refuse(1);
+    let Emitted::Refused(seat, value, fault) = flow.emit_now(seat, value) else {
+        panic!(rt; "it is refused")
+    };
+    compare(rt, 1, fault, FlowFault::OutOfMemory);
+    refusing.refuse(1);
     let mut emit = EmitFuture::new(flow, seat, value);
     let Poll::Ready(Sent::Refused(seat, value, fault)) = task.poll(&mut emit) else {
         panic!(rt; "it is refused")
@@ -35,7 +40,7 @@ fn emits<R: Wait + Abort, A: Allocator + Copy>(
     assert!(rt; matches!(flow.emit(rt, seat, value), Emitted::Queued(_)));
 }
 
-/// The subscriber is refused the first value, and its subscription comes back. Then it receives it.
+/// The subscriber is refused the first value, at once and by a future, and its subscription comes back. Then it receives it.
 fn receives<R: Wait + Abort, A: Allocator + Copy>(
     rt: &R,
     task: &MockTask,
@@ -45,6 +50,10 @@ fn receives<R: Wait + Abort, A: Allocator + Copy>(
 )
     requires { subscription.token.table_id ≡ flow.now.table_id }
 {
+    let mut subscription = subscription;
+    refusing.refuse(1);
+    let refused = flow.next_now(&mut subscription);
+    compare(rt, 3, refused.err(), Some(FlowFault::OutOfMemory));
     refusing.refuse(1);
     let mut next = NextFuture::new(flow, subscription);
     let Poll::Ready((mut subscription, refused)) = task.poll(&mut next) else {
@@ -57,7 +66,7 @@ fn receives<R: Wait + Abort, A: Allocator + Copy>(
     }
 }
 
-/// A subscriber has not read 1 and 2. A third value waits, and the subscriber receives the first one. Both are refused once.
+/// A subscriber has not read 1 and 2. A third value waits, and the subscriber receives the first one. Both are refused twice.
 fn play<R: Wait + Abort, A: Allocator + Copy>(
     rt: &R,
     task: &MockTask,
@@ -79,7 +88,7 @@ fn play<R: Wait + Abort, A: Allocator + Copy>(
 }
 
 #[test]
-fn futures_are_refused_once(rt: HostRuntime) {
+fn calls_at_once_and_futures_are_refused(rt: HostRuntime) {
     let memory = Refusing::new(rt.alloc());
     let task = MockTask::new(&rt).expect(&rt, "a task");
     play(&rt, &task, &memory, &memory);

@@ -1,4 +1,4 @@
-//! A reset that is refused for want of memory.
+//! A sharing over a state flow, and a reset, that are refused for want of memory.
 use crate::compare::compare;
 use flow_cold::OfList;
 use flow_law::Command::{self, Keep, Start};
@@ -7,6 +7,7 @@ use flow_law::report::{Report, ShareFault};
 use flow_law::{FlowFault, Started};
 use flow_sharing::{Sharing, StateHub, state_in};
 use flow_testing::CopyLimited;
+use std::alloc::Global;
 use std::cell::Cell;
 use std::process::Abort;
 
@@ -31,17 +32,33 @@ fn turns(
     }
 }
 
-/// A chain of 3, whose state flow begins with 0, stops when nobody is there, and forgets at once. A reset that is refused
-/// stays due, and is made in the next turn.
-#[test]
-fn a_refused_reset_stays_due(rt: HostRuntime) {
-    let copies = Cell::new(0);
-    let Ok(items) = Vec::from_array(rt.alloc(), [CopyLimited::new(3, &copies)]) else {
+/// A chain of 3, whose state flow begins with 0, stops when nobody is there, and forgets at once.
+fn share<'a>(
+    rt: &impl Abort,
+    alloc: Global,
+    copies: &'a Cell<u64>,
+) -> Result<Shared<'a>, ShareFault> {
+    let Ok(items) = Vec::from_array(alloc, [CopyLimited::new(3, copies)]) else {
         panic!(rt; "memory")
     };
-    let (chain, initial) = (OfList::new(items), CopyLimited::new(0, &copies));
+    let (chain, initial) = (OfList::new(items), CopyLimited::new(0, copies));
     let started = Started::WhileSubscribed { stop: 0, expire: 0 };
-    let Ok(mut sharing) = state_in(rt.alloc(), chain, started, initial, u64::MAX) else {
+    state_in(alloc, chain, started, initial, u64::MAX)
+}
+
+/// The copy of the initial value that the sharing keeps for resets is refused, and then there is a sharing. A reset that is
+/// refused stays due, and is made in the next turn.
+#[test]
+fn a_refused_reset_stays_due(rt: HostRuntime) {
+    let copies = Cell::new(1);
+    let refused = share(&rt, rt.alloc(), &copies).err();
+    compare(
+        &rt,
+        3,
+        refused,
+        Some(ShareFault::Flow(FlowFault::OutOfMemory)),
+    );
+    let Ok(mut sharing) = share(&rt, rt.alloc(), &copies) else {
         panic!(rt; "a sharing")
     };
     let subscribed = sharing.hub_mut().core_mut().subscribe();

@@ -1,7 +1,8 @@
 //! A state flow without a subscriber, and a drain of one, which no script shows.
 use crate::compare::compare;
 use flow_core::StateCore;
-use flow_law::Drained;
+use flow_law::{Drained, FlowFault};
+use flow_testing::Refusing;
 
 /// Its cache is the current value alone.
 #[test]
@@ -33,4 +34,20 @@ fn a_drain_of_a_state_flow_gives_the_value_once(rt: HostRuntime) {
     compare(&rt, 1, drained.as_slice(), [5].as_slice());
     let is_there = flow.unsubscribe(reader);
     compare(&rt, 2, (was_there, is_there), (true, false));
+}
+
+/// A drain whose list has no room for the value loses nothing: the next drain gives it.
+#[test]
+fn a_refused_drain_of_a_state_flow_loses_nothing(rt: HostRuntime) {
+    let memory = Refusing::new(rt.alloc());
+    let mut flow = StateCore::new(rt.alloc(), 4, u64::MAX);
+    let reader = flow.subscribe().expect(&rt, "a subscription");
+    let mut drained = Vec::new(&memory);
+    memory.refuse(1);
+    let refused = flow.drain(reader, 10, &mut drained);
+    compare(&rt, 0, refused, Err(FlowFault::OutOfMemory));
+    compare(&rt, 1, drained.len(), 0);
+    let second = flow.drain(reader, 10, &mut drained);
+    compare(&rt, 2, second, Ok(Drained::Empty));
+    compare(&rt, 3, drained.as_slice(), [4].as_slice());
 }
