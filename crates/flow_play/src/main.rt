@@ -1,9 +1,6 @@
 //! Plays a flow script from standard input to standard output, or lets threads run: `flow_play [crowd E S N | count T N]`.
 #![tactic(auto)]
 
-#[cfg(test)]
-mod tests;
-
 use flow_program::{refuse_arguments, run};
 use flow_script::Watched;
 use std::env::args;

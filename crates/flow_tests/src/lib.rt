@@ -1,5 +1,5 @@
-//! Tests of flows for one thread, of the word state, of crowds and of cold chains, and callers of them of which something is
-//! proved. What each call answers is proved; here the values come from kotlinx.coroutines' documentation.
+//! Tests of flows for one thread, of the word state, of crowds, of cold chains and of the program, and callers of them of which
+//! something is proved. What each call answers is proved; here the values come from kotlinx.coroutines' documentation.
 //!
 //! A worked example is a list of calls, each with what it is to answer. Another module makes the calls.
 #![tactic(auto)]
@@ -12,4 +12,6 @@ mod compare;
 mod crowds;
 #[cfg(test)]
 mod one_thread;
+#[cfg(test)]
+mod program;
 pub mod word;

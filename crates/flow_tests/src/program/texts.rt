@@ -1,6 +1,6 @@
 //! Texts that are no script: cut, spoilt, nested too deep, or too long.
-use crate::tests::streams::{LINES, SCRIPT};
-use crate::tests::{Host, expect};
+use crate::program::streams::{LINES, SCRIPT};
+use crate::program::{Host, expect};
 use std::mem;
 
 const NOT_JSON: &str = "script refused 3 NotJson\n";

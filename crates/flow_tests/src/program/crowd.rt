@@ -1,5 +1,5 @@
 //! Crowds and counts, and arguments that name none.
-use crate::tests::expect;
+use crate::program::expect;
 use std::alloc::{AllocError, Global};
 
 /// The arguments that a line of words gives.

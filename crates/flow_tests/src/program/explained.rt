@@ -1,5 +1,5 @@
 //! What people are told of a script: the faults and the lines that no script comes to, and one of each that some do.
-use crate::tests::Host;
+use crate::program::Host;
 use flow_explain::explain_refusal;
 use flow_picture::rule_of;
 use flow_script::ScriptFault;

@@ -1,5 +1,5 @@
 //! As many flows as a script may have, and one more.
-use crate::tests::expect;
+use crate::program::expect;
 use std::alloc::{AllocError, Global};
 
 const TOO_MANY: &str = "script refused 8 TooLarge at step 0\n";

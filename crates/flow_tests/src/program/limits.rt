@@ -1,5 +1,5 @@
 //! Scripts at each limit and one above it, and faults that come before a limit.
-use crate::tests::{Host, expect};
+use crate::program::{Host, expect};
 use std::alloc::{AllocError, Global};
 
 /// Scripts in which a part stands again and again.

@@ -1,5 +1,5 @@
 //! Readers and writers that give or take little, or fail.
-use crate::tests::{Host, compare, expect};
+use crate::program::{Host, compare, expect};
 use flow_program::run;
 use flow_script::{ScriptLines, Watched, read_script};
 use std::io;
