@@ -2,10 +2,10 @@
 
 use crate::choices::{Choices, add_choices};
 use crate::introduced::Introduced;
+use crate::json::{Place, Spot, Text};
 use crate::nearest::nearest_of;
 use crate::words::{Form, Key};
 use flow_format::ScriptFault;
-use flow_places::{Place, Spot, Text};
 use std::alloc::AllocError;
 
 /// Where in a script a value stands.

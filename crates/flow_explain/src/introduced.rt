@@ -1,7 +1,7 @@
 //! The steps that introduce names.
 
 use crate::head::{Script, text_at};
-use flow_places::Place;
+use crate::json::Place;
 use serde_json::Value;
 use std::alloc::AllocError;
 

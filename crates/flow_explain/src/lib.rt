@@ -14,6 +14,7 @@ mod flow_words;
 mod form;
 mod head;
 mod introduced;
+mod json;
 mod names;
 mod nearest;
 mod not_allowed;

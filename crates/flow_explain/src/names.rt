@@ -4,9 +4,9 @@ use crate::choices::Choices;
 use crate::complaint::{Complaint, Expected, Found, What};
 use crate::head::{Script, text_at};
 use crate::introduced::{Named, introduced_before};
+use crate::json::Spot;
 use crate::nearest::nearest_of;
 use crate::words::Version;
-use flow_places::Spot;
 use serde_json::Value;
 
 /// No flow has the name that a step gives.

@@ -4,8 +4,8 @@ use crate::choices::Choices;
 use crate::complaint::{Complaint, Expected, Found, What};
 use crate::flow_words::FLOW_ROWS;
 use crate::head::{Script, text_at};
+use crate::json::Spot;
 use crate::words::{Version, row_named};
-use flow_places::Spot;
 
 /// What is wrong with a step of the right form, where its flow does not allow it.
 pub fn not_allowed<'a>(script: Script<'a>, step: Spot<'a>) -> Found<'a> {

@@ -3,12 +3,12 @@
 use crate::complaint::{Complaint, Expected, Found, Owner, What, wrong_form};
 use crate::flow_words::{SCRIPT, VERSION};
 use crate::head::Script;
+use crate::json::{Spot, Text, not_json};
 use crate::names::{duplicate_name, unknown_name};
 use crate::not_allowed::not_allowed;
 use crate::search::{Aim, wrong_in};
 use crate::words::Form;
 use flow_format::{MOST_BYTES, ScriptFault};
-use flow_places::{Spot, Text, not_json};
 use serde_json::Value;
 use std::alloc::{AllocError, Global};
 

@@ -6,10 +6,10 @@ use crate::complaint::{Complaint, Expected, Found, Owner, What, wrong_form};
 use crate::flow_words::{FLOW_ROWS, KIND, SCRIPT, STOP};
 use crate::form::{is_name, members_len};
 use crate::head::{Script, items_of};
+use crate::json::{Spot, Text};
 use crate::nearest::nearest_of;
 use crate::step_words::{DO, STEP_ROWS};
 use crate::words::{Form, Presence, Row, Shape, Version, row_named};
-use flow_places::{Spot, Text};
 
 /// What is looked for.
 #[derive(Clone, Copy)]

@@ -4,7 +4,6 @@
 //! `member` and `item` lead from the spot of an object or a list to that of one of its parts, `member_from` from member to member, and
 //! `part_from` and `part_after` from item to item. `not_json` tells where another text stops being JSON, and what was expected there.
 //! A `Place` is an offset as a reader counts it.
-#![tactic(auto)]
 
 mod front;
 mod parts;

@@ -1,6 +1,6 @@
 //! Where a text stops being JSON.
 
-use crate::parts::{Quoted, Text};
+use crate::json::parts::{Quoted, Text};
 use serde_json::{Error, Value};
 use std::alloc::AllocError;
 use std::str::from_utf8;
