@@ -20,7 +20,6 @@ use std::marker::Model;
 ///
 /// It is a conflated flow: `law_conflated` of flow_law says which shared flow it is. A subscription that is only
 /// forgotten stays and costs one value; it blocks nobody.
-#[derive(Drop)]
 pub struct StateCore<T: FlowValue, A: Allocator + Copy = Global> {
     alloc: A,
     value: T,
@@ -28,6 +27,19 @@ pub struct StateCore<T: FlowValue, A: Allocator + Copy = Global> {
     subscribers: Members<Option<T>, A>,
     issued: u64,
     limit: u64,
+}
+
+// Not derived, as that of `SharedCore`.
+impl<T: FlowValue, A: Allocator + Copy> Drop for StateCore<T, A> {
+    fn drop(self) {
+        let Self {
+            alloc: _,
+            value: _,
+            subscribers: _,
+            issued: _,
+            limit: _,
+        } = self;
+    }
 }
 
 impl<T: FlowValue, A: Allocator + Copy> Model for StateCore<T, A> {

@@ -14,9 +14,15 @@ use std::marker::Model;
 use std::sync::Wait;
 
 /// A flow for callers on several threads.
-#[derive(Drop)]
 pub struct Flow<S: FlowCore, A: Allocator + Copy = Global> {
     pub(crate) gate: Gate<S, A>,
+}
+
+// Not derived: each crate that drops a flow would prove anew how its gate is dropped.
+impl<S: FlowCore + Drop, A: Allocator + Copy> Drop for Flow<S, A> {
+    fn drop(self) {
+        let Self { gate: _ } = self;
+    }
 }
 
 impl<S: FlowCore, A: Allocator + Copy> Model for Flow<S, A> {
@@ -135,6 +141,7 @@ impl<S: FlowCore + Drop, A: Allocator + Copy> Flow<S, A> {
         ensures { IfSome result (ClosesAs S.kind self S.stands_as seat) }
     {
         let own = seat.seat.unwrap();
-        self.gate.close_with(own)
+        let Self { gate } = self;
+        gate.close_with(own)
     }
 }

@@ -96,8 +96,7 @@ impl Part {
         match self {
             Part::On(operator) => Ok(Node::On(upstream, Stage::new(operator))),
             Part::With(with, by) => {
-                let ScriptChain { depth: _, node } = with;
-                match Box::new(alloc, node) {
+                match Box::new(alloc, with.into_node()) {
                     Ok(right) => Ok(Node::Zip(upstream, right, Pairing::new(by))),
                     Err(_) => Err(ChainFault::OutOfMemory),
                 }
@@ -107,6 +106,13 @@ impl Part {
 }
 
 impl ScriptChain {
+    fn into_node(self) -> Node
+        ensures { result ≡ self.node }
+    {
+        let Self { depth: _, node } = self;
+        node
+    }
+
     /// The chain of a source alone.
     pub fn source(source: Source) -> ScriptChain
         ensures whole { ⟦<ScriptChain as Cold>⟧.whole result ≡ source_whole source }
@@ -135,8 +141,7 @@ impl ScriptChain {
             (Refuses op self) }
     {
         let depth = op.depth_on(self.depth)?;
-        let ScriptChain { depth: _, node } = self;
-        let upstream = match Box::new(alloc, node) {
+        let upstream = match Box::new(alloc, self.into_node()) {
             Ok(upstream) => upstream,
             Err(_) => return Err(ChainFault::OutOfMemory),
         };
