@@ -1,5 +1,5 @@
 -- What `receive` shows of a subscriber whose row was found: where it stands, and what the rows are after each case.
-use Rattle.std.proofs.Common.{◌≡◌, ℕ, ◌+◌, ◌-◌, ◌<◌, ◌≤◌, max, List, [], length, Some, None, refl, sym, ap, subst, ◌∙◌, arith}
+use Rattle.std.proofs.Common.{◌≡◌, ℕ, ◌+◌, ◌-◌, ◌<◌, ◌≤◌, max, List, [], length, Some, None, sym, ap, subst, ◌∙◌, arith}
 use Rattle.std.specs.Option.{option_map, IfSome}
 use Rattle.flow_law.specs.SharedFlow.{position_of, own_of, with_own, move_to}
 use Rattle.flow_containers.specs.declared.members.Member.{Member}
@@ -8,10 +8,10 @@ use Rattle.flow_core.specs.declared.subscribers.Subscribers.TheInside.{Inside}
 use Rattle.flow_containers.specs.Members.{row_of, with_row}
 use Rattle.flow_containers.specs.Rows.{moved, left}
 use Rattle.flow_containers.specs.PositionCounts.{entered, left_at}
-use Rattle.flow_core.specs.Subscribers.{Standing, standing_of, read, AreSound, IsSound}
+use Rattle.flow_core.specs.Subscribers.{standing_of, read, AreSound, IsSound}
 use Rattle.flow_containers.proofs.MemberLemmas.{with_row_same}
 use Rattle.flow_core.proofs.RaisedLemmas.{position_of-row, own_of-row, own_of-none, with_own-row, move_to-row}
-use Rattle.flow_core.proofs.SubscribersLemmas.{took_own, above_floor, advanced}
+use Rattle.flow_core.proofs.SubscribersLemmas.{took_own, advanced}
 
 module _ {T A : Type 0} (s : Inside T A) (number : ℕ) where
   abbrev pub position_in : Row T A → ℕ

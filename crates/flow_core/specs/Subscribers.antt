@@ -1,5 +1,5 @@
 -- The subscribers of a shared core as the definitions have them. No public clause cites this module.
-use Rattle.std.specs.Prelude.{◌≡◌, ℕ, ◌+◌, ◌-◌, ◌<◌, ◌≤◌, ◌^◌, max, Bool, nat_le, List, [], ◌∷◌, map, length, Option, Some, None}
+use Rattle.std.specs.Prelude.{ℕ, ◌+◌, ◌-◌, ◌<◌, ◌≤◌, ◌^◌, max, Bool, nat_le, List, map, length}
 use Rattle.std.specs.List.{list_any}
 use Rattle.flow_law.specs.declared.states.Subscriber.{Subscriber}
 use Rattle.flow_containers.specs.declared.members.Member.{Member}

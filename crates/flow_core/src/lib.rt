@@ -19,13 +19,13 @@
 //!
 //! # What is kept
 //! A shared flow keeps the values that a new subscriber may get or an old one has still to receive, and no others
-//! (`held`). Room for them is made with the flow.
+//! (`held`). Room for them is made with the flow. `lag` tells how far behind a subscriber is.
 //!
 //! # Refusals
 //! A call that would issue a number when `limit` numbers are issued is refused as `Exhausted`; want of memory comes
 //! after that. A refused call hands its value back and has changed nothing. Memory is wanted by `subscribe`, by a value
 //! that is put into the queue, and by copies. `try_emit` wants none, and `poll`, `cancel`, `unsubscribe`,
-//! `reset_replay_cache` and `subscription_count` are never refused.
+//! `reset_replay_cache`, and what tells a count, are never refused.
 #![tactic(auto)]
 
 mod copies;

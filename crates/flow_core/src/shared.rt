@@ -3,14 +3,14 @@ ghost use Rattle.std.specs.Prelude.{◌≡◌, ℕ, ◌+◌, ◌-◌, ◌<◌, �
 ghost use Rattle.std.specs.Bool.{OnTrue, OnFalse};
 ghost use Rattle.flow_law.specs.SharedFlow as flow;
 ghost use Rattle.flow_law.specs.SharedStep as step;
-ghost use Rattle.flow_law.specs.Standing.{StandsFor, Conforms, held};
+ghost use Rattle.flow_law.specs.Standing.{StandsFor, Conforms};
 ghost use Rattle.flow_law.specs.Covering.{kept_start, kept_need};
-ghost use Rattle.flow_law.specs.declared.states.SharedFlowState.{SharedFlowState};
 ghost use Rattle.flow_law.specs.declared.call.SharedCall.TheVariants as call;
 ghost use Rattle.flow_law.specs.declared.call.SharedReply.TheVariants as reply;
 ghost use Rattle.flow_core.specs.SubId.{number_of};
 ghost use Rattle.flow_core.specs.SharedCore.{next_reply, cache_reply, window_of, kept_full, pushed, Shows, Leads, Reaches, Admits};
 
+mod counts;
 mod emission;
 mod kind;
 mod subscribe;
@@ -28,7 +28,6 @@ use std::marker::Model;
 ///
 /// It keeps the values that may still be asked for, in room for `replay` and `extra` values that is made with it. A
 /// subscription that is only forgotten stays, and may block emitters: `unsubscribe` ends it.
-#[derive(Drop)]
 pub struct SharedCore<T: FlowValue, A: Allocator + Copy = Global> {
     alloc: A,
     config: Config,
@@ -40,6 +39,22 @@ pub struct SharedCore<T: FlowValue, A: Allocator + Copy = Global> {
     queue: Queue<T, A>,
     subscribers: Subscribers<T, A>,
     issued: u64,
+}
+
+// Not derived: each crate that drops a core would prove anew how all that it keeps is dropped.
+impl<T: FlowValue, A: Allocator + Copy> Drop for SharedCore<T, A> {
+    fn drop(self) {
+        let Self {
+            alloc: _,
+            config: _,
+            values: _,
+            newest: _,
+            reset_mark: _,
+            queue: _,
+            subscribers: _,
+            issued: _,
+        } = self;
+    }
 }
 
 impl<T: FlowValue, A: Allocator + Copy> Model for SharedCore<T, A> {
@@ -225,17 +240,6 @@ impl<T: FlowValue, A: Allocator + Copy> SharedCore<T, A> {
         }
     }
 
-    /// How many values the flow keeps: those that a new subscriber may get, or that a subscriber has still to receive.
-    ///
-    /// They are at most `replay` and `extra` values, and one where both are 0. Values that wait in the queue are not among
-    /// them, nor are own first values.
-    pub fn held(&self) -> usize
-        ensures held { (s : SharedFlowState T) → StandsFor self.now s → result ≡ held s }
-        ensures most { result ≤ max (self.now.config.replay + self.now.config.extra) 1 }
-    {
-        self.values.len()
-    }
-
     /// What a subscriber receives next: its own first values, and then what was emitted.
     ///
     /// An emitted value that is received makes room, so queued values may be emitted by it. `Err` is want of memory for a
@@ -282,12 +286,5 @@ impl<T: FlowValue, A: Allocator + Copy> SharedCore<T, A> {
     {
         self.reset_mark = self.subscribers.emitted();
         self.trim();
-    }
-
-    /// How many subscribers there are.
-    pub fn subscription_count(&self) -> u64
-        ensures documented { Conforms self.now call.SubscriptionCount (reply.Counted result) self.now }
-    {
-        self.subscribers.len() as u64
     }
 }

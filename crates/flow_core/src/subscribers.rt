@@ -1,5 +1,6 @@
 //! Who has subscribed, how far each one has come, and who is a whole window behind.
 ghost use Rattle.std.specs.Prelude.{◌≡◌, ◌+◌, ◌-◌, ◌<◌, ◌≤◌, ◌^◌, ◌∷◌, ◌++◌, [], Some, false, is_some, length, map, IfOk, MatchResult};
+ghost use Rattle.std.specs.Option.{option_map};
 ghost use Rattle.flow_law.specs.SharedFlow as flow;
 ghost use Rattle.flow_law.specs.Standing.{least_position};
 ghost use Rattle.flow_core.specs.SubId.{number_of};
@@ -60,6 +61,17 @@ impl<T: Drop, A: Allocator> Subscribers<T, A> {
         ensures { result ≡ self.now.emitted }
     {
         self.counts.emitted()
+    }
+
+    /// How many emitted values a subscriber has still to receive, where it is there.
+    pub(crate) fn lag(&self, id: SubId) -> Option<u64>
+        ensures { result ≡ option_map (λ position. self.now.emitted - position)
+            (flow.position_of (number_of id) self.now.list) }
+    {
+        match self.members.get(id.number, id.key) {
+            Some(row) => Some(self.counts.emitted() - row.position.max(self.floor)),
+            None => None,
+        }
     }
 
     /// Whether somebody has a whole window still to receive.

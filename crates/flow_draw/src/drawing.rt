@@ -7,7 +7,7 @@ ghost use Rattle.flow_draw.specs.Listing.{told};
 use crate::lines::split_lines;
 use crate::listing::add_listing;
 use flow_picture::{Frame, Played, explained_frame, items_of, svg_frame, text_frame};
-use flow_script::{ScriptFault, ScriptLines, lines_of, read_script};
+use flow_script::{Observed, ScriptFault, observed_of};
 use serde_json::Value;
 use std::alloc::{AllocError, Global};
 
@@ -18,25 +18,6 @@ pub enum Form {
     Svg,
     /// No picture, but beside each line the rule by which its step wrote it.
     Explained,
-}
-
-/// How many lines come before that of the first step: those of flows that were refused when they were made. They are what
-/// the script writes without its steps.
-fn refused_flows(alloc: Global, bytes: &[u8]) -> Result<usize, ScriptFault> {
-    let mut script = read_script(alloc, bytes)?;
-    script.steps.clear();
-    let text = script.lines(alloc)?;
-    Ok(text.as_str().lines().count())
-}
-
-/// The steps that were played: none where the text has too few lines.
-fn played_steps<'a>(script: &'a Value, lines: usize, refused: usize) -> &'a [Value] {
-    let steps = items_of(script, "steps");
-    if lines > steps.len().saturating_add(refused) {
-        steps
-    } else {
-        &[]
-    }
 }
 
 fn frame_of(
@@ -70,20 +51,28 @@ fn framed(
     Ok(drawn)
 }
 
-/// What is drawn of a text that the script of these bytes wrote.
-fn drawn(alloc: Global, form: Form, bytes: &[u8], text: &str) -> Result<String, ScriptFault>
-    ensures { IfOk result (λ drawn. TellsLines text.now (string_bytes drawn)) }
+/// What is drawn of the script of these bytes, by what was observed of it.
+fn drawn(
+    alloc: Global,
+    form: Form,
+    bytes: &[u8],
+    observed: &Observed,
+) -> Result<String, ScriptFault>
+    ensures { IfOk result (λ drawn. TellsLines (string_bytes observed.now.text) (string_bytes drawn)) }
 {
     // The reader took these bytes: only memory can be wanting.
     let Ok(script) = Value::from_slice(alloc, bytes) else {
         return Err(ScriptFault::OutOfMemory);
     };
-    let refused = refused_flows(alloc, bytes)?;
-    let lines = split_lines(alloc, text)?;
+    let lines = split_lines(alloc, observed.text.as_str())?;
+    let steps = items_of(&script, "steps");
     let played = Played {
-        steps: played_steps(&script, lines.len(), refused),
+        steps: steps.get(..observed.lags.len()).unwrap_or(&[]),
         lines: lines.as_slice(),
-        refused,
+        refused: observed.refused,
+        emitted: observed.emitted.as_slice(),
+        lags: observed.lags.as_slice(),
+        last_lags: observed.last_lags.as_slice(),
     };
     let frame = frame_of(alloc, form, &script, played)?;
     let rules = match form {
@@ -100,11 +89,11 @@ fn drawn(alloc: Global, form: Form, bytes: &[u8], text: &str) -> Result<String, 
 pub fn drawing_of(alloc: Global, form: Form, bytes: &[u8]) -> Result<String, ScriptFault>
     ensures { Pictures (meaning bytes.now) result }
 {
-    let text = match lines_of(alloc, bytes) {
-        Ok(text) => text,
+    let observed = match observed_of(alloc, bytes) {
+        Ok(observed) => observed,
         Err(fault) => return Err(fault),
     };
-    match drawn(alloc, form, bytes, text.as_str()) {
+    match drawn(alloc, form, bytes, &observed) {
         Ok(drawn) => Ok(drawn),
         Err(_) => Err(ScriptFault::OutOfMemory),
     }

@@ -10,7 +10,7 @@
 -- Begin with `is_blocked`, `cache_start` and `entry`. What a call does is in EmitRule and SharedStep.
 use Rattle.std.specs.Prelude.{◌≡◌, ◌⊎◌, ℕ, ◌+◌, ◌-◌, max, Bool, true, false, not, ◌&&◌, ◌==◌, nat_lt, nat_le, if◌then◌else◌, List, [], ◌∷◌, length, drop, map, filter, slice_get, Option, Some, None, Result, Ok, Err}
 use Rattle.std.specs.List.{list_any}
-use Rattle.std.specs.Option.{option_map_or}
+use Rattle.std.specs.Option.{option_map, option_map_or}
 use Rattle.flow_law.specs.declared.config.Config.{Config}
 use Rattle.flow_law.specs.declared.config.Overflow.{Overflow}
 use Rattle.flow_law.specs.declared.config.Overflow.TheVariants.{Suspend, DropOldest, DropLatest}
@@ -96,6 +96,10 @@ module _ {T : Type 0} where
   -- how many emitted values a subscriber has still to receive; its own first values do not count
   abbrev pub lag : SharedFlowState T → Subscriber T → ℕ
   lag s u = length s.emitted - u.position
+
+  -- the same of the subscriber of this number, where it is there
+  abbrev pub lag_of : ℕ → SharedFlowState T → Option ℕ
+  lag_of number s = option_map (λ position. length s.emitted - position) (position_of number s.subscribers)
 
   -- some subscriber has a whole window to receive
   abbrev pub is_blocked : SharedFlowState T → Bool

@@ -8,6 +8,7 @@ mod flow_steps;
 mod lines;
 mod memory;
 mod numbers;
+mod observing;
 mod player;
 mod refusal;
 mod row;
@@ -19,4 +20,5 @@ mod shared_calls;
 mod sharing_steps;
 mod state_calls;
 
+pub use observing::Observed;
 pub use script_lines::ScriptLines;

@@ -47,6 +47,11 @@ impl Numbers {
         }
     }
 
+    /// How many names of subscribers were introduced.
+    pub fn subscribers(&self) -> usize {
+        self.subscribers.len()
+    }
+
     /// The next name of an emission, and its number where it waits.
     pub fn add_emission(&mut self, number: Option<u64>) -> Result<(), ScriptFault>
         ensures added { OnOk result (numbers_of self.new ≡ with_emission number (numbers_of self.old)) }

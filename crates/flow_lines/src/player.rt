@@ -118,6 +118,15 @@ impl Player {
         }
     }
 
+    /// The shared flow that the steps are played on, where it is one.
+    pub fn shared_core(&self) -> Option<&SharedCore<i64>> {
+        match self {
+            Player::Shared(core) => Some(core),
+            Player::Share(sharing) => Some(sharing.hub().core()),
+            Player::State(_) | Player::StateIn(_) => None,
+        }
+    }
+
     /// A subscription with first values of its own. Only a shared flow that is not a chain's has it.
     pub fn subscribe_with(
         &mut self,

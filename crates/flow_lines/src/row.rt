@@ -31,6 +31,25 @@ impl PlayedFlow {
             numbers: Numbers::new(alloc),
         }
     }
+
+    /// How many values it has emitted, where it is a shared flow.
+    pub fn emission_count(&self) -> Option<u64> {
+        match self.player.shared_core() {
+            Some(core) => Some(core.emission_count()),
+            None => None,
+        }
+    }
+
+    /// How many names of subscribers were introduced.
+    pub fn subscribers(&self) -> usize {
+        self.numbers.subscribers()
+    }
+
+    /// How many values the subscriber of the name at a place has still to receive.
+    pub fn lag(&self, place: usize) -> Option<u64> {
+        let id = self.numbers.subscriber_at(place)?;
+        self.player.shared_core()?.lag(id)
+    }
 }
 
 /// The name of a flow, before the line that tells why it was not made.

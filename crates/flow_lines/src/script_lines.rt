@@ -3,6 +3,7 @@ ghost use Rattle.std.specs.Prelude.{◌≡◌, IfOk, IfErr, string_bytes};
 ghost use Rattle.flow_format.specs.Actions.{actions_of, heads_of};
 ghost use Rattle.flow_lines.specs.ScriptMeaning as meaning;
 
+use crate::observing::{Observed, Seen};
 use crate::row::{begin, row_step};
 use flow_format::{Script, ScriptFault};
 use std::alloc::Global;
@@ -10,6 +11,8 @@ use std::alloc::Global;
 /// What a script that was read writes.
 pub trait ScriptLines {
     fn lines(self, alloc: Global) -> Result<String, ScriptFault>;
+
+    fn observed(self, alloc: Global) -> Result<Observed, ScriptFault>;
 }
 
 impl ScriptLines for Script {
@@ -33,5 +36,34 @@ impl ScriptLines for Script {
             row_step(alloc, &mut row, &mut text, step)?;
         }
         Ok(text)
+    }
+
+    /// The same lines, and what is seen of the flows beside them.
+    fn observed(self, alloc: Global) -> Result<Observed, ScriptFault>
+        ensures text { IfOk result (λ observed. string_bytes observed.text
+            ≡ meaning.text_of (heads_of self.flows.items) (actions_of self.steps.items)) }
+        ensures fault { IfErr result (λ fault. fault ≡ ScriptFault.OutOfMemory) }
+    {
+        let Script { flows, steps } = self;
+        let mut text = String::new(alloc);
+        let mut seen = Seen::new(alloc);
+        let made = match begin(alloc, &mut text, flows) {
+            Ok(made) => made,
+            Err(fault) => return Err(fault),
+        };
+        let refused = text.as_str().lines().count();
+        let Some(mut row) = made else {
+            return match seen.observed(alloc, &[], text, refused) {
+                Ok(observed) => Ok(observed),
+                Err(fault) => Err(fault),
+            };
+        };
+        for step in steps {
+            seen.play(alloc, &mut row, &mut text, step)?;
+        }
+        match seen.observed(alloc, row.as_slice(), text, refused) {
+            Ok(observed) => Ok(observed),
+            Err(fault) => Err(fault),
+        }
     }
 }

@@ -101,14 +101,14 @@ fn add_content<'a>(
         return Ok(());
     }
     if picture.columns == MOST_ITEMS {
-        return picture.add_mark(lane, Sign::Told, Words::Text(".."));
+        return picture.add_mark(lane, Sign::Told, Words::Text(".."), 0);
     }
     let (sign, words) = content;
     if matches!(sign, Sign::Ends | Sign::Refused) {
         let column = picture.columns;
         picture.end_lane(lane, column);
     }
-    picture.add_mark(lane, sign, words)
+    picture.add_mark(lane, sign, words, 0)
 }
 
 /// The picture of a collection, by the chain and the line that it wrote.

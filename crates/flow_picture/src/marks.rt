@@ -1,6 +1,7 @@
 //! What a step's line says of the lanes, as marks.
 
 use crate::picture::{Picture, Sign, Words};
+use crate::played::Seen;
 use crate::rules::Line;
 use crate::script_words::{number_of, text_of};
 use indexmap::IndexSet;
@@ -210,6 +211,26 @@ fn marks_of(tag: &str, line: &str, goes_on: bool) -> Marks {
     Marks("", OTHER, Some(sign), Named::Untouched, Content::Line)
 }
 
+impl Marks {
+    /// The same, unless the flow told that it took the value and dropped it.
+    fn seen(self, seen: Seen) -> Marks {
+        let Marks(tag, line, on_flow, on_named, content) = self;
+        match (on_flow, on_named, seen.emitted) {
+            (Some(Sign::Value), Named::Ended(_), Some(0)) => Marks(
+                tag,
+                line,
+                Some(Sign::Lost),
+                Named::Ended(Sign::Lost),
+                content,
+            ),
+            (Some(Sign::Value), _, Some(0)) => {
+                Marks(tag, line, Some(Sign::Lost), on_named, content)
+            }
+            _ => self,
+        }
+    }
+}
+
 impl Content {
     fn words<'a>(self, step: &Value, line: &'a str, emission: Option<i64>) -> Words<'a> {
         match self {
@@ -247,8 +268,28 @@ impl<'a> Drawing<'a> {
         self.picture.add_lane(name, waits)
     }
 
-    /// The marks of one step more, by the line that it writes.
-    pub fn add_step(&mut self, step: &'a Value, line: &'a str) -> Result<(), AllocError> {
+    /// A mark on the lane of the flow that a step is about.
+    fn mark_flow(
+        &mut self,
+        flow: usize,
+        sign: Sign,
+        words: Words<'a>,
+        line: &str,
+    ) -> Result<(), AllocError> {
+        if line == "no flow" {
+            // The lane of a flow that was refused has marks, and no line.
+            self.picture.end_lane(flow, 0);
+        }
+        self.picture.add_mark(flow, sign, words, 0)
+    }
+
+    /// The marks of one step more, by the line that it writes and by what is seen beside it.
+    pub fn add_step(
+        &mut self,
+        step: &'a Value,
+        line: &'a str,
+        seen: Seen,
+    ) -> Result<(), AllocError> {
         self.add_name(step)?;
         let (flow, named) = self.lanes(step);
         let emission = self.picture.open_value(named);
@@ -256,25 +297,34 @@ impl<'a> Drawing<'a> {
             text_of(step, "do"),
             line,
             emission.is_some(),
-        );
+        ).seen(seen);
         let words = content.words(step, line, emission);
         let column = self.picture.columns;
-        if let Some(sign) = on_flow {
-            if line == "no flow" {
-                // The lane of a flow that was refused has marks, and no line.
-                self.picture.end_lane(flow, 0);
+        match (on_flow, seen.emitted) {
+            (Some(sign), _) => self.mark_flow(flow, sign, words, line)?,
+            (None, Some(count)) if count > 0 => {
+                self.mark_flow(flow, Sign::Value, Words::More(count), line)?;
             }
-            self.picture.add_mark(flow, sign, words)?;
+            _ => {}
         }
         match on_named {
             Named::Untouched => {}
-            Named::Marked(sign) => self.picture.add_mark(named, sign, words)?,
+            Named::Marked(sign) => self.picture.add_mark(named, sign, words, seen.lag)?,
             Named::Ended(sign) => {
                 self.picture.end_lane(named, column);
-                self.picture.add_mark(named, sign, words)?;
+                self.picture.add_mark(named, sign, words, 0)?;
             }
         }
         self.picture.columns = column.saturating_add(1);
         Ok(())
+    }
+
+    /// How many values the subscriber that a step introduced has still to receive in the end, if there are some.
+    pub fn add_last_lag(&mut self, step: &Value, lag: u64) -> Result<(), AllocError> {
+        if lag == 0 {
+            return Ok(());
+        }
+        let (_, named) = self.lanes(step);
+        self.picture.add_mark(named, Sign::Over, Words::None, lag)
     }
 }

@@ -15,6 +15,8 @@ pub enum Sign {
     Nothing,
     Begins,
     Ends,
+    /// The script has ended.
+    Over,
     /// What the flow answered.
     Told,
     Refused,
@@ -25,6 +27,8 @@ pub enum Sign {
 pub enum Words<'a> {
     None,
     Number(i64),
+    /// So many more.
+    More(u64),
     Text(&'a str),
 }
 
@@ -47,6 +51,8 @@ pub struct Mark<'a> {
     pub column: usize,
     pub sign: Sign,
     pub words: Words<'a>,
+    /// How many values more are there for the subscriber.
+    pub lag: u64,
 }
 
 /// A line of the picture, from left to right: that of a flow, a subscriber or an emission.
@@ -100,6 +106,7 @@ impl<'a> Picture<'a> {
         lane: usize,
         sign: Sign,
         words: Words<'a>,
+        lag: u64,
     ) -> Result<(), AllocError> {
         let column = self.columns;
         self.marks.push(Mark {
@@ -107,8 +114,18 @@ impl<'a> Picture<'a> {
             column,
             sign,
             words,
+            lag,
         })?;
         Ok(())
+    }
+
+    /// The next column comes, where the last one has a mark.
+    pub fn end_column(&mut self) {
+        if let Some(mark) = self.marks.last()
+            && mark.column == self.columns
+        {
+            self.columns = self.columns.saturating_add(1);
+        }
     }
 
     /// The lane ends at a column.

@@ -14,6 +14,26 @@ pub struct Played<'a> {
     pub lines: &'a [&'a str],
     /// How many lines come before that of the first step.
     pub refused: usize,
+    /// How many values each step emitted, where its flow is a shared flow.
+    pub emitted: &'a [Option<u64>],
+    /// How many values the subscriber of each step has still to receive after it.
+    pub lags: &'a [Option<u64>],
+    /// The same of the subscriber that each step introduced, once the last step was played.
+    pub last_lags: &'a [Option<u64>],
+}
+
+/// What is seen beside the line of a step.
+#[derive(Clone, Copy)]
+pub struct Seen {
+    /// How many values it emitted, where its flow is a shared flow.
+    pub emitted: Option<u64>,
+    /// How many values its subscriber has still to receive after it: 0, where it is about none.
+    pub lag: u64,
+}
+
+/// The number at a place, where there is one.
+fn number_at(numbers: &[Option<u64>], place: usize) -> Option<u64> {
+    *numbers.get(place)?
 }
 
 impl<'a> Played<'a> {
@@ -23,6 +43,19 @@ impl<'a> Played<'a> {
             Some(line) => line,
             None => "",
         }
+    }
+
+    /// What is seen beside the line of a step.
+    pub fn seen(&self, step: usize) -> Seen {
+        Seen {
+            emitted: number_at(self.emitted, step),
+            lag: number_at(self.lags, step).unwrap_or(0),
+        }
+    }
+
+    /// How far behind the subscriber is in the end that a step introduced: 0, where it introduced none.
+    pub fn last_lag(&self, step: usize) -> u64 {
+        number_at(self.last_lags, step).unwrap_or(0)
     }
 
     /// The step that wrote the line at a place, and how many came before it. A flow that was refused wrote its line itself.

@@ -38,8 +38,17 @@ fn add_steps<'a>(
 ) -> Result<(), AllocError> {
     add_lanes(drawing, script)?;
     for (place, step) in played.steps.iter().enumerate() {
-        drawing.add_step(step, played.line(place))?;
+        drawing.add_step(step, played.line(place), played.seen(place))?;
     }
+    Ok(())
+}
+
+/// How far behind the subscribers are in the end, in a column after the last step. Who has received all has no mark.
+fn add_last_lags<'a>(drawing: &mut Drawing<'a>, played: Played<'a>) -> Result<(), AllocError> {
+    for (place, step) in played.steps.iter().enumerate() {
+        drawing.add_last_lag(step, played.last_lag(place))?;
+    }
+    drawing.picture.end_column();
     Ok(())
 }
 
@@ -55,6 +64,7 @@ pub fn steps_picture<'a>(
         names: IndexSet::new(alloc),
     };
     add_steps(&mut drawing, script, played)?;
+    add_last_lags(&mut drawing, played)?;
     Ok(drawing.picture)
 }
 

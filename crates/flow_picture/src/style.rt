@@ -3,7 +3,7 @@
 /// The least width of a picture: that of its legend.
 pub const LEAST_WIDTH: usize = 660;
 
-pub const LEGEND_HEIGHT: usize = 72;
+pub const LEGEND_HEIGHT: usize = 104;
 
 /// The end of the description, and colours for a light background and for a dark one. A value has one colour wherever it comes.
 pub const STYLE: &str = "\
@@ -64,5 +64,12 @@ pub const LEGEND: &str = "\
 <rect class=\"t\" x=\"440\" y=\"38\" width=\"26\" height=\"26\" rx=\"3\"/>
 <text class=\"n\" x=\"453\" y=\"56\">1</text>
 <text class=\"h\" x=\"472\" y=\"55\">what the flow answers</text>
+<rect class=\"m c1\" x=\"8\" y=\"70\" width=\"26\" height=\"26\" rx=\"13\"/>
+<text class=\"n k\" x=\"21\" y=\"88\">1</text>
+<text class=\"h\" x=\"37\" y=\"78\">+2</text>
+<text class=\"h\" x=\"56\" y=\"87\">2 more are there to receive</text>
+<rect class=\"m c0\" x=\"235\" y=\"70\" width=\"31\" height=\"26\" rx=\"13\"/>
+<text class=\"n k\" x=\"250\" y=\"88\">+1</text>
+<text class=\"h\" x=\"272\" y=\"87\">1 that waited is taken</text>
 </g>
 ";

@@ -2,7 +2,7 @@
 
 use crate::layout::Cell;
 use crate::picture::{Mark, Sign, Words};
-use crate::widths::{add_words, words_width};
+use crate::widths::{add_lag, add_words, words_width};
 use std::alloc::AllocError;
 
 /// How wide a character is, in pixels.
@@ -44,7 +44,7 @@ fn look_of(mark: Mark<'_>) -> Look {
         Sign::Waits => ("m w", "n", 13),
         Sign::Lost => ("m l", "n s", 13),
         Sign::Nothing => ("m e", "n", 5),
-        Sign::Begins | Sign::Ends => ("b", "n", 0),
+        Sign::Begins | Sign::Ends | Sign::Over => ("b", "n", 0),
         Sign::Told => ("t", "n", 3),
         Sign::Refused => ("r", "n f", 3),
     }
@@ -54,6 +54,7 @@ fn look_of(mark: Mark<'_>) -> Look {
 fn size_of(mark: Mark<'_>) -> (usize, usize) {
     match mark.sign {
         Sign::Begins | Sign::Ends => (4, 24),
+        Sign::Over => (0, 0),
         Sign::Nothing => (10, 10),
         _ => {
             let width = pixels(words_width(mark.words)).saturating_add(12);
@@ -74,6 +75,17 @@ fn add_mark(elements: &mut String, mark: Mark<'_>, x: usize, y: usize) -> Result
     let middle = x.saturating_add(width / 2);
     begin_text(elements, class, middle, y.saturating_add(5))?;
     add_words(elements, mark.words)?;
+    elements.push_str(END_TEXT)?;
+    add_lag_at(elements, mark.lag, x.saturating_add(width), y)
+}
+
+/// How many values more are there for a subscriber, to the right of its mark.
+fn add_lag_at(elements: &mut String, lag: u64, x: usize, y: usize) -> Result<(), AllocError> {
+    if lag == 0 {
+        return Ok(());
+    }
+    begin_text(elements, "h", x.saturating_add(3), y.saturating_sub(5))?;
+    add_lag(elements, lag)?;
     elements.push_str(END_TEXT)
 }
 

@@ -6,7 +6,7 @@ use crate::parts::parts_of;
 use crate::played::Played;
 use crate::script_words::add_chain;
 use crate::steps::add_all_heads;
-use crate::widths::{NAME_WIDTH, add_cut, add_words, brackets, mark_width, number_width};
+use crate::widths::{NAME_WIDTH, add_cut, add_lag, add_words, brackets, mark_width, number_width};
 use serde_json::Value;
 use std::alloc::{AllocError, Global};
 
@@ -14,6 +14,7 @@ use std::alloc::{AllocError, Global};
 const LEGEND: &str = "\
 (3) taken by the flow, or received    ?3 its emitter waits    x3 not taken, or cancelled
  .  nothing there                      | begins, or ends       ! refused
++2  so many more are there to receive  (+1) so many taken that waited
 
 ";
 
@@ -53,6 +54,7 @@ fn add_cell(text: &mut String, cell: Cell<'_>) -> Result<(), AllocError> {
         text.push_str(before)?;
         add_words(text, mark.words)?;
         text.push_str(after)?;
+        add_lag(text, mark.lag)?;
         taken = mark_width(mark).saturating_add(1);
     }
     let after = if cell.goes_on { line } else { ' ' };

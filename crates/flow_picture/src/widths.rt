@@ -14,6 +14,15 @@ pub fn number_width(number: u64) -> usize {
     (number.checked_ilog10().unwrap_or(0) as usize).saturating_add(1)
 }
 
+/// How many characters tell that so many more are there: none, where there are none.
+fn lag_width(count: u64) -> usize {
+    if count == 0 {
+        0
+    } else {
+        number_width(count).saturating_add(1)
+    }
+}
+
 /// How many characters stand in a mark.
 pub fn words_width(words: Words<'_>) -> usize {
     match words {
@@ -21,6 +30,7 @@ pub fn words_width(words: Words<'_>) -> usize {
         Words::Number(number) => {
             number_width(number.unsigned_abs()).saturating_add((number < 0) as usize)
         }
+        Words::More(count) => lag_width(count),
         Words::Text(text) => text.len().min(WORDS_WIDTH),
     }
 }
@@ -30,8 +40,17 @@ pub fn add_words(text: &mut String, words: Words<'_>) -> Result<(), AllocError> 
     match words {
         Words::None => Ok(()),
         Words::Number(number) => write!(text, "{number}"),
+        Words::More(count) => add_lag(text, count),
         Words::Text(words) => add_cut(text, words, WORDS_WIDTH),
     }
+}
+
+/// That so many more are there, if there are some.
+pub fn add_lag(text: &mut String, count: u64) -> Result<(), AllocError> {
+    if count == 0 {
+        return Ok(());
+    }
+    write!(text, "+{count}")
 }
 
 /// A text, of which at most so many characters are kept.
@@ -53,7 +72,7 @@ pub fn brackets(sign: Sign) -> (&'static str, &'static str) {
         Sign::Lost => ("x", ""),
         Sign::Nothing => (".", ""),
         Sign::Begins | Sign::Ends => ("|", ""),
-        Sign::Told => ("", ""),
+        Sign::Told | Sign::Over => ("", ""),
         Sign::Refused => ("!", ""),
     }
 }
@@ -65,4 +84,5 @@ pub fn mark_width(mark: Mark<'_>) -> usize {
         .len()
         .saturating_add(after.len())
         .saturating_add(words_width(mark.words))
+        .saturating_add(lag_width(mark.lag))
 }

@@ -6,6 +6,7 @@ use Rattle.std.specs.Io.KnownBytes.{Appends, Keeps, Consumes}
 use Rattle.flow_format.specs.declared.fault.ScriptFault.{ScriptFault}
 use Rattle.flow_format.specs.declared.fault.ScriptFault.TheVariants.{OutOfMemory, ReadFailed, WriteFailed, NotJson, BadVersion, BadShape, UnknownName, DuplicateName, TooLarge}
 use Rattle.flow_format.specs.Checks.{result_map, most_bytes}
+use Rattle.flow_lines.specs.declared.observing.Observed.{Observed}
 use Rattle.flow_lines.specs.ScriptMeaning.{meaning}
 
 -- ---- readers and writers that failed
@@ -38,6 +39,9 @@ is_write_failed (Err fault) = write_failed fault
 
 abbrev pub text_result : Result (String Global) ScriptFault → Result (List ℕ) ScriptFault
 text_result r = result_map string_bytes r
+
+abbrev pub observed_result : Result Observed ScriptFault → Result (List ℕ) ScriptFault
+observed_result r = result_map (λ observed. string_bytes observed.text) r
 
 -- the bytes that were taken off a reader are at most one more than a script may have
 abbrev pub TakesWithin : Option (List ℕ) → Option (List ℕ) → Type 0

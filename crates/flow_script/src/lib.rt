@@ -12,8 +12,8 @@ mod watched;
 pub use flow_format::{
     Build, FlowStep, NamedFlow, Script, ScriptFault, ScriptFlow, Step, read_script,
 };
-pub use flow_lines::ScriptLines;
-pub use playing::{lines_of, play};
+pub use flow_lines::{Observed, ScriptLines};
+pub use playing::{lines_of, observed_of, play};
 pub use telling::{OUT_OF_MEMORY, REFUSED, TRANSFER_FAILED, tell, tell_fault, tell_memory};
 pub use transfer::{read_all, write_all};
 pub use watched::Watched;

@@ -2,13 +2,13 @@
 ghost use Rattle.std.specs.Prelude.{◌≡◌, false};
 ghost use Rattle.flow_format.specs.Checks.{Gives};
 ghost use Rattle.flow_lines.specs.ScriptMeaning.{meaning};
-ghost use Rattle.flow_script.specs.Playing.{Plays, TakesWithin, text_result, is_read_failed, is_write_failed};
+ghost use Rattle.flow_script.specs.Playing.{Plays, TakesWithin, text_result, observed_result, is_read_failed, is_write_failed};
 ghost use Rattle.flow_script.specs.Watching.{inner_of, has_failed};
 
 use crate::transfer::{read_all, write_all};
 use crate::watched::Watched;
 use flow_format::{ScriptFault, read_script};
-use flow_lines::ScriptLines;
+use flow_lines::{Observed, ScriptLines};
 use std::alloc::Global;
 use std::io::{Read, Write};
 
@@ -22,6 +22,20 @@ pub fn lines_of(alloc: Global, bytes: &[u8]) -> Result<String, ScriptFault>
     };
     match script.lines(alloc) {
         Ok(text) => Ok(text),
+        Err(_) => Err(ScriptFault::OutOfMemory),
+    }
+}
+
+/// The same lines, and what is seen of the flows beside them, or why the script is refused.
+pub fn observed_of(alloc: Global, bytes: &[u8]) -> Result<Observed, ScriptFault>
+    ensures { Gives (meaning bytes.now) (observed_result result) }
+{
+    let script = match read_script(alloc, bytes) {
+        Ok(script) => script,
+        Err(fault) => return Err(fault),
+    };
+    match script.observed(alloc) {
+        Ok(observed) => Ok(observed),
         Err(_) => Err(ScriptFault::OutOfMemory),
     }
 }

@@ -10,6 +10,13 @@ use flow_law::FlowValue;
 use std::alloc::Allocator;
 
 impl<T: FlowValue, A: Allocator + Copy> CoreHub<T, A> {
+    /// The core, to look at.
+    pub fn core(&self) -> &SharedCore<T, A>
+        ensures { result.now ≡ core_of self.now }
+    {
+        &self.core
+    }
+
     /// The core, to subscribe and to receive.
     pub fn core_mut(&mut self) -> &mut SharedCore<T, A>
         ensures* writes_back { sem 𝓛 (LendsCore T.row A.row T.FlowValue A.Allocator self.entry result) }

@@ -9,6 +9,13 @@ use crate::sharing::Sharing;
 use flow_cold::Cold;
 
 impl<C: Cold, H: Hub<Item = C::Item>> Sharing<C, H> {
+    /// The flow into which the sharing emits, to look at.
+    pub fn hub(&self) -> &H
+        ensures { result.now ≡ hub_of self.now }
+    {
+        &self.hub
+    }
+
     /// The flow into which the sharing emits, to subscribe and to receive.
     ///
     /// Who emits or cancels through it acts as the sharing does. A turn then still takes its steps and keeps its account.

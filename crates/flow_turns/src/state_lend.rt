@@ -10,6 +10,13 @@ use flow_law::FlowValue;
 use std::alloc::Allocator;
 
 impl<T: FlowValue, A: Allocator + Copy> StateHub<T, A> {
+    /// The core, to look at.
+    pub fn core(&self) -> &StateCore<T, A>
+        ensures { result.now ≡ state_core_of self.now }
+    {
+        &self.core
+    }
+
     /// The core, to subscribe and to receive.
     pub fn core_mut(&mut self) -> &mut StateCore<T, A>
         ensures* writes_back { sem 𝓛 (LendsStateCore T.row A.row T.FlowValue A.Allocator self.entry result) }

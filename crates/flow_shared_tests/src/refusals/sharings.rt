@@ -29,6 +29,7 @@ fn puts_again(rt: &impl Abort, alloc: Global, memory: &Refusing<Global>) {
     };
     let subscribed = sharing.hub_mut().core_mut().subscribe();
     let id = subscribed.expect(rt, "a subscription");
+    compare(rt, 1, sharing.hub().core().subscription_count(), 1);
     turn(rt, &mut sharing, 1, &Turn(0, Start, Put));
     turn(rt, &mut sharing, 2, &Turns(1, 63, Keep, Put));
     memory.refuse(1);

@@ -26,7 +26,7 @@ fn turns(
         Err(fault) => Err(ShareFault::Flow(fault)),
     };
     compare(rt, 0, sharing.turn(now), wanted);
-    match sharing.hub_mut().core_mut().value() {
+    match sharing.hub().core().value() {
         Ok(found) => compare(rt, 1, found.number(), value),
         Err(fault) => panic!(rt; "{fault}"),
     }

@@ -2,6 +2,7 @@
 use crate::compare::compare;
 use crate::one_thread::drains::DRAINS;
 use crate::one_thread::held::HELD;
+use crate::one_thread::lags::LAGS;
 use crate::one_thread::limited::{are, copied, list_of, number_of};
 use crate::one_thread::many::MANY;
 use crate::one_thread::own_values::OWN_VALUES;
@@ -53,6 +54,10 @@ pub enum Call {
     Count(u64),
     /// How many values the flow keeps.
     Held(usize),
+    /// How many values were emitted.
+    Emitted(u64),
+    /// A subscriber, and how many values it has still to receive.
+    Lag(usize, Option<u64>),
     /// A subscriber, how many values it takes at most, and why it stopped, or was refused.
     Drain(usize, usize, Result<Drained, FlowFault>),
     /// All that was drained so far.
@@ -143,6 +148,11 @@ impl<'a> Caller<'a> {
             }
             Call::Count(count) => compare(rt, place, self.flow.subscription_count(), *count),
             Call::Held(held) => compare(rt, place, self.flow.held(), *held),
+            Call::Emitted(count) => compare(rt, place, self.flow.emission_count(), *count),
+            Call::Lag(index, lag) => {
+                let id = self.subscriber(rt, *index);
+                compare(rt, place, self.flow.lag(id), *lag);
+            }
             Call::Values(values) => are(rt, place, self.drained.as_slice(), values),
             Call::RefuseCopy(copy) => self.copies.set(*copy),
             _ => panic!(rt; "call {place} is no such call"),
@@ -220,7 +230,7 @@ fn play(rt: &impl Abort, alloc: Global, place: usize, example: &Example) {
     }
 }
 
-const TABLES: &[&[Example]] = &[SHARED, DRAINS, HELD, OWN_VALUES, MANY];
+const TABLES: &[&[Example]] = &[SHARED, DRAINS, HELD, LAGS, OWN_VALUES, MANY];
 
 /// Makes the calls of each example on a new flow, and compares what they answer. Call 7 of the example 3 of the table 2 has
 /// the place 20307, all counted from 0.

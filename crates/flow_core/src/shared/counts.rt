@@ -1,0 +1,52 @@
+//! What a shared flow for one thread tells of itself: how many subscribers and values there are.
+ghost use Rattle.std.specs.Prelude.{◌≡◌, ◌+◌, ◌≤◌, max, length};
+ghost use Rattle.flow_law.specs.SharedFlow.{lag_of};
+ghost use Rattle.flow_law.specs.Standing.{StandsFor, Conforms, held};
+ghost use Rattle.flow_law.specs.declared.states.SharedFlowState.{SharedFlowState};
+ghost use Rattle.flow_law.specs.declared.call.SharedCall.TheVariants as call;
+ghost use Rattle.flow_law.specs.declared.call.SharedReply.TheVariants as reply;
+ghost use Rattle.flow_core.specs.SubId.{number_of};
+
+use crate::shared::SharedCore;
+use crate::sub_id::SubId;
+use flow_law::FlowValue;
+use std::alloc::Allocator;
+
+impl<T: FlowValue, A: Allocator + Copy> SharedCore<T, A> {
+    /// How many subscribers there are.
+    pub fn subscription_count(&self) -> u64
+        ensures documented { Conforms self.now call.SubscriptionCount (reply.Counted result) self.now }
+    {
+        self.subscribers.len() as u64
+    }
+
+    /// How many values the flow keeps: those that a new subscriber may get, or that a subscriber has still to receive.
+    ///
+    /// They are at most `replay` and `extra` values, and one where both are 0. Values that wait in the queue are not among
+    /// them, nor are own first values.
+    pub fn held(&self) -> usize
+        ensures held { (s : SharedFlowState T) → StandsFor self.now s → result ≡ held s }
+        ensures most { result ≤ max (self.now.config.replay + self.now.config.extra) 1 }
+    {
+        self.values.len()
+    }
+
+    /// How many values were emitted since the flow was made. Those that wait in the queue are not among them, nor are those
+    /// that were dropped in place of being emitted, nor own first values.
+    pub fn emission_count(&self) -> u64
+        ensures emitted { (s : SharedFlowState T) → StandsFor self.now s → result ≡ length s.emitted }
+    {
+        self.subscribers.emitted()
+    }
+
+    /// How many emitted values a subscriber has still to receive, and `None` where it is not there. Its own first values do
+    /// not count.
+    ///
+    /// It is at most `replay` and `extra`, or 1 where both are 0. A subscriber that is so far behind makes emitters wait,
+    /// or loses values, or has new ones dropped: as `overflow` says.
+    pub fn lag(&self, id: SubId) -> Option<u64>
+        ensures lag { (s : SharedFlowState T) → StandsFor self.now s → result ≡ lag_of (number_of id) s }
+    {
+        self.subscribers.lag(id)
+    }
+}
