@@ -1,5 +1,5 @@
 -- The flows of a script as they are read, and as the definitions have them.
-use Rattle.std.proofs.Common.{◌≡◌, ℕ, zero, suc, ◌+◌, ◌<◌, Bool, true, Result, Ok, Err, List, [], ◌∷◌, map, length, get_or, drop, String, Global, Less, string_bytes, string_cmp, refl, sym, ap, ◌∙◌, arith}
+use Rattle.std.proofs.Common.{◌≡◌, ℕ, true, Err, List, [], ◌∷◌, length, String, Global, string_bytes, string_cmp, refl, sym, ap, ◌∙◌}
 use Rattle.std.specs.List.Sorted.{IsStrictlySortedBy}
 use Rattle.std.specs.Map.{keys_of}
 use Rattle.std.specs.Ordering.{match_ordering}
@@ -9,7 +9,6 @@ use Rattle.serde_json.specs.View.{view, members_view}
 use Rattle.serde_json.specs.declared.value.Value.{Value}
 use Rattle.flow_format.specs.declared.fault.ScriptFault.{ScriptFault}
 use Rattle.flow_format.specs.Flows.{flows_after, in_key_order, named_flow, named_flows, no_flows_of}
-use Rattle.flow_format.specs.Heads.{NamedHead}
 use Rattle.flow_format.specs.Results.{comes_first}
 use Rattle.flow_format.proofs.ReadLemmas.{members_len_is, stays-first}
 

@@ -21,7 +21,7 @@ use Rattle.flow_cold.specs.declared.script_chain.op.Test.{Test}
 use Rattle.flow_cold.specs.declared.script_chain.op.Test.TheVariants as test
 use Rattle.flow_cold.specs.Numbers.{computed, joined, passes, sums, spread_run}
 use Rattle.flow_format.specs.declared.fault.ScriptFault.{ScriptFault}
-use Rattle.flow_format.specs.declared.fault.ScriptFault.TheVariants.{BadShape, TooLarge}
+use Rattle.flow_format.specs.declared.fault.ScriptFault.TheVariants.{BadShape}
 use Rattle.flow_format.specs.declared.chain_words.OpName.{OpName}
 use Rattle.flow_format.specs.declared.chain_words.OpName.TheVariants.{Map, Filter, TakeWhile, Transform, Take, DropFirst, DropWhile, Scan, RunningReduce, FlatMap, Zip, Distinct}
 use Rattle.flow_format.specs.declared.version.Version.{Version}

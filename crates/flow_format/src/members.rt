@@ -10,7 +10,7 @@ use serde_json::Value;
 pub fn u64_at(value: &Value, key: &str) -> Option<u64>
     ensures { result ≡ format.u64_at key.now (view value.now) }
 {
-    value.get(key).and_then(Value::as_u64)
+    value.get(key)?.as_u64()
 }
 
 pub fn u32_at(value: &Value, key: &str) -> Option<u32>
@@ -26,13 +26,13 @@ pub fn u32_at(value: &Value, key: &str) -> Option<u32>
 pub fn i64_at(value: &Value, key: &str) -> Option<i64>
     ensures { result ≡ format.i64_at key.now (view value.now) }
 {
-    value.get(key).and_then(Value::as_i64)
+    value.get(key)?.as_i64()
 }
 
 pub fn text_at<'a>(value: &'a Value, key: &str) -> Option<&'a str>
     ensures { option_map (λ t. t.now) result ≡ format.text_at key.now (view value.now) }
 {
-    value.get(key).and_then(Value::as_str)
+    value.get(key)?.as_str()
 }
 
 /// Whether it is an object of so many members.

@@ -30,7 +30,7 @@ fn parts_of(chain: &Value) -> Option<(&Value, &Vec<Value>)>
         return None;
     }
     let from = chain.get("from")?;
-    let ops = chain.get("ops").and_then(Value::as_array)?;
+    let ops = chain.get("ops")?.as_array()?;
     Some((from, ops))
 }
 

@@ -196,7 +196,7 @@ fn steps_in(value: &Value) -> Option<&Vec<Value>>
     if !has_members(value, 3) {
         return None;
     }
-    value.get("steps").and_then(Value::as_array)
+    value.get("steps")?.as_array()
 }
 
 /// The flows of a script: one without a name or none in version 1, and each with its name in version 2.

@@ -37,7 +37,7 @@ fn emit_of(step: &Value) -> Option<Written<'_>>
 fn first_at(step: &Value) -> Option<&[Value]>
     ensures { option_map (λ values. items_view values.now) result ≡ checks.first_at (view step.now) }
 {
-    let values = step.get("first").and_then(Value::as_array)?;
+    let values = step.get("first")?.as_array()?;
     if are_whole_numbers(values.as_slice()) {
         Some(values.as_slice())
     } else {

@@ -1,5 +1,5 @@
 use Rattle.std.proofs.Common.{◌≡◌, drop}
-use Rattle.std.specs.List.{position, position_from}
+use Rattle.std.specs.List.{position_from}
 use Rattle.flow_format.specs.Actions.{heads_of}
 use Rattle.flow_format.specs.Checks.{is_named, place_named}
 use Rattle.flow_format.proofs.read_place.place_named.Given as goal
