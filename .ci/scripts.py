@@ -1,0 +1,51 @@
+"""The cases of cases/*.toml as scripts, and the lines that these print. docs/EXAMPLES.md says which keys a case has."""
+import tomllib
+
+from built import top
+
+NO_FLOW = '{"kind":"none"}'
+
+
+def all_cases():
+    """Each case, with the name of its file."""
+    files = sorted((top / "cases").glob("*.toml"))
+    return [(file.name, case) for file in files for case in tomllib.loads(file.read_text())["case"]]
+
+
+def versions(case):
+    """The versions that a case is played in: 1 and 2 where it has one flow. A whole text has its own."""
+    if "script" in case:
+        return (0,)
+    if "flows" in case:
+        return (2,)
+    return (1,) if case.get("version") == 1 else (1, 2)
+
+
+def named(step):
+    """A step of version 1 as one of version 2 on the flow f. A collection is on none."""
+    return step if step.startswith('{"do":"collect"') else '{"flow":"f",' + step[1:]
+
+
+def text_of(case, version):
+    """The script of a case in a version. That of version 1 has its flow in version 2 with the name f."""
+    if "script" in case:
+        return case["script"]
+    steps = [step if isinstance(step, str) else step[0] for step in case["steps"]]
+    if version == 1:
+        return f'{{"version":1,"flow":{case["flow"]},"steps":[{",".join(steps)}]}}'
+    flows = case.get("flows")
+    if flows is None:
+        flows = "{}" if case["flow"] == NO_FLOW else f'{{"f":{case["flow"]}}}'
+        steps = map(named, steps)
+    return f'{{"version":2,"flows":{flows},"steps":[{",".join(steps)}]}}'
+
+
+def lines_of(case, version):
+    """The lines that the script of a case prints in a version. A flow that is refused has its name before its line in version 2."""
+    if "refused" in case:
+        return [case["refused"]]
+    lines = [step[1] for step in case["steps"]]
+    if "flow_refused" not in case:
+        return case.get("flows_refused", []) + lines
+    refused = case["flow_refused"]
+    return [refused] if version == 1 else [f"f {refused}", *lines]
