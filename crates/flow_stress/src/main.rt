@@ -19,7 +19,7 @@ mod stress;
 use arguments::{Size, size_of};
 use found::Found;
 use std::env::args;
-use std::io;
+use std::io::{self, ErrorKind};
 use std::process::ExitCode;
 use stress::stress;
 
@@ -37,11 +37,15 @@ fn tell(rt: &HostRuntime, size: Size, found: Option<Found>) -> io::Result<u8> {
         rounds,
     } = size;
     let Some(Found { wrong, .. }) = found else {
-        println!(rt; "out of memory")?;
-        return Ok(OUT_OF_MEMORY);
+        return tell_memory(rt);
     };
     println!(rt; "seed {seed}, {threads} threads, {rounds} rounds each: {wrong} wrong")?;
     Ok(if wrong == 0 { 0 } else { WRONG })
+}
+
+fn tell_memory(rt: &HostRuntime) -> io::Result<u8> {
+    println!(rt; "out of memory")?;
+    Ok(OUT_OF_MEMORY)
 }
 
 fn read_size(rt: &HostRuntime) -> io::Result<Option<Size>> {
@@ -57,6 +61,7 @@ fn tell_usage(rt: &HostRuntime) -> io::Result<u8> {
 fn main(rt: HostRuntime) -> ExitCode {
     let told = match read_size(&rt) {
         Ok(Some(size)) => tell(&rt, size, stress(&rt, rt.alloc(), size)),
+        Err(fault) if fault.kind() == ErrorKind::OutOfMemory => tell_memory(&rt),
         _ => tell_usage(&rt),
     };
     ExitCode::from(told.unwrap_or(OUT_OF_MEMORY))

@@ -10,7 +10,8 @@ use std::alloc::Global;
 use std::sync::Wait;
 use std::thread::{Threads, join};
 
-/// What the reading thread has added up.
+/// What the reading thread has added up. Where no thread can be made, `join` calls its first closure last: the reader then
+/// finds all that was emitted.
 pub fn add_up<R: Wait + Threads + Sync>(rt: &R, alloc: Global) -> Result<i64, FlowFault> {
     let (flow, mut seat) = SharedFlow::new(alloc, Config::new().extra(16))?;
     let subscription = flow.subscribe(rt, &mut seat)?;
@@ -19,7 +20,7 @@ pub fn add_up<R: Wait + Threads + Sync>(rt: &R, alloc: Global) -> Result<i64, Fl
         flow: &flow,
         subscription,
     };
-    let (sent, sum) = join(rt, || sender.send(rt, 1..6), || reader.add_up(rt, 5));
+    let (sum, sent) = join(rt, || reader.add_up(rt, 5), || sender.send(rt, 1..6));
     sent?;
     sum
 }
