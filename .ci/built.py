@@ -27,7 +27,8 @@ def programs(name):
     newest = max(file.stat().st_mtime for file in sources(name))
     fresh = [file for file in built if file.exists() and file.stat().st_mtime >= newest]
     if not fresh:
-        script = (crate / "stdin").read_bytes()
+        given = crate / "stdin"
+        script = given.read_bytes() if given.exists() else b""
         said = subprocess.run(["rt", "run"], cwd=crate, input=script, capture_output=True)
         if said.returncode != 0:
             sys.exit((said.stdout + said.stderr).decode(errors="replace"))

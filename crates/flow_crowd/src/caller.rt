@@ -1,5 +1,5 @@
 //! Callers with a seat, and the threads that emit.
-ghost use Rattle.std.specs.Prelude.{◌≡◌};
+ghost use Rattle.std.specs.Prelude.{◌≡◌, IfSome};
 
 use crate::order::Order;
 use crate::reader::Reader;
@@ -21,32 +21,33 @@ pub struct Caller<'a> {
     ghost of_flow: { seat.table_id ≡ flow.now.table_id },
 }
 
-/// Emits a value, and waits until every subscriber has room for it. False where all are to stop: a value that waits stays
-/// queued then.
+/// Emits a value, and waits until every subscriber has room for it. The seat comes back. `None` where all are to stop: a
+/// value that waits stays queued then.
 fn emit<R: Wait>(
     rt: &R,
     flow: &SharedFlow<i64>,
     seat: Seat<i64>,
     stop: &AtomicCell<bool>,
     value: i64,
-) -> bool
+) -> Option<Seat<i64>>
     requires { seat.table_id ≡ flow.now.table_id }
+    ensures { IfSome result (λ seat. seat.table_id ≡ flow.entry.now.table_id) }
 {
     let mut emission = match flow.emit(rt, seat, value) {
-        Emitted::Done(_seat) => return true,
+        Emitted::Done(seat) => return Some(seat),
         Emitted::Queued(emission) => emission,
         Emitted::Refused(_seat, _value, _fault) => {
             stop.store(true);
-            return false;
+            return None;
         }
     };
     for _ in rt.forever() {
         if stop.load() {
-            return false;
+            return None;
         }
         thread::yield_now();
         match flow.poll_emit(rt, emission) {
-            Polled::Done(_seat) => return true,
+            Polled::Done(seat) => return Some(seat),
             Polled::Waiting(back) => emission = back,
         }
     }
@@ -97,11 +98,13 @@ impl<'a> Caller<'a> {
     }
 
     /// Emits the values one after the other.
-    pub fn emit_all<R: Wait>(&mut self, rt: &R, values: Range<i64>) {
+    pub fn emit_all<R: Wait>(self, rt: &R, values: Range<i64>) {
+        let Caller { flow, seat, stop } = self;
+        let mut seat = seat;
         for value in values {
-            let seat = self.flow.seat(&mut self.seat);
-            if !emit(rt, self.flow, seat, self.stop, value) {
-                return;
+            match emit(rt, flow, seat, stop, value) {
+                Some(back) => seat = back,
+                None => return,
             }
         }
     }

@@ -16,7 +16,7 @@ impl<'a> Worker<'a> {
     /// What a subscriber got.
     pub fn run<R: Wait>(self, rt: &R, size: CrowdSize) -> Option<Received> {
         match self {
-            Worker::Emit(mut emitter, values) => {
+            Worker::Emit(emitter, values) => {
                 emitter.emit_all(rt, values);
                 None
             }

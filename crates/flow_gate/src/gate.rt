@@ -16,9 +16,6 @@ use std::snapshot::Snapshot;
 use std::sync::Wait;
 use std::thread;
 
-/// How often `enter` tries before it lets other threads go first.
-const TRIES: u32 = 2;
-
 /// A lock whose state stands for a history, of which each seat has seen a beginning.
 #[derive(Drop)]
 pub struct Gate<S: Guarded, A: Allocator = Global> {
@@ -95,7 +92,12 @@ impl<S: Guarded + Drop, A: Allocator + Copy> Gate<S, A> {
         self.try_enter_at::<Brand>(seat)
     }
 
-    /// Enters, and waits where somebody is inside: after some tries it lets other threads go first, and tries again.
+    /// Whether nobody is inside, at the moment of the look. It takes nothing from who is.
+    fn is_free(&self) -> bool {
+        self.table.shared.peek(0) == 0
+    }
+
+    /// Enters, and waits where somebody is inside: it lets other threads go first, and tries where it finds the gate free.
     ///
     /// Nothing says that it ever wins: who is inside may stay, and others may be faster.
     pub fn enter<R: Wait>(&self, rt: &R, seat: Seat<S, A>) -> Held<'_, S, A>
@@ -104,17 +106,14 @@ impl<S: Guarded + Drop, A: Allocator + Copy> Gate<S, A> {
         ensures lost { seat.knows.lost ≤ result.token.knows.lost }
     {
         let mut seat = seat;
-        let mut tries: u32 = 0;
         for _ in rt.forever() {
-            match self.try_enter(seat) {
-                Ok(held) => return held,
-                Err(back) => seat = back,
+            if self.is_free() {
+                match self.try_enter(seat) {
+                    Ok(held) => return held,
+                    Err(back) => seat = back,
+                }
             }
-            tries += 1;
-            if tries >= TRIES {
-                tries = 0;
-                thread::yield_now();
-            }
+            thread::yield_now();
         }
         unreachable!()
     }

@@ -13,9 +13,6 @@ use flow_law::{FlowFault, Next, Packed};
 use std::sync::Wait;
 use std::thread;
 
-/// How often a call tries before it lets other threads go first.
-pub(crate) const TRIES: u32 = 16;
-
 /// What the counts grow by at a subscription: one number, and one subscriber.
 const ENTRY: u64 = (1 << 32) + 1;
 
@@ -54,8 +51,7 @@ impl<T: Packed> WordState<T> {
     /// issued as many numbers as its limit allows.
     ///
     /// The subscription has a seat of its own, which is made through this one. Where another caller
-    /// subscribes or unsubscribes at the same moment it tries again, and after some tries lets other
-    /// threads go first.
+    /// subscribes or unsubscribes at the same moment it lets other threads go first, and tries again.
     pub fn subscribe<R: Wait>(
         &self,
         rt: &R,
@@ -65,16 +61,11 @@ impl<T: Packed> WordState<T> {
         ensures subscribed { SubscribesIn state_flow self.now.first call.Subscribe seat.old result seat.new }
         ensures refused { IfErr result (λ fault. fault ≡ Exhausted) }
     {
-        let mut tries: u32 = 0;
         for _ in rt.forever() {
             if let Some(answer) = self.try_subscribe(seat) {
                 return answer;
             }
-            tries += 1;
-            if tries >= TRIES {
-                tries = 0;
-                thread::yield_now();
-            }
+            thread::yield_now();
         }
         unreachable!()
     }

@@ -2,7 +2,6 @@
 ghost use Rattle.std.specs.Prelude.{◌≡◌};
 ghost use Rattle.flow_law.specs.Updates.{Updates};
 
-use crate::subscriber::TRIES;
 use crate::token::{WordSeat, WordState};
 use flow_law::Packed;
 use std::sync::Wait;
@@ -18,18 +17,13 @@ impl<T: Packed> WordState<T> {
         ensures rounds { Updates self.now.first (F.post f) seat.old
             (T.value_of result.0) (T.value_of result.1) seat.new }
     {
-        let mut tries: u32 = 0;
         for _ in rt.forever() {
             let old = self.word(seat);
             let new = f(T::unpack(old)).pack();
             if self.exchange(seat, old, new) {
                 return (old, new);
             }
-            tries += 1;
-            if tries >= TRIES {
-                tries = 0;
-                thread::yield_now();
-            }
+            thread::yield_now();
         }
         unreachable!()
     }
@@ -37,8 +31,8 @@ impl<T: Packed> WordState<T> {
     /// Updates the value atomically by a function of its value.
     ///
     /// The function may be called several times: once in each round, of which all but the last were lost
-    /// because another caller set the value in between. Nobody waits while it runs. After some lost rounds
-    /// other threads go first.
+    /// because another caller set the value in between. Nobody waits while it runs. After a lost round other
+    /// threads go first.
     pub fn update<R: Wait, F: Fn(T) -> T>(&self, rt: &R, seat: &mut WordSeat<T>, f: F)
         requires flow { seat.old.table_id ≡ self.now.table_id }
         requires callable { F.IsAlwaysCallable f }

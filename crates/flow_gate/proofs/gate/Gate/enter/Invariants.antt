@@ -1,4 +1,4 @@
-use Rattle.std.proofs.Common.{◌≡◌, ◌≤◌, ◌<◌}
+use Rattle.std.proofs.Common.{◌≡◌, ◌≤◌}
 use Rattle.flow_law.specs.Growth.{knowledge}
 use Rattle.flow_law.specs.Tokens.{knowing}
 use Rattle.flow_gate.proofs.gate.Gate.enter.Given as goal
@@ -6,6 +6,5 @@ use Rattle.flow_gate.proofs.gate.Gate.enter.Given as goal
 abbrev pub invariant-loop : goal.invariant-loop
 invariant-loop g l =
     (goal.iterator-loop g).can_next l.iterator' × (goal.iterator-loop g).is_finite l.iterator'
-    × (l.tries < 16)
     × (l.fn.seat.knows.lost ≤ l.seat.knows.lost)
     × (l.seat ≡ knowing l.fn.seat (knowledge l.fn.seat.knows.name l.fn.seat.knows.made l.seat.knows.lost l.fn.seat.knows.seen))
