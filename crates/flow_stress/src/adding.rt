@@ -1,12 +1,22 @@
-//! A thread that adds to a word state, and subscribes to it between.
+//! A thread that adds to a state flow without a lock, and subscribes to it between.
 use crate::caller::Caller;
 use crate::found::{Found, NOTHING};
 use flow_law::Next;
 use rand_core::utils::NextWord;
 use std::sync::Wait;
 
-fn one_more(value: u64) -> u64 {
+pub fn one_more(value: u64) -> u64 {
     value.wrapping_add(1)
+}
+
+/// What a new subscriber received of a value that never falls: first one that is no less than this, and then a greater one, or
+/// none.
+pub fn are_in_order(last: u64, first: Next<u64>, second: Next<u64>) -> bool {
+    match (first, second) {
+        (Next::Value(first), Next::Value(second)) => last <= first && first < second,
+        (Next::Value(first), Next::Empty) => last <= first,
+        _ => false,
+    }
 }
 
 impl Caller<'_> {
@@ -18,7 +28,7 @@ impl Caller<'_> {
         (value, u64::from(is_set))
     }
 
-    /// Subscribes, reads twice, and leaves: there is a value that is no less than this one, and then a greater one, or none.
+    /// Subscribes, reads twice, and leaves.
     fn reads_in_order<R: Wait>(&mut self, rt: &R, last: u64) -> bool {
         let Ok(mut subscription) = self.word.subscribe(rt, &mut self.word_seat) else {
             return false;
@@ -26,11 +36,7 @@ impl Caller<'_> {
         let first = self.word.next(&mut subscription);
         let second = self.word.next(&mut subscription);
         let _seat = self.word.unsubscribe(subscription);
-        match (first, second) {
-            (Next::Value(first), Next::Value(second)) => last <= first && first < second,
-            (Next::Value(first), Next::Empty) => last <= first,
-            _ => false,
-        }
+        are_in_order(last, first, second)
     }
 
     /// So many rounds of calls, as the dice say. The value never falls, and has risen where 1 was added to it.

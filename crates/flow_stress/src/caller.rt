@@ -4,14 +4,15 @@ ghost use Rattle.std.specs.Prelude.{◌≡◌};
 use crate::arguments::Size;
 use crate::found::{Found, NOTHING};
 use crate::order::Value;
-use flow_shared::{Seat, SharedFlow};
+use flow_shared::{Seat, SharedFlow, StateFlow, StateSeat};
 use flow_word::{WordSeat, WordState};
 use rand_pcg::Pcg32;
 use std::alloc::AllocGlobal;
 use std::random::RandomSource;
 use std::sync::Wait;
 
-/// The flows, one that suspends, one that drops the oldest, and a word state, and a seat of each. The dice choose the calls.
+/// The flows, one that suspends, one that drops the oldest, a state flow without a lock and one behind a gate, and a seat of each.
+/// The dice choose the calls.
 #[derive(Drop)]
 pub struct Caller<'a> {
     pub suspending: &'a SharedFlow<Value>,
@@ -20,6 +21,8 @@ pub struct Caller<'a> {
     pub dropping_seat: Seat<Value>,
     pub word: &'a WordState<u64>,
     pub word_seat: WordSeat<u64>,
+    pub state: &'a StateFlow<u64>,
+    pub state_seat: StateSeat<u64>,
     pub number: u32,
     pub dice: Pcg32,
     /// What the thread found. `None` for want of memory.
@@ -27,6 +30,7 @@ pub struct Caller<'a> {
     ghost of_suspending: { suspending_seat.table_id ≡ suspending.now.table_id },
     ghost of_dropping: { dropping_seat.table_id ≡ dropping.now.table_id },
     ghost of_word: { word_seat.table_id ≡ word.now.table_id },
+    ghost of_state: { state_seat.table_id ≡ state.now.table_id },
 }
 
 impl<'a> Caller<'a> {
@@ -39,10 +43,18 @@ impl<'a> Caller<'a> {
             dropping_seat: self.dropping.seat(&mut self.dropping_seat),
             word: self.word,
             word_seat: self.word.seat(&mut self.word_seat),
+            state: self.state,
+            state_seat: self.state.seat(&mut self.state_seat),
             number,
             dice: Pcg32::new(size.seed, u64::from(number)),
             found: Some(NOTHING),
         }
+    }
+
+    /// Adds to one state flow, and then to the other.
+    fn add_to_both<R: Wait>(&mut self, rt: &R, rounds: u32) -> Option<Found> {
+        let found = self.add_all(rt, rounds);
+        Some(found.plus(self.add_all_gated(rt, rounds)?))
     }
 
     /// Makes so many rounds of calls: each fourth caller the same ones.
@@ -51,7 +63,7 @@ impl<'a> Caller<'a> {
             0 => self.emit_all(rt, rounds),
             1 => self.read_all(rt, rounds),
             2 => self.exchange_all(rt, rounds),
-            _ => Some(self.add_all(rt, rounds)),
+            _ => self.add_to_both(rt, rounds),
         };
     }
 }

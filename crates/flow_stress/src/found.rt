@@ -1,13 +1,20 @@
 //! What a thread found.
 
-/// How often something was wrong, and how much it has added to the word state.
+/// How often something was wrong, and how much it has added to each state flow.
 #[derive(Clone, Copy)]
 pub struct Found {
     pub wrong: u64,
+    /// To the one without a lock.
     pub added: u64,
+    /// To the one behind a gate.
+    pub added_gated: u64,
 }
 
-pub const NOTHING: Found = Found { wrong: 0, added: 0 };
+pub const NOTHING: Found = Found {
+    wrong: 0,
+    added: 0,
+    added_gated: 0,
+};
 
 impl Found {
     /// This has to hold.
@@ -22,6 +29,7 @@ impl Found {
         Found {
             wrong: self.wrong.saturating_add(other.wrong),
             added: self.added.saturating_add(other.added),
+            added_gated: self.added_gated.saturating_add(other.added_gated),
         }
     }
 }

@@ -2,8 +2,8 @@
 //! `flow_stress SEED THREADS ROUNDS`.
 //!
 //! Each thread makes its rounds of calls, as the seed says. In turn they emit into a shared flow that suspends, read from
-//! it, emit and receive by futures over a second one that drops the oldest, and add to a word state. docs/THREADS.md says
-//! what is looked at.
+//! it, emit and receive by futures over a second one that drops the oldest, and add to a state flow without a lock and to one
+//! behind a gate. docs/THREADS.md says what is looked at.
 #![tactic(auto)]
 
 mod adding;
@@ -12,6 +12,7 @@ mod caller;
 mod emitting;
 mod exchanging;
 mod found;
+mod gated_adding;
 mod order;
 mod reading;
 mod stress;

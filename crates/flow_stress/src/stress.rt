@@ -3,7 +3,7 @@ use crate::arguments::Size;
 use crate::caller::Caller;
 use crate::found::{Found, NOTHING};
 use flow_law::{Config, Overflow};
-use flow_shared::SharedFlow;
+use flow_shared::{SharedFlow, StateFlow};
 use flow_word::WordState;
 use rand_pcg::Pcg32;
 use std::alloc::{AllocGlobal, Global};
@@ -21,7 +21,17 @@ impl<'a> Caller<'a> {
         Some(others)
     }
 
-    /// Everybody has left, and no addition is lost or doubled.
+    /// Everybody has left the state flow behind a gate, and no addition is lost or doubled. `None` for want of memory.
+    fn check_state<R: Wait>(&mut self, rt: &R, found: &mut Found) -> Option<()> {
+        let state = self.state.subscription_count(rt, &mut self.state_seat);
+        let value = self.state.value(rt, &mut self.state_seat).ok()?;
+        let added = found.added_gated;
+        found.check(state == 0);
+        found.check(value == added);
+        Some(())
+    }
+
+    /// Everybody has left the others, and no addition is lost or doubled.
     fn check<R: Wait>(&mut self, rt: &R, found: &mut Found) {
         let suspending = self
             .suspending
@@ -55,6 +65,7 @@ impl<'a> Caller<'a> {
         );
         let mut all = sum(&others)?;
         self.check(rt, &mut all);
+        self.check_state(rt, &mut all)?;
         Some(all)
     }
 }
@@ -79,6 +90,7 @@ pub fn stress<R: Threads + Wait + RandomSource + AllocGlobal + Sync>(
     let config = config.overflow(Overflow::DropOldest);
     let (dropping, dropping_seat) = SharedFlow::new(alloc, config).ok()?;
     let (word, word_seat) = WordState::new(alloc, 0, u32::MAX).ok()?;
+    let (state, state_seat) = StateFlow::new(alloc, 0, u64::MAX).ok()?;
     let mut caller = Caller {
         suspending: &suspending,
         suspending_seat,
@@ -86,6 +98,8 @@ pub fn stress<R: Threads + Wait + RandomSource + AllocGlobal + Sync>(
         dropping_seat,
         word: &word,
         word_seat,
+        state: &state,
+        state_seat,
         number: 0,
         dice: Pcg32::new(size.seed, 0),
         found: None,
