@@ -32,12 +32,10 @@ fn later_op_named(version: Version, text: &str) -> Option<OpName>
     match version {
         Version::One => None,
         Version::Two => {
-            if text == "drop_while" {
-                Some(OpName::DropWhile)
-            } else if text == "running_reduce" {
-                Some(OpName::RunningReduce)
-            } else {
-                None
+            match text {
+                "drop_while" => Some(OpName::DropWhile),
+                "running_reduce" => Some(OpName::RunningReduce),
+                _ => None,
             }
         }
     }
@@ -46,28 +44,18 @@ fn later_op_named(version: Version, text: &str) -> Option<OpName>
 fn op_named(version: Version, text: &str) -> Option<OpName>
     ensures { result ≡ chains.op_named version text.now }
 {
-    if text == "map" {
-        Some(OpName::Map)
-    } else if text == "filter" {
-        Some(OpName::Filter)
-    } else if text == "take_while" {
-        Some(OpName::TakeWhile)
-    } else if text == "transform" {
-        Some(OpName::Transform)
-    } else if text == "take" {
-        Some(OpName::Take)
-    } else if text == "drop" {
-        Some(OpName::DropFirst)
-    } else if text == "scan" {
-        Some(OpName::Scan)
-    } else if text == "flat_map" {
-        Some(OpName::FlatMap)
-    } else if text == "zip" {
-        Some(OpName::Zip)
-    } else if text == "distinct" {
-        Some(OpName::Distinct)
-    } else {
-        later_op_named(version, text)
+    match text {
+        "map" => Some(OpName::Map),
+        "filter" => Some(OpName::Filter),
+        "take_while" => Some(OpName::TakeWhile),
+        "transform" => Some(OpName::Transform),
+        "take" => Some(OpName::Take),
+        "drop" => Some(OpName::DropFirst),
+        "scan" => Some(OpName::Scan),
+        "flat_map" => Some(OpName::FlatMap),
+        "zip" => Some(OpName::Zip),
+        "distinct" => Some(OpName::Distinct),
+        _ => later_op_named(version, text),
     }
 }
 
@@ -80,12 +68,10 @@ pub fn op_name_of(version: Version, op: &Value) -> Option<OpName>
 fn arithmetic_named(text: &str) -> Option<Arithmetic>
     ensures { result ≡ chains.arithmetic_named text.now }
 {
-    if text == "add" {
-        Some(Arithmetic::Add)
-    } else if text == "mul" {
-        Some(Arithmetic::Mul)
-    } else {
-        None
+    match text {
+        "add" => Some(Arithmetic::Add),
+        "mul" => Some(Arithmetic::Mul),
+        _ => None,
     }
 }
 
@@ -98,16 +84,12 @@ pub fn arithmetic_at(op: &Value) -> Option<Arithmetic>
 fn joining_named(text: &str) -> Option<Joining>
     ensures { result ≡ chains.joining_named text.now }
 {
-    if text == "add" {
-        Some(Joining::Add)
-    } else if text == "mul" {
-        Some(Joining::Mul)
-    } else if text == "left" {
-        Some(Joining::Left)
-    } else if text == "right" {
-        Some(Joining::Right)
-    } else {
-        None
+    match text {
+        "add" => Some(Joining::Add),
+        "mul" => Some(Joining::Mul),
+        "left" => Some(Joining::Left),
+        "right" => Some(Joining::Right),
+        _ => None,
     }
 }
 
@@ -120,12 +102,10 @@ pub fn joining_at(op: &Value) -> Option<Joining>
 fn spread_named(text: &str) -> Option<Spread>
     ensures { result ≡ chains.spread_named text.now }
 {
-    if text == "range" {
-        Some(Spread::Range)
-    } else if text == "repeat" {
-        Some(Spread::Repeat)
-    } else {
-        None
+    match text {
+        "range" => Some(Spread::Range),
+        "repeat" => Some(Spread::Repeat),
+        _ => None,
     }
 }
 
@@ -150,29 +130,12 @@ fn compared_with(op: &Value) -> Option<i64>
 pub fn test_of(op: &Value) -> Option<Test>
     ensures { result ≡ chains.test_of (view op.now) }
 {
-    let by = text_at(op, "by")?;
-    if by == "even" {
-        return if has_members(op, 2) {
-            Some(Test::Even)
-        } else {
-            None
-        };
+    match text_at(op, "by")? {
+        "even" if has_members(op, 2) => Some(Test::Even),
+        "odd" if has_members(op, 2) => Some(Test::Odd),
+        "lt" => Some(Test::Less(compared_with(op)?)),
+        "gt" => Some(Test::Greater(compared_with(op)?)),
+        "ne" => Some(Test::NotEqual(compared_with(op)?)),
+        _ => None,
     }
-    if by == "odd" {
-        return if has_members(op, 2) {
-            Some(Test::Odd)
-        } else {
-            None
-        };
-    }
-    if by == "lt" {
-        return Some(Test::Less(compared_with(op)?));
-    }
-    if by == "gt" {
-        return Some(Test::Greater(compared_with(op)?));
-    }
-    if by == "ne" {
-        return Some(Test::NotEqual(compared_with(op)?));
-    }
-    None
 }

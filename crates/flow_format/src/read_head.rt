@@ -23,14 +23,11 @@ use std::alloc::Global;
 fn overflow_named(text: &str) -> Option<Overflow>
     ensures { result ≡ format.overflow_named text.now }
 {
-    if text == "suspend" {
-        Some(Overflow::Suspend)
-    } else if text == "drop_oldest" {
-        Some(Overflow::DropOldest)
-    } else if text == "drop_latest" {
-        Some(Overflow::DropLatest)
-    } else {
-        None
+    match text {
+        "suspend" => Some(Overflow::Suspend),
+        "drop_oldest" => Some(Overflow::DropOldest),
+        "drop_latest" => Some(Overflow::DropLatest),
+        _ => None,
     }
 }
 
@@ -99,19 +96,13 @@ fn flow_named(
 ) -> Result<ScriptFlow, ScriptFault>
     ensures { Gives (heads.flow_named version kind.now (view flow.now)) (flow_result result) }
 {
-    if kind == "shared" {
-        return formed(shared_of(flow));
+    match kind {
+        "shared" => formed(shared_of(flow)),
+        "state" => formed(state_of(flow)),
+        "share" => share_in(alloc, version, flow),
+        "state_in" => state_in(alloc, version, flow),
+        _ => Err(ScriptFault::BadShape(0)),
     }
-    if kind == "state" {
-        return formed(state_of(flow));
-    }
-    if kind == "share" {
-        return share_in(alloc, version, flow);
-    }
-    if kind == "state_in" {
-        return state_in(alloc, version, flow);
-    }
-    Err(ScriptFault::BadShape(0))
 }
 
 /// A flow of a script of this version.
@@ -149,12 +140,12 @@ fn only(alloc: Global, flow: ScriptFlow) -> Result<Vec<NamedFlow>, ScriptFault>
 fn only_named(alloc: Global, kind: &str, flow: &Value) -> Result<Vec<NamedFlow>, ScriptFault>
     ensures { Gives (heads.only_named kind.now (view flow.now)) (flows_result result) }
 {
-    if kind == "none" {
-        return no_flows(alloc, flow);
-    }
-    match flow_named(alloc, Version::One, kind, flow) {
-        Ok(flow) => only(alloc, flow),
-        Err(fault) => Err(fault),
+    match kind {
+        "none" => no_flows(alloc, flow),
+        _ => match flow_named(alloc, Version::One, kind, flow) {
+            Ok(flow) => only(alloc, flow),
+            Err(fault) => Err(fault),
+        },
     }
 }
 

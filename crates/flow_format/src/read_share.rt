@@ -17,12 +17,10 @@ use std::alloc::Global;
 fn started_named(text: &str) -> Option<Started>
     ensures { result ≡ heads.started_named text.now }
 {
-    if text == "eagerly" {
-        Some(Started::Eagerly)
-    } else if text == "lazily" {
-        Some(Started::Lazily)
-    } else {
-        None
+    match text {
+        "eagerly" => Some(Started::Eagerly),
+        "lazily" => Some(Started::Lazily),
+        _ => None,
     }
 }
 

@@ -83,10 +83,9 @@ fn entry_of(value: &Value) -> Option<Entry<i64>>
         return Some(Entry::Item(item));
     }
     if let Some(text) = value.as_str() {
-        return if text == "pending" {
-            Some(Entry::Pending)
-        } else {
-            None
+        return match text {
+            "pending" => Some(Entry::Pending),
+            _ => None,
         };
     }
     if !has_members(value, 1) {
