@@ -1,5 +1,6 @@
-//! Whole runs of the program over memory: streams that give or take little, texts at each limit and above it, and threads.
-//! The cases of `cases/` at the top of the repository are played by the program as it was built (`.ci/cases`).
+//! Whole runs of the program over memory: streams that give or take little, texts that are no script, and threads.
+//! The cases of `cases/` at the top of the repository, and scripts at each limit and above it, are played by the program as it
+//! was built (`.ci/cases`, `.ci/hostile`).
 use flow_program::run;
 use flow_script::Watched;
 use std::alloc::AllocGlobal;
@@ -10,8 +11,6 @@ use std::thread::Threads;
 
 mod crowd;
 mod explained;
-mod limits;
-mod many;
 mod streams;
 mod texts;
 
