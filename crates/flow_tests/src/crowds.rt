@@ -32,8 +32,8 @@ fn run<R: Threads + Wait + Sync + Abort>(
 
 #[test]
 fn each_subscriber_gets_all_in_order(rt: HostRuntime) {
-    for place in 0..CROWDS.len() {
-        let (emitters, subscribers, values, count) = CROWDS[place];
+    for (place, crowd) in CROWDS.iter().enumerate() {
+        let (emitters, subscribers, values, count) = *crowd;
         let size = CrowdSize::new(emitters, subscribers, values).expect(&rt, "in range");
         compare(&rt, place, size.emitted(), count);
         let wanted = Received {
@@ -65,8 +65,7 @@ fn is_in_order(places: &[u64]) -> bool {
 
 #[test]
 fn values_of_one_emitter_come_in_order(rt: HostRuntime) {
-    for place in 0..PLACES.len() {
-        let (places, wanted) = PLACES[place];
-        compare(&rt, place, is_in_order(places), wanted);
+    for (number, (places, wanted)) in PLACES.iter().enumerate() {
+        compare(&rt, number, is_in_order(places), *wanted);
     }
 }

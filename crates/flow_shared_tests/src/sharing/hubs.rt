@@ -52,8 +52,8 @@ const OBSERVATIONS: &[Observation] = &[
 #[test]
 fn policies_observe_subscribers(rt: HostRuntime) {
     let mut policy = Policy::new(TEN);
-    for place in 0..OBSERVATIONS.len() {
-        let (started, moment, subscribers, wanted) = OBSERVATIONS[place];
+    for (place, observation) in OBSERVATIONS.iter().enumerate() {
+        let (started, moment, subscribers, wanted) = *observation;
         if let Some(started) = started {
             policy = Policy::new(started);
         }

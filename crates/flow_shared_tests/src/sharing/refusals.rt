@@ -116,13 +116,8 @@ const EXAMPLES: &[Example] = &[
 
 #[test]
 fn refusals_are_as_documented(rt: HostRuntime) {
-    for number in 0..EXAMPLES.len() {
+    for (number, example) in EXAMPLES.iter().enumerate() {
         // Step 7 of the example 3 has the place 307.
-        answers(
-            &rt,
-            rt.alloc(),
-            number.saturating_mul(100),
-            &EXAMPLES[number],
-        );
+        answers(&rt, rt.alloc(), number.saturating_mul(100), example);
     }
 }

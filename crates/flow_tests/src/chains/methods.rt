@@ -9,62 +9,77 @@ use flow_cold::{
 
 const OVERFLOW: End = End::Failed(ChainFault::Overflow);
 
-/// Each collection drops the first items anew, and begins the sums anew. Of 3, 2, 1, 0 and -1 the first two are dropped.
 #[test]
-fn operators_are_methods(rt: HostRuntime) {
-    let alloc = rt.alloc();
+fn items_are_computed_and_chosen(rt: HostRuntime) {
     let computed = OfRange::new(-1, 2)
         .map(AddOne, increased)
         .filter(IsAboveOne, above_one);
-    gives(&rt, alloc, 0, computed, &[2, 3], End::Completed);
-    let scanned = OfRange::new(1, 5)
-        .drop_first(1)
-        .take_while(IsAboveOne, above_one)
-        .zip(OfRange::new(10, 12), Add, sum)
-        .scan(0, Add, sum)
-        .take(3)
-        .expect(&rt, "a take");
-    gives(&rt, alloc, 1, scanned, &[0, 12, 26], End::Completed);
-    let reduced = OfRange::new(-3, 1)
-        .map_by(Times { k: -1 })
-        .drop_while(IsAboveOne, above_one)
-        .running_reduce(Add, sum);
-    gives(&rt, alloc, 2, reduced, &[1, 1, 0], End::Completed);
-    let distinct = OfRange::new(1, 3).map_by(Times { k: 0 }).distinct();
-    gives(&rt, alloc, 3, distinct, &[0], End::Completed);
-}
-
-#[test]
-fn ready_computations_need_no_closure(rt: HostRuntime) {
-    let alloc = rt.alloc();
-    let mapped = OfRange::new(-3, 12)
+    gives(&rt, rt.alloc(), 0, computed, &[2, 3], End::Completed);
+    let chosen = OfRange::new(-3, 12)
         .filter_by(Even)
-        .filter_by(Not { test: Odd })
-        .filter_by(Greater { k: 0 })
-        .take_while_by(Less { k: 8 })
-        .map_by(Times { k: 2 })
-        .map_by(Plus { k: -1 });
-    gives(&rt, alloc, 0, mapped, &[3, 7, 11], End::Completed);
-    let above = OfRange::new(i64::MAX - 1, i64::MAX).map_by(Plus { k: 1 });
-    gives(&rt, alloc, 1, above, &[i64::MAX], OVERFLOW);
+        .filter_by(Greater { k: 8 });
+    gives(&rt, rt.alloc(), 1, chosen, &[10, 12], End::Completed);
+    let even = OfRange::new(1, 4).filter_by(Not { test: Odd });
+    gives(&rt, rt.alloc(), 2, even, &[2, 4], End::Completed);
 }
 
-/// `runningFold` gives the initial value, and then the sums of the first items. Of those that are dropped 2 is below 3, but
-/// comes after 5, which is not. `zip` completes as soon as one of its sides does: the item 40 has no partner.
 #[test]
-fn ready_computations_on_pairs_need_no_closure(rt: HostRuntime) {
-    let alloc = rt.alloc();
-    let scanned = OfRange::new(1, 3).scan_by(0, Add);
-    gives(&rt, alloc, 0, scanned, &[0, 1, 3, 6], End::Completed);
+fn a_result_that_is_out_of_range_ends_a_chain(rt: HostRuntime) {
+    let above = OfRange::new(i64::MAX - 1, i64::MAX).map_by(Plus { k: 1 });
+    gives(&rt, rt.alloc(), 0, above, &[i64::MAX], OVERFLOW);
     let above = OfRange::new(1, 3).scan_by(i64::MAX - 1, Add);
-    gives(&rt, alloc, 1, above, &[i64::MAX - 1, i64::MAX], OVERFLOW);
-    let reduced = list(&rt, alloc, &[1, 5, 2])
-        .drop_while_by(Less { k: 3 })
-        .running_reduce_by(Add);
-    gives(&rt, alloc, 2, reduced, &[5, 7], End::Completed);
-    let tens = list(&rt, alloc, &[10, 20, 30, 40]);
+    gives(
+        &rt,
+        rt.alloc(),
+        1,
+        above,
+        &[i64::MAX - 1, i64::MAX],
+        OVERFLOW,
+    );
+}
+
+/// Each collection drops the first items anew. Of 5, 2 and 7 the last is not below 3, and 2 comes after 5.
+#[test]
+fn first_and_last_items_are_left_out(rt: HostRuntime) {
+    let later = OfRange::new(0, 5).drop_first(2);
+    gives(&rt, rt.alloc(), 0, later, &[2, 3, 4, 5], End::Completed);
+    let first = OfRange::new(1, 5).take(3).expect(&rt, "a take");
+    gives(&rt, rt.alloc(), 1, first, &[1, 2, 3], End::Completed);
+    let above = OfRange::new(2, 4).take_while(IsAboveOne, above_one);
+    gives(&rt, rt.alloc(), 2, above, &[2, 3, 4], End::Completed);
+    let below = OfRange::new(1, 9).take_while_by(Less { k: 3 });
+    gives(&rt, rt.alloc(), 3, below, &[1, 2], End::Completed);
+}
+
+#[test]
+fn first_items_are_dropped_while_they_pass(rt: HostRuntime) {
+    let below = list(&rt, rt.alloc(), &[1, 5, 2]).drop_while_by(Less { k: 3 });
+    gives(&rt, rt.alloc(), 0, below, &[5, 2], End::Completed);
+    let above = OfRange::new(2, 4).drop_while(IsAboveOne, above_one);
+    gives(&rt, rt.alloc(), 1, above, &[], End::Completed);
+    let same = OfRange::new(1, 3).map_by(Times { k: 0 }).distinct();
+    gives(&rt, rt.alloc(), 2, same, &[0], End::Completed);
+}
+
+/// `runningFold` gives the initial value, and then the sums of the first items; `runningReduce` begins with the first item.
+#[test]
+fn items_are_added_up(rt: HostRuntime) {
+    let scanned = OfRange::new(1, 3).scan(0, Add, sum);
+    gives(&rt, rt.alloc(), 0, scanned, &[0, 1, 3, 6], End::Completed);
+    let reduced = OfRange::new(1, 3).running_reduce(Add, sum);
+    gives(&rt, rt.alloc(), 1, reduced, &[1, 3, 6], End::Completed);
+    let reduced = OfRange::new(2, 4).running_reduce_by(Add);
+    gives(&rt, rt.alloc(), 2, reduced, &[2, 5, 9], End::Completed);
+}
+
+/// `zip` completes as soon as one of its sides does: the item 40 has no partner.
+#[test]
+fn items_are_paired(rt: HostRuntime) {
+    let zipped = OfRange::new(2, 5).zip(OfRange::new(10, 12), Add, sum);
+    gives(&rt, rt.alloc(), 0, zipped, &[12, 14, 16], End::Completed);
+    let tens = list(&rt, rt.alloc(), &[10, 20, 30, 40]);
     let zipped = OfRange::new(1, 3).zip_by(tens, Add);
-    gives(&rt, alloc, 3, zipped, &[11, 22, 33], End::Completed);
+    gives(&rt, rt.alloc(), 1, zipped, &[11, 22, 33], End::Completed);
 }
 
 /// One that fails has a first item and no count.

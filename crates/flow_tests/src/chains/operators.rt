@@ -76,25 +76,35 @@ pub fn above_one(x: &i64) -> bool
     *x > 1
 }
 
-/// A take of nothing is refused.
 #[test]
 fn operators_are_constructed(rt: HostRuntime) {
-    let alloc = rt.alloc();
-    let computation = WithMeaning::new(AddOne, increased);
-    let mapped = Map::new(OfRange::new(-1, 2), computation);
-    let tested = Filter::new(mapped, Greater { k: 1 });
-    gives(&rt, alloc, 0, tested, &[2, 3], End::Completed);
+    let mapped = Map::new(OfRange::new(1, 2), WithMeaning::new(AddOne, increased));
+    gives(&rt, rt.alloc(), 0, mapped, &[2, 3], End::Completed);
+    let tested = Filter::new(OfRange::new(0, 3), Greater { k: 1 });
+    gives(&rt, rt.alloc(), 1, tested, &[2, 3], End::Completed);
     let dropped = DropWhile::new(OfRange::new(1, 5), Less { k: 3 });
-    let reduced = RunningReduce::new(dropped, Add);
-    gives(&rt, alloc, 1, reduced, &[3, 7, 12], End::Completed);
-    let zipped = Zip::new(OfRange::new(1, 2), OfRange::new(10, 12), Add);
-    gives(&rt, alloc, 2, zipped, &[11, 13], End::Completed);
-    let later = DropFirst::new(Distinct::new(OfRange::new(1, 9)), 2);
-    let below = TakeWhile::new(later, Less { k: 8 });
-    let chain = Take::new(below, 4).expect(&rt, "a take");
-    gives(&rt, alloc, 3, chain, &[3, 4, 5, 6], End::Completed);
+    gives(&rt, rt.alloc(), 2, dropped, &[3, 4, 5], End::Completed);
+    let reduced = RunningReduce::new(OfRange::new(3, 5), Add);
+    gives(&rt, rt.alloc(), 3, reduced, &[3, 7, 12], End::Completed);
+}
+
+/// A take of nothing is refused.
+#[test]
+fn operators_that_leave_items_out_are_constructed(rt: HostRuntime) {
+    let later = DropFirst::new(Distinct::new(OfRange::new(1, 4)), 2);
+    gives(&rt, rt.alloc(), 0, later, &[3, 4], End::Completed);
+    let below = TakeWhile::new(OfRange::new(6, 9), Less { k: 8 });
+    gives(&rt, rt.alloc(), 1, below, &[6, 7], End::Completed);
+    let chain = Take::new(OfRange::new(3, 9), 4).expect(&rt, "a take");
+    gives(&rt, rt.alloc(), 2, chain, &[3, 4, 5, 6], End::Completed);
     let refused = Take::new(OfRange::new(1, 5), 0).err();
-    compare(&rt, 4, refused, Some(ChainFault::NotPositive));
+    compare(&rt, 3, refused, Some(ChainFault::NotPositive));
+}
+
+#[test]
+fn a_pair_is_constructed(rt: HostRuntime) {
+    let zipped = Zip::new(OfRange::new(1, 2), OfRange::new(10, 12), Add);
+    gives(&rt, rt.alloc(), 0, zipped, &[11, 13], End::Completed);
 }
 
 fn listed(alloc: Global, x: i64) -> Result<Vec<i64>, ChainFault>
@@ -123,18 +133,32 @@ fn opened(alloc: Global, x: i64) -> Result<Scripted<i64>, ChainFault>
     Ok(Scripted::new(entries))
 }
 
-/// By the constructor, and by the method.
 #[test]
-fn items_become_several(rt: HostRuntime) {
+fn items_become_lists(rt: HostRuntime) {
     let alloc = rt.alloc();
     let twice = |x: i64| listed(alloc, x);
     let made = Transform::new(OfRange::new(1, 2), Twice, &twice);
     gives(&rt, alloc, 0, made, &[1, 1, 2, 2], End::Completed);
-    let chain = OfRange::new(1, 2).transform(Twice, &twice);
-    gives(&rt, alloc, 1, chain, &[1, 1, 2, 2], End::Completed);
+}
+
+#[test]
+fn items_become_lists_by_a_method(rt: HostRuntime) {
+    let alloc = rt.alloc();
+    let chain = OfRange::new(1, 2).transform(Twice, |x: i64| listed(alloc, x));
+    gives(&rt, alloc, 0, chain, &[1, 1, 2, 2], End::Completed);
+}
+
+#[test]
+fn items_become_chains(rt: HostRuntime) {
+    let alloc = rt.alloc();
     let twice = |x: i64| opened(alloc, x);
     let made = FlatMapConcat::new(OfRange::new(1, 2), TwiceRun, &twice);
-    gives(&rt, alloc, 2, made, &[1, 1, 2, 2], End::Completed);
-    let chain = OfRange::new(1, 2).flat_map_concat(TwiceRun, &twice);
-    gives(&rt, alloc, 3, chain, &[1, 1, 2, 2], End::Completed);
+    gives(&rt, alloc, 0, made, &[1, 1, 2, 2], End::Completed);
+}
+
+#[test]
+fn items_become_chains_by_a_method(rt: HostRuntime) {
+    let alloc = rt.alloc();
+    let chain = OfRange::new(1, 2).flat_map_concat(TwiceRun, |x: i64| opened(alloc, x));
+    gives(&rt, alloc, 0, chain, &[1, 1, 2, 2], End::Completed);
 }

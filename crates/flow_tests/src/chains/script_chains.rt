@@ -304,21 +304,24 @@ fn built(
     Ok(chain)
 }
 
+/// Builds the chain of the example at this place, and collects it.
+fn show(rt: &impl Abort, alloc: Global, place: usize, example: &Example) {
+    let built = built(rt, alloc, &example.start, example.stages);
+    let chain = built.expect(rt, "operators");
+    gives(rt, alloc, place, chain, example.items, example.end);
+}
+
 #[test]
 fn chains_are_built_and_collected_twice(rt: HostRuntime) {
-    for place in 0..EXAMPLES.len() {
-        let example = &EXAMPLES[place];
-        let built = built(&rt, rt.alloc(), &example.start, example.stages);
-        let chain = built.expect(&rt, "operators");
-        gives(&rt, rt.alloc(), place, chain, example.items, example.end);
+    for (place, example) in EXAMPLES.iter().enumerate() {
+        show(&rt, rt.alloc(), place, example);
     }
 }
 
 #[test]
 fn operators_are_refused(rt: HostRuntime) {
-    for place in 0..REFUSED.len() {
-        let (stages, fault) = REFUSED[place];
+    for (stages, fault) in REFUSED {
         let refused = built(&rt, rt.alloc(), &GREATEST, stages).err();
-        compare(&rt, place, refused, Some(fault));
+        compare(&rt, 0, refused, Some(*fault));
     }
 }

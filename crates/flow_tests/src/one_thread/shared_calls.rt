@@ -69,7 +69,7 @@ pub enum Call {
 }
 
 /// A call that is made with one value after the other.
-#[derive(Drop)]
+#[derive(Clone, Copy)]
 pub enum Repeated {
     /// The flow takes or drops each value.
     TryEmit,
@@ -83,12 +83,12 @@ pub enum Repeated {
 
 impl Repeated {
     /// The call with the value that comes after so many others.
-    fn with(&self, value: i64, place: u64) -> Call {
+    fn with(self, value: i64, place: u64) -> Call {
         match self {
             Repeated::TryEmit => Call::TryEmit(value, true),
             Repeated::Emit => Call::Emit(value, Emit::Done),
             Repeated::Queue(number) => Call::Emit(value, Emit::Queued(number.wrapping_add(place))),
-            Repeated::Receive(index) => Call::Next(*index, Next::Value(value)),
+            Repeated::Receive(index) => Call::Next(index, Next::Value(value)),
         }
     }
 }
@@ -132,85 +132,88 @@ impl<'a> Caller<'a> {
 
     /// Makes a call that changes nothing, and compares what it answers.
     fn ask(&self, rt: &impl Abort, place: usize, call: &Call) {
-        match call {
-            Call::Poll(number, waits) => compare(rt, place, self.flow.poll(*number), *waits),
+        match *call {
+            Call::Poll(number, waits) => compare(rt, place, self.flow.poll(number), waits),
             Call::Cache(values) => {
                 let cache = copied(rt, self.flow.replay_cache());
                 are(rt, place, cache.as_slice(), values);
             }
             Call::CacheLength(length) => {
-                compare(
-                    rt,
-                    place,
-                    copied(rt, self.flow.replay_cache()).len(),
-                    *length,
-                );
+                let cache = copied(rt, self.flow.replay_cache());
+                compare(rt, place, cache.len(), length);
             }
-            Call::Count(count) => compare(rt, place, self.flow.subscription_count(), *count),
-            Call::Held(held) => compare(rt, place, self.flow.held(), *held),
-            Call::Emitted(count) => compare(rt, place, self.flow.emission_count(), *count),
+            Call::Count(count) => compare(rt, place, self.flow.subscription_count(), count),
+            Call::Held(held) => compare(rt, place, self.flow.held(), held),
+            Call::Emitted(count) => compare(rt, place, self.flow.emission_count(), count),
             Call::Lag(index, lag) => {
-                let id = self.subscriber(rt, *index);
-                compare(rt, place, self.flow.lag(id), *lag);
+                let id = self.subscriber(rt, index);
+                compare(rt, place, self.flow.lag(id), lag);
             }
             Call::Values(values) => are(rt, place, self.drained.as_slice(), values),
-            Call::RefuseCopy(copy) => self.copies.set(*copy),
+            Call::RefuseCopy(copy) => self.copies.set(copy),
             _ => panic!(rt; "call {place} is no such call"),
+        }
+    }
+
+    /// Makes a call of a subscriber, and compares what it answers.
+    fn receive(&mut self, rt: &impl Abort, place: usize, call: &Call) {
+        match *call {
+            Call::Next(index, ref next) => {
+                let id = self.subscriber(rt, index);
+                let answer = number_of(self.flow.next(id));
+                compare(rt, place, answer.as_ref(), Ok(next));
+            }
+            Call::NextRefused(index) => {
+                let id = self.subscriber(rt, index);
+                let answer = number_of(self.flow.next(id));
+                compare(rt, place, answer, Err(FlowFault::OutOfMemory));
+            }
+            Call::Unsubscribe(index, was_there) => {
+                let id = self.subscriber(rt, index);
+                compare(rt, place, self.flow.unsubscribe(id), was_there);
+            }
+            Call::Drain(index, most, wanted) => {
+                let id = self.subscriber(rt, index);
+                let answer = self.flow.drain(id, most, &mut self.drained);
+                compare(rt, place, answer, wanted);
+            }
+            _ => self.ask(rt, place, call),
         }
     }
 
     /// Makes a call, and compares what it answers.
     fn make(&mut self, rt: &impl Abort, alloc: Global, place: usize, call: &Call) {
-        match call {
+        match *call {
             Call::TryEmit(value, taken) => {
-                let value = CopyLimited::new(*value, self.copies);
-                compare(rt, place, self.flow.try_emit(value).ok(), Some(*taken));
+                let value = CopyLimited::new(value, self.copies);
+                compare(rt, place, self.flow.try_emit(value).ok(), Some(taken));
             }
             Call::Emit(value, emission) => {
-                let value = CopyLimited::new(*value, self.copies);
-                compare(rt, place, self.flow.emit(value).ok(), Some(*emission));
+                let value = CopyLimited::new(value, self.copies);
+                compare(rt, place, self.flow.emit(value).ok(), Some(emission));
             }
-            Call::Cancel(number, waited) => compare(rt, place, self.flow.cancel(*number), *waited),
+            Call::Cancel(number, waited) => compare(rt, place, self.flow.cancel(number), waited),
             Call::Subscribe(number) => {
                 let id = self.flow.subscribe().expect(rt, "a subscription");
-                compare(rt, place, self.add(rt, id), *number);
+                compare(rt, place, self.add(rt, id), number);
             }
             Call::SubscribeWith(first, wanted) => {
                 let answer = self.subscribe_with(rt, alloc, place, first);
-                compare(rt, place, answer, *wanted);
-            }
-            Call::Next(index, next) => {
-                let id = self.subscriber(rt, *index);
-                let answer = number_of(self.flow.next(id));
-                compare(rt, place, answer.as_ref(), Ok(next));
-            }
-            Call::NextRefused(index) => {
-                let id = self.subscriber(rt, *index);
-                let answer = number_of(self.flow.next(id));
-                compare(rt, place, answer, Err(FlowFault::OutOfMemory));
-            }
-            Call::Unsubscribe(index, was_there) => {
-                let id = self.subscriber(rt, *index);
-                compare(rt, place, self.flow.unsubscribe(id), *was_there);
+                compare(rt, place, answer, wanted);
             }
             Call::Reset => self.flow.reset_replay_cache(),
-            Call::Drain(index, most, wanted) => {
-                let id = self.subscriber(rt, *index);
-                let answer = self.flow.drain(id, *most, &mut self.drained);
-                compare(rt, place, answer, *wanted);
-            }
-            _ => self.ask(rt, place, call),
+            _ => self.receive(rt, place, call),
         }
     }
 }
 
 /// Makes the call at this place, with each of its values.
 fn make_each(rt: &impl Abort, alloc: Global, caller: &mut Caller<'_>, place: usize, call: &Call) {
-    let Call::Each(repeated, first, last) = call else {
+    let Call::Each(repeated, first, last) = *call else {
         return caller.make(rt, alloc, place, call);
     };
     let mut made = 0;
-    for value in *first..=*last {
+    for value in first..=last {
         caller.make(rt, alloc, place, &repeated.with(value, made));
         made = made.wrapping_add(1);
     }
@@ -224,23 +227,26 @@ fn play(rt: &impl Abort, alloc: Global, place: usize, example: &Example) {
         subscribers: Vec::new(alloc),
         drained: Vec::new(alloc),
     };
-    for number in 0..example.calls.len() {
-        let place = place.saturating_add(number);
-        make_each(rt, alloc, &mut caller, place, &example.calls[number]);
+    for (number, call) in example.calls.iter().enumerate() {
+        make_each(rt, alloc, &mut caller, place.saturating_add(number), call);
     }
 }
 
 const TABLES: &[&[Example]] = &[SHARED, DRAINS, HELD, LAGS, OWN_VALUES, MANY];
 
+/// Plays each example of the table at this place.
+fn play_all(rt: &impl Abort, alloc: Global, table: usize, examples: &[Example]) {
+    for (number, example) in examples.iter().enumerate() {
+        let place = table.saturating_mul(100).saturating_add(number);
+        play(rt, alloc, place.saturating_mul(100), example);
+    }
+}
+
 /// Makes the calls of each example on a new flow, and compares what they answer. Call 7 of the example 3 of the table 2 has
 /// the place 20307, all counted from 0.
 #[test]
 fn calls_of_shared_flows(rt: HostRuntime) {
-    for table in 0..TABLES.len() {
-        for number in 0..TABLES[table].len() {
-            let place = table.saturating_mul(100).saturating_add(number);
-            let example = &TABLES[table][number];
-            play(&rt, rt.alloc(), place.saturating_mul(100), example);
-        }
+    for (table, examples) in TABLES.iter().enumerate() {
+        play_all(&rt, rt.alloc(), table, examples);
     }
 }

@@ -47,10 +47,14 @@ const LISTS: &[(usize, &[i64], Option<&[i64]>)] = &[
 fn a_list_is_its_values(rt: HostRuntime) {
     let mut flow = StateCore::new(rt.alloc(), items(&rt, rt.alloc(), 0, &[1, 2]), u64::MAX);
     let reader = flow.subscribe().expect(&rt, "a subscription");
-    for place in 0..LISTS.len() {
-        let (room, values, wanted) = LISTS[place];
-        let list = items(&rt, rt.alloc(), room, values);
-        is_list(&rt, place, set_and_receive(&mut flow, reader, list), wanted);
+    for (place, (room, values, wanted)) in LISTS.iter().enumerate() {
+        let list = items(&rt, rt.alloc(), *room, values);
+        is_list(
+            &rt,
+            place,
+            set_and_receive(&mut flow, reader, list),
+            *wanted,
+        );
     }
 }
 
@@ -73,10 +77,9 @@ const BOXES: &[(i64, Option<i64>)] = &[(7, Some(7)), (7, None), (8, Some(8))];
 fn a_boxed_value_is_what_the_box_contains(rt: HostRuntime) {
     let mut flow = StateCore::new(rt.alloc(), boxed(&rt, rt.alloc(), 7), u64::MAX);
     let reader = flow.subscribe().expect(&rt, "a subscription");
-    for place in 0..BOXES.len() {
-        let (number, wanted) = BOXES[place];
-        let received = set_and_receive(&mut flow, reader, boxed(&rt, rt.alloc(), number));
-        compare(&rt, place, number_in(&rt, place, received), wanted);
+    for (place, (number, wanted)) in BOXES.iter().enumerate() {
+        let received = set_and_receive(&mut flow, reader, boxed(&rt, rt.alloc(), *number));
+        compare(&rt, place, number_in(&rt, place, received), *wanted);
     }
 }
 
