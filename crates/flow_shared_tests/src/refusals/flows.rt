@@ -122,8 +122,7 @@ pub const EXAMPLES: &[(Example, &[usize])] = &[
 /// Each step at one of these places was refused in some run, and no other one was.
 #[test]
 fn each_growth_of_a_flow_is_refused(rt: HostRuntime) {
-    for number in 0..EXAMPLES.len() {
-        let (example, places) = &EXAMPLES[number];
+    for (example, places) in EXAMPLES {
         let refused = refuse_each(&rt, rt.alloc(), 0, example);
         for place in 0..example.steps.len() {
             let is_refused = refused.contains(&place);

@@ -1,10 +1,10 @@
-//! A sharing over a state flow, and a reset, that are refused for want of memory.
+//! A sharing over a state flow, a reset, and a chain, that are refused for want of memory.
 use crate::compare::compare;
 use flow_cold::OfList;
 use flow_law::Command::{self, Keep, Start};
 use flow_law::report::Event::{self, Idle, Put};
 use flow_law::report::{Report, ShareFault};
-use flow_law::{FlowFault, Started};
+use flow_law::{ChainFault, FlowFault, Started};
 use flow_sharing::{Sharing, StateHub, state_in};
 use flow_testing::CopyLimited;
 use std::alloc::Global;
@@ -18,12 +18,12 @@ fn turns(
     rt: &impl Abort,
     sharing: &mut Shared<'_>,
     now: u64,
-    wanted: Result<(Command, Event), FlowFault>,
+    wanted: Result<(Command, Event), ShareFault>,
     value: i64,
 ) {
     let wanted = match wanted {
         Ok((command, event)) => Ok(Report { command, event }),
-        Err(fault) => Err(ShareFault::Flow(fault)),
+        Err(fault) => Err(fault),
     };
     compare(rt, 0, sharing.turn(now), wanted);
     match sharing.hub().core().value() {
@@ -46,18 +46,16 @@ fn share<'a>(
     state_in(alloc, chain, started, initial, u64::MAX)
 }
 
+const OUT_OF_MEMORY: ShareFault = ShareFault::Flow(FlowFault::OutOfMemory);
+
 /// The copy of the initial value that the sharing keeps for resets is refused, and then there is a sharing. A reset that is
-/// refused stays due, and is made in the next turn.
+/// refused stays due, and is made in the next turn. A chain that is refused the copy of an item tells it once, and ends the
+/// sharing.
 #[test]
-fn a_refused_reset_stays_due(rt: HostRuntime) {
+fn a_refused_reset_stays_due_and_a_refused_chain_ends(rt: HostRuntime) {
     let copies = Cell::new(1);
     let refused = share(&rt, rt.alloc(), &copies).err();
-    compare(
-        &rt,
-        3,
-        refused,
-        Some(ShareFault::Flow(FlowFault::OutOfMemory)),
-    );
+    compare(&rt, 3, refused, Some(OUT_OF_MEMORY));
     let Ok(mut sharing) = share(&rt, rt.alloc(), &copies) else {
         panic!(rt; "a sharing")
     };
@@ -66,7 +64,12 @@ fn a_refused_reset_stays_due(rt: HostRuntime) {
     turns(&rt, &mut sharing, 0, Ok((Start, Put)), 3);
     compare(&rt, 2, sharing.hub_mut().core_mut().unsubscribe(id), true);
     copies.set(1);
-    turns(&rt, &mut sharing, 1, Err(FlowFault::OutOfMemory), 3);
+    turns(&rt, &mut sharing, 1, Err(OUT_OF_MEMORY), 3);
     turns(&rt, &mut sharing, 2, Ok((Keep, Idle)), 0);
     turns(&rt, &mut sharing, 3, Ok((Keep, Idle)), 0);
+    assert!(rt; sharing.hub_mut().core_mut().subscribe().is_ok());
+    copies.set(1);
+    let refused = ShareFault::Chain(ChainFault::OutOfMemory);
+    turns(&rt, &mut sharing, 4, Err(refused), 0);
+    turns(&rt, &mut sharing, 5, Err(ShareFault::Ended), 0);
 }
