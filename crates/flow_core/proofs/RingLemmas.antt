@@ -1,11 +1,11 @@
 -- Lists that a ring keeps the end of, and subscribers who stand within a window.
 -- The key facts: `copied_more`, `within_least` (nobody asks for a value before the window), `within-more`, `offered_full`.
-use Rattle.std.proofs.Common.{inl, inr, ◌≡◌, ℕ, zero, suc, ◌+◌, ◌-◌, ◌≤◌, ◌<◌, true, false, not, ◌||◌, ◌==◌, nat_le, List, [], ◌∷◌, ◌++◌, length, map, take, drop, Some, refl, sym, ap, ◌∙◌, subst, arith}
+use Rattle.std.proofs.Common.{inl, inr, ◌≡◌, ◌≢◌, ℕ, zero, suc, ◌+◌, ◌-◌, ◌≤◌, ◌<◌, true, false, not, ◌||◌, ◌==◌, nat_le, List, [], ◌∷◌, ◌++◌, length, map, take, drop, Some, Result, Ok, Err, OnErr, refl, sym, ap, ◌∙◌, subst, arith}
 use Rattle.std.specs.List.{list_any, slice_get}
 use Rattle.std.specs.Option.{IfSome}
 use Rattle.std.proofs.lemmas.Bool.{or_parts}
 use Rattle.std.proofs.lemmas.Bool.Decides.{leb_tells, eqb_tells}
-use Rattle.std.proofs.lemmas.List.{drop-drop}
+use Rattle.std.proofs.lemmas.List.{drop-drop, length-drop, take_all}
 use Rattle.flow_law.specs.declared.states.Subscriber.{Subscriber}
 use Rattle.flow_law.specs.SharedFlow.{position_of, raise_to, stand_at, move_to, without, with_own}
 use Rattle.flow_law.specs.Standing.{least_position}
@@ -27,17 +27,37 @@ take_more (suc k) (y ∷ ys) v at =
     let further : suc k + 1 ≡ suc (k + 1) = omega arith in
     rw further (ap (λ l. y ∷ l) (take_more k ys v at))
 
+kept_at : {X : Type 0} (from place : ℕ) (xs : List X) (v : X) → from ≤ place → slice_get xs place ≡ Some v → slice_get (drop from xs) (place - from) ≡ Some v
+kept_at from place xs v le at =
+    let whole : from + (place - from) ≡ place = omega (arith, le) in
+    sym (slice_get-drop (place - from) (drop from xs))
+    ∙ ap (λ l. slice_get l 0) (drop-drop (place - from) from xs ∙ ap (λ n. drop n xs) whole)
+    ∙ slice_get-drop place xs ∙ at
+
 -- a copy more, of the value at this place
 pub copied_more : {X : Type 0} (from place : ℕ) (xs : List X) (v : X) → from ≤ place → slice_get xs place ≡ Some v
     → take (place - from) (drop from xs) ++ v ∷ [] ≡ take (place + 1 - from) (drop from xs)
 copied_more from place xs v le at =
-    let whole : from + (place - from) ≡ place = omega (arith, le) in
     let next : place - from + 1 ≡ place + 1 - from = omega (arith, le) in
-    let there : slice_get (drop from xs) (place - from) ≡ Some v =
-    sym (slice_get-drop (place - from) (drop from xs))
-    ∙ ap (λ l. slice_get l 0) (drop-drop (place - from) from xs ∙ ap (λ n. drop n xs) whole)
-    ∙ slice_get-drop place xs ∙ at in
-    sym (take_more (place - from) (drop from xs) v there) ∙ ap (λ n. take n (drop from xs)) next
+    sym (take_more (place - from) (drop from xs) v (kept_at from place xs v le at)) ∙ ap (λ n. take n (drop from xs)) next
+
+-- what holds holds of an error
+pub of_an_error : {X E P : Type 0} (r : Result X E) → P → OnErr r P
+of_an_error (Ok x) holds = tt
+of_an_error (Err e) holds = holds
+
+-- up to the end all is copied
+pub all_copied : {X : Type 0} (from place : ℕ) (xs : List X) → length xs ≤ place → take (place - from) (drop from xs) ≡ drop from xs
+all_copied from place xs le = take_all (place - from) (drop from xs) (omega (arith, le, length-drop from xs))
+
+-- where there is a value at this place, there is something to copy
+pub more_to_copy : {X : Type 0} (from place : ℕ) (xs : List X) (v : X) → from ≤ place → slice_get xs place ≡ Some v → drop from xs ≢ []
+more_to_copy from place xs v le at none =
+    nowhere (place - from) v (sym (ap (λ l. slice_get l (place - from)) none) ∙ kept_at from place xs v le at)
+  where
+    nowhere : {X : Type 0} (k : ℕ) (v : X) → slice_get [] k ≡ Some v → ⊥
+    nowhere zero v found = absurd (cc)
+    nowhere (suc k) v found = absurd (cc)
 
 pub found_below : {X : Type 0} (k : ℕ) (xs : List X) (v : X) → slice_get xs k ≡ Some v → k < length xs
 found_below zero [] v at = absurd (cc)

@@ -1,5 +1,5 @@
-use Rattle.std.proofs.Common.{◌∙◌, ◌++◌, ◌∷◌, [], Some, sym, ap, arith}
-use Rattle.flow_core.proofs.RingLemmas.{copied_more}
+use Rattle.std.proofs.Common.{◌∙◌, ◌++◌, ◌∷◌, [], ◌≤◌, Some, sym, ap, subst, arith}
+use Rattle.flow_core.proofs.RingLemmas.{all_copied, copied_more, more_to_copy, of_an_error}
 use Rattle.flow_core.proofs.copies.copies.Goals as goal
 
 pub loop-place-preserved : goal.loop-place-preserved
@@ -8,3 +8,18 @@ loop-place-preserved g c =
     ∙ ap (λ l. l ++ c.in_ok-copy.copy ∷ []) c.loop-place.invariant
     ∙ copied_more c.args.from c.loop-place.place c.args.values.now.items c.in_ok-copy.copy (omega (arith, c.loop-place.auto.place))
     (sym c.in-Some.ensures ∙ ap Some (sym c.in_ok-copy.ensures.copy))
+
+pub returns-clause-copies : goal.returns-clause-copies
+returns-clause-copies g c =
+    c.loop-place.invariant ∙ all_copied c.args.from c.loop-place.place c.args.values.now.items
+    (subst (λ n. n ≤ c.loop-place.place) c.len-place-end.ensures.len c.loop-place-test.false)
+
+pub returns-then-is_err-clause-any : goal.returns-then-is_err-clause-any
+returns-then-is_err-clause-any g c =
+    more_to_copy c.args.from c.loop-place.place c.args.values.now.items c.in_ok-copy.copy (omega (arith, c.loop-place.auto.place))
+    (sym c.in-Some.ensures ∙ ap Some (sym c.in_ok-copy.ensures.copy))
+
+pub returns-in_err-copy-clause-any : goal.returns-in_err-copy-clause-any
+returns-in_err-copy-clause-any g c =
+    of_an_error c.from_residual.result
+    (more_to_copy c.args.from c.loop-place.place c.args.values.now.items c.in-Some.value.now (omega (arith, c.loop-place.auto.place)) (sym c.in-Some.ensures))
