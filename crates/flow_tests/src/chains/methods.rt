@@ -38,7 +38,7 @@ fn a_result_that_is_out_of_range_ends_a_chain(rt: HostRuntime) {
     );
 }
 
-/// Each collection drops the first items anew. Of 5, 2 and 7 the last is not below 3, and 2 comes after 5.
+/// Each collection drops the first items anew.
 #[test]
 fn first_and_last_items_are_left_out(rt: HostRuntime) {
     let later = OfRange::new(0, 5).drop_first(2);
@@ -51,6 +51,7 @@ fn first_and_last_items_are_left_out(rt: HostRuntime) {
     gives(&rt, rt.alloc(), 3, below, &[1, 2], End::Completed);
 }
 
+/// Of 1, 5 and 2 the last is below 3, but comes after 5, which is not.
 #[test]
 fn first_items_are_dropped_while_they_pass(rt: HostRuntime) {
     let below = list(&rt, rt.alloc(), &[1, 5, 2]).drop_while_by(Less { k: 3 });
