@@ -1,9 +1,12 @@
 -- From one poll of a next future to what a whole run of it gives.
-use Rattle.std.proofs.Common.{◌≡◌, ◌⊎◌, inl, inr, List, [], ◌∷◌, Option, Some, None, Ok, Err, refl, ◌∙◌, subst}
+use Rattle.std.proofs.Common.{◌≡◌, ◌⊎◌, inl, inr, List, [], ◌∷◌, Option, Some, None, Result, Ok, Err, refl, ◌∙◌, subst}
 use Rattle.futures.specs.declared.task.Poll.{Poll as Polled}
 use Rattle.futures.specs.declared.task.Poll.TheVariants.{Ready, Pending}
 use Rattle.futures.specs.Poll.{IfReady, OnPending}
-use Rattle.flow_law.specs.declared.outcome.Next.TheVariants.{Value, Empty}
+use Rattle.flow_law.specs.declared.fault.FlowFault.{FlowFault}
+use Rattle.flow_law.specs.declared.fault.FlowFault.TheVariants.{OutOfMemory, TooLarge, NeedsBuffer, Exhausted, Unsupported, Busy}
+use Rattle.flow_law.specs.declared.outcome.Next.{Next}
+use Rattle.flow_law.specs.declared.outcome.Next.TheVariants.{Value, Empty, Gone}
 use Rattle.flow_law.specs.declared.call.SharedCall.{SharedCall}
 use Rattle.flow_law.specs.declared.call.SharedCall.TheVariants as call
 use Rattle.flow_law.specs.declared.call.SharedReply.{SharedReply}
@@ -12,7 +15,9 @@ use Rattle.flow_law.specs.declared.states.SharedFlowState.{SharedFlowState}
 use Rattle.flow_law.specs.Tokens.{IsBusy}
 use Rattle.flow_gate.specs.Tokens.{Origin}
 use Rattle.flow_shared.specs.Futures.{SharedNumbered, OneEach, PollsOnce}
-use Rattle.flow_shared.specs.NextFutures.{Receiving, Received, IsRefusedIfDue, NextPolls, FindsAfter, FindsInTheEnd, Receives, GivesReceived, Says, held, token_after}
+use Rattle.flow_shared.specs.NextFutures.{Receiving, Received, IsRefusedIfDue, NextPolls, FindsAfter, FindsInTheEnd, Receives, GivesReceived, Says, held, token_after, given_by}
+use Rattle.flow_law.specs.SharedHistory.{shared_flow}
+use Rattle.flow_shared.specs.Calls.{NextsNow}
 use Rattle.flow_shared.specs.SharedReplies.{SharedToken, CallsAtOnce}
 use Rattle.flow_shared.proofs.EmitRuns.{called_later}
 use Rattle.flow_shared.proofs.Refusals.{next_fault}
@@ -33,6 +38,22 @@ module _ {T : Type 0} (flow : Origin (SharedFlowState T)) where
   waited_same : (s u : SharedNumbered T) → (u.number ≡ s.number) × Waits s u → (x : Received T) → Receives flow (Some u) x → Receives flow (Some s) x
   waited_same s u p (w, Ok v) h = (h.0 ∙ p.0, waits_finds s u (reply.Received (Value v)) w.token p.1 (subst (λ n. FindsInTheEnd flow (call.TakeNext n) (reply.Received (Value v)) u.token w.token) p.0 h.1))
   waited_same s u p (w, Err fault) h = (h.0 ∙ p.0, h.1, waits_finds s u (reply.Refused fault) w.token p.1 (subst (λ n. FindsInTheEnd flow (call.TakeNext n) (reply.Refused fault) u.token w.token) p.0 h.2))
+
+  -- the poll that answers what a call gave
+  abbrev pub PollsBy : Option (Result T FlowFault) → SharedNumbered T → SharedNumbered T → Type 0
+  PollsBy None s u = NextPolls flow (Some s) Pending (Some u)
+  PollsBy (Some given) s u = NextPolls flow (Some s) (Ready (u, given)) None
+
+  pub polls_by : (answer : Result (Next T) FlowFault) (s u : SharedNumbered T) → NextsNow shared_flow flow s answer u → PollsBy (given_by answer) s u
+  polls_by (Ok (Value v)) s u h = (h.1, h.2)
+  polls_by (Ok Empty) s u h = (h.1, inr h.2)
+  polls_by (Ok Gone) s u h = absurd (h.0 refl)
+  polls_by (Err OutOfMemory) s u h = (h.0, (λ e. cc), h.1)
+  polls_by (Err TooLarge) s u h = (h.0, (λ e. cc), h.1)
+  polls_by (Err NeedsBuffer) s u h = (h.0, (λ e. cc), h.1)
+  polls_by (Err Exhausted) s u h = (h.0, (λ e. cc), h.1)
+  polls_by (Err Unsupported) s u h = (h.0, (λ e. cc), h.1)
+  polls_by (Err Busy) s u h = (h.0, inl h.1)
 
   receives_same : (s s' : Option (SharedNumbered T)) → NextPolls flow s Pending s' → (x : Received T) → Receives flow s' x → Receives flow s x
   receives_same (Some s) (Some u) p = waited_same s u p

@@ -5,6 +5,7 @@ use Rattle.futures.specs.declared.task.Poll.{Poll as Polled}
 use Rattle.futures.specs.declared.task.Poll.TheVariants.{Ready, Pending}
 use Rattle.flow_law.specs.declared.fault.FlowFault.{FlowFault}
 use Rattle.flow_law.specs.declared.fault.FlowFault.TheVariants.{OutOfMemory, Busy}
+use Rattle.flow_law.specs.declared.outcome.Next.{Next}
 use Rattle.flow_law.specs.declared.outcome.Next.TheVariants.{Value, Empty}
 use Rattle.flow_law.specs.declared.call.SharedCall.{SharedCall}
 use Rattle.flow_law.specs.declared.call.SharedCall.TheVariants as call
@@ -32,6 +33,13 @@ module _ {T : Type 0} where
   -- the subscription is to this flow
   abbrev pub IsTo : TableId → Option (SharedNumbered T) → Type 0
   IsTo id subscription = IfSome subscription (λ s. s.token.table_id ≡ id)
+
+  -- what a call of the flow gives a future to answer: nothing where it is to ask again
+  abbrev pub given_by : Result (Next T) FlowFault → Option (Result T FlowFault)
+  given_by (Ok (Value v)) = Some (Ok v)
+  given_by (Ok _) = None
+  given_by (Err Busy) = None
+  given_by (Err fault) = Some (Err fault)
 
   -- the reply that ends the wait
   abbrev pub Says : Received T → SharedReply T → Type 0

@@ -1,5 +1,5 @@
 //! A flow of any kind for several threads.
-ghost use Rattle.std.specs.Prelude.{◌≡◌, ℕ, List, None, IfOk, IfErr, IfSome};
+ghost use Rattle.std.specs.Prelude.{◌≡◌, IfOk, IfErr, IfSome};
 ghost use Rattle.flow_law.specs.History.{MayCall};
 ghost use Rattle.flow_law.specs.Growth.{makes, child};
 ghost use Rattle.flow_law.specs.Tokens.{subscription_name, knowing, IsBusy};
@@ -70,7 +70,7 @@ impl<S: FlowCore + Drop, A: Allocator + Copy> Flow<S, A> {
         }
     }
 
-    /// A call that speaks of no number, through a seat.
+    /// A call through a seat.
     pub(crate) fn call<R: Wait, C: CoreCall<S>>(
         &self,
         rt: &R,
@@ -78,7 +78,8 @@ impl<S: FlowCore + Drop, A: Allocator + Copy> Flow<S, A> {
         call: C,
     ) -> C::Answer
         requires flow { seat.old.table_id ≡ self.now.table_id }
-        requires free { (name : List ℕ) → S.kind.speaks_of (C.call call name) ≡ None }
+        requires may { MayCall S.kind (C.call call (subscription_name seat.old.knows))
+            seat.old.knows.name seat.old.knows.seen }
         ensures called { Calls S.kind self.now seat.old (C.call call (subscription_name seat.old.knows))
             (C.reply result) seat.new }
         ensures also { C.also call result }
@@ -96,7 +97,8 @@ impl<S: FlowCore + Drop, A: Allocator + Copy> Flow<S, A> {
         call: C,
     ) -> Result<C::Answer, C>
         requires flow { seat.old.table_id ≡ self.now.table_id }
-        requires free { (name : List ℕ) → S.kind.speaks_of (C.call call name) ≡ None }
+        requires may { MayCall S.kind (C.call call (subscription_name seat.old.knows))
+            seat.old.knows.name seat.old.knows.seen }
         ensures called { IfOk result (λ answer. CallsAtOnce S.kind self.now seat.old
             (C.call call (subscription_name seat.old.knows)) (C.reply answer) seat.new × C.also call answer) }
         ensures busy { IfErr result (λ back. IsBusy seat.old seat.new × (back ≡ call)) }

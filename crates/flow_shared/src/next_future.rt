@@ -3,7 +3,7 @@ ghost use Rattle.std.specs.Prelude.{◌≡◌, ⊤, true, Some, None};
 ghost use Rattle.futures.specs.Task.{Covers, Keeps};
 ghost use Rattle.futures.specs.Poll.{IfReady, OnPending};
 ghost use Rattle.flow_shared.specs.Futures.{OneEach};
-ghost use Rattle.flow_shared.specs.NextFutures.{Receiving, receiving, IsTo, NextPolls, Says, held, token_after, IsRefusedIfDue, GivesReceived};
+ghost use Rattle.flow_shared.specs.NextFutures.{Receiving, receiving, IsTo, NextPolls, Says, held, token_after, given_by, IsRefusedIfDue, GivesReceived};
 
 use crate::shared::{SharedFlow, Subscription};
 use flow_law::{FlowFault, FlowValue, Next};
@@ -39,6 +39,17 @@ impl<'a, T: FlowValue, A: Allocator + Copy> Model for NextFuture<'a, T, A> {
     ghost invariant = { λ f. IsTo f.flow.now.table_id f.subscription };
 }
 
+/// What a call of the flow gives a future to answer: nothing where it is to ask again.
+fn given_by<T: FlowValue>(answer: Result<Next<T>, FlowFault>) -> Option<Result<T, FlowFault>>
+    ensures { result ≡ given_by answer }
+{
+    match answer {
+        Ok(Next::Value(value)) => Some(Ok(value)),
+        Ok(Next::Empty | Next::Gone) | Err(FlowFault::Busy) => None,
+        Err(fault) => Some(Err(fault)),
+    }
+}
+
 impl<'a, T: FlowValue, A: Allocator + Copy> NextFuture<'a, T, A> {
     /// A future that waits for the subscription's next value. Nothing is received before it is polled.
     pub fn new(flow: &'a SharedFlow<T, A>, subscription: Subscription<T, A>) -> NextFuture<'a, T, A>
@@ -71,14 +82,13 @@ impl<'a, T: FlowValue, A: Allocator + Copy> NextFuture<'a, T, A> {
         ensures at { IfReady result (λ r. r.0.token.table_id ≡ self.old.flow.table_id) }
     {
         let mut subscription = subscription;
-        match self.flow.next_now(&mut subscription) {
-            Ok(Next::Value(value)) => Poll::Ready((subscription, Ok(value))),
-            Ok(Next::Empty) | Err(FlowFault::Busy) => {
+        let answer = self.flow.next_now(&mut subscription);
+        match given_by(answer) {
+            Some(given) => Poll::Ready((subscription, given)),
+            None => {
                 self.subscription = Some(subscription);
                 Poll::Pending
             }
-            Ok(Next::Gone) => unreachable!(),
-            Err(fault) => Poll::Ready((subscription, Err(fault))),
         }
     }
 

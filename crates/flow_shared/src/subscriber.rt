@@ -100,22 +100,9 @@ impl<S: FlowCore + Drop, A: Allocator + Copy> Flow<S, A> {
         requires { seat.old.table_id ≡ self.now.table_id }
         ensures { Subscribes S.kind self.now S.kind.subscribe seat.old result seat.new }
     {
-        let own = seat.seat.take().unwrap();
-        let (mut own, answer) = self.call_by(rt, own, Subscribe);
-        match answer {
-            Ok(id) => {
-                let made = self.gate.seat(&mut own);
-                seat.seat = Some(own);
-                Ok(FlowSubscription {
-                    seat: Some(made),
-                    id,
-                })
-            }
-            Err(fault) => {
-                seat.seat = Some(own);
-                Err(fault)
-            }
-        }
+        let id = self.call(rt, seat, Subscribe)?;
+        let made = self.seat(seat);
+        Ok(FlowSubscription { seat: made, id })
     }
 
     /// What the subscriber receives next; `Empty` where it has all. `Err` is want of memory: it then gets the value at a
@@ -133,11 +120,8 @@ impl<S: FlowCore + Drop, A: Allocator + Copy> Flow<S, A> {
         ensures number { subscription.new.number ≡ subscription.old.number }
         ensures live { result ≢ Ok Gone }
     {
-        let own = subscription.seat.take().unwrap();
         let id = subscription.id;
-        let (own, answer) = self.call_by(rt, own, TakeNext { id });
-        subscription.seat = Some(own);
-        answer
+        self.call(rt, &mut subscription.seat, TakeNext { id })
     }
 
     /// `next`, where nobody is inside.
@@ -148,17 +132,10 @@ impl<S: FlowCore + Drop, A: Allocator + Copy> Flow<S, A> {
         requires { subscription.old.token.table_id ≡ self.now.table_id }
         ensures { NextsNow S.kind self.now subscription.old result subscription.new }
     {
-        let own = subscription.seat.take().unwrap();
         let id = subscription.id;
-        match self.call_by_now(own, TakeNext { id }) {
-            Ok((own, answer)) => {
-                subscription.seat = Some(own);
-                answer
-            }
-            Err((back, _call)) => {
-                subscription.seat = Some(back);
-                Err(FlowFault::Busy)
-            }
+        match self.call_now(&mut subscription.seat, TakeNext { id }) {
+            Ok(answer) => answer,
+            Err(_call) => Err(FlowFault::Busy),
         }
     }
 
@@ -171,9 +148,9 @@ impl<S: FlowCore + Drop, A: Allocator + Copy> Flow<S, A> {
         requires { subscription.token.table_id ≡ self.now.table_id }
         ensures { Unsubscribes S.kind self.now subscription result }
     {
-        let FlowSubscription { seat, id } = subscription;
-        let (seat, _was_there) = self.call_by(rt, seat.unwrap(), Unsubscribe { id });
-        FlowSeat { seat: Some(seat) }
+        let FlowSubscription { mut seat, id } = subscription;
+        let _was_there = self.call(rt, &mut seat, Unsubscribe { id });
+        seat
     }
 
     /// How many subscribers there are. A subscription that was dropped is counted: only `unsubscribe` ends one.
@@ -205,7 +182,7 @@ impl<S: FlowCore + Drop, A: Allocator + Copy> Flow<S, A> {
     {
         let first = one.seat.take().unwrap();
         let second = other.seat.take().unwrap();
-        let (first, second) = self.meet_by(first, second);
+        let (first, second) = self.gate.meet(first, second);
         one.seat = Some(first);
         other.seat = Some(second);
     }
@@ -221,21 +198,6 @@ impl<S: FlowCore + Drop, A: Allocator + Copy> Flow<S, A> {
         ensures met { Meets S.kind self.now subscription.old.token seat.old subscription.new.token seat.new }
         ensures number { subscription.new.number ≡ subscription.old.number }
     {
-        let first = subscription.seat.take().unwrap();
-        let second = seat.seat.take().unwrap();
-        let (first, second) = self.meet_by(first, second);
-        subscription.seat = Some(first);
-        seat.seat = Some(second);
-    }
-
-    fn meet_by(
-        &self,
-        one: flow_gate::Seat<S, A>,
-        other: flow_gate::Seat<S, A>,
-    ) -> (flow_gate::Seat<S, A>, flow_gate::Seat<S, A>)
-        requires { (one.table_id ≡ self.now.table_id) × (other.table_id ≡ self.now.table_id) }
-        ensures { Meets S.kind self.now one other result.0 result.1 }
-    {
-        self.gate.meet(one, other)
+        self.meet(&mut subscription.seat, seat);
     }
 }

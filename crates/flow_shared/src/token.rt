@@ -36,15 +36,14 @@ impl<S: Guarded, A: Allocator> Model for FlowSeat<S, A> {
 /// flow one value. Its seat is lost. To end it, `unsubscribe`.
 #[derive(Drop)]
 pub struct FlowSubscription<S: FlowCore, A: Allocator + Copy = Global> {
-    /// It is there but in the middle of a call.
-    pub(crate) seat: Option<flow_gate::Seat<S, A>>,
+    pub(crate) seat: FlowSeat<S, A>,
     pub(crate) id: SubId,
 }
 
 impl<S: FlowCore, A: Allocator + Copy> Model for FlowSubscription<S, A> {
     ghost Value = { NumberedToken (Said S.Call S.Reply) };
 
-    ghost view = { λ s. numbered (seat_in s.seat) (number_of s.id) };
+    ghost view = { λ s. numbered s.seat (number_of s.id) };
 
-    ghost invariant = { λ s. IsSome s.seat × IsSubscription S.kind (seat_in s.seat).knows (number_of s.id) };
+    ghost invariant = { λ s. IsSubscription S.kind s.seat.knows (number_of s.id) };
 }

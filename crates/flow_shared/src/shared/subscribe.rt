@@ -51,21 +51,8 @@ impl<T: FlowValue, A: Allocator + Copy> Flow<SharedCore<T, A>, A> {
             (λ name. call.Subscribe name first.items) seat.old (fault_alone result) seat.new }
         ensures handed_back { IfErr result (λ refused. refused.value ≡ first) }
     {
-        let own = seat.seat.take().unwrap();
-        let (mut own, answer) = self.call_by(rt, own, SubscribeWith { first });
-        match answer {
-            Ok(id) => {
-                let made = self.gate.seat(&mut own);
-                seat.seat = Some(own);
-                Ok(FlowSubscription {
-                    seat: Some(made),
-                    id,
-                })
-            }
-            Err(refused) => {
-                seat.seat = Some(own);
-                Err(refused)
-            }
-        }
+        let id = self.call(rt, seat, SubscribeWith { first })?;
+        let made = self.seat(seat);
+        Ok(FlowSubscription { seat: made, id })
     }
 }

@@ -1,8 +1,14 @@
 use Rattle.std.proofs.Common.{ap, sym, ◌∙◌, subst}
+use Rattle.flow_law.specs.History.{MayCall}
 use Rattle.flow_law.specs.Tokens.{subscription_name, IsBusy}
 use Rattle.flow_shared.specs.Calls.{CallsAtOnce}
 use Rattle.flow_shared.specs.Tokens.{seat_in}
 use Rattle.flow_shared.proofs.flow.Flow.call_now.Goals as goal
+
+pub call_by_now-requires-clause-may : goal.call_by_now-requires-clause-may
+call_by_now-requires-clause-may g c =
+    let is = ap seat_in (sym c.unwrap-own.ensures ∙ c.take.ensures.value) ∙ c.seat.view_is in
+    subst (λ t. MayCall g.S.FlowCore.kind (g.C.CoreCall.call c.args.call (subscription_name t.knows)) t.knows.name t.knows.seen) (sym is) c.requires.may
 
 pub returns-in-Ok-clause-called : goal.returns-in-Ok-clause-called
 returns-in-Ok-clause-called g c =
