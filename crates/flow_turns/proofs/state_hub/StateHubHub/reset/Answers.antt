@@ -1,0 +1,13 @@
+use Rattle.std.proofs.Common.{refl, subst}
+use Rattle.flow_law.specs.Standing.{StateConforms}
+use Rattle.flow_law.specs.declared.call.StateCall.TheVariants as call
+use Rattle.flow_law.specs.declared.call.StateReply.TheVariants as reply
+use Rattle.flow_turns.proofs.state_hub.StateHubHub.reset.Goals as goal
+
+pub returns-in-Ok : goal.returns-in-Ok
+returns-in-Ok g c =
+    let set = subst (λ value. StateConforms c.args.self.now.core (call.Set value) reply.Done c.set.new.self) c.in-Ok.ensures.copy c.set.ensures.documented in
+    ((set, refl), refl)
+
+pub returns-in-Err : goal.returns-in-Err
+returns-in-Err g c = ((refl, c.in-Err.ensures.memory), refl)
