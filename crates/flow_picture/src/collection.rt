@@ -3,7 +3,7 @@
 use crate::picture::{Picture, Sign, Words};
 use crate::script_words::items_of;
 use serde_json::Value;
-use std::alloc::{AllocError, Global};
+use std::alloc::Global;
 
 /// How many items of a lane are drawn.
 const MOST_ITEMS: usize = 24;
@@ -92,43 +92,41 @@ impl<'a> Given<'a> {
 }
 
 /// A mark on a lane that has not ended, or that more would follow.
-fn add_content<'a>(
-    picture: &mut Picture<'a>,
-    lane: usize,
-    content: Content<'a>,
-) -> Result<(), AllocError> {
+fn add_content<'a>(picture: &mut Picture<'a>, lane: usize, content: Content<'a>) {
     if !picture.is_open(lane) {
-        return Ok(());
+        return;
     }
-    if picture.columns == MOST_ITEMS {
-        return picture.add_mark(lane, Sign::Told, Words::Text(".."), 0);
-    }
-    let (sign, words) = content;
+    let column = picture.columns;
+    let (sign, words) = if column == MOST_ITEMS {
+        (Sign::Told, Words::Text(".."))
+    } else {
+        content
+    };
     if matches!(sign, Sign::Ends | Sign::Refused) {
-        let column = picture.columns;
         picture.end_lane(lane, column);
     }
-    picture.add_mark(lane, sign, words, 0)
+    picture.add_mark(lane, sign, words, 0);
 }
 
-/// The picture of a collection, by the chain and the line that it wrote.
-pub fn collected<'a>(
-    alloc: Global,
-    chain: &'a Value,
-    line: &'a str,
-) -> Result<Picture<'a>, AllocError> {
-    let source = Source::new(chain);
+/// The marks of a collection.
+fn add_columns<'a>(picture: &mut Picture<'a>, source: Source<'a>, line: &'a str) {
     let mut given = Given::new(line);
-    let mut picture = Picture::new(alloc);
-    picture.add_lane(source.name, None)?;
-    picture.add_lane("result", None)?;
     for column in 0..MOST_ITEMS + 1 {
-        add_content(&mut picture, 0, source.at(column))?;
-        add_content(&mut picture, 1, given.next())?;
+        add_content(picture, 0, source.at(column));
+        add_content(picture, 1, given.next());
         picture.columns = picture.columns.saturating_add(1);
         if !picture.is_open(0) && !picture.is_open(1) {
             break;
         }
     }
-    Ok(picture)
+}
+
+/// The picture of a collection, by the chain and the line that it wrote.
+pub fn collected<'a>(alloc: Global, chain: &'a Value, line: &'a str) -> Picture<'a> {
+    let source = Source::new(chain);
+    let mut picture = Picture::new(alloc);
+    picture.add_lane(source.name, None);
+    picture.add_lane("result", None);
+    add_columns(&mut picture, source, line);
+    picture
 }

@@ -1,5 +1,6 @@
 //! What stands around the lines of a script.
 
+use crate::page::Page;
 use crate::steps::add_heads;
 use serde_json::Value;
 use std::alloc::{AllocError, Global};
@@ -13,9 +14,12 @@ pub struct Frame {
 
 /// The flows of a script before its lines. The rules stand beside these.
 pub fn explained_frame(alloc: Global, script: &Value) -> Result<Frame, AllocError> {
-    let mut before = String::new(alloc);
-    add_heads(&mut before, script)?;
-    before.push('\n')?;
-    let after = String::new(alloc);
-    Ok(Frame { before, after })
+    let mut page = Page::new(alloc);
+    add_heads(&mut page, script);
+    page.push('\n');
+    let before = page.finish()?;
+    Ok(Frame {
+        before,
+        after: String::new(alloc),
+    })
 }

@@ -53,6 +53,35 @@ pub enum Part<'a> {
     Collection(usize, &'a Value),
 }
 
+/// The parts of pictures so far.
+#[derive(Drop)]
+pub struct Parts<'a> {
+    parts: Vec<Part<'a>>,
+    /// Whether there was no memory for a part.
+    failed: bool,
+}
+
+impl<'a> Parts<'a> {
+    pub fn new(alloc: Global) -> Self {
+        Parts {
+            parts: Vec::new(alloc),
+            failed: false,
+        }
+    }
+
+    pub fn push(&mut self, part: Part<'a>) {
+        self.failed = self.failed || self.parts.push(part).is_err();
+    }
+
+    /// The parts, where there was memory for all of them.
+    pub fn finish(self) -> Result<Vec<Part<'a>>, AllocError> {
+        if self.failed {
+            return Err(AllocError);
+        }
+        Ok(self.parts)
+    }
+}
+
 /// Columns that stand beside each other.
 #[derive(Clone, Copy)]
 struct Band<'p, 'a> {
@@ -120,101 +149,123 @@ impl<'a> Band<'_, 'a> {
         None
     }
 
-    /// The numbers of the steps above their columns, if there are steps. Answers how wide the band is.
-    fn add_numbers(
-        &self,
-        parts: &mut Vec<Part<'a>>,
-        steps: &'a [Value],
-    ) -> Result<usize, AllocError> {
+    /// How wide it is, with the names before it.
+    fn width(&self) -> usize {
         let mut total = NAME_WIDTH;
-        if !steps.is_empty() {
-            parts.push(Part::Numbers)?;
-        }
-        for (index, width) in self.widths.iter().enumerate() {
-            let column = self.from.saturating_add(index);
+        for width in self.widths {
             total = total.saturating_add(*width);
-            if let Some(step) = steps.get(column) {
+        }
+        total
+    }
+
+    /// The numbers of the steps above their columns.
+    fn add_numbers(&self, parts: &mut Parts<'a>, steps: &'a [Value]) {
+        parts.push(Part::Numbers);
+        let mut number = self.from;
+        for width in self.widths {
+            let step = steps.get(number);
+            number = number.saturating_add(1);
+            if let Some(step) = step {
                 parts.push(Part::Number(Numbered {
-                    number: column.saturating_add(1),
+                    number,
                     step,
                     width: *width,
-                }))?;
+                }));
             }
         }
-        if !steps.is_empty() {
-            parts.push(Part::EndNumbers)?;
+        parts.push(Part::EndNumbers);
+    }
+
+    /// A column of a lane, which has this place in the picture.
+    fn cell(&self, place: usize, lane: Lane<'a>, column: usize, width: usize) -> Cell<'a> {
+        let Lane { begins, ends, .. } = lane;
+        Cell {
+            width,
+            mark: self.mark_at(place, column),
+            has_line: begins <= column && column <= ends,
+            comes: begins < column && column <= ends,
+            goes_on: begins <= column && column < ends,
+            waits: lane.waits.is_some(),
         }
-        Ok(total)
     }
 
     /// A lane, which has this place in the picture.
-    fn add_lane(
-        &self,
-        parts: &mut Vec<Part<'a>>,
-        place: usize,
-        lane: Lane<'a>,
-    ) -> Result<(), AllocError> {
-        parts.push(Part::Name(lane.name))?;
-        for (index, width) in self.widths.iter().enumerate() {
-            let column = self.from.saturating_add(index);
-            parts.push(Part::Cell(Cell {
-                width: *width,
-                mark: self.mark_at(place, column),
-                has_line: lane.begins <= column && column <= lane.ends,
-                comes: lane.begins < column && column <= lane.ends,
-                goes_on: lane.begins <= column && column < lane.ends,
-                waits: lane.waits.is_some(),
-            }))?;
+    fn add_lane(&self, parts: &mut Parts<'a>, place: usize, lane: Lane<'a>) {
+        parts.push(Part::Name(lane.name));
+        let mut column = self.from;
+        for width in self.widths {
+            parts.push(Part::Cell(self.cell(place, lane, column, *width)));
+            column = column.saturating_add(1);
         }
-        parts.push(Part::EndLane)?;
-        Ok(())
+        parts.push(Part::EndLane);
     }
 
-    /// The numbers of the columns, and the lanes that the band has marks on.
+    /// The lanes at these places.
+    fn add_lanes(&self, parts: &mut Parts<'a>, places: &[usize], lanes: &[Lane<'a>]) {
+        for place in places {
+            if let Some(lane) = lanes.get(*place) {
+                self.add_lane(parts, *place, *lane);
+            }
+        }
+    }
+
+    /// The numbers of the columns, if there are steps, and the lanes that the band has marks on.
     fn add_to(
         &self,
         alloc: Global,
-        parts: &mut Vec<Part<'a>>,
+        parts: &mut Parts<'a>,
         lanes: &[Lane<'a>],
         steps: &'a [Value],
     ) -> Result<(), AllocError> {
-        let width = self.add_numbers(parts, steps)?;
-        for place in &lanes_of(alloc, self.marks)? {
-            if let Some(lane) = lanes.get(*place) {
-                self.add_lane(parts, *place, *lane)?;
-            }
+        if !steps.is_empty() {
+            self.add_numbers(parts, steps);
         }
-        parts.push(Part::EndBand(width))?;
+        self.add_lanes(parts, lanes_of(alloc, self.marks)?.as_slice(), lanes);
+        parts.push(Part::EndBand(self.width()));
         Ok(())
     }
 }
 
-/// Adds the parts of a picture, with these steps above their columns. A band without marks is left out.
-pub fn add_parts<'a>(
+/// Adds the bands of a picture whose columns have these widths. A band without marks is left out.
+fn add_bands<'a>(
     alloc: Global,
-    parts: &mut Vec<Part<'a>>,
+    parts: &mut Parts<'a>,
     picture: &Picture<'a>,
     steps: &'a [Value],
+    widths: &[usize],
 ) -> Result<(), AllocError> {
-    let widths = widths_of(alloc, picture)?;
     let mut from = 0;
     let mut first = 0;
     for _ in 0..widths.len() {
-        let to = band_end(widths.as_slice(), from);
+        let to = band_end(widths, from);
         let last = marks_before(picture.marks.as_slice(), first, to);
-        let band = Band {
-            from,
-            widths: widths.get(from..to).unwrap_or(&[]),
-            marks: picture.marks.get(first..last).unwrap_or(&[]),
-        };
-        if !band.marks.is_empty() {
+        if last > first {
+            let band = Band {
+                from,
+                widths: widths.get(from..to).unwrap_or(&[]),
+                marks: picture.marks.get(first..last).unwrap_or(&[]),
+            };
             band.add_to(alloc, parts, picture.lanes.as_slice(), steps)?;
-        }
-        if to >= widths.len() {
-            break;
         }
         from = to;
         first = last;
+        if from >= widths.len() {
+            break;
+        }
     }
     Ok(())
+}
+
+/// Adds the parts of a picture, with these steps above their columns.
+pub fn add_parts<'a>(
+    alloc: Global,
+    parts: &mut Parts<'a>,
+    picture: &Picture<'a>,
+    steps: &'a [Value],
+) -> Result<(), AllocError> {
+    if picture.failed {
+        return Err(AllocError);
+    }
+    let widths = widths_of(alloc, picture)?;
+    add_bands(alloc, parts, picture, steps, widths.as_slice())
 }

@@ -1,7 +1,7 @@
 //! What the lines of a flow script say: as a picture, with lanes from left to right and marks on them, and by which rules.
 //!
 //! # Lanes and marks
-//! `steps_picture` has a lane for each flow, subscriber and emission, and a column for each step that was played;
+//! `steps_drawing` has a lane for each flow, subscriber and emission, and a column for each step that was played;
 //! `collected` has two lanes, of a chain's source and of what it gave. Each mark is taken from the line that its step
 //! wrote, and from nothing else. The table in `marks` has the marks of a step by its tag and its line.
 //!
@@ -23,6 +23,7 @@ mod collection;
 mod frame;
 mod layout;
 mod marks;
+mod page;
 mod parts;
 mod picture;
 mod played;

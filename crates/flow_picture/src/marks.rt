@@ -6,7 +6,7 @@ use crate::rules::Line;
 use crate::script_words::{number_of, text_of};
 use indexmap::IndexSet;
 use serde_json::Value;
-use std::alloc::AllocError;
+use std::alloc::Global;
 
 /// A picture that grows by a column with each step.
 #[derive(Drop)]
@@ -41,191 +41,190 @@ enum Named {
     Ended(Sign),
 }
 
-/// The marks of a step with this tag and such a line: on the lane of its flow, and on that of its name.
+/// The marks of a step: on the lane of its flow, and on that of its name.
 #[derive(Clone, Copy)]
-struct Marks(&'static str, Line, Option<Sign>, Named, Content);
+struct Marks(Option<Sign>, Named, Content);
+
+/// The marks of the steps with this tag and such a line.
+#[derive(Clone, Copy)]
+struct Row(&'static str, Line, Marks);
 
 /// Any line that no row before is about.
 const OTHER: Line = Line::Begins("");
 
 /// The marks of the steps that do not only tell what their flow answers. Of a tag and a line the first row counts.
-const MARKS: &[Marks] = &[
-    Marks(
+static ROWS: [Row; 21] = [
+    Row(
         "try_emit",
         Line::Is("true"),
-        Some(Sign::Value),
-        Named::Untouched,
-        Content::Member("value"),
+        Marks(
+            Some(Sign::Value),
+            Named::Untouched,
+            Content::Member("value"),
+        ),
     ),
-    Marks(
+    Row(
         "try_emit",
         Line::Is("false"),
-        Some(Sign::Lost),
-        Named::Untouched,
-        Content::Member("value"),
+        Marks(Some(Sign::Lost), Named::Untouched, Content::Member("value")),
     ),
-    Marks(
+    Row(
         "set",
         Line::Is("set"),
-        Some(Sign::Value),
-        Named::Untouched,
-        Content::Member("value"),
+        Marks(
+            Some(Sign::Value),
+            Named::Untouched,
+            Content::Member("value"),
+        ),
     ),
-    Marks(
+    Row(
         "compare_and_set",
         Line::Is("true"),
-        Some(Sign::Value),
-        Named::Untouched,
-        Content::Member("update"),
+        Marks(
+            Some(Sign::Value),
+            Named::Untouched,
+            Content::Member("update"),
+        ),
     ),
-    Marks(
+    Row(
         "compare_and_set",
         Line::Is("false"),
-        Some(Sign::Lost),
-        Named::Untouched,
-        Content::Member("update"),
+        Marks(
+            Some(Sign::Lost),
+            Named::Untouched,
+            Content::Member("update"),
+        ),
     ),
-    Marks(
+    Row(
         "emit",
         Line::Is("done"),
-        Some(Sign::Value),
-        Named::Ended(Sign::Value),
-        Content::Member("value"),
+        Marks(
+            Some(Sign::Value),
+            Named::Ended(Sign::Value),
+            Content::Member("value"),
+        ),
     ),
-    Marks(
+    Row(
         "emit",
         Line::Is("queued"),
-        Some(Sign::Waits),
-        Named::Marked(Sign::Waits),
-        Content::Member("value"),
+        Marks(
+            Some(Sign::Waits),
+            Named::Marked(Sign::Waits),
+            Content::Member("value"),
+        ),
     ),
-    Marks(
+    Row(
         "emit",
         OTHER,
-        None,
-        Named::Ended(Sign::Refused),
-        Content::Line,
+        Marks(None, Named::Ended(Sign::Refused), Content::Line),
     ),
-    Marks(
+    Row(
         "poll",
         Line::Is("waiting"),
-        None,
-        Named::Marked(Sign::Waits),
-        Content::Nothing,
+        Marks(None, Named::Marked(Sign::Waits), Content::Nothing),
     ),
-    Marks(
+    Row(
         "poll",
         OTHER,
-        None,
-        Named::Ended(Sign::Value),
-        Content::Emission,
+        Marks(None, Named::Ended(Sign::Value), Content::Emission),
     ),
-    Marks(
+    Row(
         "poll",
         OTHER,
-        None,
-        Named::Marked(Sign::Nothing),
-        Content::Nothing,
+        Marks(None, Named::Marked(Sign::Nothing), Content::Nothing),
     ),
-    Marks(
+    Row(
         "cancel",
         Line::Is("true"),
-        Some(Sign::Lost),
-        Named::Ended(Sign::Lost),
-        Content::Emission,
+        Marks(
+            Some(Sign::Lost),
+            Named::Ended(Sign::Lost),
+            Content::Emission,
+        ),
     ),
-    Marks(
+    Row(
         "cancel",
         OTHER,
-        None,
-        Named::Marked(Sign::Nothing),
-        Content::Nothing,
+        Marks(None, Named::Marked(Sign::Nothing), Content::Nothing),
     ),
-    Marks(
+    Row(
         "subscribe",
         Line::Is("subscribed"),
-        None,
-        Named::Marked(Sign::Begins),
-        Content::Nothing,
+        Marks(None, Named::Marked(Sign::Begins), Content::Nothing),
     ),
-    Marks(
+    Row(
         "subscribe",
         OTHER,
-        None,
-        Named::Ended(Sign::Refused),
-        Content::Line,
+        Marks(None, Named::Ended(Sign::Refused), Content::Line),
     ),
-    Marks(
+    Row(
         "next",
         Line::Begins("value "),
-        None,
-        Named::Marked(Sign::Value),
-        Content::Received,
+        Marks(None, Named::Marked(Sign::Value), Content::Received),
     ),
-    Marks(
+    Row(
         "next",
         Line::Is("empty"),
-        None,
-        Named::Marked(Sign::Nothing),
-        Content::Nothing,
+        Marks(None, Named::Marked(Sign::Nothing), Content::Nothing),
     ),
-    Marks(
+    Row(
         "next",
         OTHER,
-        None,
-        Named::Marked(Sign::Refused),
-        Content::Line,
+        Marks(None, Named::Marked(Sign::Refused), Content::Line),
     ),
-    Marks(
+    Row(
         "unsubscribe",
         Line::Is("true"),
-        None,
-        Named::Ended(Sign::Ends),
-        Content::Nothing,
+        Marks(None, Named::Ended(Sign::Ends), Content::Nothing),
     ),
-    Marks(
+    Row(
         "unsubscribe",
         OTHER,
-        None,
-        Named::Marked(Sign::Nothing),
-        Content::Nothing,
+        Marks(None, Named::Marked(Sign::Nothing), Content::Nothing),
     ),
-    Marks("collect", OTHER, None, Named::Untouched, Content::Nothing),
+    Row(
+        "collect",
+        OTHER,
+        Marks(None, Named::Untouched, Content::Nothing),
+    ),
 ];
 
-/// The marks of a step with this tag and line, where the emission that it is about goes on or does not.
-fn marks_of(tag: &str, line: &str, goes_on: bool) -> Marks {
-    for marks in MARKS {
-        if marks.0 == tag
-            && marks.1.fits(line)
-            && (goes_on || !matches!(marks.4, Content::Emission))
-        {
-            return *marks;
-        }
-    }
+/// What the flow answers.
+fn told(line: &str) -> Marks {
     let sign = if line.starts_with("refused") || line == "no flow" {
         Sign::Refused
     } else {
         Sign::Told
     };
-    Marks("", OTHER, Some(sign), Named::Untouched, Content::Line)
+    Marks(Some(sign), Named::Untouched, Content::Line)
+}
+
+impl Row {
+    /// Whether it is about a step with this tag and line, whose emission goes on or does not.
+    fn is_about(&self, tag: &str, line: &str, goes_on: bool) -> bool {
+        self.0 == tag && self.1.fits(line) && (goes_on || !matches!(self.2.2, Content::Emission))
+    }
+}
+
+/// The marks of a step with this tag and line, where the emission that it is about goes on or does not.
+fn marks_of(tag: &str, line: &str, goes_on: bool) -> Marks {
+    for row in &ROWS {
+        if row.is_about(tag, line, goes_on) {
+            return row.2;
+        }
+    }
+    told(line)
 }
 
 impl Marks {
     /// The same, unless the flow told that it took the value and dropped it.
     fn seen(self, seen: Seen) -> Marks {
-        let Marks(tag, line, on_flow, on_named, content) = self;
+        let Marks(on_flow, on_named, content) = self;
         match (on_flow, on_named, seen.emitted) {
-            (Some(Sign::Value), Named::Ended(_), Some(0)) => Marks(
-                tag,
-                line,
-                Some(Sign::Lost),
-                Named::Ended(Sign::Lost),
-                content,
-            ),
-            (Some(Sign::Value), _, Some(0)) => {
-                Marks(tag, line, Some(Sign::Lost), on_named, content)
+            (Some(Sign::Value), Named::Ended(_), Some(0)) => {
+                Marks(Some(Sign::Lost), Named::Ended(Sign::Lost), content)
             }
+            (Some(Sign::Value), _, Some(0)) => Marks(Some(Sign::Lost), on_named, content),
             _ => self,
         }
     }
@@ -244,87 +243,90 @@ impl Content {
 }
 
 impl<'a> Drawing<'a> {
-    pub fn add_flow(&mut self, name: &'a str) -> Result<(), AllocError> {
-        self.flows.insert(name)?;
-        self.picture.add_lane(name, None)
+    pub fn new(alloc: Global) -> Self {
+        Drawing {
+            picture: Picture::new(alloc),
+            flows: IndexSet::new(alloc),
+            names: IndexSet::new(alloc),
+        }
     }
 
-    /// The lane of the flow that a step is about, and that of the subscriber or the emission.
-    fn lanes(&self, step: &Value) -> (usize, usize) {
-        let flow = self.flows.get_index_of(text_of(step, "flow")).unwrap_or(0);
+    pub fn add_flow(&mut self, name: &'a str) {
+        let is_full = self.flows.insert(name).is_err();
+        self.picture.failed = self.picture.failed || is_full;
+        self.picture.add_lane(name, None);
+    }
+
+    /// The lane of the flow that a step is about.
+    fn flow_lane(&self, step: &Value) -> usize {
+        self.flows.get_index_of(text_of(step, "flow")).unwrap_or(0)
+    }
+
+    /// The lane of the subscriber or the emission that a step is about.
+    fn named_lane(&self, step: &Value) -> usize {
         let name = self.names.get_index_of(text_of(step, "name")).unwrap_or(0);
-        (flow, name.saturating_add(self.flows.len()))
+        name.saturating_add(self.flows.len())
     }
 
     /// A lane for the name that a step introduces.
-    fn add_name(&mut self, step: &'a Value) -> Result<(), AllocError> {
-        let name = text_of(step, "name");
+    fn add_name(&mut self, step: &'a Value) {
         let waits = match text_of(step, "do") {
             "emit" => Some(number_of(step, "value")),
             "subscribe" => None,
-            _ => return Ok(()),
+            _ => return,
         };
-        self.names.insert(name)?;
-        self.picture.add_lane(name, waits)
+        let name = text_of(step, "name");
+        let is_full = self.names.insert(name).is_err();
+        self.picture.failed = self.picture.failed || is_full;
+        self.picture.add_lane(name, waits);
     }
 
     /// A mark on the lane of the flow that a step is about.
-    fn mark_flow(
-        &mut self,
-        flow: usize,
-        sign: Sign,
-        words: Words<'a>,
-        line: &str,
-    ) -> Result<(), AllocError> {
+    fn mark_flow(&mut self, flow: usize, sign: Sign, words: Words<'a>, line: &str) {
         if line == "no flow" {
             // The lane of a flow that was refused has marks, and no line.
             self.picture.end_lane(flow, 0);
         }
-        self.picture.add_mark(flow, sign, words, 0)
+        self.picture.add_mark(flow, sign, words, 0);
+    }
+
+    /// A mark on the lane of the subscriber or the emission that a step is about.
+    fn mark_named(&mut self, lane: usize, named: Named, words: Words<'a>, lag: u64) {
+        match named {
+            Named::Untouched => {}
+            Named::Marked(sign) => self.picture.add_mark(lane, sign, words, lag),
+            Named::Ended(sign) => {
+                let column = self.picture.columns;
+                self.picture.end_lane(lane, column);
+                self.picture.add_mark(lane, sign, words, 0);
+            }
+        }
     }
 
     /// The marks of one step more, by the line that it writes and by what is seen beside it.
-    pub fn add_step(
-        &mut self,
-        step: &'a Value,
-        line: &'a str,
-        seen: Seen,
-    ) -> Result<(), AllocError> {
-        self.add_name(step)?;
-        let (flow, named) = self.lanes(step);
+    pub fn add_step(&mut self, step: &'a Value, line: &'a str, seen: Seen) {
+        self.add_name(step);
+        let (flow, named) = (self.flow_lane(step), self.named_lane(step));
         let emission = self.picture.open_value(named);
-        let Marks(_, _, on_flow, on_named, content) = marks_of(
-            text_of(step, "do"),
-            line,
-            emission.is_some(),
-        ).seen(seen);
+        let marks = marks_of(text_of(step, "do"), line, emission.is_some());
+        let Marks(on_flow, on_named, content) = marks.seen(seen);
         let words = content.words(step, line, emission);
-        let column = self.picture.columns;
         match (on_flow, seen.emitted) {
-            (Some(sign), _) => self.mark_flow(flow, sign, words, line)?,
+            (Some(sign), _) => self.mark_flow(flow, sign, words, line),
             (None, Some(count)) if count > 0 => {
-                self.mark_flow(flow, Sign::Value, Words::More(count), line)?;
+                self.mark_flow(flow, Sign::Value, Words::More(count), line);
             }
             _ => {}
         }
-        match on_named {
-            Named::Untouched => {}
-            Named::Marked(sign) => self.picture.add_mark(named, sign, words, seen.lag)?,
-            Named::Ended(sign) => {
-                self.picture.end_lane(named, column);
-                self.picture.add_mark(named, sign, words, 0)?;
-            }
-        }
-        self.picture.columns = column.saturating_add(1);
-        Ok(())
+        self.mark_named(named, on_named, words, seen.lag);
+        self.picture.columns = self.picture.columns.saturating_add(1);
     }
 
     /// How many values the subscriber that a step introduced has still to receive in the end, if there are some.
-    pub fn add_last_lag(&mut self, step: &Value, lag: u64) -> Result<(), AllocError> {
-        if lag == 0 {
-            return Ok(());
+    pub fn add_last_lag(&mut self, step: &Value, lag: u64) {
+        if lag > 0 {
+            let lane = self.named_lane(step);
+            self.picture.add_mark(lane, Sign::Over, Words::None, lag);
         }
-        let (_, named) = self.lanes(step);
-        self.picture.add_mark(named, Sign::Over, Words::None, lag)
     }
 }

@@ -1,37 +1,57 @@
 //! The parts of all pictures of a script.
 
 use crate::collection::collected;
-use crate::layout::{Part, add_parts};
+use crate::layout::{Part, Parts, add_parts};
 use crate::played::Played;
-use crate::steps::steps_picture;
+use crate::steps::steps_drawing;
 use serde_json::Value;
 use std::alloc::{AllocError, Global};
 
 /// The picture of the steps.
 fn add_steps<'a>(
     alloc: Global,
-    parts: &mut Vec<Part<'a>>,
+    parts: &mut Parts<'a>,
     script: &'a Value,
     played: Played<'a>,
 ) -> Result<(), AllocError> {
-    let picture = steps_picture(alloc, script, played)?;
-    add_parts(alloc, parts, &picture, played.steps)
+    let drawing = steps_drawing(alloc, script, played);
+    add_parts(alloc, parts, &drawing.picture, played.steps)
+}
+
+/// The picture of a collection.
+fn add_collection<'a>(
+    alloc: Global,
+    parts: &mut Parts<'a>,
+    chain: &'a Value,
+    line: &'a str,
+) -> Result<(), AllocError> {
+    add_parts(alloc, parts, &collected(alloc, chain, line), &[])
 }
 
 /// The pictures of the collections.
 fn add_collections<'a>(
     alloc: Global,
-    parts: &mut Vec<Part<'a>>,
+    parts: &mut Parts<'a>,
     played: Played<'a>,
 ) -> Result<(), AllocError> {
     for (place, step) in played.steps.iter().enumerate() {
         if let Some(chain) = step.get("chain") {
-            parts.push(Part::Collection(place.saturating_add(1), chain))?;
-            let picture = collected(alloc, chain, played.line(place))?;
-            add_parts(alloc, parts, &picture, &[])?;
+            parts.push(Part::Collection(place.saturating_add(1), chain));
+            add_collection(alloc, parts, chain, played.line(place))?;
         }
     }
     Ok(())
+}
+
+/// The pictures of a script.
+fn add_pictures<'a>(
+    alloc: Global,
+    parts: &mut Parts<'a>,
+    script: &'a Value,
+    played: Played<'a>,
+) -> Result<(), AllocError> {
+    add_steps(alloc, parts, script, played)?;
+    add_collections(alloc, parts, played)
 }
 
 /// The parts of the pictures of a script that was played.
@@ -40,8 +60,7 @@ pub fn parts_of<'a>(
     script: &'a Value,
     played: Played<'a>,
 ) -> Result<Vec<Part<'a>>, AllocError> {
-    let mut parts = Vec::new(alloc);
-    add_steps(alloc, &mut parts, script, played)?;
-    add_collections(alloc, &mut parts, played)?;
-    Ok(parts)
+    let mut parts = Parts::new(alloc);
+    add_pictures(alloc, &mut parts, script, played)?;
+    parts.finish()
 }

@@ -1,6 +1,6 @@
 //! What is drawn: lanes, and the marks on them, from left to right.
 
-use std::alloc::{AllocError, Global};
+use std::alloc::Global;
 
 /// What a mark tells.
 #[derive(Clone, Copy)]
@@ -77,6 +77,8 @@ pub struct Picture<'a> {
     pub marks: Vec<Mark<'a>>,
     /// How many columns there are.
     pub columns: usize,
+    /// Whether there was no memory for a lane or a mark: then the picture is of no use.
+    pub failed: bool,
 }
 
 impl<'a> Picture<'a> {
@@ -85,38 +87,31 @@ impl<'a> Picture<'a> {
             lanes: Vec::new(alloc),
             marks: Vec::new(alloc),
             columns: 0,
+            failed: false,
         }
     }
 
     /// A lane that begins at the next column.
-    pub fn add_lane(&mut self, name: &'a str, waits: Option<i64>) -> Result<(), AllocError> {
-        let begins = self.columns;
-        self.lanes.push(Lane {
+    pub fn add_lane(&mut self, name: &'a str, waits: Option<i64>) {
+        let lane = Lane {
             name,
-            begins,
+            begins: self.columns,
             ends: OPEN,
             waits,
-        })?;
-        Ok(())
+        };
+        self.failed = self.failed || self.lanes.push(lane).is_err();
     }
 
     /// A mark in the next column.
-    pub fn add_mark(
-        &mut self,
-        lane: usize,
-        sign: Sign,
-        words: Words<'a>,
-        lag: u64,
-    ) -> Result<(), AllocError> {
-        let column = self.columns;
-        self.marks.push(Mark {
+    pub fn add_mark(&mut self, lane: usize, sign: Sign, words: Words<'a>, lag: u64) {
+        let mark = Mark {
             lane,
-            column,
+            column: self.columns,
             sign,
             words,
             lag,
-        })?;
-        Ok(())
+        };
+        self.failed = self.failed || self.marks.push(mark).is_err();
     }
 
     /// The next column comes, where the last one has a mark.

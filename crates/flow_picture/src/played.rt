@@ -1,5 +1,6 @@
 //! The steps of a script that was played, with their lines.
 
+use crate::page::Page;
 use crate::rules::rule_of;
 use crate::script_words::{add_step, text_of};
 use serde_json::Value;
@@ -76,6 +77,28 @@ impl<'a> Played<'a> {
         rule_of(flow, step, self.line(before))
     }
 
+    /// The end of the line at a place, with its rule where those of a script are told.
+    fn end_line(&self, page: &mut Page, place: usize, rules: Option<&Value>) {
+        let rule = match rules {
+            Some(script) => self.rule_at(script, place),
+            None => "",
+        };
+        if !rule.is_empty() {
+            page.push_str("  -- ");
+            page.push_str(rule);
+        }
+        page.push('\n');
+    }
+
+    /// The step that wrote the line at a place, in words.
+    fn begin_line(&self, page: &mut Page, place: usize) {
+        if let Some((before, step)) = self.step_at(place) {
+            write!(page, "{:>5}  ", before.saturating_add(1));
+            add_step(page, step);
+            page.push_str(": ");
+        }
+    }
+
     /// What stands before the line at a place: the end of the line before it, with its rule where those of a script are told,
     /// and the step that wrote the line, in words.
     pub fn add_words_before(
@@ -84,22 +107,11 @@ impl<'a> Played<'a> {
         place: usize,
         rules: Option<&Value>,
     ) -> Result<(), AllocError> {
+        let mut page = Page::new(*words.allocator());
         if let Some(before) = place.checked_sub(1) {
-            let rule = match rules {
-                Some(script) => self.rule_at(script, before),
-                None => "",
-            };
-            if !rule.is_empty() {
-                words.push_str("  -- ")?;
-                words.push_str(rule)?;
-            }
-            words.push('\n')?;
+            self.end_line(&mut page, before, rules);
         }
-        let Some((before, step)) = self.step_at(place) else {
-            return Ok(());
-        };
-        write!(words, "{:>5}  ", before.saturating_add(1))?;
-        add_step(words, step)?;
-        words.push_str(": ")
+        self.begin_line(&mut page, place);
+        words.push_str(page.finish()?.as_str())
     }
 }

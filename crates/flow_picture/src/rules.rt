@@ -1,6 +1,6 @@
 //! The rule by which a step of a script wrote its line.
 
-use crate::rules_of_flows::{SHARED_RULES, STATE_RULES};
+use crate::rules_of_flows::{shared_rules, state_rules};
 use crate::rules_of_turns::{COLLECT_RULES, TURN_RULES};
 use crate::script_words::{number_of, text_of};
 use serde_json::Value;
@@ -9,8 +9,8 @@ use serde_json::Value;
 #[derive(Clone, Copy)]
 pub enum Case {
     Always,
-    /// Where a flow is blocked, its emissions do this.
-    Drops(&'static str),
+    /// The flow has this key with this word.
+    Has(&'static str, &'static str),
     /// Emitters wait, and the flow has a buffer.
     Buffered,
     /// Emitters wait, and the flow has no buffer.
@@ -18,8 +18,6 @@ pub enum Case {
     Replays,
     /// The subscriber has first values of its own.
     HasFirst,
-    /// The shared chain is started so.
-    Started(&'static str),
     /// The shared chain runs while there are subscribers.
     WhileSubscribed,
 }
@@ -62,17 +60,26 @@ fn has_buffer(flow: &Value) -> bool {
         || number_of(flow, "extra") > 0
 }
 
+/// Whether a shared chain runs while there are subscribers.
+fn runs_while_subscribed(flow: &Value) -> bool {
+    !matches!(text_of(flow, "started"), "eagerly" | "lazily")
+}
+
+/// Whether an object has a key with this word.
+fn has(object: &Value, key: &str, word: &str) -> bool {
+    text_of(object, key) == word
+}
+
 impl Case {
     fn holds(self, flow: &Value, step: &Value) -> bool {
         match self {
             Case::Always => true,
-            Case::Drops(strategy) => text_of(flow, "overflow") == strategy,
+            Case::Has(key, word) => has(flow, key, word),
             Case::Buffered => suspends(flow) && has_buffer(flow),
             Case::Unbuffered => suspends(flow) && !has_buffer(flow),
             Case::Replays => number_of(flow, "replay") > 0,
             Case::HasFirst => step.get("first").is_some(),
-            Case::Started(word) => text_of(flow, "started") == word,
-            Case::WhileSubscribed => !matches!(text_of(flow, "started"), "eagerly" | "lazily"),
+            Case::WhileSubscribed => runs_while_subscribed(flow),
         }
     }
 }
@@ -80,11 +87,22 @@ impl Case {
 /// The rules of steps on a flow.
 fn rules_for(flow: &Value, step: &str) -> &'static [Rule] {
     match text_of(flow, "kind") {
-        _ if step == "turn" => TURN_RULES,
-        "shared" | "share" => SHARED_RULES,
-        "state" | "state_in" => STATE_RULES,
+        _ if step == "turn" => &TURN_RULES,
+        "shared" | "share" => shared_rules(step),
+        "state" | "state_in" => state_rules(step),
         _ => &[],
     }
+}
+
+/// The first of these rules by which a step on a flow wrote its line, if there is one.
+fn first_rule(rules: &'static [Rule], flow: &Value, step: &Value, line: &str) -> &'static str {
+    let word = text_of(step, "do");
+    for Rule(tag, case, lines, words) in rules {
+        if *tag == word && lines.fits(line) && case.holds(flow, step) {
+            return words;
+        }
+    }
+    ""
 }
 
 /// The rule by which a step wrote its line, in one sentence, where `flow` is the flow of the script that the step is about. It is
@@ -94,18 +112,10 @@ fn rules_for(flow: &Value, step: &str) -> &'static [Rule] {
 /// rules: kotlinx.coroutines' public documentation, as docs/DEFINITIONS.md says rule by rule.
 pub fn rule_of(flow: Option<&Value>, step: &Value, line: &str) -> &'static str {
     let word = text_of(step, "do");
-    let (flow, rules) = match flow {
-        _ if word == "collect" => (step, COLLECT_RULES),
-        _ if line == "no flow" => {
-            return "the flow was refused when it was made, so it answers nothing";
-        }
-        Some(flow) => (flow, rules_for(flow, word)),
-        None => return "",
-    };
-    for Rule(tag, case, lines, words) in rules {
-        if *tag == word && lines.fits(line) && case.holds(flow, step) {
-            return words;
-        }
+    match flow {
+        _ if word == "collect" => first_rule(&COLLECT_RULES, step, step, line),
+        _ if line == "no flow" => "the flow was refused when it was made, so it answers nothing",
+        Some(flow) => first_rule(rules_for(flow, word), flow, step, line),
+        None => "",
     }
-    ""
 }

@@ -1,4 +1,4 @@
-//! The rules of shared flows and of state flows.
+//! The rules of shared flows and of state flows. Of a step and a line the first one counts.
 
 use crate::rules::{Case, Line, Rule};
 
@@ -21,17 +21,17 @@ const NOBODY_TO_WAIT_FOR: &str = "taken: there is no subscriber for whom the emi
 
 const SUBSCRIBERS: &str = "how many subscribers there are; at first there is none";
 
-/// The rules of shared flows. Of a step and a line the first one counts.
-pub const SHARED_RULES: &[Rule] = &[
+/// What a flow says at once of a value.
+static TRY_EMIT_RULES: [Rule; 7] = [
     Rule(
         "try_emit",
-        Case::Drops("drop_oldest"),
+        Case::Has("overflow", "drop_oldest"),
         Line::Is("true"),
         DROPS_OLDEST,
     ),
     Rule(
         "try_emit",
-        Case::Drops("drop_latest"),
+        Case::Has("overflow", "drop_latest"),
         Line::Is("true"),
         DROPS_LATEST,
     ),
@@ -60,15 +60,19 @@ pub const SHARED_RULES: &[Rule] = &[
         Line::Is("refused 4 Exhausted"),
         EXHAUSTED,
     ),
+];
+
+/// What it says of one whose emitter may wait.
+static EMIT_RULES: [Rule; 7] = [
     Rule(
         "emit",
-        Case::Drops("drop_oldest"),
+        Case::Has("overflow", "drop_oldest"),
         Line::Is("done"),
         DROPS_OLDEST,
     ),
     Rule(
         "emit",
-        Case::Drops("drop_latest"),
+        Case::Has("overflow", "drop_latest"),
         Line::Is("done"),
         DROPS_LATEST,
     ),
@@ -97,6 +101,10 @@ pub const SHARED_RULES: &[Rule] = &[
         Line::Is("refused 4 Exhausted"),
         EXHAUSTED,
     ),
+];
+
+/// Emissions that wait.
+static WAITING_RULES: [Rule; 4] = [
     Rule(
         "poll",
         Case::Always,
@@ -121,6 +129,10 @@ pub const SHARED_RULES: &[Rule] = &[
         Line::Is("false"),
         "the emission did not wait, so nothing is cancelled",
     ),
+];
+
+/// Subscribers that come and go.
+static SUBSCRIBING_RULES: [Rule; 6] = [
     Rule(
         "subscribe",
         Case::HasFirst,
@@ -146,6 +158,22 @@ pub const SHARED_RULES: &[Rule] = &[
         EXHAUSTED,
     ),
     Rule(
+        "unsubscribe",
+        Case::Always,
+        Line::Is("true"),
+        "the subscriber is gone, and emitters who waited for it alone go on",
+    ),
+    Rule(
+        "unsubscribe",
+        Case::Always,
+        Line::Is("false"),
+        NO_SUBSCRIBER,
+    ),
+];
+
+/// All others of shared flows.
+static OTHER_RULES: [Rule; 8] = [
+    Rule(
         "next",
         Case::Always,
         Line::Begins("value "),
@@ -158,18 +186,6 @@ pub const SHARED_RULES: &[Rule] = &[
         "the subscriber has received all that it is to receive so far",
     ),
     Rule("next", Case::Always, Line::Is("gone"), NO_SUBSCRIBER),
-    Rule(
-        "unsubscribe",
-        Case::Always,
-        Line::Is("true"),
-        "the subscriber is gone, and emitters who waited for it alone go on",
-    ),
-    Rule(
-        "unsubscribe",
-        Case::Always,
-        Line::Is("false"),
-        NO_SUBSCRIBER,
-    ),
     Rule(
         "cache",
         Case::Replays,
@@ -197,8 +213,19 @@ pub const SHARED_RULES: &[Rule] = &[
     ),
 ];
 
-/// The rules of state flows.
-pub const STATE_RULES: &[Rule] = &[
+/// The rules of shared flows for a step with this tag.
+pub fn shared_rules(step: &str) -> &'static [Rule] {
+    match step {
+        "try_emit" => &TRY_EMIT_RULES,
+        "emit" => &EMIT_RULES,
+        "poll" | "cancel" => &WAITING_RULES,
+        "subscribe" | "unsubscribe" => &SUBSCRIBING_RULES,
+        _ => &OTHER_RULES,
+    }
+}
+
+/// What is said of a state flow's value.
+static STATE_VALUE_RULES: [Rule; 7] = [
     Rule(
         "try_emit",
         Case::Always,
@@ -223,6 +250,28 @@ pub const STATE_RULES: &[Rule] = &[
         Line::Is("false"),
         "the current value is not the expected one, and stays",
     ),
+    Rule(
+        "cache",
+        Case::Always,
+        Line::Begins("["),
+        "the replay cache of a state flow is its current value alone",
+    ),
+    Rule(
+        "value",
+        Case::Always,
+        Line::Number,
+        "a state flow has one current value",
+    ),
+    Rule(
+        "reset",
+        Case::Always,
+        Line::Is("refused 5 Unsupported"),
+        "the replay cache of a state flow is its value, and cannot be reset",
+    ),
+];
+
+/// What is said of its subscribers.
+static STATE_SUBSCRIBER_RULES: [Rule; 8] = [
     Rule(
         "subscribe",
         Case::Always,
@@ -260,23 +309,13 @@ pub const STATE_RULES: &[Rule] = &[
         Line::Is("false"),
         NO_SUBSCRIBER,
     ),
-    Rule(
-        "cache",
-        Case::Always,
-        Line::Begins("["),
-        "the replay cache of a state flow is its current value alone",
-    ),
-    Rule(
-        "value",
-        Case::Always,
-        Line::Number,
-        "a state flow has one current value",
-    ),
     Rule("count", Case::Always, Line::Number, SUBSCRIBERS),
-    Rule(
-        "reset",
-        Case::Always,
-        Line::Is("refused 5 Unsupported"),
-        "the replay cache of a state flow is its value, and cannot be reset",
-    ),
 ];
+
+/// The rules of state flows for a step with this tag.
+pub fn state_rules(step: &str) -> &'static [Rule] {
+    match step {
+        "subscribe" | "next" | "unsubscribe" | "count" => &STATE_SUBSCRIBER_RULES,
+        _ => &STATE_VALUE_RULES,
+    }
+}

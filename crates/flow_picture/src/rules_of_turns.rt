@@ -3,16 +3,16 @@
 use crate::rules::{Case, Line, Rule};
 
 /// The rules of turns. Of a line the first one counts.
-pub const TURN_RULES: &[Rule] = &[
+pub static TURN_RULES: [Rule; 16] = [
     Rule(
         "turn",
-        Case::Started("eagerly"),
+        Case::Has("started", "eagerly"),
         Line::Begins("start "),
         "started eagerly, the chain runs from the first turn on",
     ),
     Rule(
         "turn",
-        Case::Started("lazily"),
+        Case::Has("started", "lazily"),
         Line::Begins("start "),
         "started lazily, the chain runs from the first turn with a subscriber on",
     ),
@@ -54,7 +54,7 @@ pub const TURN_RULES: &[Rule] = &[
     ),
     Rule(
         "turn",
-        Case::Started("lazily"),
+        Case::Has("started", "lazily"),
         Line::Is("keep idle"),
         "started lazily, the chain does not run before the first turn with a subscriber",
     ),
@@ -103,7 +103,7 @@ pub const TURN_RULES: &[Rule] = &[
 ];
 
 /// The rules of collections. Of a line the first one counts.
-pub const COLLECT_RULES: &[Rule] = &[
+pub static COLLECT_RULES: [Rule; 5] = [
     Rule(
         "collect",
         Case::Always,

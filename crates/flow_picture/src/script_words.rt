@@ -1,7 +1,7 @@
 //! The words of a script that was read, and of its lines.
 
+use crate::page::Page;
 use serde_json::Value;
-use std::alloc::AllocError;
 
 /// The text of a member, or none.
 pub fn text_of<'a>(value: &'a Value, key: &str) -> &'a str {
@@ -28,14 +28,14 @@ pub fn items_of<'a>(value: &'a Value, key: &str) -> &'a [Value] {
 }
 
 /// A number or a word, and anything else in short.
-fn add_value(text: &mut String, value: &Value) -> Result<(), AllocError> {
+fn add_value(page: &mut Page, value: &Value) {
     match value {
-        Value::String(word) => text.push_str(word.as_str()),
-        Value::Array(items) => add_items(text, items.as_slice()),
+        Value::String(word) => page.push_str(word.as_str()),
+        Value::Array(items) => add_items(page, items.as_slice()),
         _ => match (value.as_i64(), value.as_u64()) {
-            (Some(number), _) => write!(text, "{number}"),
-            (None, Some(number)) => write!(text, "{number}"),
-            (None, None) => text.push_str("{..}"),
+            (Some(number), _) => write!(page, "{number}"),
+            (None, Some(number)) => write!(page, "{number}"),
+            (None, None) => page.push_str("{..}"),
         },
     }
 }
@@ -43,60 +43,65 @@ fn add_value(text: &mut String, value: &Value) -> Result<(), AllocError> {
 /// How many items of a list are written out.
 const MOST_ITEMS: usize = 12;
 
-/// Numbers, words and faults.
-fn add_items(text: &mut String, items: &[Value]) -> Result<(), AllocError> {
-    text.push('[')?;
-    for (index, item) in items.iter().take(MOST_ITEMS).enumerate() {
-        if index > 0 {
-            text.push_str(", ")?;
-        }
-        match item.as_i64() {
-            Some(number) => write!(text, "{number}")?,
-            None => text.push_str(item.as_str().unwrap_or("fault"))?,
-        }
+/// An item of a list: a number, a word or a fault.
+fn add_item(page: &mut Page, index: usize, item: &Value) {
+    if index > 0 {
+        page.push_str(", ");
     }
-    text.push_str(if items.len() > MOST_ITEMS {
+    match item.as_i64() {
+        Some(number) => write!(page, "{number}"),
+        None => page.push_str(item.as_str().unwrap_or("fault")),
+    }
+}
+
+/// Numbers, words and faults.
+fn add_items(page: &mut Page, items: &[Value]) {
+    page.push('[');
+    for (index, item) in items.iter().take(MOST_ITEMS).enumerate() {
+        add_item(page, index, item);
+    }
+    page.push_str(if items.len() > MOST_ITEMS {
         ", ..]"
     } else {
         "]"
-    })
+    });
 }
 
 /// The members of an object but one, each with its key.
-fn add_members(text: &mut String, object: &Value, but: &str) -> Result<(), AllocError> {
+fn add_members(page: &mut Page, object: &Value, but: &str) {
     let Some(members) = object.as_object() else {
-        return Ok(());
+        return;
     };
     for (key, value) in members {
         if key.as_str() != but {
-            write!(text, " {key} ")?;
-            add_value(text, value)?;
+            page.push(' ');
+            page.push_str(key.as_str());
+            page.push(' ');
+            add_value(page, value);
         }
     }
-    Ok(())
 }
 
 /// A chain: where it comes from, and its operators.
-pub fn add_chain(text: &mut String, chain: &Value) -> Result<(), AllocError> {
+pub fn add_chain(page: &mut Page, chain: &Value) {
     if let Some(source) = chain.get("from") {
-        add_members(text, source, "")?;
+        add_members(page, source, "");
     }
     for op in items_of(chain, "ops") {
-        let word = text_of(op, "op");
-        write!(text, ", {word}")?;
-        add_members(text, op, "op")?;
+        page.push_str(", ");
+        page.push_str(text_of(op, "op"));
+        add_members(page, op, "op");
     }
-    Ok(())
 }
 
 /// The value of a key, after a space: of a chain its source and its operators, and of another object its members.
-fn add_member(text: &mut String, key: &str, value: &Value) -> Result<(), AllocError> {
+fn add_member(page: &mut Page, key: &str, value: &Value) {
     match value {
-        Value::Object(_) if key == "chain" => add_chain(text, value),
-        Value::Object(_) => add_members(text, value, ""),
+        Value::Object(_) if key == "chain" => add_chain(page, value),
+        Value::Object(_) => add_members(page, value, ""),
         _ => {
-            text.push(' ')?;
-            add_value(text, value)
+            page.push(' ');
+            add_value(page, value);
         }
     }
 }
@@ -107,14 +112,13 @@ const STEP_KEYS: &[&str] = &[
 ];
 
 /// A step in words.
-pub fn add_step(text: &mut String, step: &Value) -> Result<(), AllocError> {
-    text.push_str(text_of(step, "do"))?;
+pub fn add_step(page: &mut Page, step: &Value) {
+    page.push_str(text_of(step, "do"));
     for key in STEP_KEYS {
         if let Some(value) = step.get(*key) {
-            add_member(text, key, value)?;
+            add_member(page, key, value);
         }
     }
-    Ok(())
 }
 
 /// The keys of a flow, in the order of its words.
@@ -123,14 +127,16 @@ const FLOW_KEYS: &[&str] = &[
 ];
 
 /// A flow in words, in a line of its own.
-pub fn add_flow(text: &mut String, name: &str, flow: &Value) -> Result<(), AllocError> {
-    let kind = text_of(flow, "kind");
-    write!(text, "{name}: {kind}")?;
+pub fn add_flow(page: &mut Page, name: &str, flow: &Value) {
+    page.push_str(name);
+    page.push_str(": ");
+    page.push_str(text_of(flow, "kind"));
     for key in FLOW_KEYS {
         if let Some(value) = flow.get(*key) {
-            write!(text, ", {key}")?;
-            add_member(text, key, value)?;
+            page.push_str(", ");
+            page.push_str(key);
+            add_member(page, key, value);
         }
     }
-    text.push('\n')
+    page.push('\n');
 }

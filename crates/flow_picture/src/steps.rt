@@ -1,12 +1,11 @@
 //! The picture of a script's steps, and its flows in words.
 
 use crate::marks::Drawing;
-use crate::picture::Picture;
+use crate::page::Page;
 use crate::played::Played;
 use crate::script_words::{add_flow, text_of};
-use indexmap::IndexSet;
 use serde_json::Value;
-use std::alloc::{AllocError, Global};
+use std::alloc::Global;
 
 /// The flow of a script that names none, unless its steps only collect chains.
 fn single_flow(script: &Value) -> Option<&Value> {
@@ -19,77 +18,55 @@ fn single_flow(script: &Value) -> Option<&Value> {
 }
 
 /// The lanes of the flows.
-fn add_lanes<'a>(drawing: &mut Drawing<'a>, script: &'a Value) -> Result<(), AllocError> {
+fn add_lanes<'a>(drawing: &mut Drawing<'a>, script: &'a Value) {
     if single_flow(script).is_some() {
-        return drawing.add_flow("flow");
-    }
-    if let Some(Value::Object(flows)) = script.get("flows") {
+        drawing.add_flow("flow");
+    } else if let Some(Value::Object(flows)) = script.get("flows") {
         for (name, _) in flows {
-            drawing.add_flow(name.as_str())?;
+            drawing.add_flow(name.as_str());
         }
     }
-    Ok(())
 }
 
-fn add_steps<'a>(
-    drawing: &mut Drawing<'a>,
-    script: &'a Value,
-    played: Played<'a>,
-) -> Result<(), AllocError> {
-    add_lanes(drawing, script)?;
+fn add_steps<'a>(drawing: &mut Drawing<'a>, played: Played<'a>) {
     for (place, step) in played.steps.iter().enumerate() {
-        drawing.add_step(step, played.line(place), played.seen(place))?;
+        drawing.add_step(step, played.line(place), played.seen(place));
     }
-    Ok(())
 }
 
 /// How far behind the subscribers are in the end, in a column after the last step. Who has received all has no mark.
-fn add_last_lags<'a>(drawing: &mut Drawing<'a>, played: Played<'a>) -> Result<(), AllocError> {
+fn add_last_lags<'a>(drawing: &mut Drawing<'a>, played: Played<'a>) {
     for (place, step) in played.steps.iter().enumerate() {
-        drawing.add_last_lag(step, played.last_lag(place))?;
+        drawing.add_last_lag(step, played.last_lag(place));
     }
     drawing.picture.end_column();
-    Ok(())
 }
 
 /// A lane for each flow, subscriber and emission, and a column for each step that was played.
-pub fn steps_picture<'a>(
-    alloc: Global,
-    script: &'a Value,
-    played: Played<'a>,
-) -> Result<Picture<'a>, AllocError> {
-    let mut drawing = Drawing {
-        picture: Picture::new(alloc),
-        flows: IndexSet::new(alloc),
-        names: IndexSet::new(alloc),
-    };
-    add_steps(&mut drawing, script, played)?;
-    add_last_lags(&mut drawing, played)?;
-    Ok(drawing.picture)
+pub fn steps_drawing<'a>(alloc: Global, script: &'a Value, played: Played<'a>) -> Drawing<'a> {
+    let mut drawing = Drawing::new(alloc);
+    add_lanes(&mut drawing, script);
+    add_steps(&mut drawing, played);
+    add_last_lags(&mut drawing, played);
+    drawing
 }
 
 /// What the flows are, a line for each.
-pub fn add_heads(text: &mut String, script: &Value) -> Result<(), AllocError> {
+pub fn add_heads(page: &mut Page, script: &Value) {
     if let Some(flow) = single_flow(script) {
-        return add_flow(text, "flow", flow);
-    }
-    if let Some(Value::Object(flows)) = script.get("flows") {
+        add_flow(page, "flow", flow);
+    } else if let Some(Value::Object(flows)) = script.get("flows") {
         for (name, flow) in flows {
-            add_flow(text, name.as_str(), flow)?;
+            add_flow(page, name.as_str(), flow);
         }
     }
-    Ok(())
 }
 
 /// What the flows are, and the lines of those that were refused.
-pub fn add_all_heads(
-    text: &mut String,
-    script: &Value,
-    played: Played<'_>,
-) -> Result<(), AllocError> {
-    add_heads(text, script)?;
+pub fn add_all_heads(page: &mut Page, script: &Value, played: Played<'_>) {
+    add_heads(page, script);
     for line in played.lines.iter().take(played.refused) {
-        writeln!(text, "{line}")?;
+        page.push_str(line);
+        page.push('\n');
     }
-    Ok(())
 }

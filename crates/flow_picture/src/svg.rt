@@ -1,7 +1,8 @@
 //! A picture as SVG.
 
 use crate::frame::Frame;
-use crate::layout::{Numbered, Part};
+use crate::layout::{Cell, Numbered, Part};
+use crate::page::Page;
 use crate::parts::parts_of;
 use crate::played::Played;
 use crate::script_words::{add_chain, text_of};
@@ -26,7 +27,7 @@ const HEADER: usize = 62;
 #[derive(Drop)]
 struct Canvas {
     alloc: Global,
-    elements: String,
+    page: Page,
     width: usize,
     height: usize,
     /// Where the next column begins.
@@ -35,96 +36,132 @@ struct Canvas {
 
 impl Canvas {
     /// A line of words. It has no character that SVG reads otherwise.
-    fn add_words(&mut self, words: &str) -> Result<(), AllocError> {
+    fn add_words(&mut self, words: &str) {
         let y = self.height.saturating_add(22);
         let width = words.len().saturating_mul(8).saturating_add(16);
         self.width = self.width.max(width);
         self.height = y.saturating_add(8);
-        begin_text(&mut self.elements, "a", 8, y)?;
-        self.elements.push_str(words)?;
-        self.elements.push_str(END_TEXT)
+        begin_text(&mut self.page, "a", 8, y);
+        self.page.push_str(words);
+        self.page.push_str(END_TEXT);
     }
 
     /// What the flows are, and the lines of those that were refused.
     fn add_heads(&mut self, script: &Value, played: Played<'_>) -> Result<(), AllocError> {
-        let mut heads = String::new(self.alloc);
-        add_all_heads(&mut heads, script, played)?;
-        for head in heads.as_str().lines() {
-            self.add_words(head)?;
+        let mut heads = Page::new(self.alloc);
+        add_all_heads(&mut heads, script, played);
+        for head in heads.finish()?.as_str().lines() {
+            self.add_words(head);
         }
         Ok(())
     }
 
     /// The number of a step above its column, and what it does, in a word that rises to the right.
-    fn add_number(&mut self, numbered: Numbered<'_>) -> Result<(), AllocError> {
+    fn add_number(&mut self, numbered: Numbered<'_>) {
         let number = numbered.number;
-        let word = text_of(numbered.step, "do");
         let x = pixels(1).saturating_add(self.x);
         let y = self.height.saturating_add(40);
-        let below = self.height.saturating_add(54);
         self.x = self.x.saturating_add(pixels(numbered.width));
+        begin_text(&mut self.page, "h", x, self.height.saturating_add(54));
         write!(
-            self.elements,
-            "<text class=\"h\" x=\"{x}\" y=\"{below}\">{number}</text>\n<text class=\"h\" transform=\"translate({x} {y}) rotate(-24)\">{word}</text>\n"
-        )
+            self.page,
+            "{number}</text>\n<text class=\"h\" transform=\"translate({x} {y}) rotate(-24)\">"
+        );
+        self.page.push_str(text_of(numbered.step, "do"));
+        self.page.push_str(END_TEXT);
     }
 
     /// A collection in words.
-    fn add_collection(&mut self, step: usize, chain: &Value) -> Result<(), AllocError> {
-        let mut words = String::new(self.alloc);
-        write!(words, "step {step}: collect")?;
-        add_chain(&mut words, chain)?;
-        self.add_words(words.as_str())
+    fn add_collection(&mut self, step: usize, chain: &Value) {
+        let mut words = Page::new(self.alloc);
+        write!(words, "step {step}: collect");
+        add_chain(&mut words, chain);
+        match words.finish() {
+            Ok(words) => self.add_words(words.as_str()),
+            Err(_) => self.page.fail(),
+        }
     }
 
-    fn add_part(&mut self, part: Part<'_>) -> Result<(), AllocError> {
-        let y = self.height.saturating_add(LANE / 2);
+    /// The name of a lane.
+    fn add_name(&mut self, name: &str) {
+        let y = self.height.saturating_add(LANE / 2 + 5);
+        self.x = pixels(NAME_WIDTH);
+        begin_text(&mut self.page, "a", 8, y);
+        add_cut(&mut self.page, name, NAME_WIDTH - 2);
+        self.page.push_str(END_TEXT);
+    }
+
+    /// A column of a lane.
+    fn add_cell(&mut self, cell: Cell<'_>) {
+        let x = self.x;
+        self.x = x.saturating_add(pixels(cell.width));
+        add_cell(
+            &mut self.page,
+            cell,
+            x,
+            self.height.saturating_add(LANE / 2),
+        );
+    }
+
+    fn add_part(&mut self, part: Part<'_>) {
         match part {
             Part::Numbers => self.x = pixels(NAME_WIDTH),
-            Part::Number(numbered) => return self.add_number(numbered),
+            Part::Number(numbered) => self.add_number(numbered),
             Part::EndNumbers => self.height = self.height.saturating_add(HEADER),
-            Part::Name(name) => {
-                self.x = pixels(NAME_WIDTH);
-                begin_text(&mut self.elements, "a", 8, y.saturating_add(5))?;
-                add_cut(&mut self.elements, name, NAME_WIDTH - 2)?;
-                return self.elements.push_str(END_TEXT);
-            }
-            Part::Cell(cell) => {
-                let x = self.x;
-                self.x = x.saturating_add(pixels(cell.width));
-                return add_cell(&mut self.elements, cell, x, y);
-            }
+            Part::Name(name) => self.add_name(name),
+            Part::Cell(cell) => self.add_cell(cell),
             Part::EndLane => self.height = self.height.saturating_add(LANE),
             Part::EndBand(width) => {
                 self.width = self.width.max(pixels(width).saturating_add(MARGIN));
             }
-            Part::Collection(step, chain) => return self.add_collection(step, chain),
+            Part::Collection(step, chain) => self.add_collection(step, chain),
         }
-        Ok(())
+    }
+
+    fn add_parts(&mut self, parts: &[Part<'_>]) {
+        for part in parts {
+            self.add_part(*part);
+        }
+    }
+
+    /// The end of what is drawn.
+    fn add_legend(&mut self) {
+        let y = self.height.saturating_add(10);
+        self.height = y.saturating_add(LEGEND_HEIGHT);
+        writeln!(self.page, "<g transform=\"translate(0 {y})\">");
+        self.page.push_str(LEGEND);
+        self.page.push_str("</svg>\n");
     }
 
     /// All that is drawn of a script.
     fn add_all(&mut self, script: &Value, played: Played<'_>) -> Result<(), AllocError> {
+        self.page.push_str(STYLE);
         self.add_heads(script, played)?;
-        for part in &parts_of(self.alloc, script, played)? {
-            self.add_part(*part)?;
-        }
-        let y = self.height.saturating_add(10);
-        self.height = y.saturating_add(LEGEND_HEIGHT);
-        write!(
-            self.elements,
-            "<g transform=\"translate(0 {y})\">\n{LEGEND}</svg>\n"
-        )
+        self.add_parts(parts_of(self.alloc, script, played)?.as_slice());
+        self.add_legend();
+        Ok(())
     }
 
     /// What stands before the lines of a script: they are a part of the description in words, after the flows.
-    fn add_front(&self, front: &mut String, script: &Value) -> Result<(), AllocError> {
+    fn front(&self, script: &Value) -> Page {
         let (width, height) = (self.width, self.height);
+        let mut front = Page::new(self.alloc);
+        front.push_str("<svg xmlns=\"http://www.w3.org/2000/svg\" ");
         write!(
             front,
-            "<svg xmlns=\"http://www.w3.org/2000/svg\" viewBox=\"0 0 {width} {height}\" width=\"{width}\" height=\"{height}\" {TITLE}"
-        )?;
-        add_heads(front, script)
+            "viewBox=\"0 0 {width} {height}\" width=\"{width}\" height=\"{height}\" "
+        );
+        front.push_str(TITLE);
+        add_heads(&mut front, script);
+        front
+    }
+
+    /// What stands before the lines of a script, and after them.
+    fn frame(self, script: &Value) -> Result<Frame, AllocError> {
+        let before = self.front(script).finish()?;
+        let Canvas { page, .. } = self;
+        let after = page.finish()?;
+        Ok(Frame { before, after })
     }
 }
 
@@ -138,17 +175,11 @@ role=\"img\" aria-labelledby=\"title lines\">
 pub fn svg_frame(alloc: Global, script: &Value, played: Played<'_>) -> Result<Frame, AllocError> {
     let mut canvas = Canvas {
         alloc,
-        elements: String::from_str(alloc, STYLE)?,
+        page: Page::new(alloc),
         width: LEAST_WIDTH,
         height: 12,
         x: 0,
     };
     canvas.add_all(script, played)?;
-    let mut before = String::new(alloc);
-    canvas.add_front(&mut before, script)?;
-    let Canvas { elements, .. } = canvas;
-    Ok(Frame {
-        before,
-        after: elements,
-    })
+    canvas.frame(script)
 }

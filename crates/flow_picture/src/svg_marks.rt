@@ -1,9 +1,9 @@
 //! The marks of a lane and its line as SVG.
 
 use crate::layout::Cell;
+use crate::page::Page;
 use crate::picture::{Mark, Sign, Words};
 use crate::widths::{add_lag, add_words, words_width};
-use std::alloc::AllocError;
 
 /// How wide a character is, in pixels.
 const CHARACTER: usize = 9;
@@ -17,13 +17,10 @@ pub fn pixels(characters: usize) -> usize {
 pub const END_TEXT: &str = "</text>\n";
 
 /// The beginning of a text of a class at a place.
-pub fn begin_text(
-    elements: &mut String,
-    class: &str,
-    x: usize,
-    y: usize,
-) -> Result<(), AllocError> {
-    write!(elements, "<text class=\"{class}\" x=\"{x}\" y=\"{y}\">")
+pub fn begin_text(page: &mut Page, class: &str, x: usize, y: usize) {
+    page.push_str("<text class=\"");
+    page.push_str(class);
+    write!(page, "\" x=\"{x}\" y=\"{y}\">");
 }
 
 /// How a mark looks: the class of its box, the class of its words, and the radius of the box's corners.
@@ -63,67 +60,67 @@ fn size_of(mark: Mark<'_>) -> (usize, usize) {
     }
 }
 
+/// The box of a mark, whose left side is at `x` and whose middle is at `y`.
+fn add_box(
+    page: &mut Page,
+    (shape, corner): (&str, usize),
+    (width, height): (usize, usize),
+    x: usize,
+    y: usize,
+) {
+    let top = y.saturating_sub(height / 2);
+    page.push_str("<rect class=\"");
+    page.push_str(shape);
+    write!(page, "\" x=\"{x}\" y=\"{top}\" width=\"{width}\"");
+    writeln!(page, " height=\"{height}\" rx=\"{corner}\"/>");
+}
+
 /// A mark whose box begins at `x`, on the line at `y`.
-fn add_mark(elements: &mut String, mark: Mark<'_>, x: usize, y: usize) -> Result<(), AllocError> {
+fn add_mark(page: &mut Page, mark: Mark<'_>, x: usize, y: usize) {
     let (shape, class, corner) = look_of(mark);
     let (width, height) = size_of(mark);
-    let top = y.saturating_sub(height / 2);
-    writeln!(
-        elements,
-        "<rect class=\"{shape}\" x=\"{x}\" y=\"{top}\" width=\"{width}\" height=\"{height}\" rx=\"{corner}\"/>"
-    )?;
-    let middle = x.saturating_add(width / 2);
-    begin_text(elements, class, middle, y.saturating_add(5))?;
-    add_words(elements, mark.words)?;
-    elements.push_str(END_TEXT)?;
-    add_lag_at(elements, mark.lag, x.saturating_add(width), y)
+    add_box(page, (shape, corner), (width, height), x, y);
+    begin_text(
+        page,
+        class,
+        x.saturating_add(width / 2),
+        y.saturating_add(5),
+    );
+    add_words(page, mark.words);
+    page.push_str(END_TEXT);
+    add_lag_at(page, mark.lag, x.saturating_add(width), y);
 }
 
 /// How many values more are there for a subscriber, to the right of its mark.
-fn add_lag_at(elements: &mut String, lag: u64, x: usize, y: usize) -> Result<(), AllocError> {
-    if lag == 0 {
-        return Ok(());
+fn add_lag_at(page: &mut Page, lag: u64, x: usize, y: usize) {
+    if lag > 0 {
+        begin_text(page, "h", x.saturating_add(3), y.saturating_sub(5));
+        add_lag(page, lag);
+        page.push_str(END_TEXT);
     }
-    begin_text(elements, "h", x.saturating_add(3), y.saturating_sub(5))?;
-    add_lag(elements, lag)?;
-    elements.push_str(END_TEXT)
 }
 
 /// The line of a lane through a column from `x` on, whose mark has its middle there.
-fn add_line(
-    elements: &mut String,
-    cell: Cell<'_>,
-    x: usize,
-    middle: usize,
-    y: usize,
-) -> Result<(), AllocError> {
+fn add_line(page: &mut Page, cell: Cell<'_>, x: usize, middle: usize, y: usize) {
     let end = x.saturating_add(pixels(cell.width));
     let from = if cell.comes { x } else { middle };
     let to = if cell.goes_on { end } else { middle };
-    let class = if cell.waits { "x d" } else { "x" };
-    writeln!(
-        elements,
-        "<line class=\"{class}\" x1=\"{from}\" y1=\"{y}\" x2=\"{to}\" y2=\"{y}\"/>"
-    )
+    page.push_str("<line class=\"");
+    page.push_str(if cell.waits { "x d" } else { "x" });
+    writeln!(page, "\" x1=\"{from}\" y1=\"{y}\" x2=\"{to}\" y2=\"{y}\"/>");
 }
 
 /// A column of a lane from `x` on: its line, and the mark there.
-pub fn add_cell(
-    elements: &mut String,
-    cell: Cell<'_>,
-    x: usize,
-    y: usize,
-) -> Result<(), AllocError> {
+pub fn add_cell(page: &mut Page, cell: Cell<'_>, x: usize, y: usize) {
     let begin = x.saturating_add(CHARACTER);
     if cell.has_line {
         let middle = match cell.mark {
             Some(mark) => begin.saturating_add(size_of(mark).0 / 2),
             None => begin,
         };
-        add_line(elements, cell, x, middle, y)?;
+        add_line(page, cell, x, middle, y);
     }
-    match cell.mark {
-        Some(mark) => add_mark(elements, mark, begin, y),
-        None => Ok(()),
+    if let Some(mark) = cell.mark {
+        add_mark(page, mark, begin, y);
     }
 }

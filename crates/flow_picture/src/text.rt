@@ -1,8 +1,10 @@
 //! A picture as text for a terminal.
 
 use crate::frame::Frame;
-use crate::layout::{Cell, MOST_WIDTH, Part};
+use crate::layout::{Cell, MOST_WIDTH, Numbered, Part};
+use crate::page::Page;
 use crate::parts::parts_of;
+use crate::picture::Mark;
 use crate::played::Played;
 use crate::script_words::add_chain;
 use crate::steps::add_all_heads;
@@ -18,88 +20,82 @@ const LEGEND: &str = "\
 
 ";
 
-/// The same letter, so many times.
-fn add_letters(text: &mut String, letter: char, count: usize) -> Result<(), AllocError> {
-    for _ in 0..count {
-        text.push(letter)?;
-    }
-    Ok(())
-}
-
 /// The end of a line, without the spaces before it.
-fn end_line(text: &mut String) -> Result<(), AllocError> {
-    for _ in 0..MOST_WIDTH {
-        if !text.ends_with(' ') {
-            break;
-        }
-        text.pop();
-    }
-    text.push('\n')
+fn end_line(page: &mut Page) {
+    page.pop_spaces(MOST_WIDTH);
+    page.push('\n');
 }
 
 /// A name, as wide as the place before the lanes.
-fn add_name(text: &mut String, name: &str) -> Result<(), AllocError> {
+fn add_name(page: &mut Page, name: &str) {
     let width = name.len().min(NAME_WIDTH - 2);
-    add_cut(text, name, NAME_WIDTH - 2)?;
-    add_letters(text, ' ', NAME_WIDTH - width)
+    add_cut(page, name, NAME_WIDTH - 2);
+    page.push_times(' ', NAME_WIDTH - width);
+}
+
+/// A mark between its signs.
+fn add_mark(page: &mut Page, mark: Mark<'_>) {
+    let (before, after) = brackets(mark.sign);
+    page.push_str(before);
+    add_words(page, mark.words);
+    page.push_str(after);
+    add_lag(page, mark.lag);
 }
 
 /// A column of a lane: its line, and the mark there.
-fn add_cell(text: &mut String, cell: Cell<'_>) -> Result<(), AllocError> {
+fn add_cell(page: &mut Page, cell: Cell<'_>) {
     let line = if cell.waits { '┄' } else { '─' };
-    text.push(if cell.comes { line } else { ' ' })?;
+    page.push(if cell.comes { line } else { ' ' });
     let mut taken = 1;
     if let Some(mark) = cell.mark {
-        let (before, after) = brackets(mark.sign);
-        text.push_str(before)?;
-        add_words(text, mark.words)?;
-        text.push_str(after)?;
-        add_lag(text, mark.lag)?;
+        add_mark(page, mark);
         taken = mark_width(mark).saturating_add(1);
     }
     let after = if cell.goes_on { line } else { ' ' };
-    add_letters(text, after, cell.width.saturating_sub(taken))
+    page.push_times(after, cell.width.saturating_sub(taken));
 }
 
-fn add_part(text: &mut String, part: Part<'_>) -> Result<(), AllocError> {
+/// The number of a step above its column.
+fn add_number(page: &mut Page, numbered: Numbered<'_>) {
+    let number = numbered.number;
+    write!(page, " {number}");
+    let taken = number_width(number as u64).saturating_add(1);
+    page.push_times(' ', numbered.width.saturating_sub(taken));
+}
+
+/// A collection in words.
+fn add_collection(page: &mut Page, step: usize, chain: &Value) {
+    write!(page, "step {step}: collect");
+    add_chain(page, chain);
+    page.push('\n');
+}
+
+fn add_part(page: &mut Page, part: Part<'_>) {
     match part {
-        Part::Numbers => add_name(text, "step"),
-        Part::Number(numbered) => {
-            let number = numbered.number;
-            write!(text, " {number}")?;
-            let taken = number_width(number as u64).saturating_add(1);
-            add_letters(text, ' ', numbered.width.saturating_sub(taken))
-        }
-        Part::Name(name) => add_name(text, name),
-        Part::Cell(cell) => add_cell(text, cell),
-        Part::EndNumbers | Part::EndLane => end_line(text),
-        Part::EndBand(_) => text.push('\n'),
-        Part::Collection(step, chain) => {
-            write!(text, "step {step}: collect")?;
-            add_chain(text, chain)?;
-            text.push('\n')
-        }
+        Part::Numbers => add_name(page, "step"),
+        Part::Number(numbered) => add_number(page, numbered),
+        Part::Name(name) => add_name(page, name),
+        Part::Cell(cell) => add_cell(page, cell),
+        Part::EndNumbers | Part::EndLane => end_line(page),
+        Part::EndBand(_) => page.push('\n'),
+        Part::Collection(step, chain) => add_collection(page, step, chain),
     }
 }
 
-fn add_all(
-    alloc: Global,
-    text: &mut String,
-    script: &Value,
-    played: Played<'_>,
-) -> Result<(), AllocError> {
-    add_all_heads(text, script, played)?;
-    text.push('\n')?;
-    for part in &parts_of(alloc, script, played)? {
-        add_part(text, *part)?;
+fn add_parts(page: &mut Page, parts: &[Part<'_>]) {
+    for part in parts {
+        add_part(page, *part);
     }
-    text.push_str(LEGEND)
 }
 
 /// The pictures of a script, which its lines follow.
 pub fn text_frame(alloc: Global, script: &Value, played: Played<'_>) -> Result<Frame, AllocError> {
-    let mut before = String::new(alloc);
-    add_all(alloc, &mut before, script, played)?;
+    let mut page = Page::new(alloc);
+    add_all_heads(&mut page, script, played);
+    page.push('\n');
+    add_parts(&mut page, parts_of(alloc, script, played)?.as_slice());
+    page.push_str(LEGEND);
+    let before = page.finish()?;
     Ok(Frame {
         before,
         after: String::new(alloc),

@@ -1,7 +1,7 @@
 //! How wide the words and the marks of a picture are, in characters.
 
+use crate::page::Page;
 use crate::picture::{Mark, Sign, Words};
-use std::alloc::AllocError;
 
 /// The most characters of a name before its lane.
 pub const NAME_WIDTH: usize = 14;
@@ -36,32 +36,32 @@ pub fn words_width(words: Words<'_>) -> usize {
 }
 
 /// What stands in a mark. A longer text is cut.
-pub fn add_words(text: &mut String, words: Words<'_>) -> Result<(), AllocError> {
+pub fn add_words(page: &mut Page, words: Words<'_>) {
     match words {
-        Words::None => Ok(()),
-        Words::Number(number) => write!(text, "{number}"),
-        Words::More(count) => add_lag(text, count),
-        Words::Text(words) => add_cut(text, words, WORDS_WIDTH),
+        Words::None => {}
+        Words::Number(number) => write!(page, "{number}"),
+        Words::More(count) => add_lag(page, count),
+        Words::Text(words) => add_cut(page, words, WORDS_WIDTH),
     }
 }
 
 /// That so many more are there, if there are some.
-pub fn add_lag(text: &mut String, count: u64) -> Result<(), AllocError> {
-    if count == 0 {
-        return Ok(());
+pub fn add_lag(page: &mut Page, count: u64) {
+    if count > 0 {
+        write!(page, "+{count}");
     }
-    write!(text, "+{count}")
 }
 
 /// A text, of which at most so many characters are kept.
-pub fn add_cut(text: &mut String, words: &str, most: usize) -> Result<(), AllocError> {
+pub fn add_cut(page: &mut Page, words: &str, most: usize) {
     if words.len() <= most {
-        return text.push_str(words);
+        page.push_str(words);
+        return;
     }
     for letter in words.chars().take(most.saturating_sub(2)) {
-        text.push(letter)?;
+        page.push(letter);
     }
-    text.push_str("..")
+    page.push_str("..");
 }
 
 /// What stands before and after the words of a mark where a picture is text.
