@@ -1,0 +1,100 @@
+//! The rules of state flows.
+
+use crate::rules::{Case, Line, Rule};
+use crate::rules_of_flows::{EXHAUSTED, NO_SUBSCRIBER, SUBSCRIBERS};
+
+/// What is said of a state flow's value.
+static STATE_VALUE_RULES: [Rule; 7] = [
+    Rule(
+        "try_emit",
+        Case::Always,
+        Line::Is("true"),
+        "a state flow always takes a value: it is the current one now",
+    ),
+    Rule(
+        "set",
+        Case::Always,
+        Line::Is("set"),
+        "the value is the current one now; setting one that is the same does nothing",
+    ),
+    Rule(
+        "compare_and_set",
+        Case::Always,
+        Line::Is("true"),
+        "the current value was the expected one, and the new one is current now",
+    ),
+    Rule(
+        "compare_and_set",
+        Case::Always,
+        Line::Is("false"),
+        "the current value is not the expected one, and stays",
+    ),
+    Rule(
+        "cache",
+        Case::Always,
+        Line::Begins("["),
+        "the replay cache of a state flow is its current value alone",
+    ),
+    Rule(
+        "value",
+        Case::Always,
+        Line::Number,
+        "a state flow has one current value",
+    ),
+    Rule(
+        "reset",
+        Case::Always,
+        Line::Is("refused 5 Unsupported"),
+        "the replay cache of a state flow is its value, and cannot be reset",
+    ),
+];
+
+/// What is said of its subscribers.
+static STATE_SUBSCRIBER_RULES: [Rule; 8] = [
+    Rule(
+        "subscribe",
+        Case::Always,
+        Line::Is("subscribed"),
+        "a new subscriber of a state flow first gets the current value",
+    ),
+    Rule(
+        "subscribe",
+        Case::Always,
+        Line::Is("refused 4 Exhausted"),
+        EXHAUSTED,
+    ),
+    Rule(
+        "next",
+        Case::Always,
+        Line::Begins("value "),
+        "the current value, which is not the same as the last one that the subscriber got",
+    ),
+    Rule(
+        "next",
+        Case::Always,
+        Line::Is("empty"),
+        "the current value is the same as the last one that the subscriber got",
+    ),
+    Rule("next", Case::Always, Line::Is("gone"), NO_SUBSCRIBER),
+    Rule(
+        "unsubscribe",
+        Case::Always,
+        Line::Is("true"),
+        "the subscriber is gone",
+    ),
+    Rule(
+        "unsubscribe",
+        Case::Always,
+        Line::Is("false"),
+        NO_SUBSCRIBER,
+    ),
+    Rule("count", Case::Always, Line::Number, SUBSCRIBERS),
+];
+
+/// The rules of state flows for a step with this tag.
+pub fn state_rules(step: &str) -> &'static [Rule] {
+    match step {
+        "subscribe" | "next" | "unsubscribe" | "count" => &STATE_SUBSCRIBER_RULES,
+        _ => &STATE_VALUE_RULES,
+    }
+}
