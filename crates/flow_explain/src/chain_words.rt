@@ -11,7 +11,7 @@ pub const MOST_ITEMS: usize = 10_000;
 pub const MOST_SPREAD: usize = 1_000;
 
 /// A chain.
-pub const CHAIN: Shape = Shape {
+pub static CHAIN: Shape = Shape {
     name: "a chain",
     keys: &[
         Key {
@@ -46,7 +46,7 @@ const SCRIPTED: Key = Key {
 };
 
 /// The sources, by the one key that each has.
-const SOURCE_ROWS: &[Row] = &[
+static SOURCE_ROWS: [Row; 3] = [
     Row {
         word: "of",
         name: "a source with \"of\"",
@@ -69,7 +69,7 @@ const SOURCE_ROWS: &[Row] = &[
 
 /// The keys of a source by the first one that it has, since it has no other.
 pub fn source_shape(source: &Value) -> Shape {
-    for row in SOURCE_ROWS {
+    for row in &SOURCE_ROWS {
         if source.get(row.word).is_some() {
             return Shape {
                 name: row.name,
@@ -81,13 +81,13 @@ pub fn source_shape(source: &Value) -> Shape {
 }
 
 /// A source of which nothing is known yet.
-const ANY_SOURCE: Shape = Shape {
+static ANY_SOURCE: Shape = Shape {
     name: "a source",
     keys: &[OF, RANGE, SCRIPTED],
 };
 
 /// An entry of a scripted source that is a fault.
-pub const FAULT: Shape = Shape {
+pub static FAULT: Shape = Shape {
     name: "a fault",
     keys: &[Key {
         word: "fault",
@@ -97,7 +97,7 @@ pub const FAULT: Shape = Shape {
 };
 
 /// The tag of an operator.
-pub const OP: Key = Key {
+const OP: Key = Key {
     word: "op",
     form: Form::Tag,
     need: Need::Always,
@@ -183,7 +183,7 @@ macro_rules! operator {
 }
 
 /// The operators, by their tags.
-pub const OPERATOR_ROWS: &[Row] = &[
+static OPERATOR_ROWS: [Row; 12] = [
     operator!("map", &[OP, BY_ARITHMETIC, K], Need::Always),
     operator!("filter", &[OP, BY_TEST, MAYBE_K], Need::Always),
     operator!("take_while", &[OP, BY_TEST, MAYBE_K], Need::Always),
@@ -197,6 +197,11 @@ pub const OPERATOR_ROWS: &[Row] = &[
     operator!("drop_while", &[OP, BY_TEST, MAYBE_K], Need::OnlyInTwo),
     operator!("running_reduce", &[OP, BY_ARITHMETIC], Need::OnlyInTwo),
 ];
+
+/// The operators, by their tags.
+pub fn operator_rows() -> &'static [Row] {
+    &OPERATOR_ROWS
+}
 
 const PARITY_KEYS: &[Key] = &[OP, BY_TEST];
 

@@ -1,8 +1,8 @@
 //! The words of which one is right.
 
 use crate::head::text_at;
-use crate::step_words::{STEP_ROWS, is_allowed};
-use crate::words::{Key, Presence, Row, Version};
+use crate::step_words::{is_allowed, step_rows};
+use crate::words::{Key, Row, Version};
 use serde_json::{Map, Value};
 use std::alloc::AllocError;
 
@@ -22,34 +22,50 @@ pub enum Choices<'a> {
     Names(&'a [Value], &'static str, &'a str),
 }
 
+/// A word, and whether it may be chosen, if there is one at an index.
+type Choice<'a> = Option<(&'a str, bool)>;
+
+fn word_at(words: &'static [&'static str], index: usize) -> Choice<'static> {
+    let word = words.get(index)?;
+    Some((*word, true))
+}
+
+fn key_at(keys: &'static [Key], version: Version, index: usize) -> Choice<'static> {
+    let key = keys.get(index)?;
+    Some((key.word, key.need.is_known(version)))
+}
+
+fn tag_at(rows: &'static [Row], version: Version, index: usize) -> Choice<'static> {
+    let row = rows.get(index)?;
+    Some((row.word, row.need.is_known(version)))
+}
+
+fn step_at(kind: &str, index: usize) -> Choice<'static> {
+    let row = step_rows().get(index)?;
+    Some((row.word, is_allowed(row.word, kind)))
+}
+
+fn flow_at(flows: &Map<String, Value>, index: usize) -> Choice<'_> {
+    let name = flows.keys().nth(index)?;
+    Some((name.as_str(), true))
+}
+
+/// The name that a step introduces, and whether the step has this tag and is about this flow.
+fn name_of<'a>(step: &'a Value, tag: &str, flow: &str) -> (&'a str, bool) {
+    let is_made = text_at(step, "do") == tag && text_at(step, "flow") == flow;
+    (text_at(step, "name"), is_made)
+}
+
 impl<'a> Choices<'a> {
     /// The word at an index, and whether it may be chosen.
-    pub fn at(self, index: usize) -> Option<(&'a str, bool)> {
+    pub fn at(self, index: usize) -> Choice<'a> {
         match self {
-            Choices::Words(words) => Some((*words.get(index)?, true)),
-            Choices::Keys(keys, version) => {
-                let key = keys.get(index)?;
-                let is_known = !matches!(key.need.within(version), Presence::Unknown);
-                Some((key.word, is_known))
-            }
-            Choices::Tags(rows, version) => {
-                let row = rows.get(index)?;
-                let is_known = !matches!(row.need.within(version), Presence::Unknown);
-                Some((row.word, is_known))
-            }
-            Choices::StepsOf(kind) => {
-                let row = STEP_ROWS.get(index)?;
-                Some((row.word, is_allowed(row.word, kind)))
-            }
-            Choices::Flows(flows) => {
-                let name = flows.keys().nth(index)?;
-                Some((name.as_str(), true))
-            }
-            Choices::Names(steps, tag, flow) => {
-                let step = steps.get(index)?;
-                let is_made = text_at(step, "do") == tag && text_at(step, "flow") == flow;
-                Some((text_at(step, "name"), is_made))
-            }
+            Choices::Words(words) => word_at(words, index),
+            Choices::Keys(keys, version) => key_at(keys, version, index),
+            Choices::Tags(rows, version) => tag_at(rows, version, index),
+            Choices::StepsOf(kind) => step_at(kind, index),
+            Choices::Flows(flows) => flow_at(flows, index),
+            Choices::Names(steps, tag, flow) => Some(name_of(steps.get(index)?, tag, flow)),
         }
     }
 
@@ -65,6 +81,14 @@ impl<'a> Choices<'a> {
     }
 }
 
+/// Adds some words, one after the other.
+pub fn add_words(to: &mut String, words: &[&str]) -> Result<(), AllocError> {
+    for word in words {
+        to.push_str(word)?;
+    }
+    Ok(())
+}
+
 /// Words between quotes, as they are listed in a sentence, and what stands before them.
 pub fn add_choices(to: &mut String, before: &str, choices: Choices<'_>) -> Result<(), AllocError> {
     to.push_str(before)?;
@@ -74,9 +98,7 @@ pub fn add_choices(to: &mut String, before: &str, choices: Choices<'_>) -> Resul
             break;
         };
         if is_right {
-            to.push_str(opening)?;
-            to.push_str(word)?;
-            to.push('"')?;
+            add_words(to, &[opening, word, "\""])?;
             opening = ", \"";
         }
     }

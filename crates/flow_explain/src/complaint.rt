@@ -1,6 +1,6 @@
 //! What is wrong in a script, and where.
 
-use crate::choices::{Choices, add_choices};
+use crate::choices::{Choices, add_choices, add_words};
 use crate::introduced::Introduced;
 use crate::json::{Place, Spot, Text};
 use crate::nearest::nearest_of;
@@ -58,15 +58,12 @@ pub enum Expected<'a> {
     AtMost(u64),
     /// A value of this form, and the key that is to have it where that is missing.
     Form(Option<&'static str>, Form),
-    /// No key but these.
-    Keys(Choices<'a>),
+    /// What these words say, and then one of these choices.
+    OneOf(&'static str, Choices<'a>),
     /// This tag, and one of these.
     Tag(&'static str, Choices<'a>),
-    OneOf(Choices<'a>),
-    /// What these words say of a name, which stands for something else.
-    Other(&'static str, Introduced<'a>),
-    /// Another name than that of this step.
-    NewName(Introduced<'a>),
+    /// What these words say of a name, which this step introduced; and whether it is told for what.
+    Other(&'static str, Introduced<'a>, bool),
 }
 
 /// What is wrong in a text, and where.
@@ -85,26 +82,70 @@ pub struct Complaint<'a> {
 pub type Found<'a> = Result<Option<Complaint<'a>>, AllocError>;
 
 impl What<'_> {
+    /// Whether what stands there is told before.
+    fn tells_value(self) -> bool {
+        matches!(
+            self,
+            What::NoKey(..) | What::NoValue(..) | What::NoItem(_) | What::Told(_)
+        )
+    }
+
+    /// What is said, after the key or the value if that is told. What has a word of the script in it, a number or a fault is not
+    /// said here.
+    fn words(self) -> [&'static str; 4] {
+        match self {
+            What::NoKey(object, version) => [" is no key of ", object, version, ""],
+            What::NoValue(key, version) => [" is no value of \"", key, "\"", version],
+            What::NoItem(key) => [" is no item of \"", key, "\"", ""],
+            What::Told(words) | What::Words(words) => [words, "", "", ""],
+            What::MissingKey(object, key) => [object, " has no \"", key, "\""],
+            What::MissingTag(tag) => ["there is no \"", tag, "\"", ""],
+            What::NoFirst(flow) => [flow, " gives no subscriber first values of its own", "", ""],
+            _ => ["", "", "", ""],
+        }
+    }
+
     fn add_to(self, text: Text<'_>, at: usize, to: &mut String) -> Result<(), AllocError> {
-        if let What::NoKey(..) | What::NoValue(..) | What::NoItem(_) | What::Told(_) = self {
+        if self.tells_value() {
             text.add_raw(to, at)?;
         }
         match self {
-            What::NoKey(object, version) => write!(to, " is no key of {object}{version}"),
-            What::NoValue(key, version) => write!(to, " is no value of \"{key}\"{version}"),
-            What::NoItem(key) => write!(to, " is no item of \"{key}\""),
-            What::Told(words) | What::Words(words) => to.push_str(words),
-            What::MissingKey(object, key) => write!(to, "{object} has no \"{key}\""),
-            What::MissingTag(tag) => write!(to, "there is no \"{tag}\""),
-            What::PastLimit(key, size, unit) => write!(to, "\"{key}\": {size} {unit}"),
             What::NoStep(flow, step) => write!(to, "{flow} has no step {step}"),
-            What::NoFirst(flow) => {
-                write!(to, "{flow} gives no subscriber first values of its own")
-            }
+            What::PastLimit(key, size, unit) => write!(to, "\"{key}\": {size} {unit}"),
             What::TooLong(size) => write!(to, "the script has {size} bytes"),
             What::Fault(fault) => write!(to, "{fault}"),
+            _ => add_words(to, &self.words()),
         }
     }
+}
+
+/// A form, after the key that is to have it, if one is missing.
+fn add_form(key: Option<&str>, form: Form, to: &mut String) -> Result<(), AllocError> {
+    if let Some(key) = key {
+        add_words(to, &["\"", key, "\", "])?;
+    }
+    match form {
+        Form::OneOf(words) => add_choices(to, "one of ", Choices::Words(words)),
+        _ => to.push_str(form.words()),
+    }
+}
+
+/// A tag, and one of these words.
+fn add_tag(tag: &str, words: Choices<'_>, to: &mut String) -> Result<(), AllocError> {
+    add_words(to, &["\"", tag, "\", "])?;
+    add_choices(to, "one of ", words)
+}
+
+/// What these words say, and which step introduced a name.
+fn add_other(
+    words: &str,
+    other: Introduced<'_>,
+    tells_use: bool,
+    bytes: &[u8],
+    to: &mut String,
+) -> Result<(), AllocError> {
+    add_words(to, &[words, "; this one is "])?;
+    other.add_to(bytes, tells_use, to)
 }
 
 impl Expected<'_> {
@@ -112,42 +153,70 @@ impl Expected<'_> {
         match self {
             Expected::Words(words) => to.push_str(words),
             Expected::AtMost(most) => write!(to, "at most {most}"),
-            Expected::Form(key, form) => {
-                if let Some(key) = key {
-                    write!(to, "\"{key}\", ")?;
-                }
-                match form {
-                    Form::OneOf(words) => add_choices(to, "one of ", Choices::Words(words)),
-                    _ => to.push_str(form.words()),
-                }
-            }
-            Expected::Keys(keys) => add_choices(to, "no key but ", keys),
-            Expected::Tag(tag, words) => {
-                write!(to, "\"{tag}\", ")?;
-                add_choices(to, "one of ", words)
-            }
-            Expected::OneOf(words) => add_choices(to, "one of ", words),
-            Expected::Other(words, other) => {
-                write!(to, "{words}; this one is ")?;
-                other.add_to(bytes, true, to)
-            }
-            Expected::NewName(first) => {
-                to.push_str("a new name; this one is ")?;
-                first.add_to(bytes, false, to)
+            Expected::Form(key, form) => add_form(key, form, to),
+            Expected::OneOf(before, choices) => add_choices(to, before, choices),
+            Expected::Tag(tag, choices) => add_tag(tag, choices, to),
+            Expected::Other(words, other, tells_use) => {
+                add_other(words, other, tells_use, bytes, to)
             }
         }
     }
 }
 
-impl<'a> Complaint<'a> {
-    /// The object of a name that begins at an offset lacks a key.
-    pub fn of_missing(at: usize, name: &'static str, key: Key) -> Self {
-        Complaint {
-            at,
-            what: What::MissingKey(name, key.word),
-            expected: Some(Expected::Form(Some(key.word), key.form)),
-            nearest: None,
+/// A place, and the part of the script where it is.
+fn add_place(place: Place, part: Option<u64>, lines: &mut String) -> Result<(), AllocError> {
+    write!(lines, "{place}: ")?;
+    match part {
+        Some(0) => lines.push_str("head: "),
+        Some(step) => write!(lines, "step {step}: "),
+        None => Ok(()),
+    }
+}
+
+/// A line on what was expected, if that is known.
+fn add_expected(
+    expected: Option<Expected<'_>>,
+    bytes: &[u8],
+    lines: &mut String,
+) -> Result<(), AllocError> {
+    match expected {
+        Some(expected) => {
+            lines.push_str("\n  expected: ")?;
+            expected.add_to(bytes, lines)
         }
+        None => Ok(()),
+    }
+}
+
+/// A line with the nearest right word, if one is near, and the end of the last line.
+fn add_nearest(nearest: Option<&str>, lines: &mut String) -> Result<(), AllocError> {
+    match nearest {
+        Some(word) => add_words(lines, &["\n  nearest: \"", word, "\"\n"]),
+        None => lines.push('\n'),
+    }
+}
+
+impl<'a> Complaint<'a> {
+    /// What was found at an offset: what is wrong, what was expected, and the nearest right word if one is near.
+    pub fn found(
+        at: usize,
+        what: What<'a>,
+        expected: Expected<'a>,
+        nearest: Option<&'a str>,
+    ) -> Found<'a> {
+        Ok(Some(Complaint {
+            at,
+            what,
+            expected: Some(expected),
+            nearest,
+        }))
+    }
+
+    /// The object of a name that begins at an offset lacks a key.
+    pub fn missing(at: usize, name: &'static str, key: Key) -> Found<'a> {
+        let what = What::MissingKey(name, key.word);
+        let expected = Expected::Form(Some(key.word), key.form);
+        Complaint::found(at, what, expected, None)
     }
 
     /// Adds its lines: the place, the part of the script and what is wrong, what was expected, and the nearest right word.
@@ -158,22 +227,20 @@ impl<'a> Complaint<'a> {
         part: Option<u64>,
         lines: &mut String,
     ) -> Result<(), AllocError> {
-        let place = Place::at(text.bytes, self.at);
-        write!(lines, "{place}: ")?;
-        match part {
-            Some(0) => lines.push_str("head: ")?,
-            Some(step) => write!(lines, "step {step}: ")?,
-            None => {}
-        }
+        add_place(Place::at(text.bytes, self.at), part, lines)?;
         self.what.add_to(text, self.at, lines)?;
-        if let Some(expected) = self.expected {
-            lines.push_str("\n  expected: ")?;
-            expected.add_to(text.bytes, lines)?;
+        add_expected(self.expected, text.bytes, lines)?;
+        add_nearest(self.nearest, lines)
+    }
+}
+
+impl Owner {
+    /// Where the items stand of a list that stands here.
+    pub fn of_items(self) -> Self {
+        match self {
+            Owner::Member(key) => Owner::Item(key),
+            other => other,
         }
-        if let Some(word) = self.nearest {
-            write!(lines, "\n  nearest: \"{word}\"")?;
-        }
-        lines.push('\n')
     }
 }
 

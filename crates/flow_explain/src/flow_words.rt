@@ -16,7 +16,7 @@ pub const VERSION: Key = Key {
 };
 
 /// A whole script.
-pub const SCRIPT: Shape = Shape {
+pub static SCRIPT: Shape = Shape {
     name: "the script",
     keys: &[
         VERSION,
@@ -39,7 +39,7 @@ pub const SCRIPT: Shape = Shape {
 };
 
 /// The tag of a flow.
-pub const KIND: Key = Key {
+const KIND: Key = Key {
     word: "kind",
     form: Form::Tag,
     need: Need::Always,
@@ -88,7 +88,7 @@ const STARTED: Key = Key {
 };
 
 /// The flows, by their tags.
-pub const FLOW_ROWS: &[Row] = &[
+static FLOW_ROWS: [Row; 5] = [
     Row {
         word: "none",
         name: "a script without a flow",
@@ -121,11 +121,16 @@ pub const FLOW_ROWS: &[Row] = &[
     },
 ];
 
+/// The flows, by their tags.
+pub fn flow_rows() -> &'static [Row] {
+    &FLOW_ROWS
+}
+
 /// The words that say when a shared chain runs.
 pub const STARTED_WORDS: &[&str] = &["eagerly", "lazily"];
 
 /// A shared chain that runs while it has subscribers.
-pub const STOP: Shape = Shape {
+pub static STOP: Shape = Shape {
     name: "\"started\"",
     keys: &[
         Key {

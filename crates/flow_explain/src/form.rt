@@ -82,7 +82,8 @@ impl Form {
                         .find(value.as_str().unwrap_or(""))
                         .is_some()
             }
-            Form::Chain | Form::Source | Form::Operator => value.is_object(),
+            Form::Source => members_len(value) > 0,
+            Form::Chain | Form::Operator => value.is_object(),
             Form::Flow | Form::Flows | Form::Step | Form::Script => value.is_object(),
         }
     }

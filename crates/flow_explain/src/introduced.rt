@@ -1,5 +1,6 @@
 //! The steps that introduce names.
 
+use crate::choices::add_words;
 use crate::head::{Script, text_at};
 use crate::json::Place;
 use serde_json::Value;
@@ -57,15 +58,20 @@ pub struct Introduced<'a> {
 }
 
 impl Introduced<'_> {
+    /// What the name stands for.
+    fn add_use(self, to: &mut String) -> Result<(), AllocError> {
+        let (words, flow) = (self.named.words, self.flow);
+        if flow.is_empty() {
+            add_words(to, &[words, ", "])
+        } else {
+            write!(to, "{words} of \"{flow}\", ")
+        }
+    }
+
     /// The step that introduced the name, and its place, and before that what the name stands for if it is told.
     pub fn add_to(self, bytes: &[u8], tells_use: bool, to: &mut String) -> Result<(), AllocError> {
-        let (words, flow) = (self.named.words, self.flow);
         if tells_use {
-            to.push_str(words)?;
-            if !flow.is_empty() {
-                write!(to, " of \"{flow}\"")?;
-            }
-            to.push_str(", ")?;
+            self.add_use(to)?;
         }
         let step = self.index.saturating_add(1);
         let place = Place::at(bytes, self.at);

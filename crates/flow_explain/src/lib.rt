@@ -21,6 +21,7 @@ mod not_allowed;
 mod refusal;
 mod search;
 mod step_words;
+mod tasks;
 mod words;
 
 pub use refusal::explain_refusal;

@@ -39,7 +39,7 @@ fn unknown_use<'a>(
     let choices = Choices::Names(script.steps_before(index), named.tag, flow);
     let near = nearest_of(script.text.alloc, word, choices)?;
     let expected = match introduced_before(script, index, word)? {
-        Some(other) => Expected::Other(named.expected, other),
+        Some(other) => Expected::Other(named.expected, other, true),
         None => Expected::Words(named.expected),
     };
     Ok(Some(Complaint {
@@ -76,7 +76,7 @@ pub fn duplicate_name<'a>(script: Script<'a>, index: usize, step: Spot<'a>) -> F
         Some(first) => Ok(Some(Complaint {
             at: found.at,
             what: What::Told(" is taken"),
-            expected: Some(Expected::NewName(first)),
+            expected: Some(Expected::Other("a new name", first, false)),
             nearest: None,
         })),
         None => Ok(None),

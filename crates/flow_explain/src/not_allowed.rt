@@ -2,10 +2,43 @@
 
 use crate::choices::Choices;
 use crate::complaint::{Complaint, Expected, Found, What};
-use crate::flow_words::FLOW_ROWS;
+use crate::flow_words::flow_rows;
 use crate::head::{Script, text_at};
 use crate::json::Spot;
 use crate::words::{Version, row_named};
+use std::alloc::AllocError;
+
+/// What a reader is told a flow of a kind is.
+fn name_of(kind: &str) -> &'static str {
+    match row_named(flow_rows(), kind) {
+        Some(row) => row.name,
+        None => "this flow",
+    }
+}
+
+/// The first values of a step, where its flow gives a subscriber none.
+fn lost_first<'a>(
+    script: Script<'a>,
+    step: Spot<'a>,
+    kind: &str,
+) -> Result<Option<Spot<'a>>, AllocError> {
+    if matches!(script.version, Version::One) || kind == "shared" {
+        return Ok(None);
+    }
+    script.text.member(step, "first")
+}
+
+/// A step that a flow of a kind does not have.
+fn wrong_step<'a>(script: Script<'a>, step: Spot<'a>, kind: &'a str) -> Found<'a> {
+    match script.text.member(step, "do")? {
+        Some(found) => {
+            let what = What::NoStep(name_of(kind), text_at(step.value, "do"));
+            let expected = Expected::OneOf("one of ", Choices::StepsOf(kind));
+            Complaint::found(found.at, what, expected, None)
+        }
+        None => Ok(None),
+    }
+}
 
 /// What is wrong with a step of the right form, where its flow does not allow it.
 pub fn not_allowed<'a>(script: Script<'a>, step: Spot<'a>) -> Found<'a> {
@@ -13,29 +46,11 @@ pub fn not_allowed<'a>(script: Script<'a>, step: Spot<'a>) -> Found<'a> {
         return Ok(None);
     };
     let kind = text_at(flow, "kind");
-    // What a reader is told a flow of this kind is.
-    let name = match row_named(FLOW_ROWS, kind) {
-        Some(row) => row.name,
-        None => "this flow",
-    };
-    if matches!(script.version, Version::Two)
-        && kind != "shared"
-        && let Some(found) = script.text.member(step, "first")?
-    {
-        return Ok(Some(Complaint {
-            at: found.at,
-            what: What::NoFirst(name),
-            expected: Some(Expected::Words("no \"first\", which is for a shared flow")),
-            nearest: None,
-        }));
-    }
-    match script.text.member(step, "do")? {
-        Some(found) => Ok(Some(Complaint {
-            at: found.at,
-            what: What::NoStep(name, text_at(step.value, "do")),
-            expected: Some(Expected::OneOf(Choices::StepsOf(kind))),
-            nearest: None,
-        })),
-        None => Ok(None),
+    match lost_first(script, step, kind)? {
+        Some(found) => {
+            let expected = Expected::Words("no \"first\", which is for a shared flow");
+            Complaint::found(found.at, What::NoFirst(name_of(kind)), expected, None)
+        }
+        None => wrong_step(script, step, kind),
     }
 }

@@ -24,6 +24,15 @@ fn part_of(fault: ScriptFault) -> Option<u64> {
     }
 }
 
+/// What is wrong with the form of a step, or else why its flow does not allow it.
+fn wrong_shape<'a>(script: Script<'a>, step: Spot<'a>) -> Found<'a> {
+    let found = wrong_in(script, Aim::Shape, step, Owner::Item("steps"), Form::Step)?;
+    if found.is_some() {
+        return Ok(found);
+    }
+    not_allowed(script, step)
+}
+
 /// What is wrong in a step.
 fn wrong_step<'a>(
     script: Script<'a>,
@@ -31,32 +40,43 @@ fn wrong_step<'a>(
     step: Spot<'a>,
     fault: ScriptFault,
 ) -> Found<'a> {
-    let owner = Owner::Item("steps");
     match fault {
         ScriptFault::UnknownName(_) => unknown_name(script, index, step),
         ScriptFault::DuplicateName(_) => duplicate_name(script, index, step),
-        ScriptFault::TooLarge(_) => wrong_in(script, Aim::Limit, step, owner, Form::Step),
-        _ => match wrong_in(script, Aim::Shape, step, owner, Form::Step)? {
-            Some(complaint) => Ok(Some(complaint)),
-            None => not_allowed(script, step),
-        },
+        ScriptFault::TooLarge(_) => {
+            wrong_in(script, Aim::Limit, step, Owner::Item("steps"), Form::Step)
+        }
+        _ => wrong_shape(script, step),
+    }
+}
+
+/// What is wrong with the version.
+fn wrong_version<'a>(script: Script<'a>) -> Found<'a> {
+    match script.text.member(script.root, "version")? {
+        Some(found) => {
+            let owner = Owner::Member("version");
+            wrong_form(script.text, owner, found, Form::Version)
+        }
+        None => Complaint::missing(script.root.at, SCRIPT.name, VERSION),
     }
 }
 
 /// What is wrong in the head.
 fn wrong_head<'a>(script: Script<'a>, fault: ScriptFault) -> Found<'a> {
-    let (text, root) = (script.text, script.root);
     let aim = match fault {
-        ScriptFault::BadVersion => {
-            return match text.member(root, "version")? {
-                Some(found) => wrong_form(text, Owner::Member("version"), found, Form::Version),
-                None => Ok(Some(Complaint::of_missing(root.at, SCRIPT.name, VERSION))),
-            };
-        }
+        ScriptFault::BadVersion => return wrong_version(script),
         ScriptFault::TooLarge(_) => Aim::Limit,
         _ => Aim::Shape,
     };
-    wrong_in(script, aim, root, Owner::Script, Form::Script)
+    wrong_in(script, aim, script.root, Owner::Script, Form::Script)
+}
+
+/// The step that a part of a script is, if it is not the head.
+fn step_of<'a>(script: Script<'a>, part: u64) -> Result<Option<Spot<'a>>, AllocError> {
+    if part == 0 {
+        return Ok(None);
+    }
+    script.step(part.saturating_sub(1) as usize)
 }
 
 /// What is wrong in a part of a script, or at least where that part begins.
@@ -65,21 +85,18 @@ fn wrong_part<'a>(
     part: u64,
     fault: ScriptFault,
 ) -> Result<Complaint<'a>, AllocError> {
-    let index = part.saturating_sub(1) as usize;
-    let step = if part > 0 { script.step(index)? } else { None };
-    let (at, found) = match step {
-        Some(step) => (step.at, wrong_step(script, index, step, fault)?),
-        None => (script.root.at, wrong_head(script, fault)?),
+    let step = step_of(script, part)?;
+    let found = match step {
+        Some(step) => wrong_step(script, part.saturating_sub(1) as usize, step, fault),
+        None => wrong_head(script, fault),
     };
-    match found {
-        Some(complaint) => Ok(complaint),
-        None => Ok(Complaint {
-            at,
-            what: What::Fault(fault),
-            expected: None,
-            nearest: None,
-        }),
-    }
+    let at = step.unwrap_or(script.root).at;
+    Ok(found?.unwrap_or(Complaint {
+        at,
+        what: What::Fault(fault),
+        expected: None,
+        nearest: None,
+    }))
 }
 
 /// Adds where the text stops being JSON.
@@ -101,6 +118,18 @@ fn add_stop(text: Text<'_>, lines: &mut String) -> Result<(), AllocError> {
     complaint.add_to(text, None, lines)
 }
 
+/// Adds what is wrong in a part of the script of a text, whose value was read.
+fn add_wrong(
+    text: Text<'_>,
+    value: &Value,
+    part: u64,
+    fault: ScriptFault,
+    lines: &mut String,
+) -> Result<(), AllocError> {
+    let complaint = wrong_part(Script::new(text, value), part, fault)?;
+    complaint.add_to(text, Some(part), lines)
+}
+
 /// Adds why a script whose text is JSON is refused.
 fn add_reason(
     text: Text<'_>,
@@ -109,17 +138,9 @@ fn add_reason(
     lines: &mut String,
 ) -> Result<(), AllocError> {
     match Value::from_slice(text.alloc, text.bytes) {
-        Ok(value) => {
-            let complaint = wrong_part(Script::new(text, &value), part, fault)?;
-            complaint.add_to(text, Some(part), lines)
-        }
-        Err(error) => {
-            if error.is_memory() {
-                Err(AllocError)
-            } else {
-                writeln!(lines, "{fault}")
-            }
-        }
+        Ok(value) => add_wrong(text, &value, part, fault, lines),
+        Err(error) if error.is_memory() => Err(AllocError),
+        Err(_) => writeln!(lines, "{fault}"),
     }
 }
 

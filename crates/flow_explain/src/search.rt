@@ -1,15 +1,15 @@
 //! The search for what is wrong in a part of a script.
 
-use crate::chain_words::{CHAIN, FAULT, OP, OPERATOR_ROWS, shape_of, source_shape};
+use crate::chain_words::{FAULT, shape_of};
 use crate::choices::Choices;
 use crate::complaint::{Complaint, Expected, Found, Owner, What, wrong_form};
-use crate::flow_words::{FLOW_ROWS, KIND, SCRIPT, STOP};
-use crate::form::{is_name, members_len};
+use crate::form::is_name;
 use crate::head::{Script, items_of};
-use crate::json::{Spot, Text};
+use crate::json::{Member, Spot, Text};
 use crate::nearest::nearest_of;
-use crate::step_words::{DO, STEP_ROWS};
-use crate::words::{Form, Presence, Row, Shape, Version, row_named};
+use crate::tasks::{Inside, Task, add_task, inside_of};
+use crate::words::{Form, Row, Shape, Version, row_named};
+use std::alloc::AllocError;
 
 /// What is looked for.
 #[derive(Clone, Copy)]
@@ -18,14 +18,6 @@ pub enum Aim {
     Shape,
     /// A limit that is passed, where all forms are right.
     Limit,
-}
-
-/// A value, and what it should be.
-#[derive(Clone, Copy)]
-struct Task<'a> {
-    spot: Spot<'a>,
-    owner: Owner,
-    form: Form,
 }
 
 /// A search through a part of a script.
@@ -37,6 +29,28 @@ struct Search<'a> {
 }
 
 impl<'a> Search<'a> {
+    /// A member of an object that has no such key, or none in this version, as these words say.
+    fn no_key(
+        self,
+        object: Spot<'a>,
+        shape: Shape,
+        member: Member<'a>,
+        version: &'static str,
+    ) -> Found<'a> {
+        let keys = Choices::Keys(shape.keys, self.version);
+        let nearest = nearest_of(self.text.alloc, member.name, keys)?;
+        let expected = match shape.missing(self.version, object.value) {
+            Some(key) => Expected::Form(Some(key.word), key.form),
+            None => Expected::OneOf("no key but ", keys),
+        };
+        Complaint::found(
+            member.key,
+            What::NoKey(shape.name, version),
+            expected,
+            nearest,
+        )
+    }
+
     /// Looks for a key that an object has not.
     fn unknown(self, object: Spot<'a>, shape: Shape) -> Found<'a> {
         let keys = Choices::Keys(shape.keys, self.version);
@@ -45,45 +59,66 @@ impl<'a> Search<'a> {
             let Some(member) = self.text.member_from(object, from)? else {
                 break;
             };
-            let version = match keys.find(member.name) {
-                Some((_, true)) => {
-                    from = member.end;
-                    continue;
+            match keys.find(member.name) {
+                Some((_, true)) => from = member.end,
+                Some((_, false)) => {
+                    return self.no_key(object, shape, member, self.version.words());
                 }
-                Some((_, false)) => self.version.words(),
-                None => "",
-            };
-            return Ok(Some(Complaint {
-                at: member.key,
-                what: What::NoKey(shape.name, version),
-                expected: match shape.missing(self.version, object.value) {
-                    Some(key) => Some(Expected::Form(Some(key.word), key.form)),
-                    None => Some(Expected::Keys(keys)),
-                },
-                nearest: nearest_of(self.text.alloc, member.name, keys)?,
-            }));
+                None => return self.no_key(object, shape, member, ""),
+            }
         }
         Ok(None)
     }
 
-    /// Looks at the keys of an object, and later at its values.
-    fn object(self, tasks: &mut Vec<Task<'a>>, object: Spot<'a>, shape: Shape) -> Found<'a> {
-        if let Some(complaint) = self.unknown(object, shape)? {
-            return Ok(Some(complaint));
-        }
-        if let Some(key) = shape.missing(self.version, object.value) {
-            return Ok(Some(Complaint::of_missing(object.at, shape.name, key)));
-        }
+    /// Looks at the values of an object later.
+    fn add_members(
+        self,
+        tasks: &mut Vec<Task<'a>>,
+        object: Spot<'a>,
+        shape: Shape,
+    ) -> Result<(), AllocError> {
         for key in shape.keys {
             if let Some(spot) = self.text.member(object, key.word)? {
-                tasks.push(Task {
-                    spot,
-                    owner: Owner::Member(key.word),
-                    form: key.form,
-                })?;
+                let owner = Owner::Member(key.word);
+                add_task(tasks, spot, owner, key.form)?;
             }
         }
-        Ok(None)
+        Ok(())
+    }
+
+    /// Looks for a key that an object of known keys lacks, and later at its values.
+    fn known(self, tasks: &mut Vec<Task<'a>>, object: Spot<'a>, shape: Shape) -> Found<'a> {
+        match shape.missing(self.version, object.value) {
+            Some(key) => Complaint::missing(object.at, shape.name, key),
+            None => {
+                self.add_members(tasks, object, shape)?;
+                Ok(None)
+            }
+        }
+    }
+
+    /// Looks at the keys of an object, and later at its values.
+    fn object(self, tasks: &mut Vec<Task<'a>>, object: Spot<'a>, shape: Shape) -> Found<'a> {
+        let found = self.unknown(object, shape)?;
+        if found.is_some() {
+            return Ok(found);
+        }
+        self.known(tasks, object, shape)
+    }
+
+    /// The value of a tag is no such word, or none in this version, as these words say.
+    fn no_value(
+        self,
+        found: Spot<'a>,
+        tag: &'static str,
+        rows: &'static [Row],
+        version: &'static str,
+    ) -> Found<'a> {
+        let tags = Choices::Tags(rows, self.version);
+        let word = found.value.as_str().unwrap_or("");
+        let nearest = nearest_of(self.text.alloc, word, tags)?;
+        let expected = Expected::OneOf("one of ", tags);
+        Complaint::found(found.at, What::NoValue(tag, version), expected, nearest)
     }
 
     /// Looks at an object whose keys its tag tells.
@@ -94,48 +129,45 @@ impl<'a> Search<'a> {
         tag: &'static str,
         rows: &'static [Row],
     ) -> Found<'a> {
-        let tags = Choices::Tags(rows, self.version);
         let Some(found) = self.text.member(object, tag)? else {
-            return Ok(Some(Complaint {
-                at: object.at,
-                what: What::MissingTag(tag),
-                expected: Some(Expected::Tag(tag, tags)),
-                nearest: None,
-            }));
+            let expected = Expected::Tag(tag, Choices::Tags(rows, self.version));
+            return Complaint::found(object.at, What::MissingTag(tag), expected, None);
         };
-        let word = found.value.as_str().unwrap_or("");
-        let version = match row_named(rows, word) {
-            Some(row) if !matches!(row.need.within(self.version), Presence::Unknown) => {
-                return self.object(tasks, object, shape_of(row, object.value));
+        match row_named(rows, found.value.as_str().unwrap_or("")) {
+            Some(row) if row.need.is_known(self.version) => {
+                self.object(tasks, object, shape_of(row, object.value))
             }
-            Some(_) => self.version.words(),
-            None => "",
-        };
-        Ok(Some(Complaint {
-            at: found.at,
-            what: What::NoValue(tag, version),
-            expected: Some(Expected::OneOf(tags)),
-            nearest: nearest_of(self.text.alloc, word, tags)?,
-        }))
+            Some(_) => self.no_value(found, tag, rows, self.version.words()),
+            None => self.no_value(found, tag, rows, ""),
+        }
     }
 
-    /// Looks at the items of a list, which are to have a form: later at operators, which are looked into, and now at all others.
+    /// Looks at an item of a list, which is to have a form: later at an operator, which is looked into, and now at another.
+    fn item(self, tasks: &mut Vec<Task<'a>>, item: Task<'a>) -> Found<'a> {
+        let Task { spot, owner, form } = item;
+        match form {
+            Form::Operator => {
+                add_task(tasks, spot, owner, form)?;
+                Ok(None)
+            }
+            _ if form.fits(spot.value) => Ok(None),
+            Form::Entry if spot.value.is_object() => self.object(tasks, spot, FAULT),
+            _ => wrong_form(self.text, owner, spot, form),
+        }
+    }
+
+    /// Looks at the items of a list, which are to have a form, up to one that is wrong.
     fn items(self, tasks: &mut Vec<Task<'a>>, list: Task<'a>, form: Form) -> Found<'a> {
-        let owner = match list.owner {
-            Owner::Member(key) => Owner::Item(key),
-            other => other,
-        };
+        let owner = list.owner.of_items();
         let mut next = self.text.part_from(list.spot.at.saturating_add(1));
         for value in items_of(list.spot.value) {
             let Some(at) = next else {
                 break;
             };
             let spot = Spot { value, at };
-            match form {
-                Form::Operator => tasks.push(Task { spot, owner, form })?,
-                _ if form.fits(value) => {}
-                Form::Entry if value.is_object() => return self.object(tasks, spot, FAULT),
-                _ => return wrong_form(self.text, owner, spot, form),
+            let found = self.item(tasks, Task { spot, owner, form })?;
+            if found.is_some() {
+                return Ok(found);
             }
             next = self.text.part_after(at);
         }
@@ -156,11 +188,7 @@ impl<'a> Search<'a> {
                 };
                 return wrong_form(self.text, Owner::FlowName, key, Form::Name);
             }
-            tasks.push(Task {
-                spot: flow.spot,
-                owner: Owner::Item("flows"),
-                form: Form::Flow,
-            })?;
+            add_task(tasks, flow.spot, Owner::Item("flows"), Form::Flow)?;
             from = flow.end;
         }
         Ok(None)
@@ -168,24 +196,26 @@ impl<'a> Search<'a> {
 
     /// Looks into a value of the right form.
     fn inside(self, tasks: &mut Vec<Task<'a>>, task: Task<'a>) -> Found<'a> {
-        let spot = task.spot;
-        match task.form {
-            Form::Script => self.object(tasks, spot, SCRIPT),
-            Form::Step => self.tagged(tasks, spot, DO.word, STEP_ROWS),
-            Form::Flow => self.tagged(tasks, spot, KIND.word, FLOW_ROWS),
-            Form::Flows => self.flows(tasks, spot),
-            Form::Started if spot.value.is_object() => self.object(tasks, spot, STOP),
-            Form::Chain => self.object(tasks, spot, CHAIN),
-            Form::Source if members_len(spot.value) == 0 => {
-                wrong_form(self.text, task.owner, spot, Form::Source)
-            }
-            Form::Source => self.object(tasks, spot, source_shape(spot.value)),
-            Form::Operators => self.items(tasks, task, Form::Operator),
-            Form::Operator => self.tagged(tasks, spot, OP.word, OPERATOR_ROWS),
-            Form::Numbers(_) => self.items(tasks, task, Form::Signed),
-            Form::Entries => self.items(tasks, task, Form::Entry),
-            _ => Ok(None),
+        match inside_of(task.form, task.spot.value) {
+            Inside::Nothing => Ok(None),
+            Inside::Members(shape) => self.object(tasks, task.spot, shape),
+            Inside::Tagged(tag, rows) => self.tagged(tasks, task.spot, tag, rows),
+            Inside::Items(form) => self.items(tasks, task, form),
+            Inside::Flows => self.flows(tasks, task.spot),
         }
+    }
+
+    /// What is wrong with the limit of a value, where a limit is looked for.
+    fn past_limit(self, task: Task<'a>) -> Found<'a> {
+        if let (Owner::Member(key), Aim::Limit) = (task.owner, self.aim)
+            && let Some(limited) = task.form.limited(task.spot.value)
+            && limited.size > limited.most
+        {
+            let what = What::PastLimit(key, limited.size, limited.unit);
+            let expected = Expected::AtMost(limited.most);
+            return Complaint::found(task.spot.at, what, expected, None);
+        }
+        Ok(None)
     }
 
     /// Looks at a value, and later at what is in it. Where limits are looked for, what passes one is wrong.
@@ -193,22 +223,29 @@ impl<'a> Search<'a> {
         if !task.form.fits(task.spot.value) {
             return wrong_form(self.text, task.owner, task.spot, task.form);
         }
-        if let (Owner::Member(key), Aim::Limit) = (task.owner, self.aim)
-            && let Some(limited) = task.form.limited(task.spot.value)
-            && limited.size > limited.most
-        {
-            return Ok(Some(Complaint {
-                at: task.spot.at,
-                what: What::PastLimit(key, limited.size, limited.unit),
-                expected: Some(Expected::AtMost(limited.most)),
-                nearest: None,
-            }));
+        let found = self.past_limit(task)?;
+        if found.is_some() {
+            return Ok(found);
         }
         self.inside(tasks, task)
     }
+
+    /// Looks at all values that are to be looked at. Each of them begins at a byte of its own.
+    fn all(self, tasks: &mut Vec<Task<'a>>) -> Found<'a> {
+        for index in 0..self.text.bytes.len() {
+            let Some(task) = tasks.get(index).copied() else {
+                break;
+            };
+            let found = self.look(tasks, task)?;
+            if found.is_some() {
+                return Ok(found);
+            }
+        }
+        Ok(None)
+    }
 }
 
-/// What is wrong in a value of a script that should have this form. Each value that is looked at begins at a byte of its own.
+/// What is wrong in a value of a script that should have this form.
 pub fn wrong_in<'a>(
     script: Script<'a>,
     aim: Aim,
@@ -222,14 +259,6 @@ pub fn wrong_in<'a>(
         aim,
     };
     let mut tasks = Vec::new(script.text.alloc);
-    tasks.push(Task { spot, owner, form })?;
-    for index in 0..script.text.bytes.len() {
-        let Some(task) = tasks.get(index).copied() else {
-            break;
-        };
-        if let Some(complaint) = search.look(&mut tasks, task)? {
-            return Ok(Some(complaint));
-        }
-    }
-    Ok(None)
+    add_task(&mut tasks, spot, owner, form)?;
+    search.all(&mut tasks)
 }

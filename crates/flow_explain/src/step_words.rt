@@ -3,7 +3,7 @@
 use crate::words::{Form, Key, Need, Row};
 
 /// The tag of a step.
-pub const DO: Key = Key {
+const DO: Key = Key {
     word: "do",
     form: Form::Tag,
     need: Need::Always,
@@ -70,7 +70,7 @@ macro_rules! step {
 }
 
 /// The steps, by their tags.
-pub const STEP_ROWS: &[Row] = &[
+static STEP_ROWS: [Row; 15] = [
     step!("try_emit", &[DO, VALUE, ON_FLOW]),
     step!("emit", &[DO, NAME, VALUE, ON_FLOW]),
     step!("poll", &[DO, NAME, ON_FLOW]),
@@ -88,8 +88,13 @@ pub const STEP_ROWS: &[Row] = &[
     step!("collect", &[DO, CHAIN]),
 ];
 
+/// The steps, by their tags.
+pub fn step_rows() -> &'static [Row] {
+    &STEP_ROWS
+}
+
 /// The steps that not every kind of flow allows, each with the kinds that do.
-const LIMITED: &[(&str, &[&str])] = &[
+static LIMITED: [(&str, &[&str]); 9] = [
     ("try_emit", &["shared", "state"]),
     ("reset", &["shared", "state"]),
     ("emit", &["shared"]),
@@ -103,7 +108,7 @@ const LIMITED: &[(&str, &[&str])] = &[
 
 /// Whether a step is allowed in a script with a flow of this kind.
 pub fn is_allowed(step: &str, kind: &str) -> bool {
-    for (word, kinds) in LIMITED {
+    for (word, kinds) in &LIMITED {
         if *word == step {
             return kinds.contains(&kind);
         }

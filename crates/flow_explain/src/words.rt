@@ -72,7 +72,7 @@ pub enum Presence {
 }
 
 impl Need {
-    /// Whether the word may be there in a version.
+    /// Whether the word may be there in a version, or has to be.
     pub fn within(self, version: Version) -> Presence {
         match (self, version) {
             (Need::OnlyInOne, Version::Two) | (Need::OnlyInTwo | Need::MaybeInTwo, Version::One) =>
@@ -80,6 +80,11 @@ impl Need {
             (Need::Maybe | Need::MaybeInTwo, _) => Presence::Optional,
             _ => Presence::Required,
         }
+    }
+
+    /// Whether the word may be there in a version.
+    pub fn is_known(self, version: Version) -> bool {
+        !matches!(self.within(version), Presence::Unknown)
     }
 }
 

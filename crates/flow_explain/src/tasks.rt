@@ -1,0 +1,63 @@
+//! What is to be looked at in a script, and what there is to look at inside a value.
+
+use crate::chain_words::{CHAIN, operator_rows, source_shape};
+use crate::complaint::Owner;
+use crate::flow_words::{SCRIPT, STOP, flow_rows};
+use crate::json::Spot;
+use crate::step_words::step_rows;
+use crate::words::{Form, Row, Shape};
+use serde_json::Value;
+use std::alloc::AllocError;
+
+/// A value, and what it should be.
+#[derive(Clone, Copy)]
+pub struct Task<'a> {
+    pub spot: Spot<'a>,
+    pub owner: Owner,
+    pub form: Form,
+}
+
+/// A value more that is to be looked at.
+pub fn add_task<'a>(
+    tasks: &mut Vec<Task<'a>>,
+    spot: Spot<'a>,
+    owner: Owner,
+    form: Form,
+) -> Result<(), AllocError> {
+    match tasks.push(Task { spot, owner, form }) {
+        Ok(_) => Ok(()),
+        Err(_) => Err(AllocError),
+    }
+}
+
+/// What there is to look at inside a value.
+#[derive(Clone, Copy)]
+pub enum Inside {
+    Nothing,
+    /// The members of an object.
+    Members(Shape),
+    /// The members of an object, which are told by this tag of it and these rows.
+    Tagged(&'static str, &'static [Row]),
+    /// The items of a list, which are to have this form.
+    Items(Form),
+    /// The flows of an object by their names.
+    Flows,
+}
+
+/// What there is to look at inside a value of the right form.
+pub fn inside_of(form: Form, value: &Value) -> Inside {
+    match form {
+        Form::Script => Inside::Members(SCRIPT),
+        Form::Step => Inside::Tagged("do", step_rows()),
+        Form::Flow => Inside::Tagged("kind", flow_rows()),
+        Form::Flows => Inside::Flows,
+        Form::Started if value.is_object() => Inside::Members(STOP),
+        Form::Chain => Inside::Members(CHAIN),
+        Form::Source => Inside::Members(source_shape(value)),
+        Form::Operators => Inside::Items(Form::Operator),
+        Form::Operator => Inside::Tagged("op", operator_rows()),
+        Form::Numbers(_) => Inside::Items(Form::Signed),
+        Form::Entries => Inside::Items(Form::Entry),
+        _ => Inside::Nothing,
+    }
+}
