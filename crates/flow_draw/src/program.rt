@@ -24,8 +24,11 @@ fn form_of(args: &[String]) -> Option<Form>
 {
     match args {
         [] => Some(Form::Svg),
-        [flag] if flag.as_str() == "--text" => Some(Form::Text),
-        [flag] if flag.as_str() == "--explain" => Some(Form::Explained),
+        [flag] => match flag.as_str() {
+            "--text" => Some(Form::Text),
+            "--explain" => Some(Form::Explained),
+            _ => None,
+        },
         _ => None,
     }
 }
