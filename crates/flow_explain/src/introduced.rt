@@ -48,7 +48,8 @@ impl Named {
 /// A step that introduces a name.
 #[derive(Clone, Copy)]
 pub struct Introduced<'a> {
-    named: Named,
+    /// What the name stands for.
+    words: &'static str,
     /// The name of the flow that the step is about. There is none in version 1.
     flow: &'a str,
     /// The index of the step.
@@ -60,7 +61,7 @@ pub struct Introduced<'a> {
 impl Introduced<'_> {
     /// What the name stands for.
     fn add_use(self, to: &mut String) -> Result<(), AllocError> {
-        let (words, flow) = (self.named.words, self.flow);
+        let (words, flow) = (self.words, self.flow);
         if flow.is_empty() {
             add_words(to, &[words, ", "])
         } else {
@@ -91,7 +92,7 @@ pub fn introduced_before<'a>(
         {
             let step = script.step(index)?;
             return Ok(Some(Introduced {
-                named,
+                words: named.words,
                 flow: text_at(value, "flow"),
                 index,
                 at: step.unwrap_or(script.root).at,
