@@ -1,5 +1,5 @@
 -- Chains as the reader builds them, and as the definitions have them.
-use Rattle.std.proofs.Common.{◌≡◌, ◌≢◌, ℕ, zero, suc, ◌+◌, ◌-◌, ◌<◌, ◌≤◌, nat_lt, if◌then◌else◌, arith, Result, Ok, Err, List, [], ◌∷◌, ◌++◌, length, drop, get_or, Bool, true, false, Option, Some, None, refl, sym, ap, ◌∙◌, append_assoc, add-one}
+use Rattle.std.proofs.Common.{◌≡◌, ◌≢◌, ℕ, zero, suc, ◌+◌, ◌-◌, ◌<◌, ◌≤◌, nat_lt, if◌then◌else◌, arith, Result, Ok, Err, List, [], ◌∷◌, ◌++◌, length, drop, get_or, Bool, true, false, Option, Some, None, refl, sym, ap, ◌∙◌, append_assoc, append-nil, add-one}
 use Rattle.std.specs.Prelude.{option_map, option_and_then, is_some}
 use Rattle.std.specs.Option.{option_map_or}
 use Rattle.std.proofs.lemmas.Bool.Decides.{nat_tests}
@@ -52,6 +52,12 @@ all-none f vs i v done whole here is gives before =
     sym before
     ∙ ap (λ l. option_map (λ rest. done ++ rest) (all_of f (items_view l))) (rest_from vs i v here is)
     ∙ ap (λ o. option_map (λ rest. done ++ rest) (option_and_then (λ y. option_map (λ ys. y ∷ ys) (all_of f (items_view (drop (i + 1) vs)))) o)) gives
+
+-- where nothing is left, what was found is the whole
+pub all-over : {X : Type 0} (f : Data → Option X) (vs : List Value) (i : ℕ) (done : List X) (whole : Option (List X))
+    → length vs ≤ i → option_map (λ rest. done ++ rest) (all_of f (items_view (drop i vs))) ≡ whole → whole ≡ Some done
+all-over f vs i done whole over before =
+    sym before ∙ ap (λ l. option_map (λ rest. done ++ rest) (all_of f (items_view l))) (drop_of_length-le vs {i = i} over) ∙ ap Some (append-nil done)
 
 -- ---- operators on a chain
 

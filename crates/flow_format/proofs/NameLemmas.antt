@@ -1,5 +1,6 @@
 -- Names as the reader keeps them, and as the definitions list them.
-use Rattle.std.proofs.Common.{◌≡◌, ℕ, zero, suc, ◌+◌, ◌<◌, ◌≤◌, Bool, true, false, cond, ◌||◌, if◌then◌else◌, List, [], ◌∷◌, ◌++◌, map, length, get_or, drop, Option, None, Some, Ok, Err, Bor, refl, sym, ap, ◌∙◌, arith}
+use Rattle.std.proofs.Common.{◌≡◌, ℕ, zero, suc, ◌+◌, ◌<◌, ◌≤◌, Bool, true, false, cond, ◌||◌, nat_lt, if◌then◌else◌, List, [], ◌∷◌, ◌++◌, map, length, get_or, drop, Option, None, Some, Ok, Err, Bor, refl, sym, ap, subst, ◌∙◌, arith}
+use borrow.Author.Tests.{true-ltb, false-ltb}
 use Rattle.std.proofs.Math.ListN.{set, drop_of_length-le}
 use Rattle.std.proofs.lemmas.List.{map-set}
 use Rattle.std.specs.List.{list_any, position, position_from}
@@ -7,7 +8,7 @@ use Rattle.std.specs.Str.{bytes_eq}
 use Rattle.std.proofs.lemmas.Iterator.Adapters.{position_from-zero}
 use Rattle.flow_format.specs.declared.fault.ScriptFault.TheVariants.{DuplicateName}
 use Rattle.flow_format.specs.declared.names.FlowNames.{FlowNames}
-use Rattle.flow_format.specs.Checks.{NameLists, introduced, is_known, names_at}
+use Rattle.flow_format.specs.Checks.{NameLists, introduced, is_known, names_at, no_names}
 use Rattle.flow_format.specs.Names.{lists_of}
 use Rattle.flow_format.proofs.ReadLemmas.{rest_from}
 
@@ -73,6 +74,19 @@ names-at : (items : List FlowNames) (i : ℕ) (k : FlowNames) → i < length ite
 names-at [] i k here is = absurd (omega arith)
 names-at (x ∷ xs) zero k here is = ap lists_of (sym is)
 names-at (x ∷ xs) (suc i) k here is = names-at xs i k (omega arith) is
+
+names-past : (items : List FlowNames) (i : ℕ) → length items ≤ i → names_at i (map lists_of items) ≡ no_names
+names-past [] i past = refl
+names-past (x ∷ xs) zero past = absurd (omega arith)
+names-past (x ∷ xs) (suc i) past = names-past xs i (omega arith)
+
+-- what a look at a borrowed row finds at a place
+pub names-there : (items lent : List FlowNames) (i : ℕ) (k : FlowNames) → lent ≡ items → true ≡ nat_lt i (length lent) → k ≡ get_or lent i k
+    → names_at i (map lists_of items) ≡ lists_of k
+names-there items lent i k same here is = names-at items i k (subst (λ l. i < length l) same (true-ltb i (length lent) here)) (is ∙ ap (λ l. get_or l i k) same)
+
+pub no-names-there : (items lent : List FlowNames) (i : ℕ) → lent ≡ items → false ≡ nat_lt i (length lent) → names_at i (map lists_of items) ≡ no_names
+no-names-there items lent i same past = names-past items i (subst (λ l. length l ≤ i) same (false-ltb i (length lent) past))
 
 pub unknown-at : (name : List ℕ) (items : List FlowNames) (i : ℕ) (k : FlowNames) → i < length items → k ≡ get_or items i k
     → list_any (is_known name) (map lists_of items) ≡ false → is_known name (lists_of k) ≡ false

@@ -106,11 +106,10 @@ impl<'a> Names<'a> {
     pub fn subscriber(&self, flow: usize, at: u64, name: &str) -> Result<usize, ScriptFault>
         ensures { checks.Gives (checks.subscriber_at flow at name.now (row_of self.now)) result }
     {
-        match self
-            .flows
-            .get(flow)
-            .and_then(|names| names.subscriber(name))
-        {
+        let Some(lists) = self.flows.get(flow) else {
+            return Err(ScriptFault::UnknownName(at));
+        };
+        match lists.subscriber(name) {
             Some(place) => Ok(place),
             None => Err(ScriptFault::UnknownName(at)),
         }
