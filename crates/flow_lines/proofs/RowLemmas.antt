@@ -1,16 +1,16 @@
 -- Rows of flows that are made and played.
-use Rattle.std.proofs.Common.{◌≡◌, ℕ, zero, suc, ◌<◌, ◌≤◌, true, String, Global, List, [], ◌∷◌, ◌++◌, length, get_or, Option, Some, None, Ok, Err, string_bytes, codes, refl, sym, ap, subst, ◌∙◌, append_assoc, arith}
+use Rattle.std.proofs.Common.{◌≡◌, ℕ, zero, suc, ◌<◌, ◌≤◌, true, false, String, Global, List, [], ◌∷◌, ◌++◌, length, get_or, Option, Some, None, Ok, Err, string_bytes, codes, refl, sym, ap, subst, ◌∙◌, append_assoc, arith}
 use Rattle.std.proofs.Math.ListN.{set}
 use Rattle.flow_format.specs.declared.script.Step.{Step}
 use Rattle.flow_format.specs.Actions.{action_of, actions_of}
-use Rattle.flow_format.specs.Heads.{Head}
+use Rattle.flow_format.specs.Heads.{Head, NamedHead}
 use Rattle.flow_lines.specs.declared.player.Player.{Player as KeptPlayer}
 use Rattle.flow_lines.specs.declared.refusal.Refusal.{Refusal}
 use Rattle.flow_lines.specs.declared.row.PlayedFlow.{PlayedFlow as Kept}
 use Rattle.flow_lines.specs.Lines.{lined}
 use Rattle.flow_lines.specs.Players.{IsTold, Makes, Shows, refused_text}
 use Rattle.flow_lines.specs.Rows.{AddsFlow, FollowsPlace, FollowsRow, ShowsFlow, ShowsPlace, ShowsRow}
-use Rattle.flow_lines.specs.ScriptMeaning.{Play, Player, PlayedFlow, first_played, flow_at, lines_from, place_turn, turn, turn_at, with_flow}
+use Rattle.flow_lines.specs.ScriptMeaning.{Play, Player, PlayedFlow, first_played, flow_at, lines_from, place_turn, player_of, turn, turn_at, with_flow}
 
 -- ---- places of a row
 
@@ -81,16 +81,22 @@ adds-made name head kept new player k before made begins pushed row shows =
       λ rest. ap (λ r. before ++ with_flow name r rest row) made.1,
     )
 
-pub adds-refused : (name : List ℕ) (head : Head) (kept new : List (Option Kept)) (refused : Refusal) (before named after : List ℕ)
-    → Makes head (Err refused) → IsTold refused → named ≡ before ++ (name ++ codes " ") → after ≡ named ++ lined (refused_text refused) → new ≡ kept ++ None ∷ []
-    → AddsFlow (record { name = Some name; flow = head }) true kept new before after
-adds-refused name head kept new refused before named after makes told begins ends pushed row shows = (
+pub adds-refused : (name : List ℕ) (head : NamedHead) (kept new : List (Option Kept)) (refused : Refusal) (before named after : List ℕ)
+    → head.name ≡ Some name → Makes head.flow (Err refused) → IsTold refused → named ≡ before ++ (name ++ codes " ") → after ≡ named ++ lined (refused_text refused) → new ≡ kept ++ None ∷ []
+    → AddsFlow head true kept new before after
+adds-refused name head kept new refused before named after has_name makes told begins ends pushed row shows = (
   row ++ None ∷ [],
   subst (λ l. ShowsRow l (row ++ None ∷ [])) (sym pushed) (shown-push kept row None None shows tt),
-  λ rest. ap (λ r. before ++ with_flow (Some name) r rest row) (makes told)
+  λ rest. ap (λ n. before ++ with_flow n (player_of head.flow) rest row) has_name
+      ∙ ap (λ r. before ++ with_flow (Some name) r rest row) (makes told)
       ∙ line (refused_text refused) (rest (row ++ None ∷ [])) ∙ ap (λ l. (l ++ lined (refused_text refused)) ++ rest (row ++ None ∷ [])) (sym begins)
       ∙ ap (λ l. l ++ rest (row ++ None ∷ [])) (sym ends),
 )
   where
     line : (text more : List ℕ) → before ++ (lined ((name ++ codes " ") ++ text) ++ more) ≡ ((before ++ (name ++ codes " ")) ++ lined text) ++ more
     line text more = simp append_assoc
+
+pub ends-refused : (head : NamedHead) (kept : List (Option Kept)) (refused : Refusal) (before after : List ℕ)
+    → head.name ≡ None → Makes head.flow (Err refused) → IsTold refused → after ≡ before ++ lined (refused_text refused) → AddsFlow head false kept kept before after
+ends-refused head kept refused before after unnamed makes told ends row rest =
+    ap (λ n. before ++ with_flow n (player_of head.flow) rest row) unnamed ∙ ap (λ r. before ++ with_flow None r rest row) (makes told) ∙ sym ends

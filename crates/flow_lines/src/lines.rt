@@ -1,5 +1,5 @@
 //! Writing lines.
-ghost use Rattle.std.specs.Prelude.{◌≡◌, OnOk, IfErr, decimal};
+ghost use Rattle.std.specs.Prelude.{◌≡◌, ◌++◌, OnOk, IfErr, decimal};
 ghost use Rattle.std.specs.Fmt.{signed_decimal};
 ghost use Rattle.flow_lines.specs.FlowMeaning.{line_without_call};
 ghost use Rattle.flow_lines.specs.Lines as lines;
@@ -102,7 +102,7 @@ pub fn add_line_without_call(text: &mut String, step: FlowStep) -> Result<(), Sc
 }
 
 /// The rest of a line that tells a fault of a flow.
-pub fn add_flow_fault(text: &mut String, fault: FlowFault) -> Result<(), AllocError>
+fn add_flow_fault(text: &mut String, fault: FlowFault) -> Result<(), AllocError>
     ensures { OnOk result (lines.AddsLine (lines.flow_fault_text fault) text.old text.new) }
 {
     match fault {
@@ -115,6 +115,18 @@ pub fn add_flow_fault(text: &mut String, fault: FlowFault) -> Result<(), AllocEr
     }
 }
 
+/// A line that ends with a fault of a flow.
+pub fn add_with_flow_fault(
+    text: &mut String,
+    before: &str,
+    fault: FlowFault,
+) -> Result<(), AllocError>
+    ensures { OnOk result (lines.AddsLine (before.now ++ lines.flow_fault_text fault) text.old text.new) }
+{
+    text.push_str(before)?;
+    add_flow_fault(text, fault)
+}
+
 /// The line of a refused call. Want of memory has none: it ends the script.
 pub fn add_refusal(text: &mut String, fault: FlowFault) -> Result<(), ScriptFault>
     ensures told { OnOk result (IsToldFlowFault fault) }
@@ -124,7 +136,6 @@ pub fn add_refusal(text: &mut String, fault: FlowFault) -> Result<(), ScriptFaul
     if is_flow_memory(fault) {
         return Err(ScriptFault::OutOfMemory);
     }
-    text.push_str("refused ")?;
-    add_flow_fault(text, fault)?;
+    add_with_flow_fault(text, "refused ", fault)?;
     Ok(())
 }

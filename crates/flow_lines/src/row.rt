@@ -1,8 +1,10 @@
 //! The flows of a script in a row, as its steps are played on them.
-ghost use Rattle.std.specs.Prelude.{◌≡◌, ◌++◌, [], ◌∷◌, OnOk, IfOk, IfErr, codes, string_bytes};
+ghost use Rattle.std.specs.Prelude.{◌≡◌, ◌++◌, [], ◌∷◌, ℕ, List, Option, Some, None, Ok, Err, OnOk, IfOk, IfErr, codes, string_bytes};
 ghost use Rattle.flow_format.specs.Actions.{action_of, heads_of, named_head};
+ghost use Rattle.flow_format.specs.Heads.{NamedHead};
+ghost use Rattle.flow_lines.specs.declared.row.PlayedFlow.{PlayedFlow as Kept};
 ghost use Rattle.flow_lines.specs.Lines as lines;
-ghost use Rattle.flow_lines.specs.Players.{Shows};
+ghost use Rattle.flow_lines.specs.Players.{Makes, Shows};
 ghost use Rattle.flow_lines.specs.Rows.{AddsFlow, Begins, FollowsPlace, FollowsRow, ShowsFlow};
 ghost use Rattle.flow_lines.specs.ScriptMeaning as meaning;
 
@@ -10,7 +12,7 @@ use crate::collect::add_collection;
 use crate::lines::add_line;
 use crate::numbers::Numbers;
 use crate::player::Player;
-use crate::refusal::add_refused;
+use crate::refusal::{Refusal, add_refused};
 use flow_format::{FlowStep, NamedFlow, ScriptFault, Step};
 use std::alloc::{AllocError, Global};
 
@@ -73,6 +75,49 @@ fn add_place(
     }
 }
 
+/// A flow that was made takes its place before the first step, and the script goes on.
+fn add_made(
+    alloc: Global,
+    row: &mut Vec<Option<PlayedFlow>>,
+    player: Player,
+) -> Result<bool, ScriptFault>
+    ensures adds { (named : NamedHead) (text : List ℕ) → Makes named.flow (Ok player)
+        → IfOk result (λ goes_on. AddsFlow named goes_on row.old.items row.new.items text text) }
+    ensures fault { IfErr result (λ fault. fault ≡ ScriptFault.OutOfMemory) }
+{
+    add_place(row, Some(PlayedFlow::new(alloc, player)))?;
+    Ok(true)
+}
+
+/// A flow with a name that was not made: its line tells that, its place is left empty, and the script goes on.
+fn add_not_made(
+    row: &mut Vec<Option<PlayedFlow>>,
+    text: &mut String,
+    name: &str,
+    refused: Refusal,
+) -> Result<bool, ScriptFault>
+    ensures adds { (named : NamedHead) → named.name ≡ Some name.now → Makes named.flow (Err refused)
+        → IfOk result (λ goes_on. AddsFlow named goes_on
+        row.old.items row.new.items (string_bytes text.old) (string_bytes text.new)) }
+    ensures fault { IfErr result (λ fault. fault ≡ ScriptFault.OutOfMemory) }
+{
+    add_name(text, name)?;
+    add_refused(text, refused)?;
+    add_place(row, None)?;
+    Ok(true)
+}
+
+/// A flow without a name that was not made: its line is all that the script writes.
+fn end_not_made(text: &mut String, refused: Refusal) -> Result<bool, ScriptFault>
+    ensures ends { (named : NamedHead) (row : List (Option Kept)) → named.name ≡ None
+        → Makes named.flow (Err refused)
+        → IfOk result (λ goes_on. AddsFlow named goes_on row row (string_bytes text.old) (string_bytes text.new)) }
+    ensures fault { IfErr result (λ fault. fault ≡ ScriptFault.OutOfMemory) }
+{
+    add_refused(text, refused)?;
+    Ok(false)
+}
+
 /// Makes one flow more, and answers whether the script goes on: it ends where a flow without a name is refused.
 fn add_flow(
     alloc: Global,
@@ -86,21 +131,10 @@ fn add_flow(
 {
     let NamedFlow { name, flow } = named;
     match Player::new(alloc, flow) {
-        Ok(player) => {
-            add_place(row, Some(PlayedFlow::new(alloc, player)))?;
-            Ok(true)
-        }
+        Ok(player) => add_made(alloc, row, player),
         Err(refused) => match name {
-            Some(name) => {
-                add_name(text, name.as_str())?;
-                add_refused(text, refused)?;
-                add_place(row, None)?;
-                Ok(true)
-            }
-            None => {
-                add_refused(text, refused)?;
-                Ok(false)
-            }
+            Some(name) => add_not_made(row, text, name.as_str(), refused),
+            None => end_not_made(text, refused),
         },
     }
 }

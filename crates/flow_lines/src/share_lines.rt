@@ -3,8 +3,8 @@ ghost use Rattle.std.specs.Prelude.{◌≡◌, Ok, OnOk, IfErr};
 ghost use Rattle.flow_lines.specs.Lines as lines;
 ghost use Rattle.flow_lines.specs.Memory.{IsToldFault};
 
-use crate::collect::add_chain_fault;
-use crate::lines::add_flow_fault;
+use crate::collect::add_with_chain_fault;
+use crate::lines::{add_line, add_with_flow_fault};
 use crate::memory::is_memory;
 use flow_format::ScriptFault;
 use flow_law::Command;
@@ -26,13 +26,13 @@ fn add_event(text: &mut String, event: Event) -> Result<(), AllocError>
     ensures { OnOk result (lines.AddsLine (lines.event_text event) text.old text.new) }
 {
     match event {
-        Event::Busy => writeln!(text, "busy"),
-        Event::Idle => writeln!(text, "idle"),
-        Event::Put => writeln!(text, "put"),
-        Event::Queued => writeln!(text, "queued"),
-        Event::Waiting => writeln!(text, "waiting"),
-        Event::Pending => writeln!(text, "pending"),
-        Event::Completed => writeln!(text, "completed"),
+        Event::Busy => add_line(text, "busy"),
+        Event::Idle => add_line(text, "idle"),
+        Event::Put => add_line(text, "put"),
+        Event::Queued => add_line(text, "queued"),
+        Event::Waiting => add_line(text, "waiting"),
+        Event::Pending => add_line(text, "pending"),
+        Event::Completed => add_line(text, "completed"),
     }
 }
 
@@ -44,6 +44,17 @@ pub fn add_report(text: &mut String, report: Report) -> Result<(), AllocError>
     add_event(text, report.event)
 }
 
+fn add_told_fault(text: &mut String, fault: ShareFault) -> Result<(), AllocError>
+    ensures { OnOk result (lines.AddsLine (lines.share_fault_text fault) text.old text.new) }
+{
+    match fault {
+        ShareFault::Backwards(last) => writeln!(text, "refused 1 Backwards {last}"),
+        ShareFault::Ended => add_line(text, "refused 2 Ended"),
+        ShareFault::Chain(fault) => add_with_chain_fault(text, "refused 3 Chain ", fault),
+        ShareFault::Flow(fault) => add_with_flow_fault(text, "refused 4 Flow ", fault),
+    }
+}
+
 /// The line of a refusal. Want of memory has none: it ends the script.
 pub fn add_share_fault(text: &mut String, fault: ShareFault) -> Result<(), ScriptFault>
     ensures told { OnOk result (IsToldFault fault) }
@@ -53,17 +64,6 @@ pub fn add_share_fault(text: &mut String, fault: ShareFault) -> Result<(), Scrip
     if is_memory(fault) {
         return Err(ScriptFault::OutOfMemory);
     }
-    match fault {
-        ShareFault::Backwards(last) => writeln!(text, "refused 1 Backwards {last}")?,
-        ShareFault::Ended => writeln!(text, "refused 2 Ended")?,
-        ShareFault::Chain(fault) => {
-            text.push_str("refused 3 Chain ")?;
-            add_chain_fault(text, fault)?;
-        }
-        ShareFault::Flow(fault) => {
-            text.push_str("refused 4 Flow ")?;
-            add_flow_fault(text, fault)?;
-        }
-    }
+    add_told_fault(text, fault)?;
     Ok(())
 }
