@@ -1,5 +1,6 @@
 -- What the reading functions find, in the terms of the definitions.
-use Rattle.std.proofs.Common.{◌≡◌, ℕ, suc, ◌+◌, ◌<◌, ◌≤◌, true, false, nat_lt, if◌then◌else◌, List, [], ◌∷◌, ◌++◌, length, drop, get_or, Result, Ok, Err, String, Global, refl, sym, ap, ◌∙◌, append_assoc, add-one, arith}
+use Rattle.std.proofs.Common.{◌≡◌, ℕ, suc, ◌+◌, ◌<◌, ◌≤◌, true, false, nat_lt, if◌then◌else◌, List, [], ◌∷◌, ◌++◌, length, drop, get_or, Result, Ok, Err, Option, Some, String, Global, refl, sym, ap, ◌∙◌, append_assoc, add-one, arith}
+use Rattle.std.specs.Prelude.{option_and_then}
 use Rattle.std.proofs.Math.Seq.{drop-cons}
 use Rattle.serde_json.specs.Data.{Data}
 use Rattle.serde_json.specs.Events.{members_len, items_len}
@@ -157,3 +158,15 @@ too_long_is version flows vs long =
   where
     below : (n : ℕ) → most_steps < n → nat_lt most_steps n ≡ true
     below n lt = grind (arith, nat_tests)
+
+-- ---- what is read key by key
+
+-- where each of four keys is there, what is made of the four
+pub all-four : {A B C D R : Type 0} (f : A → B → C → D → Option R) (oa : Option A) (ob : Option B) (oc : Option C) (od : Option D) (a : A) (b : B) (c : C) (d : D)
+    → Some a ≡ oa → Some b ≡ ob → Some c ≡ oc → Some d ≡ od
+    → f a b c d ≡ option_and_then (λ w. option_and_then (λ x. option_and_then (λ y. option_and_then (λ z. f w x y z) od) oc) ob) oa
+all-four f oa ob oc od a b c d ea eb ec ed =
+    ap (λ o. option_and_then (λ z. f a b c z) o) ed
+    ∙ ap (λ o. option_and_then (λ y. option_and_then (λ z. f a b y z) od) o) ec
+    ∙ ap (λ o. option_and_then (λ x. option_and_then (λ y. option_and_then (λ z. f a x y z) od) oc) o) eb
+    ∙ ap (λ o. option_and_then (λ w. option_and_then (λ x. option_and_then (λ y. option_and_then (λ z. f w x y z) od) oc) ob) o) ea
