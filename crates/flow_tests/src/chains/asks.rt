@@ -1,9 +1,9 @@
 //! How often a chain is asked.
 
-use crate::chains::gives::{COLLECTIONS, gives};
+use crate::chains::gives::{COLLECTIONS, begins_with};
 use crate::chains::operators::Add;
 use crate::compare::compare;
-use flow_cold::{Asked, Chain, Cold, End, OfRange, Take};
+use flow_cold::{Asked, Chain, Cold, OfRange};
 use std::cell::Cell;
 
 /// Counts how often a chain is asked.
@@ -42,14 +42,12 @@ fn a_take_asks_no_more_than_it_gives(rt: HostRuntime) {
         chain: OfRange::new(1, 5),
         asks: &asks,
     };
-    let chain = Take::new(counted, 2).expect(&rt, "a take");
-    gives(&rt, rt.alloc(), 0, chain, &[1, 2], End::Completed);
+    begins_with(&rt, rt.alloc(), 0, counted, 2, &[1, 2]);
     compare(&rt, 0, asks.replace(0), 2 * COLLECTIONS);
     let counted = Counted {
         chain: OfRange::new(1, 5),
         asks: &asks,
     };
-    let chain = Take::new(counted.scan_by(0, Add), 3).expect(&rt, "a take");
-    gives(&rt, rt.alloc(), 1, chain, &[0, 1, 3], End::Completed);
+    begins_with(&rt, rt.alloc(), 1, counted.scan_by(0, Add), 3, &[0, 1, 3]);
     compare(&rt, 1, asks.get(), 2 * COLLECTIONS);
 }

@@ -1,6 +1,6 @@
 //! What a chain gives, beside what it is to give.
 use crate::compare::compare;
-use flow_cold::{Cold, End, Entry, OfList, ScriptChain, Scripted, Source, collect_all};
+use flow_cold::{Chain, Cold, End, Entry, OfList, ScriptChain, Scripted, Source, collect_all};
 use std::alloc::Global;
 use std::process::Abort;
 
@@ -37,6 +37,21 @@ fn gives_once<C: Cold<Item = i64>>(
     let got = collect_all(alloc, chain).expect(rt, "memory");
     compare(rt, place, got.items.as_slice(), items);
     compare(rt, place, got.end, end);
+}
+
+/// The first items of the chain are these, as many as are taken.
+pub fn begins_with<C: Cold<Item = i64>>(
+    rt: &impl Abort,
+    alloc: Global,
+    place: usize,
+    chain: C,
+    count: u64,
+    items: &[i64],
+)
+    requires { C.sound chain }
+{
+    let first = chain.take(count).expect(rt, "a take");
+    gives(rt, alloc, place, first, items, End::Completed);
 }
 
 /// The chain of a list.

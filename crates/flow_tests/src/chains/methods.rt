@@ -1,6 +1,6 @@
 //! Chains as one writes them: operators as methods, ready computations and tests, and terminal operators.
 
-use crate::chains::gives::{FAILS_AFTER_TWO, gives, list, script};
+use crate::chains::gives::{FAILS_AFTER_TWO, begins_with, gives, list, script};
 use crate::chains::operators::{Add, AddOne, IsAboveOne, above_one, increased, sum};
 use crate::compare::compare;
 use flow_cold::{
@@ -43,8 +43,7 @@ fn a_result_that_is_out_of_range_ends_a_chain(rt: HostRuntime) {
 fn first_and_last_items_are_left_out(rt: HostRuntime) {
     let later = OfRange::new(0, 5).drop_first(2);
     gives(&rt, rt.alloc(), 0, later, &[2, 3, 4, 5], End::Completed);
-    let first = OfRange::new(1, 5).take(3).expect(&rt, "a take");
-    gives(&rt, rt.alloc(), 1, first, &[1, 2, 3], End::Completed);
+    begins_with(&rt, rt.alloc(), 1, OfRange::new(1, 5), 3, &[1, 2, 3]);
     let above = OfRange::new(2, 4).take_while(IsAboveOne, above_one);
     gives(&rt, rt.alloc(), 2, above, &[2, 3, 4], End::Completed);
     let below = OfRange::new(1, 9).take_while_by(Less { k: 3 });
