@@ -1,24 +1,31 @@
 //! Futures over flows, awaited on one thread and on two.
 ghost use Rattle.std.specs.Prelude.{◌≡◌};
 
-use crate::awaiting::{exchange, send};
+use crate::awaiting::{Exchange, exchange, send};
 use crate::compare::compare;
 use crate::examples::threads::one_subscriber;
-use flow_law::Config;
+use flow_law::{Config, FlowFault};
 use flow_shared::{NextFuture, Seat, Sent, SharedFlow, Subscription};
 use futures::executor::block_on;
 use std::alloc::AllocGlobal;
 use std::random::RandomSource;
 use std::sync::Wait;
 
+/// What was received, where the emission is done.
+fn received(both: Exchange<i64>) -> Option<Result<i64, FlowFault>> {
+    let (sent, (_subscription, received)) = both;
+    match sent {
+        Sent::Done(_seat) => Some(received),
+        Sent::Refused(_seat, _value, _fault) => None,
+    }
+}
+
 /// Without a buffer an emission and its receiver wait for each other.
 #[test]
 fn an_emission_and_its_receiver_are_awaited(rt: HostRuntime) {
     let (flow, seat, subscription) = one_subscriber(&rt, rt.alloc(), Config::new());
     let both = exchange(&rt, &flow, seat, 7, subscription);
-    let (sent, (_subscription, received)) = both.expect(&rt, "a waker");
-    assert!(rt; matches!(sent, Sent::Done(_)));
-    compare(&rt, 0, received, Ok(7));
+    compare(&rt, 0, received(both.expect(&rt, "a waker")), Some(Ok(7)));
 }
 
 /// Emits 0, 1, 2 .., and tells how many were received.

@@ -2,7 +2,7 @@
 ghost use Rattle.std.specs.Prelude.{◌≡◌};
 
 use crate::compare::compare;
-use flow_law::Config;
+use flow_law::{Config, FlowFault};
 use flow_shared::{EmitFuture, NextFuture, Seat, Sent, SharedFlow, Subscription};
 use futures::Future;
 use futures::task::Poll;
@@ -41,6 +41,14 @@ where
     assert!(rt; task.poll(future).is_pending() && task.is_woken());
 }
 
+/// What a poll gives; `None` where it is pending.
+fn received(task: &MockTask, next: &mut NextFuture<'_, i64>) -> Option<Result<i64, FlowFault>> {
+    match task.poll(next) {
+        Poll::Ready((_subscription, received)) => Some(received),
+        Poll::Pending => None,
+    }
+}
+
 /// A value comes with the first poll, if there is one. Then a poll is pending, and the subscription is to be had from the
 /// future only where there was none.
 fn receives(
@@ -54,19 +62,37 @@ fn receives(
 {
     let mut next = NextFuture::new(flow, subscription);
     if let Some(value) = value {
-        let Poll::Ready((_subscription, received)) = task.poll(&mut next) else {
-            panic!(rt; "there is a value")
-        };
-        compare(rt, 1, received, Ok(value));
+        compare(rt, 1, received(task, &mut next), Some(Ok(value)));
     }
     pends(rt, task, &mut next);
     compare(rt, 2, next.into_subscription().is_some(), value.is_none());
 }
 
-/// The value was still on its way.
-fn is_cancelled<R: Wait + Abort>(rt: &R, emit: EmitFuture<'_, i64>) {
-    let (_seat, was_waiting) = emit.cancel(rt).expect(rt, "a seat");
-    assert!(rt; was_waiting);
+/// The emission is pending, and then a subscriber receives 7.
+fn pends_and_is_received(
+    rt: &impl Abort,
+    task: &MockTask,
+    emit: &mut EmitFuture<'_, i64>,
+    flow: &SharedFlow<i64>,
+    subscription: Subscription<i64>,
+)
+    requires { subscription.token.table_id ≡ flow.now.table_id }
+{
+    pends(rt, task, emit);
+    receives(rt, task, flow, subscription, Some(7));
+}
+
+/// Whether a poll tells that the emission is done.
+fn is_done(task: &MockTask, emit: &mut EmitFuture<'_, i64>) -> bool {
+    matches!(task.poll(emit), Poll::Ready(Sent::Done(_)))
+}
+
+/// Whether the value was still on its way; `None` where there was nothing to cancel.
+fn cancelled<R: Wait>(rt: &R, emit: EmitFuture<'_, i64>) -> Option<bool> {
+    match emit.cancel(rt) {
+        Some((_seat, was_waiting)) => Some(was_waiting),
+        None => None,
+    }
 }
 
 /// At last it is done with a poll. Then a poll is pending, and there is nothing to cancel.
@@ -75,13 +101,11 @@ fn an_emission_is_pending_until_each_subscriber_has_it(rt: HostRuntime) {
     let (flow, seat, first, second) = unbuffered(&rt, rt.alloc());
     let task = MockTask::new(&rt).expect(&rt, "a task");
     let mut emit = EmitFuture::new(&flow, seat, 7);
+    pends_and_is_received(&rt, &task, &mut emit, &flow, first);
+    pends_and_is_received(&rt, &task, &mut emit, &flow, second);
+    compare(&rt, 3, is_done(&task, &mut emit), true);
     pends(&rt, &task, &mut emit);
-    receives(&rt, &task, &flow, first, Some(7));
-    pends(&rt, &task, &mut emit);
-    receives(&rt, &task, &flow, second, Some(7));
-    assert!(rt; matches!(task.poll(&mut emit), Poll::Ready(Sent::Done(_))));
-    pends(&rt, &task, &mut emit);
-    assert!(rt; emit.cancel(&rt).is_none());
+    compare(&rt, 4, cancelled(&rt, emit), None);
 }
 
 /// One that is cancelled before a poll was never made.
@@ -91,9 +115,9 @@ fn a_cancelled_emission_is_not_received(rt: HostRuntime) {
     let task = MockTask::new(&rt).expect(&rt, "a task");
     let other = flow.seat(&mut seat);
     let mut emit = EmitFuture::new(&flow, seat, 7);
-    pends(&rt, &task, &mut emit);
-    receives(&rt, &task, &flow, first, Some(7));
-    is_cancelled(&rt, emit);
-    is_cancelled(&rt, EmitFuture::new(&flow, other, 7));
+    pends_and_is_received(&rt, &task, &mut emit, &flow, first);
+    compare(&rt, 3, cancelled(&rt, emit), Some(true));
+    let never_made = EmitFuture::new(&flow, other, 7);
+    compare(&rt, 4, cancelled(&rt, never_made), Some(true));
     receives(&rt, &task, &flow, second, None);
 }
