@@ -10,6 +10,7 @@ use std::alloc::{AllocGlobal, Global};
 use std::process::Abort;
 use std::random::RandomSource;
 use std::sync::Wait;
+use std::thread::Threads;
 
 /// A flow, a seat, and a subscriber.
 pub fn one_subscriber<R: Wait + Abort>(
@@ -68,6 +69,22 @@ fn rounds<R: Wait>(
     10_000
 }
 
+/// An emission that waits is polled, and cancelled.
+fn poll_and_cancel<R: Abort>(rt: &R, flow: &SharedFlow<i64>, seat: Seat<i64>)
+    requires { seat.table_id ≡ flow.now.table_id }
+{
+    let Emitted::Queued(emission) = flow.emit_now(seat, 7) else {
+        panic!(rt; "it waits")
+    };
+    let PolledNow::Waiting(emission) = flow.poll_now(emission) else {
+        panic!(rt; "it waits")
+    };
+    match flow.cancel_now(emission) {
+        Ok((_seat, was_waiting)) => compare(rt, 4, was_waiting, true),
+        Err(_emission) => panic!(rt; "nobody is inside"),
+    }
+}
+
 /// 10,000 rounds; and an emission that waits is polled and cancelled.
 #[test]
 fn alone_no_call_is_busy(rt: HostRuntime) {
@@ -78,16 +95,7 @@ fn alone_no_call_is_busy(rt: HostRuntime) {
     compare(&rt, 1, flow.count_now(&mut seat), Ok(1));
     compare(&rt, 2, flow.reset_now(&mut seat), Ok(()));
     compare(&rt, 3, flow.try_emit(&rt, &mut seat, 6).ok(), Some(true));
-    let Emitted::Queued(emission) = flow.emit_now(seat, 7) else {
-        panic!(rt; "it waits")
-    };
-    let PolledNow::Waiting(emission) = flow.poll_now(emission) else {
-        panic!(rt; "it waits")
-    };
-    let Ok((_seat, was_waiting)) = flow.cancel_now(emission) else {
-        panic!(rt; "nobody is inside")
-    };
-    assert!(rt; was_waiting);
+    poll_and_cancel(&rt, &flow, seat);
 }
 
 /// Who sets a value, and reads the current one.
@@ -109,47 +117,72 @@ impl<'a> Work for Setter<'a> {
     }
 }
 
+/// One who sets this value.
+fn one_who_sets<'a>(flow: &'a StateFlow<i64>, seat: &mut StateSeat<i64>, value: i64) -> Setter<'a>
+    requires { seat.old.table_id ≡ flow.now.table_id }
+    ensures { seat.new.table_id ≡ flow.entry.now.table_id }
+{
+    Setter {
+        flow,
+        seat: flow.seat(seat),
+        value,
+        found: 0,
+    }
+}
+
+/// Two set 9 and 4 at once, and each reads one of these.
+fn set_from_two_threads<R: Threads + Wait + RandomSource + AllocGlobal + Abort + Sync>(
+    rt: &R,
+    alloc: Global,
+    flow: &StateFlow<i64>,
+    seat: &mut StateSeat<i64>,
+)
+    requires { seat.old.table_id ≡ flow.now.table_id }
+    ensures { seat.new.table_id ≡ flow.entry.now.table_id }
+{
+    let mut setters = Vec::new(alloc);
+    setters
+        .push(one_who_sets(flow, seat, 9))
+        .expect(rt, "memory");
+    setters
+        .push(one_who_sets(flow, seat, 4))
+        .expect(rt, "memory");
+    run_all(rt, setters.as_mut_slice());
+    for setter in &setters {
+        compare(rt, 0, setter.found == 9 || setter.found == 4, true);
+    }
+}
+
 /// The core of a closed flow has the value that was set last.
 #[test]
 fn a_thread_reads_what_it_set_or_what_another_set(rt: HostRuntime) {
     let (flow, mut seat) = StateFlow::new(rt.alloc(), 0, u64::MAX).expect(&rt, "a flow");
-    let one = flow.seat(&mut seat);
-    let other = flow.seat(&mut seat);
-    let mut setters = [
-        Setter {
-            flow: &flow,
-            seat: one,
-            value: 9,
-            found: 0,
-        },
-        Setter {
-            flow: &flow,
-            seat: other,
-            value: 4,
-            found: 0,
-        },
-    ];
-    run_all(&rt, &mut setters);
-    for setter in &setters {
-        compare(&rt, 0, setter.found == 9 || setter.found == 4, true);
-    }
-    drop(setters);
+    set_from_two_threads(&rt, rt.alloc(), &flow, &mut seat);
     let core = flow.close(seat).expect(&rt, "nobody is inside");
     let value = core.value().expect(&rt, "a value");
     compare(&rt, 1, value == 9 || value == 4, true);
 }
 
-/// What one seat sets at once, the subscriber of another receives that has met it.
+/// Sets a value at once, which the subscriber of another seat receives that has met this one.
+fn set_now_and_receive<R: Wait + Abort>(
+    rt: &R,
+    flow: &StateFlow<i64>,
+    seat: &mut StateSeat<i64>,
+    other: &mut StateSeat<i64>,
+)
+    requires { (seat.old.table_id ≡ flow.now.table_id) × (other.old.table_id ≡ flow.now.table_id) }
+{
+    compare(rt, 0, flow.set_now(other, 5), Ok(()));
+    compare(rt, 1, flow.count_now(other), Ok(0));
+    flow.meet(seat, other);
+    let mut subscription = flow.subscribe(rt, seat).expect(rt, "a subscription");
+    flow.meet_subscription(&mut subscription, other);
+    compare(rt, 2, flow.next(rt, &mut subscription), Ok(Next::Value(5)));
+}
+
 #[test]
 fn a_state_flow_is_set_at_once(rt: HostRuntime) {
     let (flow, mut seat) = StateFlow::new(rt.alloc(), 0, u64::MAX).expect(&rt, "a flow");
     let mut other = flow.seat(&mut seat);
-    compare(&rt, 0, flow.set_now(&mut other, 5), Ok(()));
-    compare(&rt, 1, flow.count_now(&mut other), Ok(0));
-    flow.meet(&mut seat, &mut other);
-    let subscribed = flow.subscribe(&rt, &mut seat);
-    let mut subscription = subscribed.expect(&rt, "a subscription");
-    flow.meet_subscription(&mut subscription, &mut other);
-    let received = flow.next(&rt, &mut subscription);
-    compare(&rt, 2, received, Ok(Next::Value(5)));
+    set_now_and_receive(&rt, &flow, &mut seat, &mut other);
 }

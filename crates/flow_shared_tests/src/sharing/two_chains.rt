@@ -53,23 +53,24 @@ fn two_threads_share_two_chains(rt: HostRuntime) {
     let high_hub = SharedFlowHub::new(&high, &mut high_seat);
     let low_reader = low.subscribe(&rt, &mut low_seat).expect(&rt, "memory");
     let high_reader = high.subscribe(&rt, &mut high_seat).expect(&rt, "memory");
-    let mut workers = [
-        Worker {
-            sharing: Sharing::new(OfRange::new(1, 3), Started::Eagerly, low_hub),
-            flow: &high,
-            subscription: high_reader,
-            wanted: 36,
-            has_read: false,
-        },
-        Worker {
-            sharing: Sharing::new(OfRange::new(11, 13), Started::Eagerly, high_hub),
-            flow: &low,
-            subscription: low_reader,
-            wanted: 6,
-            has_read: false,
-        },
-    ];
-    run_all(&rt, &mut workers);
+    let mut workers = Vec::new(rt.alloc());
+    let to_low = Worker {
+        sharing: Sharing::new(OfRange::new(1, 3), Started::Eagerly, low_hub),
+        flow: &high,
+        subscription: high_reader,
+        wanted: 36,
+        has_read: false,
+    };
+    workers.push(to_low).expect(&rt, "memory");
+    let to_high = Worker {
+        sharing: Sharing::new(OfRange::new(11, 13), Started::Eagerly, high_hub),
+        flow: &low,
+        subscription: low_reader,
+        wanted: 6,
+        has_read: false,
+    };
+    workers.push(to_high).expect(&rt, "memory");
+    run_all(&rt, workers.as_mut_slice());
     for worker in &workers {
         compare(&rt, 0, worker.has_read, true);
     }
