@@ -83,12 +83,16 @@ fn puts_and_cancels<H: Hub<Item = i64>>(rt: &impl Abort, hub: &mut H, waits: boo
 
 /// Without a buffer an emission waits until its subscriber has received it.
 #[test]
-fn a_hub_of_a_shared_flow_cancels_what_waits(rt: HostRuntime) {
+fn a_hub_of_a_shared_core_cancels_what_waits(rt: HostRuntime) {
     let mut core = SharedCore::new(rt.alloc(), Config::new()).expect(&rt, "a flow");
     let id = core.subscribe().expect(&rt, "a subscription");
     let mut hub = CoreHub::new(core);
     puts_and_cancels(&rt, &mut hub, true, 1);
     compare(&rt, 6, hub.core_mut().next(id), Ok(Next::Empty));
+}
+
+#[test]
+fn a_hub_of_a_shared_flow_cancels_what_waits(rt: HostRuntime) {
     let made = SharedFlow::new(rt.alloc(), Config::new());
     let (flow, mut seat) = made.expect(&rt, "a flow");
     let mut subscription = flow.subscribe(&rt, &mut seat).expect(&rt, "a subscription");
@@ -97,16 +101,24 @@ fn a_hub_of_a_shared_flow_cancels_what_waits(rt: HostRuntime) {
 }
 
 #[test]
-fn nothing_waits_for_a_state_flow(rt: HostRuntime) {
+fn nothing_waits_for_a_state_core(rt: HostRuntime) {
     let mut hub = StateHub::new(StateCore::new(rt.alloc(), 0i64, u64::MAX), 0);
     puts_and_cancels(&rt, &mut hub, false, 0);
     compare(&rt, 6, hub.core_mut().value(), Ok(3));
+}
+
+#[test]
+fn nothing_waits_for_a_state_flow(rt: HostRuntime) {
     let made = StateFlow::new(rt.alloc(), 0i64, u64::MAX);
     let (flow, mut seat) = made.expect(&rt, "a flow");
     puts_and_cancels(&rt, &mut StateFlowHub::new(&flow, &mut seat, 0), false, 0);
     compare(&rt, 7, flow.value(&rt, &mut seat), Ok(3));
+}
+
+#[test]
+fn nothing_waits_for_a_word_state(rt: HostRuntime) {
     let made = WordState::new(rt.alloc(), 0i64, u32::MAX);
-    let (word, mut word_seat) = made.expect(&rt, "a flow");
-    puts_and_cancels(&rt, &mut WordHub::new(&word, &mut word_seat, 0), false, 0);
-    compare(&rt, 8, word.value(&mut word_seat), 3);
+    let (word, mut seat) = made.expect(&rt, "a flow");
+    puts_and_cancels(&rt, &mut WordHub::new(&word, &mut seat, 0), false, 0);
+    compare(&rt, 8, word.value(&mut seat), 3);
 }
