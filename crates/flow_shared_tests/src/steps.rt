@@ -32,6 +32,7 @@ pub struct Example {
 }
 
 /// A step on a flow, and what it answers. Emissions and subscribers are named by the order in which they came, from 0.
+#[derive(Clone, Copy)]
 pub enum Step {
     /// The value, and whether the flow took or dropped it.
     TryEmit(i64, Result<bool, FlowFault>),
@@ -57,7 +58,7 @@ pub enum Step {
     SubscribeWith(&'static [i64]),
     /// The values that are handed back.
     SubscribeWithRefused(&'static [i64], FlowFault),
-    Next(usize, Next<i64>),
+    Next(usize, &'static Next<i64>),
     Unsubscribe(usize),
     /// A subscription, which is dropped.
     DropSubscription(usize),

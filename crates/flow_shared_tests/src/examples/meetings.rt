@@ -43,7 +43,7 @@ const MEETINGS: &[Meeting] = &[
         },
         before: &[Subscribe],
         rounds: &[&[Emit(8), Role::Count(1)]],
-        after: &[Next(0, Value(8))],
+        after: &[Next(0, &Value(8))],
         emitted: None,
         subscribers: 1,
         caches: &[&[]],
@@ -93,7 +93,7 @@ const MEETINGS: &[Meeting] = &[
         },
         before: &[Subscribe],
         rounds: &[&[Send(1)]],
-        after: &[Next(0, Value(0))],
+        after: &[Next(0, &Value(0))],
         emitted: None,
         subscribers: 1,
         caches: &[&[]],
@@ -112,8 +112,8 @@ const RACES: &[Meeting] = &[
         },
         before: &[Subscribe, TryEmit(1, TAKEN), Step::Emit(2, WAITS)],
         rounds: &[&[Read(&[Value(1)]), Cancel]],
-        after: &[Next(0, Empty)],
-        emitted: Some(&[Next(0, Value(2)), Next(0, Empty)]),
+        after: &[Next(0, &Empty)],
+        emitted: Some(&[Next(0, &Value(2)), Next(0, &Empty)]),
         subscribers: 1,
         caches: &[&[]],
     },
@@ -122,7 +122,7 @@ const RACES: &[Meeting] = &[
         config: UNBUFFERED,
         before: &[Subscribe, Subscribe, Step::Emit(7, WAITS)],
         rounds: &[&[Read(&[Value(7), Empty]), Cancel]],
-        after: &[Next(1, Empty), Next(0, Empty)],
+        after: &[Next(1, &Empty), Next(0, &Empty)],
         emitted: None,
         subscribers: 2,
         caches: &[&[]],
@@ -133,17 +133,14 @@ const RACES: &[Meeting] = &[
 fn has_ended<'a>(
     rt: &impl Abort,
     player: &mut FlowPlayer<'a, i64, SharedCore<i64>>,
-    worker: Worker<'a>,
+    worker: &mut Worker<'a>,
 ) -> bool {
-    let Worker {
-        role,
-        reader,
-        is_done,
-        ..
-    } = worker;
-    compare(rt, 100, is_done || matches!(role, Cancel), true);
-    if let (Some(place), Some(reader)) = (player.readers.get_mut(0), reader) {
-        *place = Some(reader);
+    let is_done = worker.is_done;
+    compare(rt, 100, is_done || matches!(worker.role, Cancel), true);
+    if let Some(place) = player.readers.get_mut(0) {
+        if place.is_none() {
+            *place = worker.reader.take();
+        }
     }
     is_done
 }
@@ -161,32 +158,36 @@ fn run_round<'a, R: Threads + Wait + Abort + RandomSource + AllocGlobal + Sync>(
     }
     run_all(rt, workers.as_mut_slice());
     let mut all_done = true;
-    for worker in workers {
+    for worker in &mut workers {
         all_done &= has_ended(rt, player, worker);
     }
     all_done
+}
+
+/// What follows, where no cancel came too late, and where one did.
+fn steps_then(rt: &impl Abort, meeting: &Meeting, all_done: bool) -> &'static [Step] {
+    match (all_done, meeting.emitted) {
+        (true, _) => meeting.after,
+        (false, Some(steps)) => steps,
+        (false, None) => panic!(rt; "the emission waits"),
+    }
 }
 
 /// What comes before, the threads, and what follows.
 fn meet<R: Threads + Wait + Abort + RandomSource + AllocGlobal + Sync>(
     rt: &R,
     alloc: Global,
-    player: FlowPlayer<'_, i64, SharedCore<i64>>,
+    player: &mut FlowPlayer<'_, i64, SharedCore<i64>>,
     meeting: &Meeting,
 ) {
-    let mut player = player;
     let mut refused = Vec::new(alloc);
-    take_all(rt, &mut player, 0, meeting.before, &mut refused);
+    take_all(rt, player, 0, meeting.before, &mut refused);
     let mut all_done = true;
     for roles in meeting.rounds {
-        all_done &= run_round(rt, alloc, &mut player, *roles);
+        all_done &= run_round(rt, alloc, player, *roles);
     }
-    let then = match (all_done, meeting.emitted) {
-        (true, _) => meeting.after,
-        (false, Some(steps)) => steps,
-        (false, None) => panic!(rt; "the emission waits"),
-    };
-    take_all(rt, &mut player, 200, then, &mut refused);
+    let then = steps_then(rt, meeting, all_done);
+    take_all(rt, player, 200, then, &mut refused);
 }
 
 /// A core has so many subscribers, one of these caches, and no other value.
@@ -209,12 +210,9 @@ fn hold<R: Threads + Wait + Abort + RandomSource + AllocGlobal + Sync>(
 ) {
     let (flow, mut seat) = SharedFlow::new(alloc, meeting.config).expect(rt, "a flow");
     let own = flow.seat(&mut seat);
-    meet(
-        rt,
-        alloc,
-        FlowPlayer::new(alloc, alloc, &flow, own),
-        meeting,
-    );
+    let mut player = FlowPlayer::new(alloc, alloc, &flow, own);
+    meet(rt, alloc, &mut player, meeting);
+    drop(player);
     match flow.close(seat) {
         Some(core) => is_left(rt, core, meeting),
         None => panic!(rt; "somebody is inside"),

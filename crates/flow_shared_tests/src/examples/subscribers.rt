@@ -5,10 +5,11 @@ use crate::playing::play;
 use crate::steps::Kind::Shared;
 use crate::steps::Step::{Cache, Count, Emit, Next, Reset, Subscribe, SubscribeRefused, TryEmit};
 use crate::steps::{DONE, Example, UNBUFFERED};
-use flow_law::FlowFault::{Exhausted, NeedsBuffer, TooLarge};
+use flow_law::FlowFault::{self, Exhausted, NeedsBuffer, TooLarge};
 use flow_law::Next::{Empty, Value};
 use flow_law::{Config, Overflow};
 use flow_shared::SharedFlow;
+use std::alloc::Global;
 
 pub const EXAMPLES: &[Example] = &[
     // Nobody receives what was emitted before.
@@ -19,7 +20,7 @@ pub const EXAMPLES: &[Example] = &[
             Cache(&[]),
             Count(0),
             Subscribe,
-            Next(0, Empty),
+            Next(0, &Empty),
         ],
     },
     // A new subscriber gets the cache.
@@ -34,9 +35,9 @@ pub const EXAMPLES: &[Example] = &[
             TryEmit(3, Ok(true)),
             Cache(&[2, 3]),
             Subscribe,
-            Next(0, Value(2)),
-            Next(0, Value(3)),
-            Next(0, Empty),
+            Next(0, &Value(2)),
+            Next(0, &Value(3)),
+            Next(0, &Empty),
         ],
     },
     // A slow subscriber loses the oldest.
@@ -50,14 +51,14 @@ pub const EXAMPLES: &[Example] = &[
             Subscribe,
             Subscribe,
             Emit(1, DONE),
-            Next(0, Value(1)),
+            Next(0, &Value(1)),
             Emit(2, DONE),
-            Next(0, Value(2)),
+            Next(0, &Value(2)),
             Emit(3, DONE),
-            Next(1, Value(3)),
-            Next(1, Empty),
-            Next(0, Value(3)),
-            Next(0, Empty),
+            Next(1, &Value(3)),
+            Next(1, &Empty),
+            Next(0, &Value(3)),
+            Next(0, &Empty),
         ],
     },
     // A reset leaves old subscribers what they have.
@@ -75,12 +76,12 @@ pub const EXAMPLES: &[Example] = &[
             Reset,
             Cache(&[]),
             Subscribe,
-            Next(1, Empty),
-            Next(0, Value(1)),
-            Next(0, Value(2)),
-            Next(0, Empty),
+            Next(1, &Empty),
+            Next(0, &Value(1)),
+            Next(0, &Value(2)),
+            Next(0, &Empty),
             TryEmit(3, Ok(true)),
-            Next(1, Value(3)),
+            Next(1, &Value(3)),
             Cache(&[3]),
         ],
     },
@@ -99,7 +100,7 @@ pub const EXAMPLES: &[Example] = &[
             TryEmit(3, Ok(false)),
             Emit(3, Err(Exhausted)),
             SubscribeRefused(Exhausted),
-            Next(0, Value(1)),
+            Next(0, &Value(1)),
             TryEmit(3, Err(Exhausted)),
         ],
     },
@@ -107,24 +108,22 @@ pub const EXAMPLES: &[Example] = &[
 
 #[test]
 fn flows_are_as_documented(rt: HostRuntime) {
-    for (first, examples) in [
-        (0, EXAMPLES),
-        (10_000, emissions::EXAMPLES),
-        (20_000, own_values::EXAMPLES),
-        (30_000, drains::EXAMPLES),
-        (40_000, state::EXAMPLES),
-    ] {
-        play(&rt, rt.alloc(), first, examples);
-    }
+    play(&rt, rt.alloc(), 0, EXAMPLES);
+    play(&rt, rt.alloc(), 10_000, emissions::EXAMPLES);
+    play(&rt, rt.alloc(), 20_000, own_values::EXAMPLES);
+    play(&rt, rt.alloc(), 30_000, drains::EXAMPLES);
+    play(&rt, rt.alloc(), 40_000, state::EXAMPLES);
+}
+
+/// Why a flow of this configuration is refused, if it is.
+fn refusal(alloc: Global, config: Config) -> Option<FlowFault> {
+    SharedFlow::<i64>::new(alloc, config).err()
 }
 
 #[test]
 fn a_flow_is_refused_by_name(rt: HostRuntime) {
-    for (place, config, fault) in [
-        (0, Config::new().overflow(Overflow::DropOldest), NeedsBuffer),
-        (1, Config::new().replay(65_536).extra(1), TooLarge),
-    ] {
-        let refused = SharedFlow::<i64>::new(rt.alloc(), config);
-        compare(&rt, place, refused.err(), Some(fault));
-    }
+    let dropping = Config::new().overflow(Overflow::DropOldest);
+    compare(&rt, 0, refusal(rt.alloc(), dropping), Some(NeedsBuffer));
+    let large = Config::new().replay(65_536).extra(1);
+    compare(&rt, 1, refusal(rt.alloc(), large), Some(TooLarge));
 }

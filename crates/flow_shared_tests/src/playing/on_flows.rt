@@ -30,7 +30,7 @@ pub trait Played<T: Numbered, A: Allocator + Copy>: FlowCore<Item = T> + Drop {
         player: &mut FlowPlayer<'_, T, Self, A>,
         rt: &R,
         place: usize,
-        step: &Step,
+        step: Step,
     ) -> Result<(), FlowFault>;
 }
 
@@ -80,23 +80,24 @@ impl<'a, T: Numbered<Memory = A>, S: FlowCore<Item = T> + Drop, A: Allocator + C
         &mut self,
         rt: &R,
         place: usize,
-        step: &Step,
+        step: Step,
     ) -> Result<(), FlowFault> {
         match step {
             Step::Subscribe => self.subscribe(rt, place),
             Step::SubscribeRefused(fault) => {
-                Ok(compare(rt, place, self.subscribe(rt, place), Err(*fault)))
+                Ok(compare(rt, place, self.subscribe(rt, place), Err(fault)))
             }
-            Step::Next(index, wanted) => at(rt, &mut self.readers, *index).next(rt, place, wanted),
+            Step::Next(index, wanted) => at(rt, &mut self.readers, index).next(rt, place, wanted),
             Step::Drain(index, most, ended, numbers) => {
-                let wanted = (*ended, *numbers);
-                at(rt, &mut self.readers, *index).drain(rt, self.memory, place, *most, wanted)
+                let memory = self.memory;
+                let wanted = (ended, numbers);
+                at(rt, &mut self.readers, index).drain(rt, memory, place, most, wanted)
             }
-            Step::Unsubscribe(index) => Ok(token(rt, &mut self.readers, *index).leave(rt)),
-            Step::DropSubscription(index) => Ok(drop(token(rt, &mut self.readers, *index))),
+            Step::Unsubscribe(index) => Ok(token(rt, &mut self.readers, index).leave(rt)),
+            Step::DropSubscription(index) => Ok(drop(token(rt, &mut self.readers, index))),
             Step::Count(count) => {
                 let answer = self.flow.subscription_count(rt, &mut self.seat);
-                Ok(compare(rt, place, answer, *count))
+                Ok(compare(rt, place, answer, count))
             }
             _ => panic!(rt; "step {place}: not on this flow"),
         }
@@ -112,11 +113,11 @@ pub fn take_all<R: Wait + Abort, T: Numbered, S: Played<T, A>, A: Allocator + Co
     steps: &[Step],
     refused: &mut Vec<usize>,
 ) {
-    for index in 0..steps.len() {
+    for (index, step) in steps.iter().enumerate() {
         let place = first.saturating_add(index);
-        if let Err(fault) = S::take(player, rt, place, &steps[index]) {
+        if let Err(fault) = S::take(player, rt, place, *step) {
             compare(rt, place, fault, FlowFault::OutOfMemory);
-            compare(rt, place, S::take(player, rt, place, &steps[index]), Ok(()));
+            compare(rt, place, S::take(player, rt, place, *step), Ok(()));
             refused.push(index).expect(rt, "memory");
         }
     }

@@ -48,19 +48,16 @@ impl<'a, T: Numbered<Memory = A>, A: Allocator + Copy> FlowPlayer<'a, T, SharedC
         &mut self,
         rt: &R,
         place: usize,
-        step: &Step,
+        step: Step,
     ) -> Result<(), FlowFault> {
         let (answer, wanted) = match step {
-            Step::Emit(number, waits) => (self.emit(rt, place, *number), *waits),
-            Step::Poll(index, waits) => (Ok(self.poll(rt, *index)), *waits),
+            Step::Emit(number, waits) => (self.emit(rt, place, number), waits),
+            Step::Poll(index, waits) => (Ok(self.poll(rt, index)), waits),
             Step::Cancel(index, waited) => {
-                (
-                    Ok(token(rt, &mut self.emissions, *index).cancel(rt)),
-                    *waited,
-                )
+                (Ok(token(rt, &mut self.emissions, index).cancel(rt)), waited)
             }
             Step::DropEmission(index) => {
-                return Ok(drop(token(rt, &mut self.emissions, *index)));
+                return Ok(drop(token(rt, &mut self.emissions, index)));
             }
             _ => return self.subscriber_step(rt, place, step),
         };
@@ -100,21 +97,21 @@ impl<T: Numbered<Memory = A>, A: Allocator + Copy> Played<T, A> for SharedCore<T
         player: &mut FlowPlayer<'_, T, SharedCore<T, A>, A>,
         rt: &R,
         place: usize,
-        step: &Step,
+        step: Step,
     ) -> Result<(), FlowFault> {
         match step {
             Step::TryEmit(number, taken) => {
-                let value = T::of(rt, player.memory, *number);
+                let value = T::of(rt, player.memory, number);
                 let answer = match player.flow.try_emit(rt, &mut player.seat, value) {
                     Ok(answer) => Ok(answer),
                     Err(refused) => Err(refused.fault),
                 };
-                Ok(compare(rt, place, answer, *taken))
+                Ok(compare(rt, place, answer, taken))
             }
             Step::SubscribeWith(first) => player.subscribe_with(rt, place, first),
             Step::SubscribeWithRefused(first, fault) => {
                 let answer = player.subscribe_with(rt, place, first);
-                Ok(compare(rt, place, answer, Err(*fault)))
+                Ok(compare(rt, place, answer, Err(fault)))
             }
             Step::Cache(numbers) => {
                 let cache = player.flow.replay_cache(rt, &mut player.seat)?;

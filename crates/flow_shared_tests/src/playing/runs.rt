@@ -83,8 +83,8 @@ pub fn refuse_each<R: Wait + Abort>(
 
 /// Plays the examples. Step 7 of the example 3 has the place 307, from this one on.
 pub fn play<R: Wait + Abort>(rt: &R, alloc: Global, first: usize, examples: &[Example]) {
-    for number in 0..examples.len() {
+    for (number, example) in examples.iter().enumerate() {
         let place = first.saturating_add(number.saturating_mul(100));
-        let _refused = refuse_each(rt, alloc, place, &examples[number]);
+        let _refused = refuse_each(rt, alloc, place, example);
     }
 }

@@ -28,12 +28,12 @@ fn a_refused_item_is_put_again(rt: HostRuntime) {
     let subscribed = sharing.hub_mut().core_mut().subscribe();
     let id = subscribed.expect(&rt, "a subscription");
     compare(&rt, 1, sharing.hub().core().subscription_count(), 1);
-    turn(&rt, &mut sharing, 1, &Turn(0, Start, Put));
-    turn(&rt, &mut sharing, 2, &Turns(1, 63, Keep, Put));
+    turn(&rt, &mut sharing, 1, Turn(0, Start, Put));
+    turn(&rt, &mut sharing, 2, Turns(1, 63, Keep, Put));
     memory.refuse(1);
-    turn(&rt, &mut sharing, 3, &Refused(64, Flow(OUT_OF_MEMORY)));
-    turn(&rt, &mut sharing, 4, &Turn(65, Keep, Queued));
-    turn(&rt, &mut sharing, 5, &Turn(66, Keep, Waiting));
+    turn(&rt, &mut sharing, 3, Refused(64, Flow(OUT_OF_MEMORY)));
+    turn(&rt, &mut sharing, 4, Turn(65, Keep, Queued));
+    turn(&rt, &mut sharing, 5, Turn(66, Keep, Waiting));
     for number in 1..66 {
         compare(
             &rt,

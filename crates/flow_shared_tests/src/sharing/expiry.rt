@@ -34,9 +34,9 @@ pub const EXAMPLES: &[Example] = &[
             Flow(Cache(&[])),
             Turn(161, Keep, Idle),
             Flow(Subscribe),
-            Flow(Next(1, Empty)),
+            Flow(Next(1, &Empty)),
             Turn(161, Start, Put),
-            Flow(Next(1, Value(10))),
+            Flow(Next(1, &Value(10))),
         ],
     },
     // A subscriber who is there before any turn has seen the expiry starts the chain, and nothing is forgotten.
@@ -64,7 +64,7 @@ pub const EXAMPLES: &[Example] = &[
         steps: &[
             Flow(Subscribe),
             Turn(0, Start, Put),
-            Flow(Next(0, Value(3))),
+            Flow(Next(0, &Value(3))),
             Flow(Unsubscribe(0)),
             Turn(1, StopAndReset, Idle),
             Flow(Cache(&[0])),

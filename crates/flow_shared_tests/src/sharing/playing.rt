@@ -64,47 +64,50 @@ fn lend<R: Wait + Abort, S: Played<i64, Global>, H: Hub<Item = i64>>(
     rt: &R,
     first: usize,
     steps: &[Step],
-    sharing: Sharing<Scripted<i64>, H>,
-    player: FlowPlayer<'_, i64, S>,
+    sharing: &mut Sharing<Scripted<i64>, H>,
+    player: &mut FlowPlayer<'_, i64, S>,
 ) {
-    let mut sharing = sharing;
-    let mut player = player;
-    for index in 0..steps.len() {
+    for (index, step) in steps.iter().enumerate() {
         let place = first.saturating_add(index);
-        match &steps[index] {
-            Step::Flow(step) => compare(rt, place, S::take(&mut player, rt, place, step), Ok(())),
-            step => turn(rt, &mut sharing, place, step),
+        match *step {
+            Step::Flow(step) => compare(rt, place, S::take(player, rt, place, step), Ok(())),
+            step => turn(rt, sharing, place, step),
         }
     }
 }
 
-/// Takes the steps of an example. A shared flow has room for 64 values, those included that it replays. A state flow has the
-/// value 0 first.
-fn play_one<R: Wait + Abort>(rt: &R, alloc: Global, first: usize, example: &Example) {
-    let chain = example.chain.make(rt, alloc);
-    match example.flow {
-        Flow::Shared(replay) => {
-            let config = Config::new().replay(replay).extra(64 - replay.min(64));
-            let (flow, mut seat) = SharedFlow::new(alloc, config).expect(rt, "a flow");
-            let hub = SharedFlowHub::new(&flow, &mut seat);
-            let sharing = Sharing::new(chain, example.started, hub);
-            let player = FlowPlayer::new(alloc, alloc, &flow, seat);
-            lend(rt, first, example.steps, sharing, player);
-        }
-        Flow::State => {
-            let (flow, mut seat) = StateFlow::new(alloc, 0, u64::MAX).expect(rt, "a flow");
-            let hub = StateFlowHub::new(&flow, &mut seat, 0);
-            let sharing = Sharing::new(chain, example.started, hub);
-            let player = FlowPlayer::new(alloc, alloc, &flow, seat);
-            lend(rt, first, example.steps, sharing, player);
-        }
-    }
+/// Takes the steps of an example of a shared flow that replays so many values. It has room for 64, those included.
+fn play_shared<R: Wait + Abort>(
+    rt: &R,
+    alloc: Global,
+    first: usize,
+    example: &Example,
+    replay: u32,
+) {
+    let config = Config::new().replay(replay).extra(64 - replay.min(64));
+    let (flow, mut seat) = SharedFlow::new(alloc, config).expect(rt, "a flow");
+    let hub = SharedFlowHub::new(&flow, &mut seat);
+    let mut sharing = Sharing::new(example.chain.make(rt, alloc), example.started, hub);
+    let mut player = FlowPlayer::new(alloc, alloc, &flow, seat);
+    lend(rt, first, example.steps, &mut sharing, &mut player);
+}
+
+/// Takes the steps of an example of a state flow, which has the value 0 first.
+fn play_state<R: Wait + Abort>(rt: &R, alloc: Global, first: usize, example: &Example) {
+    let (flow, mut seat) = StateFlow::new(alloc, 0, u64::MAX).expect(rt, "a flow");
+    let hub = StateFlowHub::new(&flow, &mut seat, 0);
+    let mut sharing = Sharing::new(example.chain.make(rt, alloc), example.started, hub);
+    let mut player = FlowPlayer::new(alloc, alloc, &flow, seat);
+    lend(rt, first, example.steps, &mut sharing, &mut player);
 }
 
 /// Plays the examples. Step 7 of the example 3 has the place 307, from this one on.
 pub fn play<R: Wait + Abort>(rt: &R, alloc: Global, first: usize, examples: &[Example]) {
-    for number in 0..examples.len() {
+    for (number, example) in examples.iter().enumerate() {
         let place = first.saturating_add(number.saturating_mul(100));
-        play_one(rt, alloc, place, &examples[number]);
+        match example.flow {
+            Flow::Shared(replay) => play_shared(rt, alloc, place, example, replay),
+            Flow::State => play_state(rt, alloc, place, example),
+        }
     }
 }

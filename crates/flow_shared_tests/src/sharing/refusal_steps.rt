@@ -23,22 +23,21 @@ fn take(
     sharing: &mut Sharing<Counted<'_>, TestHub>,
     asks: &Cell<u64>,
     place: usize,
-    step: &Step,
+    step: Step,
 ) {
     match step {
         Step::Turn(now, command, event) => {
-            let (command, event) = (*command, *event);
-            compare(rt, place, sharing.turn(*now), Ok(Report { command, event }));
+            compare(rt, place, sharing.turn(now), Ok(Report { command, event }));
         }
-        Step::Refused(now, fault) => compare(rt, place, sharing.turn(*now), Err(*fault)),
-        Step::Behave(behaviour) => sharing.hub_mut().behaviour = *behaviour,
-        Step::Subscribers(count) => sharing.hub_mut().subscribers = *count,
-        Step::Waits(waits) => compare(rt, place, sharing.hub_mut().waits, *waits),
+        Step::Refused(now, fault) => compare(rt, place, sharing.turn(now), Err(fault)),
+        Step::Behave(behaviour) => sharing.hub_mut().behaviour = behaviour,
+        Step::Subscribers(count) => sharing.hub_mut().subscribers = count,
+        Step::Waits(waits) => compare(rt, place, sharing.hub_mut().waits, waits),
         Step::Accepted(items) => {
-            compare(rt, place, sharing.hub_mut().accepted.as_slice(), *items);
+            compare(rt, place, sharing.hub_mut().accepted.as_slice(), items);
         }
-        Step::Asked(count) => compare(rt, place, asks.get(), *count),
-        Step::Resets(count) => compare(rt, place, sharing.hub_mut().resets, *count),
+        Step::Asked(count) => compare(rt, place, asks.get(), count),
+        Step::Resets(count) => compare(rt, place, sharing.hub_mut().resets, count),
         _ => panic!(rt; "step {place}: not on a test flow"),
     }
 }
@@ -64,8 +63,7 @@ pub fn answers(rt: &impl Abort, alloc: Global, first: usize, example: &Example) 
         expire: example.expire,
     };
     let mut sharing = Sharing::new(chain, started, hub);
-    for index in 0..example.steps.len() {
-        let place = first.saturating_add(index);
-        take(rt, &mut sharing, &asks, place, &example.steps[index]);
+    for (index, step) in example.steps.iter().enumerate() {
+        take(rt, &mut sharing, &asks, first.saturating_add(index), *step);
     }
 }

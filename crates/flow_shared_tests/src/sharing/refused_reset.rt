@@ -1,8 +1,8 @@
 //! A sharing over a state flow, a reset, and a chain, that are refused for want of memory.
 use crate::compare::compare;
 use flow_cold::OfList;
-use flow_law::Command::{self, Keep, Start};
-use flow_law::report::Event::{self, Idle, Put};
+use flow_law::Command::{Keep, Start};
+use flow_law::report::Event::{Idle, Put};
 use flow_law::report::{Report, ShareFault};
 use flow_law::{ChainFault, FlowFault, Started};
 use flow_sharing::{Sharing, StateHub, state_in};
@@ -18,17 +18,13 @@ fn turns(
     rt: &impl Abort,
     sharing: &mut Shared<'_>,
     now: u64,
-    wanted: Result<(Command, Event), ShareFault>,
+    wanted: Result<Report, ShareFault>,
     value: i64,
 ) {
-    let wanted = match wanted {
-        Ok((command, event)) => Ok(Report { command, event }),
-        Err(fault) => Err(fault),
-    };
     compare(rt, 0, sharing.turn(now), wanted);
     match sharing.hub().core().value() {
         Ok(found) => compare(rt, 1, found.number(), value),
-        Err(fault) => panic!(rt; "{fault}"),
+        Err(_fault) => panic!(rt; "no value"),
     }
 }
 
@@ -48,6 +44,18 @@ fn share<'a>(
 
 const OUT_OF_MEMORY: ShareFault = ShareFault::Flow(FlowFault::OutOfMemory);
 
+/// The chain is started, and puts its item.
+const STARTS: Report = Report {
+    command: Start,
+    event: Put,
+};
+
+/// There is nothing to do.
+const RESTS: Report = Report {
+    command: Keep,
+    event: Idle,
+};
+
 /// The copy of the initial value that the sharing keeps for resets is refused, and then there is a sharing. A reset that is
 /// refused stays due, and is made in the next turn. A chain that is refused the copy of an item tells it once, and ends the
 /// sharing.
@@ -61,12 +69,12 @@ fn a_refused_reset_stays_due_and_a_refused_chain_ends(rt: HostRuntime) {
     };
     let subscribed = sharing.hub_mut().core_mut().subscribe();
     let id = subscribed.expect(&rt, "a subscription");
-    turns(&rt, &mut sharing, 0, Ok((Start, Put)), 3);
+    turns(&rt, &mut sharing, 0, Ok(STARTS), 3);
     compare(&rt, 2, sharing.hub_mut().core_mut().unsubscribe(id), true);
     copies.set(1);
     turns(&rt, &mut sharing, 1, Err(OUT_OF_MEMORY), 3);
-    turns(&rt, &mut sharing, 2, Ok((Keep, Idle)), 0);
-    turns(&rt, &mut sharing, 3, Ok((Keep, Idle)), 0);
+    turns(&rt, &mut sharing, 2, Ok(RESTS), 0);
+    turns(&rt, &mut sharing, 3, Ok(RESTS), 0);
     assert!(rt; sharing.hub_mut().core_mut().subscribe().is_ok());
     copies.set(1);
     let refused = ShareFault::Chain(ChainFault::OutOfMemory);

@@ -9,6 +9,7 @@ use flow_sharing::{Hub, Sharing};
 use std::process::Abort;
 
 /// A step, and what it answers.
+#[derive(Clone, Copy)]
 pub enum Step {
     /// The moment, and what the turn reports.
     Turn(u64, Command, Event),
@@ -39,21 +40,19 @@ pub fn turn<H: Hub<Item = i64>>(
     rt: &impl Abort,
     sharing: &mut Sharing<Scripted<i64>, H>,
     place: usize,
-    step: &Step,
+    step: Step,
 ) {
     match step {
         Step::Turn(now, command, event) => {
-            let (command, event) = (*command, *event);
-            compare(rt, place, sharing.turn(*now), Ok(Report { command, event }));
+            compare(rt, place, sharing.turn(now), Ok(Report { command, event }));
         }
         Step::Turns(first, last, command, event) => {
-            let (command, event) = (*command, *event);
-            for now in *first..=*last {
+            for now in first..=last {
                 compare(rt, place, sharing.turn(now), Ok(Report { command, event }));
             }
         }
-        Step::Refused(now, fault) => compare(rt, place, sharing.turn(*now), Err(*fault)),
-        Step::Count(count) => compare(rt, place, sharing.hub_mut().count(), Ok(*count)),
+        Step::Refused(now, fault) => compare(rt, place, sharing.turn(now), Err(fault)),
+        Step::Count(count) => compare(rt, place, sharing.hub_mut().count(), Ok(count)),
         _ => panic!(rt; "step {place}: not of this sharing"),
     }
 }

@@ -20,16 +20,16 @@ fn a_chain_is_shared_into_a_word_state(rt: HostRuntime) {
     let started = Started::WhileSubscribed { stop: 0, expire: 0 };
     let mut sharing = Sharing::new(chain, started, hub);
     let mut reader = flow.subscribe(&rt, &mut seat).expect(&rt, "a subscription");
-    turn(&rt, &mut sharing, 0, &Turn(0, Start, Put));
+    turn(&rt, &mut sharing, 0, Turn(0, Start, Put));
     compare(&rt, 1, flow.value(&mut seat), 3);
     compare(&rt, 2, flow.next(&mut reader), Next::Value(3));
-    turn(&rt, &mut sharing, 3, &Turn(1, Keep, Put));
+    turn(&rt, &mut sharing, 3, Turn(1, Keep, Put));
     compare(&rt, 4, flow.next(&mut reader), Next::Empty);
-    turn(&rt, &mut sharing, 5, &Turn(2, Keep, Put));
+    turn(&rt, &mut sharing, 5, Turn(2, Keep, Put));
     compare(&rt, 6, flow.next(&mut reader), Next::Value(4));
-    turn(&rt, &mut sharing, 7, &Turn(3, Keep, Completed));
-    turn(&rt, &mut sharing, 8, &Turn(4, Keep, Completed));
+    turn(&rt, &mut sharing, 7, Turn(3, Keep, Completed));
+    turn(&rt, &mut sharing, 8, Turn(4, Keep, Completed));
     let _seat = flow.unsubscribe(reader);
-    turn(&rt, &mut sharing, 9, &Turn(5, StopAndReset, Idle));
+    turn(&rt, &mut sharing, 9, Turn(5, StopAndReset, Idle));
     compare(&rt, 10, flow.value(&mut seat), 0);
 }
