@@ -3,62 +3,38 @@ ghost use Rattle.std.specs.Prelude.{◌≡◌};
 ghost use Rattle.flow_format.specs.Results as results;
 
 use std::alloc::AllocError;
-use std::error::Error;
-use std::fmt;
+use thiserror::Error;
 
 /// Why a script was not played. Steps count from 1; 0 is the script's head.
-#[derive(Clone, Copy, Debug, PartialEq, Eq)]
+#[derive(Clone, Copy, Debug, PartialEq, Eq, Error)]
 pub enum ScriptFault {
+    #[error("out of memory")]
     OutOfMemory,
+    #[error("the script could not be read")]
     ReadFailed,
     /// The bytes are no JSON text.
+    #[error("the script is no JSON text")]
     NotJson,
     /// `version` is missing, or is neither of the whole numbers 1 and 2.
+    #[error("the script's version is neither 1 nor 2")]
     BadVersion,
     /// A key is missing, is not known there, or has a value of the wrong form; or the flow does not allow the step.
+    #[error("a key or a value of step {0} has the wrong form")]
     BadShape(u64),
     /// No earlier step introduced the name for this use.
+    #[error("step {0} uses a name that no earlier step introduced")]
     UnknownName(u64),
     /// An earlier step introduced the name.
+    #[error("step {0} introduces a name that is taken")]
     DuplicateName(u64),
     /// A limit is passed.
+    #[error("step {0} passes a limit")]
     TooLarge(u64),
+    #[error("the lines could not be written")]
     WriteFailed,
 }
 
-impl Error for ScriptFault {}
-
-impl fmt::Display for ScriptFault {
-    fn fmt<W: fmt::Write>(&self, f: &mut fmt::Formatter<W>) -> fmt::Result {
-        match *self {
-            ScriptFault::BadShape(step) => {
-                write!(f, "a key or a value of step {step} has the wrong form")
-            }
-            ScriptFault::UnknownName(step) => {
-                write!(f, "step {step} uses a name that no earlier step introduced")
-            }
-            ScriptFault::DuplicateName(step) => {
-                write!(f, "step {step} introduces a name that is taken")
-            }
-            ScriptFault::TooLarge(step) => write!(f, "step {step} passes a limit"),
-            _ => f.write_str(self.of_no_step()),
-        }
-    }
-}
-
 impl ScriptFault {
-    /// The text of a fault that is not about one step.
-    fn of_no_step(self) -> &'static str {
-        match self {
-            ScriptFault::OutOfMemory => "out of memory",
-            ScriptFault::ReadFailed => "the script could not be read",
-            ScriptFault::NotJson => "the script is no JSON text",
-            ScriptFault::BadVersion => "the script's version is neither 1 nor 2",
-            ScriptFault::WriteFailed => "the lines could not be written",
-            _ => "",
-        }
-    }
-
     /// Whether no fault that is found later in the same part of a script comes before it.
     fn comes_first(self) -> bool
         ensures { result ≡ results.comes_first self }
