@@ -11,4 +11,5 @@ mod own_values;
 mod state;
 mod subscribers;
 mod threads;
+mod turns;
 mod worker;
