@@ -4,3 +4,8 @@ pub mod SlotLemmas
 pub mod MemberLemmas
 pub mod FoundLemmas
 pub mod MembershipLemmas
+pub mod SubscriberLemmas
+pub mod CountLemmas
+pub mod RaisedLemmas
+pub mod SubscribersLemmas
+pub mod ReceivingLemmas

@@ -3,3 +3,5 @@ pub mod Queue
 pub mod Members
 pub mod Rows
 pub mod MembersLends
+pub mod Subscribers
+pub mod Receiving

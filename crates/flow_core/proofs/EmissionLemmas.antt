@@ -12,7 +12,7 @@ use Rattle.flow_law.specs.Standing.{Core, least_position}
 use Rattle.flow_law.specs.Covering.{Covers}
 use Rattle.flow_law.proofs.CoveringLemmas.{covers-longer, covers-subscribers, least_position-raise_to}
 use Rattle.flow_law.proofs.HoldingLemmas.{covers-last, need_is}
-use Rattle.flow_core.specs.Subscribers.{is_full}
+use Rattle.flow_containers.specs.Subscribers.{is_full}
 use Rattle.flow_core.specs.SharedCore.{window_of, fields_of, AreWithin, IsSound, kept_full, pushed, dropped}
 use Rattle.flow_core.specs.declared.shared.SharedCore.TheInside.{Inside}
 use Rattle.flow_core.proofs.RingLemmas.{within-more, within-raised, full_long, offered_full}

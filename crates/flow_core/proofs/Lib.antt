@@ -1,8 +1,3 @@
-pub mod CountLemmas
-pub mod RaisedLemmas
-pub mod SubscribersLemmas
-pub mod ReceivingLemmas
-pub mod SubscriberLemmas
 pub mod RingLemmas
 pub mod SoundLemmas
 pub mod EmissionLemmas

@@ -11,7 +11,7 @@ use Rattle.flow_law.specs.SharedFlow.{position_of, raise_to, stand_at, move_to, 
 use Rattle.flow_law.specs.Standing.{least_position}
 use Rattle.flow_law.proofs.CoveringLemmas.{slice_get-drop, least_position_offered, least_position-position_of}
 use Rattle.flow_law.proofs.Rows.{every_snoc, every_filter, every_move, every_with_own, position_holds}
-use Rattle.flow_core.specs.Subscribers.{is_full}
+use Rattle.flow_containers.specs.Subscribers.{is_full}
 use Rattle.flow_core.specs.SharedCore.{AreWithin}
 
 -- ---- lists
@@ -58,12 +58,6 @@ more_to_copy from place xs v le at none =
     nowhere : {X : Type 0} (k : ℕ) (v : X) → slice_get [] k ≡ Some v → ⊥
     nowhere zero v found = absurd (cc)
     nowhere (suc k) v found = absurd (cc)
-
-pub found_below : {X : Type 0} (k : ℕ) (xs : List X) (v : X) → slice_get xs k ≡ Some v → k < length xs
-found_below zero [] v at = absurd (cc)
-found_below (suc k) [] v at = absurd (cc)
-found_below zero (x ∷ xs) v at = omega arith
-found_below (suc k) (x ∷ xs) v at = omega (arith, found_below k xs v at)
 
 -- ---- subscribers who stand within a window
 

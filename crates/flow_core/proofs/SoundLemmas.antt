@@ -9,7 +9,7 @@ use Rattle.flow_law.specs.Standing.{least_position}
 use Rattle.flow_law.specs.Covering.{kept_start, kept_need}
 use Rattle.flow_law.proofs.CoveringLemmas.{least_position_rises}
 use Rattle.flow_law.proofs.Rows.{rises_higher}
-use Rattle.flow_core.specs.Subscribers.{Standing}
+use Rattle.flow_containers.specs.Subscribers.{Standing}
 use Rattle.flow_core.specs.SharedCore.{window_of, fields_of, AreWithin, IsSound}
 use Rattle.flow_core.specs.declared.shared.SharedCore.TheInside.{Inside}
 use Rattle.flow_core.proofs.RingLemmas.{within_least}

@@ -8,7 +8,7 @@ use Rattle.flow_law.specs.declared.states.StateFlowState.{StateFlowState}
 use Rattle.flow_law.specs.StateFlow.{last_of, with_last, IsDue, Replies}
 use Rattle.flow_containers.specs.declared.members.Member.{Member}
 use Rattle.flow_containers.specs.Members.{row_of, with_row}
-use Rattle.flow_core.proofs.SubscriberLemmas.{last_of-row, with_last-row}
+use Rattle.flow_containers.proofs.SubscriberLemmas.{last_of-row, with_last-row}
 use Rattle.std.proofs.lemmas.Iterator.Adapters.{option_map_id}
 use Rattle.flow_core.specs.StateCore.{subscriber_of}
 

@@ -23,7 +23,7 @@ use Rattle.flow_law.specs.declared.states.Subscriber.{Subscriber}
 use Rattle.flow_law.specs.SharedFlow.{raise_to}
 use Rattle.flow_law.specs.Standing.{Core, StandsFor, Conforms}
 use Rattle.flow_law.specs.Covering.{Covers, kept_start, kept_need}
-use Rattle.flow_core.specs.Subscribers.{is_full}
+use Rattle.flow_containers.specs.Subscribers.{is_full}
 use Rattle.flow_core.specs.declared.shared.SharedCore.TheInside.{Inside}
 use Rattle.flow_core.specs.declared.sub_id.SubId.{SubId}
 use Rattle.flow_core.specs.SubId.{number_of}

@@ -34,7 +34,6 @@ mod kind;
 mod shared;
 mod state;
 mod sub_id;
-mod subscribers;
 
 pub use kind::FlowCore;
 pub use shared::SharedCore;

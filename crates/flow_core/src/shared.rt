@@ -17,9 +17,8 @@ mod subscribe;
 
 use crate::copies::copies;
 use crate::sub_id::SubId;
-use crate::subscribers::{Received, Subscribers};
 use circular_buffer::HeapCircularBuffer;
-use flow_containers::Queue;
+use flow_containers::{Queue, Received, Subscribers};
 use flow_law::{Config, FlowFault, FlowValue, Next, Overflow};
 use std::alloc::{Allocator, Global};
 use std::marker::Model;
@@ -247,7 +246,7 @@ impl<T: FlowValue, A: Allocator + Copy> SharedCore<T, A> {
     pub fn next(&mut self, id: SubId) -> Result<Next<T>, FlowFault>
         ensures documented { Conforms self.old (call.TakeNext (number_of id)) (next_reply result) self.new }
     {
-        match self.subscribers.receive(id, &self.values) {
+        match self.subscribers.receive(id.number, id.key, &self.values) {
             Ok(Received::Own(value)) => Ok(Next::Value(value)),
             Ok(Received::Emitted(value)) => {
                 self.settle();
@@ -264,7 +263,7 @@ impl<T: FlowValue, A: Allocator + Copy> SharedCore<T, A> {
         ensures documented { Conforms self.old (call.Unsubscribe (number_of id))
             (reply.Tested result) self.new }
     {
-        let was_there = self.subscribers.remove(id);
+        let was_there = self.subscribers.remove(id.number, id.key);
         self.settle();
         was_there
     }

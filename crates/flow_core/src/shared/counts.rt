@@ -47,6 +47,6 @@ impl<T: FlowValue, A: Allocator + Copy> SharedCore<T, A> {
     pub fn lag(&self, id: SubId) -> Option<u64>
         ensures lag { (s : SharedFlowState T) → StandsFor self.now s → result ≡ lag_of (number_of id) s }
     {
-        self.subscribers.lag(id)
+        self.subscribers.lag(id.number, id.key)
     }
 }

@@ -44,9 +44,9 @@ impl<T: FlowValue, A: Allocator + Copy> SharedCore<T, A> {
         let number = self.issued + 1;
         let position = self.entry();
         match self.subscribers.push(number, first, position) {
-            Ok(id) => {
+            Ok(key) => {
                 self.issued = number;
-                Ok(id)
+                Ok(SubId { number, key })
             }
             Err(first) => Err(Refused {
                 value: first,

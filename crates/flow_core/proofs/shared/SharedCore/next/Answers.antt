@@ -10,10 +10,11 @@ use Rattle.flow_law.specs.Covering.{Covers, kept_start}
 use Rattle.flow_law.proofs.CoveringLemmas.{covers-subscribers, least_position-move_to, least_position-with_own}
 use Rattle.flow_law.proofs.HoldingLemmas.{covers, same_value, stands-own}
 use Rattle.std.specs.Prelude.{Ok}
-use Rattle.flow_core.specs.Receiving.{Receives}
+use Rattle.flow_containers.specs.Receiving.{Receives}
 use Rattle.flow_core.specs.SharedCore.{window_of, fields_of, IsSound}
 use Rattle.flow_core.proofs.CallLemmas.{next_own, next_value, next_empty, next_wants_memory}
-use Rattle.flow_core.proofs.RingLemmas.{found_below, least_at, within_at, within-moved, within-with_own}
+use Rattle.flow_containers.proofs.ReceivingLemmas.{found_below}
+use Rattle.flow_core.proofs.RingLemmas.{least_at, within_at, within-moved, within-with_own}
 use Rattle.flow_core.proofs.SoundLemmas.{sound_subscribers}
 use Rattle.flow_core.proofs.shared.SharedCore.next.Goals as goal
 

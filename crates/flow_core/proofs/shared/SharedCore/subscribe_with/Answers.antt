@@ -41,7 +41,7 @@ invariant_of-self g c =
     let low = floor_least i.subscribers.floor i.subscribers.emitted (window_of i.config) (kept_start (fields_of i)) i.subscribers.list c.self.invariant.within c.self.invariant.floor in
     let near = within_least i.subscribers.floor i.subscribers.emitted (window_of i.config) (kept_start (fields_of i)) i.subscribers.list c.self.invariant.within (omega arith) in
     let joined = least_position-append (kept_start (fields_of i)) i.subscribers.list (record { number = number; own = c.args.first.items; position = position }) in
-    subst (λ u. IsSound (record i { subscribers = u; issued = number })) (sym c.in-Ok.ensures.1)
+    subst (λ u. IsSound (record i { subscribers = u; issued = number })) (sym c.in-Ok.ensures)
     (sound_standing i (i.subscribers.list ++ record { number = number; own = c.args.first.items; position = position } ∷ []) number i.subscribers.floor number c.self.invariant
     (within-snoc i.subscribers.floor i.subscribers.emitted (window_of i.config) i.subscribers.list (record { number = number; own = c.args.first.items; position = position }) c.self.invariant.within
     (omega (arith, need, c.entry-position.ensures.within, low)) (omega (arith, count, c.entry-position.ensures.within)) (omega (arith, need, c.entry-position.ensures.within, near)))
@@ -57,9 +57,9 @@ returns-in-Ok-clause-documented g c = λ name. (
       let left : is_exhausted s ≡ false = not_exhausted (fields_of i) s (covers (fields_of i) s within) c.if-self.false in
       let all : subscribe first s ≡ answer (s.issued + 1) (enroll first s) = issued_now s _ left in
       let joined = stands-enroll (fields_of i) s first c.entry-position.result within (c.entry-position.ensures.shown s (covers c.args.self.now s stands)) in (
-        ap reply.Subscribed (c.in-Ok.ensures.0 ∙ ap (λ n. n + 1) within.issued) ∙ sym (ap (λ a. reply_by reply.Subscribed a.reply) all),
+        ap reply.Subscribed (ap (λ n. n + 1) within.issued) ∙ sym (ap (λ a. reply_by reply.Subscribed a.reply) all),
         subst (λ t. StandsFor (fields_of (record i { subscribers = c.push.new.self; issued = i.issued + 1 })) t) (sym (ap (λ a. a.after) all))
-            (subst (λ u. StandsFor (fields_of (record i { subscribers = u; issued = i.issued + 1 })) (enroll first s)) (sym c.in-Ok.ensures.1) joined),
+            (subst (λ u. StandsFor (fields_of (record i { subscribers = u; issued = i.issued + 1 })) (enroll first s)) (sym c.in-Ok.ensures) joined),
       ),
   tt,
 )

@@ -5,7 +5,7 @@ use Rattle.flow_law.specs.declared.states.StateFlowState.{StateFlowState}
 use Rattle.flow_law.specs.StateFlow.{last_of, without_subscriber}
 use Rattle.flow_core.specs.StateCore.{subscriber_of, fields_of}
 use Rattle.flow_core.proofs.StateLemmas.{last_is}
-use Rattle.flow_core.proofs.SubscriberLemmas.{without_subscriber-row}
+use Rattle.flow_containers.proofs.SubscriberLemmas.{without_subscriber-row}
 use Rattle.flow_core.proofs.state.StateCore.unsubscribe.Goals as goal
 
 pub returns : goal.returns

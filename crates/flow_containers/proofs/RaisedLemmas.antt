@@ -9,8 +9,8 @@ use Rattle.flow_containers.specs.Members.{row_of, with_row, without_number, take
 use Rattle.flow_containers.specs.Rows.{moved, left}
 use Rattle.flow_containers.specs.PositionCounts as counts
 use Rattle.flow_containers.specs.PositionCounts.{AreWithin}
-use Rattle.flow_core.specs.Subscribers.{subscriber_of, read}
-use Rattle.flow_core.proofs.SubscriberLemmas as seen
+use Rattle.flow_containers.specs.Subscribers.{subscriber_of, read}
+use Rattle.flow_containers.proofs.SubscriberLemmas as seen
 
 pub apart_options : {X : Type 0} {x : X} → None ≡ Some x → ⊥
 apart_options e = absurd (cc e)

@@ -1,9 +1,9 @@
 use Rattle.std.proofs.Common.{◌+◌, ◌-◌, ◌≤◌, length, sym, ap, subst, ◌∙◌, arith}
 use Rattle.flow_law.specs.Standing.{least_position}
 use Rattle.flow_law.proofs.CoveringLemmas.{least_position_bound}
-use Rattle.flow_core.specs.Subscribers.{Standing, read}
-use Rattle.flow_core.proofs.CountLemmas.{least_is}
-use Rattle.flow_core.proofs.subscribers.Subscribers.least.Goals as goal
+use Rattle.flow_containers.specs.Subscribers.{Standing, read}
+use Rattle.flow_containers.proofs.CountLemmas.{least_is}
+use Rattle.flow_containers.proofs.subscribers.Subscribers.least.Goals as goal
 
 pub least-requires-clause-order : goal.least-requires-clause-order
 least-requires-clause-order g c = omega (arith, c.requires.below, least_position_bound c.args.first c.args.self.now.list)

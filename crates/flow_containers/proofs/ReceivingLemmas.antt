@@ -1,17 +1,25 @@
 -- What `receive` shows of a subscriber whose row was found: where it stands, and what the rows are after each case.
-use Rattle.std.proofs.Common.{◌≡◌, ℕ, ◌+◌, ◌-◌, ◌<◌, ◌≤◌, max, List, [], length, Some, None, sym, ap, subst, ◌∙◌, arith}
+use Rattle.std.proofs.Common.{◌≡◌, ℕ, ◌+◌, ◌-◌, ◌<◌, ◌≤◌, max, List, [], length, Some, None, sym, ap, subst, ◌∙◌, arith, zero, suc, ◌∷◌}
+use Rattle.std.specs.List.{slice_get}
 use Rattle.std.specs.Option.{option_map, IfSome}
 use Rattle.flow_law.specs.SharedFlow.{position_of, own_of, with_own, move_to}
 use Rattle.flow_containers.specs.declared.members.Member.{Member}
 use Rattle.flow_containers.specs.declared.members.enroll.Row.{Row}
-use Rattle.flow_core.specs.declared.subscribers.Subscribers.TheInside.{Inside}
+use Rattle.flow_containers.specs.declared.subscribers.Subscribers.TheInside.{Inside}
 use Rattle.flow_containers.specs.Members.{row_of, with_row}
 use Rattle.flow_containers.specs.Rows.{moved, left}
 use Rattle.flow_containers.specs.PositionCounts.{entered, left_at}
-use Rattle.flow_core.specs.Subscribers.{standing_of, read, AreSound, IsSound}
+use Rattle.flow_containers.specs.Subscribers.{standing_of, read, AreSound, IsSound}
 use Rattle.flow_containers.proofs.MemberLemmas.{with_row_same}
-use Rattle.flow_core.proofs.RaisedLemmas.{position_of-row, own_of-row, own_of-none, with_own-row, move_to-row}
-use Rattle.flow_core.proofs.SubscribersLemmas.{took_own, advanced}
+use Rattle.flow_containers.proofs.RaisedLemmas.{position_of-row, own_of-row, own_of-none, with_own-row, move_to-row}
+use Rattle.flow_containers.proofs.SubscribersLemmas.{took_own, advanced}
+
+-- a place where a value is found is a place of the list
+pub found_below : {X : Type 0} (k : ℕ) (xs : List X) (v : X) → slice_get xs k ≡ Some v → k < length xs
+found_below zero [] v at = absurd (cc)
+found_below (suc k) [] v at = absurd (cc)
+found_below zero (x ∷ xs) v at = omega arith
+found_below (suc k) (x ∷ xs) v at = omega (arith, found_below k xs v at)
 
 module _ {T A : Type 0} (s : Inside T A) (number : ℕ) where
   abbrev pub position_in : Row T A → ℕ

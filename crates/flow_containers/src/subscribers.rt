@@ -3,14 +3,13 @@ ghost use Rattle.std.specs.Prelude.{◌≡◌, ◌+◌, ◌-◌, ◌<◌, ◌≤
 ghost use Rattle.std.specs.Option.{option_map};
 ghost use Rattle.flow_law.specs.SharedFlow as flow;
 ghost use Rattle.flow_law.specs.Standing.{least_position};
-ghost use Rattle.flow_core.specs.SubId.{number_of};
-ghost use Rattle.flow_core.specs.Subscribers.{is_full};
+ghost use Rattle.flow_containers.specs.Subscribers.{is_full};
 
 mod receive;
 
-use crate::sub_id::SubId;
-use flow_containers::{Members, PositionCounts, Row};
-pub(crate) use receive::Received;
+use crate::members::{Members, Row};
+use crate::position_counts::PositionCounts;
+pub use receive::Received;
 use std::alloc::{AllocError, Allocator};
 use std::marker::Model;
 
@@ -18,14 +17,14 @@ use std::marker::Model;
 ///
 /// A position below the floor is read as the floor, so that all who are behind are brought forward without a visit.
 #[derive(Drop)]
-pub(crate) struct Subscribers<T: Drop, A: Allocator> {
+pub struct Subscribers<T: Drop, A: Allocator> {
     members: Members<Row<T, A>, A>,
     counts: PositionCounts<A>,
     floor: u64,
 }
 
 impl<T: Drop, A: Allocator> Model for Subscribers<T, A> {
-    ghost use Rattle.flow_core.specs.Subscribers.{Standing, standing_of, IsSound};
+    ghost use Rattle.flow_containers.specs.Subscribers.{Standing, standing_of, IsSound};
 
     ghost Value = { Standing T };
 
@@ -36,7 +35,7 @@ impl<T: Drop, A: Allocator> Model for Subscribers<T, A> {
 
 impl<T: Drop, A: Allocator> Subscribers<T, A> {
     /// Nobody, before any value was emitted. The window is the most that somebody may be behind.
-    pub(crate) fn new(alloc: A, window: usize) -> Result<Self, AllocError>
+    pub fn new(alloc: A, window: usize) -> Result<Self, AllocError>
     where
         A: Copy,
         requires some { 0 < window }
@@ -51,38 +50,38 @@ impl<T: Drop, A: Allocator> Subscribers<T, A> {
         })
     }
 
-    pub(crate) fn len(&self) -> usize
+    pub fn len(&self) -> usize
         ensures { result ≡ length self.now.list }
     {
         self.members.len()
     }
 
-    pub(crate) fn emitted(&self) -> u64
+    pub fn emitted(&self) -> u64
         ensures { result ≡ self.now.emitted }
     {
         self.counts.emitted()
     }
 
     /// How many emitted values a subscriber has still to receive, where it is there.
-    pub(crate) fn lag(&self, id: SubId) -> Option<u64>
+    pub fn lag(&self, number: u64, key: usize) -> Option<u64>
         ensures { result ≡ option_map (λ position. self.now.emitted - position)
-            (flow.position_of (number_of id) self.now.list) }
+            (flow.position_of number self.now.list) }
     {
-        match self.members.get(id.number, id.key) {
+        match self.members.get(number, key) {
             Some(row) => Some(self.counts.emitted() - row.position.max(self.floor)),
             None => None,
         }
     }
 
     /// Whether somebody has a whole window still to receive.
-    pub(crate) fn is_blocked(&self) -> bool
+    pub fn is_blocked(&self) -> bool
         ensures { result ≡ is_full self.now.window self.now.emitted self.now.list }
     {
         self.counts.at_oldest() > 0
     }
 
     /// The least of `first` and all positions, which are at least `start`.
-    pub(crate) fn least(&self, start: u64, first: u64) -> u64
+    pub fn least(&self, start: u64, first: u64) -> u64
         requires below { start ≤ least_position first self.now.list }
         requires within { (first ≤ self.now.emitted) × (self.now.emitted ≤ start + self.now.window) }
         ensures { result ≡ least_position first self.now.list }
@@ -91,7 +90,7 @@ impl<T: Drop, A: Allocator> Subscribers<T, A> {
     }
 
     /// One value more was emitted, while nobody had a whole window to receive.
-    pub(crate) fn add(&mut self)
+    pub fn add(&mut self)
         requires free { is_full self.old.window self.old.emitted self.old.list ≡ false }
         requires room { self.old.emitted + 1 < 2 ^ 64 }
         ensures { self.new ≡ record self.old { emitted = self.old.emitted + 1 } }
@@ -100,7 +99,7 @@ impl<T: Drop, A: Allocator> Subscribers<T, A> {
     }
 
     /// One value more was emitted, and who had a whole window to receive loses the oldest one.
-    pub(crate) fn add_dropping(&mut self)
+    pub fn add_dropping(&mut self)
         requires full { self.old.window ≤ self.old.emitted }
         requires room { self.old.emitted + 1 < 2 ^ 64 }
         ensures { self.new ≡ record self.old {
@@ -116,7 +115,7 @@ impl<T: Drop, A: Allocator> Subscribers<T, A> {
     }
 
     /// Nobody is to receive the value that was offered any more.
-    pub(crate) fn gather(&mut self)
+    pub fn gather(&mut self)
         requires { self.old.window ≡ 1 }
         ensures { self.new ≡ record self.old {
           list = map (flow.stand_at self.old.emitted) self.old.list;
@@ -130,18 +129,13 @@ impl<T: Drop, A: Allocator> Subscribers<T, A> {
         }
     }
 
-    /// Adds a subscriber with its own first values. A refusal hands them back.
-    pub(crate) fn push(
-        &mut self,
-        number: u64,
-        first: Vec<T, A>,
-        position: u64,
-    ) -> Result<SubId, Vec<T, A>>
+    /// Adds a subscriber with its own first values, and gives its key. A refusal for want of memory hands them back.
+    pub fn push(&mut self, number: u64, first: Vec<T, A>, position: u64) -> Result<usize, Vec<T, A>>
         requires later { self.old.last < number }
         requires above { self.old.floor ≤ position }
         requires within { (position ≤ self.old.emitted) × (self.old.emitted ≤ position + self.old.window) }
         ensures { MatchResult result
-            (λ id. (number_of id ≡ number) × self.new ≡ record self.old {
+            (λ _key. self.new ≡ record self.old {
               list = self.old.list ++ record { number = number; own = first.items; position = position } ∷ [];
               last = number;
             })
@@ -150,18 +144,18 @@ impl<T: Drop, A: Allocator> Subscribers<T, A> {
         match self.members.enroll(number, first, position) {
             Ok(key) => {
                 self.counts.enter(position);
-                Ok(SubId { number, key })
+                Ok(key)
             }
             Err(first) => Err(first),
         }
     }
 
     /// Removes a subscriber, and answers whether it was there.
-    pub(crate) fn remove(&mut self, id: SubId) -> bool
-        ensures there { result ≡ is_some (flow.position_of (number_of id) self.old.list) }
-        ensures removed { self.new ≡ record self.old { list = flow.without (number_of id) self.old.list } }
+    pub fn remove(&mut self, number: u64, key: usize) -> bool
+        ensures there { result ≡ is_some (flow.position_of number self.old.list) }
+        ensures removed { self.new ≡ record self.old { list = flow.without number self.old.list } }
     {
-        match self.members.remove(id.number, id.key) {
+        match self.members.remove(number, key) {
             Some(row) => {
                 self.counts.leave(row.position.max(self.floor));
                 true

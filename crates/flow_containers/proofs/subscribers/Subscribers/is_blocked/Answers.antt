@@ -1,7 +1,7 @@
 use Rattle.std.proofs.Common.{nat_lt, ap, ◌∙◌}
-use Rattle.flow_core.specs.Subscribers.{Standing, is_full}
-use Rattle.flow_core.proofs.SubscribersLemmas.{blocked}
-use Rattle.flow_core.proofs.subscribers.Subscribers.is_blocked.Goals as goal
+use Rattle.flow_containers.specs.Subscribers.{Standing, is_full}
+use Rattle.flow_containers.proofs.SubscribersLemmas.{blocked}
+use Rattle.flow_containers.proofs.subscribers.Subscribers.is_blocked.Goals as goal
 
 pub returns : goal.returns
 returns g c =

@@ -4,7 +4,7 @@ use Rattle.std.specs.List.{list_any}
 use Rattle.flow_law.specs.declared.states.Subscriber.{Subscriber}
 use Rattle.flow_containers.specs.declared.members.Member.{Member}
 use Rattle.flow_containers.specs.declared.members.enroll.Row.{Row}
-use Rattle.flow_core.specs.declared.subscribers.Subscribers.TheInside.{Inside}
+use Rattle.flow_containers.specs.declared.subscribers.Subscribers.TheInside.{Inside}
 use Rattle.flow_containers.specs.PositionCounts.{CountsPositions}
 
 -- the subscribers, and what the row of counts knows besides

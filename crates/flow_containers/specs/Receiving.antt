@@ -4,9 +4,9 @@ use Rattle.std.specs.List.{slice_get}
 use Rattle.flow_law.specs.declared.fault.FlowFault.{FlowFault}
 use Rattle.flow_law.specs.declared.fault.FlowFault.TheVariants.{OutOfMemory}
 use Rattle.flow_law.specs.SharedFlow.{position_of, own_of, with_own, move_to}
-use Rattle.flow_core.specs.declared.subscribers.receive.Received.{Received}
-use Rattle.flow_core.specs.declared.subscribers.receive.Received.TheVariants.{Gone, Own, Emitted, Empty}
-use Rattle.flow_core.specs.Subscribers.{Standing}
+use Rattle.flow_containers.specs.declared.subscribers.receive.Received.{Received}
+use Rattle.flow_containers.specs.declared.subscribers.receive.Received.TheVariants.{Gone, Own, Emitted, Empty}
+use Rattle.flow_containers.specs.Subscribers.{Standing}
 
 module _ {T : Type 0} where
   -- the subscriber has no own values left and stands here, where this one of the values that are kept stands, or none yet

@@ -4,33 +4,32 @@ use Rattle.std.specs.Option.{IfSome}
 use Rattle.std.specs.Prelude.{Ok, Err}
 use Rattle.std.proofs.lemmas.List.{length-set}
 use Rattle.flow_law.specs.SharedFlow.{position_of}
-use Rattle.flow_core.specs.declared.subscribers.receive.Received.TheVariants.{Gone, Own, Emitted, Empty}
+use Rattle.flow_containers.specs.declared.subscribers.receive.Received.TheVariants.{Gone, Own, Emitted, Empty}
 use Rattle.flow_containers.specs.Members.{row_of, with_row}
 use Rattle.flow_containers.specs.Rows.{left}
 use Rattle.flow_containers.specs.PositionCounts.{entered, left_at}
-use Rattle.flow_core.specs.Subscribers.{Standing, standing_of, AreSound}
-use Rattle.flow_core.specs.Receiving.{Receives}
-use Rattle.flow_core.proofs.RingLemmas.{found_below}
-use Rattle.flow_core.proofs.SubscribersLemmas.{found_near, leave_some, enter_again}
-use Rattle.flow_core.proofs.ReceivingLemmas.{position_in, putting, gone, own_left, nobody, stands_at, kept_here, takes, takes_sound, none_left, stays, stays_sound, goes, goes_sound}
-use Rattle.flow_core.proofs.subscribers.Subscribers.receive.Goals as goal
+use Rattle.flow_containers.specs.Subscribers.{Standing, standing_of, AreSound}
+use Rattle.flow_containers.specs.Receiving.{Receives}
+use Rattle.flow_containers.proofs.SubscribersLemmas.{found_near, leave_some, enter_again}
+use Rattle.flow_containers.proofs.ReceivingLemmas.{found_below, position_in, putting, gone, own_left, nobody, stands_at, kept_here, takes, takes_sound, none_left, stays, stays_sound, goes, goes_sound}
+use Rattle.flow_containers.proofs.subscribers.Subscribers.receive.Goals as goal
 
 pub returns-in_default : goal.returns-in_default
 returns-in_default g c =
     let s = c.self.inside in
-    let number = c.args.id.number in
+    let number = c.args.number in
     let none : row_of number s.members.members ≡ None = sym c.in_default.ensures.value in
     subst (λ (v : Standing _). Receives number c.args.values.now.items v (Ok Gone) (standing_of s)) c.self.view_is
     ((nobody s number none).0, (nobody s number none).1, refl)
 
 pub invariant_of-self-in-Some-pop_front : goal.invariant_of-self-in-Some-pop_front
 invariant_of-self-in-Some-pop_front g c =
-    takes_sound c.self.inside c.args.id.number c.in-Some.row.now (sym c.in-Some.ensures.value) c.pop_front.new.self c.self.invariant
+    takes_sound c.self.inside c.args.number c.in-Some.row.now (sym c.in-Some.ensures.value) c.pop_front.new.self c.self.invariant
 
 pub returns-in-Some-pop_front : goal.returns-in-Some-pop_front
 returns-in-Some-pop_front g c =
     let s = c.self.inside in
-    let number = c.args.id.number in
+    let number = c.args.number in
     let row = c.in-Some.row.now in
     let found : row_of number s.members.members ≡ Some row = sym c.in-Some.ensures.value in
     let own = c.pop_front.new.self in
@@ -40,7 +39,7 @@ returns-in-Some-pop_front g c =
 pub overflow_sub-position : goal.overflow_sub-position
 overflow_sub-position g c =
     let s = c.self.inside in
-    let number = c.args.id.number in
+    let number = c.args.number in
     let row = c.in-Some.row.now in
     let found : row_of number s.members.members ≡ Some row = sym c.in-Some.ensures.value in
     let items = c.args.values.now.items in
@@ -51,16 +50,16 @@ overflow_sub-position g c =
 
 pub invariant_of-self-in_default-get : goal.invariant_of-self-in_default-get
 invariant_of-self-in_default-get g c =
-    stays_sound c.self.inside c.args.id.number c.in-Some.row.now (sym c.in-Some.ensures.value) c.pop_front.new.self c.in_default-pop_front.ensures c.self.invariant
+    stays_sound c.self.inside c.args.number c.in-Some.row.now (sym c.in-Some.ensures.value) c.pop_front.new.self c.in_default-pop_front.ensures c.self.invariant
 
 pub invariant_of-self-in-Err : goal.invariant_of-self-in-Err
 invariant_of-self-in-Err g c =
-    stays_sound c.self.inside c.args.id.number c.in-Some.row.now (sym c.in-Some.ensures.value) c.pop_front.new.self c.in_default-pop_front.ensures c.self.invariant
+    stays_sound c.self.inside c.args.number c.in-Some.row.now (sym c.in-Some.ensures.value) c.pop_front.new.self c.in_default-pop_front.ensures c.self.invariant
 
 pub returns-in_default-get : goal.returns-in_default-get
 returns-in_default-get g c =
     let s = c.self.inside in
-    let number = c.args.id.number in
+    let number = c.args.number in
     let row = c.in-Some.row.now in
     let found : row_of number s.members.members ≡ Some row = sym c.in-Some.ensures.value in
     let items = c.args.values.now.items in
@@ -73,7 +72,7 @@ returns-in_default-get g c =
 pub returns-in-Err : goal.returns-in-Err
 returns-in-Err g c =
     let s = c.self.inside in
-    let number = c.args.id.number in
+    let number = c.args.number in
     let row = c.in-Some.row.now in
     let found : row_of number s.members.members ≡ Some row = sym c.in-Some.ensures.value in
     let items = c.args.values.now.items in
@@ -86,7 +85,7 @@ returns-in-Err g c =
 pub move_on-row-requires-clause-past : goal.move_on-row-requires-clause-past
 move_on-row-requires-clause-past g c =
     let s = c.self.inside in
-    let number = c.args.id.number in
+    let number = c.args.number in
     let row = c.in-Some.row.now in
     let found : row_of number s.members.members ≡ Some row = sym c.in-Some.ensures.value in
     let items = c.args.values.now.items in
@@ -99,7 +98,7 @@ move_on-row-requires-clause-past g c =
 pub move_on-row-requires-clause-near : goal.move_on-row-requires-clause-near
 move_on-row-requires-clause-near g c =
     let s = c.self.inside in
-    let number = c.args.id.number in
+    let number = c.args.number in
     let row = c.in-Some.row.now in
     let found : row_of number s.members.members ≡ Some row = sym c.in-Some.ensures.value in
     let near = found_near s.counts.row s.counts.emitted s.floor s.members.last s.members.members c.self.invariant number (position_in s number row) (stands_at s number row found) in
@@ -108,7 +107,7 @@ move_on-row-requires-clause-near g c =
 pub move_on-row-requires-clause-some : goal.move_on-row-requires-clause-some
 move_on-row-requires-clause-some g c =
     let s = c.self.inside in
-    let number = c.args.id.number in
+    let number = c.args.number in
     let row = c.in-Some.row.now in
     let found : row_of number s.members.members ≡ Some row = sym c.in-Some.ensures.value in
     subst (λ p. 0 < get_or s.counts.row (p % length s.counts.row) 0) (sym c.max-position.ensures)
@@ -117,7 +116,7 @@ move_on-row-requires-clause-some g c =
 pub move_on-row-requires-clause-room : goal.move_on-row-requires-clause-room
 move_on-row-requires-clause-room g c =
     let s = c.self.inside in
-    let number = c.args.id.number in
+    let number = c.args.number in
     let row = c.in-Some.row.now in
     let found : row_of number s.members.members ≡ Some row = sym c.in-Some.ensures.value in
     subst (λ p. get_or (left_at s.counts.row p) ((p + 1) % length (left_at s.counts.row p)) 0 + 1 < 2 ^ 64) (sym c.max-position.ensures)
@@ -126,7 +125,7 @@ move_on-row-requires-clause-room g c =
 pub invariant_of-self-in-Ok : goal.invariant_of-self-in-Ok
 invariant_of-self-in-Ok g c =
     let s = c.self.inside in
-    let number = c.args.id.number in
+    let number = c.args.number in
     let row = c.in-Some.row.now in
     let found : row_of number s.members.members ≡ Some row = sym c.in-Some.ensures.value in
     let items = c.args.values.now.items in
@@ -145,7 +144,7 @@ invariant_of-self-in-Ok g c =
 pub returns-in-Ok : goal.returns-in-Ok
 returns-in-Ok g c =
     let s = c.self.inside in
-    let number = c.args.id.number in
+    let number = c.args.number in
     let row = c.in-Some.row.now in
     let found : row_of number s.members.members ≡ Some row = sym c.in-Some.ensures.value in
     let items = c.args.values.now.items in

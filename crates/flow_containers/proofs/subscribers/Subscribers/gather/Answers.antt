@@ -1,10 +1,10 @@
 use Rattle.std.proofs.Common.{◌≡◌, ◌+◌, ◌-◌, length, map, refl, sym, ap, subst, ◌∙◌, arith}
 use Rattle.flow_law.specs.SharedFlow.{stand_at, raise_to}
-use Rattle.flow_core.specs.Subscribers.{Standing, read, AreSound}
+use Rattle.flow_containers.specs.Subscribers.{Standing, read, AreSound}
 use Rattle.flow_containers.specs.PositionCounts.{AreWithin}
-use Rattle.flow_core.proofs.RaisedLemmas.{raise_to_last, raise_to_first}
-use Rattle.flow_core.proofs.SubscribersLemmas.{standing_same, shifted, shift_room, gathered, gathered_list, length-shifted}
-use Rattle.flow_core.proofs.subscribers.Subscribers.gather.Goals as goal
+use Rattle.flow_containers.proofs.RaisedLemmas.{raise_to_last, raise_to_first}
+use Rattle.flow_containers.proofs.SubscribersLemmas.{standing_same, shifted, shift_room, gathered, gathered_list, length-shifted}
+use Rattle.flow_containers.proofs.subscribers.Subscribers.gather.Goals as goal
 
 pub shift-requires-clause-room : goal.shift-requires-clause-room
 shift-requires-clause-room g c =

@@ -1,7 +1,7 @@
 use Rattle.std.proofs.Common.{◌≡◌, false, sym, subst}
-use Rattle.flow_core.specs.Subscribers.{Standing, is_full}
-use Rattle.flow_core.proofs.SubscribersLemmas.{added}
-use Rattle.flow_core.proofs.subscribers.Subscribers.add.Goals as goal
+use Rattle.flow_containers.specs.Subscribers.{Standing, is_full}
+use Rattle.flow_containers.proofs.SubscribersLemmas.{added}
+use Rattle.flow_containers.proofs.subscribers.Subscribers.add.Goals as goal
 
 pub invariant_of-self : goal.invariant_of-self
 invariant_of-self g c =

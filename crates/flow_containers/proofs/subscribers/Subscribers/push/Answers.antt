@@ -1,7 +1,7 @@
 use Rattle.std.proofs.Common.{◌+◌, ◌<◌, ◌≤◌, ◌^◌, arith, refl, sym, subst}
-use Rattle.flow_core.specs.Subscribers.{Standing}
-use Rattle.flow_core.proofs.SubscribersLemmas.{enter_room, enrolled}
-use Rattle.flow_core.proofs.subscribers.Subscribers.push.Goals as goal
+use Rattle.flow_containers.specs.Subscribers.{Standing}
+use Rattle.flow_containers.proofs.SubscribersLemmas.{enter_room, enrolled}
+use Rattle.flow_containers.proofs.subscribers.Subscribers.push.Goals as goal
 
 pub enter-requires-clause-room : goal.enter-requires-clause-room
 enter-requires-clause-room g c =

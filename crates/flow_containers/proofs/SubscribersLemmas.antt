@@ -12,10 +12,10 @@ use Rattle.flow_containers.specs.Members.{row_of, with_row}
 use Rattle.flow_containers.specs.Members as slab
 use Rattle.flow_containers.specs.Rows.{moved, left}
 use Rattle.flow_containers.specs.PositionCounts.{AreWithin, count_of, CountsPositions, take_out, entered, left_at}
-use Rattle.flow_core.specs.Subscribers.{Standing, read, AreSound}
-use Rattle.flow_core.proofs.CountLemmas.{blocked_by_count, fits-append, fits-shift, apart, fits-enroll, fits-take_out, fits-move_to, found_within, found_counted, count_bound, counts_bound}
+use Rattle.flow_containers.specs.Subscribers.{Standing, read, AreSound}
+use Rattle.flow_containers.proofs.CountLemmas.{blocked_by_count, fits-append, fits-shift, apart, fits-enroll, fits-take_out, fits-move_to, found_within, found_counted, count_bound, counts_bound}
 use Rattle.flow_containers.proofs.MemberLemmas.{length-with_row}
-use Rattle.flow_core.proofs.RaisedLemmas.{read_higher, length-read, raise_to_last, position_of-row, move_to-row, with_own-row, take_out-row, append-row}
+use Rattle.flow_containers.proofs.RaisedLemmas.{read_higher, length-read, raise_to_last, position_of-row, move_to-row, with_own-row, take_out-row, append-row}
 
 -- one row of counts after the value that was emitted, and after a shift
 abbrev pub shifted : List ℕ → ℕ → List ℕ

@@ -1,10 +1,8 @@
 //! What a subscriber receives next. Who it is, is looked up once.
 ghost use Rattle.std.specs.Prelude.{◌≡◌, ◌-◌, ◌≤◌, length, IfSome};
 ghost use Rattle.flow_law.specs.SharedFlow as flow;
-ghost use Rattle.flow_core.specs.SubId.{number_of};
-ghost use Rattle.flow_core.specs.Receiving.{Receives};
+ghost use Rattle.flow_containers.specs.Receiving.{Receives};
 
-use crate::sub_id::SubId;
 use crate::subscribers::Subscribers;
 use circular_buffer::HeapCircularBuffer;
 use flow_law::{FlowFault, FlowValue};
@@ -12,7 +10,7 @@ use std::alloc::Allocator;
 
 /// What one subscriber receives.
 #[derive(Drop)]
-pub(crate) enum Received<T> {
+pub enum Received<T> {
     /// There is no such subscriber.
     Gone,
     /// The first of its own values.
@@ -25,17 +23,18 @@ pub(crate) enum Received<T> {
 
 impl<T: FlowValue, A: Allocator> Subscribers<T, A> {
     /// Gives a subscriber what it is to receive next. The values are the last that were emitted.
-    pub(crate) fn receive(
+    pub fn receive(
         &mut self,
-        id: SubId,
+        number: u64,
+        key: usize,
         values: &HeapCircularBuffer<T, A>,
     ) -> Result<Received<T>, FlowFault>
         requires held { length values.now.items ≤ self.old.emitted }
-        requires kept { IfSome (flow.position_of (number_of id) self.old.list)
+        requires kept { IfSome (flow.position_of number self.old.list)
             (λ position. self.old.emitted - length values.now.items ≤ position) }
-        ensures { Receives (number_of id) values.now.items self.old result self.new }
+        ensures { Receives number values.now.items self.old result self.new }
     {
-        let Some(row) = self.members.get_mut(id.number, id.key) else {
+        let Some(row) = self.members.get_mut(number, key) else {
             return Ok(Received::Gone);
         };
         if let Some(value) = row.own.pop_front() {
