@@ -78,8 +78,22 @@ pub struct Complaint<'a> {
     pub nearest: Option<&'a str>,
 }
 
-/// What was found: nothing, or what is wrong.
-pub type Found<'a> = Result<Option<Complaint<'a>>, AllocError>;
+/// Why a look at a part of a script ended before all of it was looked at.
+#[derive(Clone, Copy)]
+pub enum Ended {
+    /// What is wrong was told.
+    Told,
+    OutOfMemory,
+}
+
+impl From<AllocError> for Ended {
+    fn from(_error: AllocError) -> Ended {
+        Ended::OutOfMemory
+    }
+}
+
+/// A look at a part of a script: `Ok` where nothing is wrong.
+pub type Looked = Result<(), Ended>;
 
 impl What<'_> {
     /// Whether what stands there is told before.
@@ -196,32 +210,10 @@ fn add_nearest(nearest: Option<&str>, lines: &mut String) -> Result<(), AllocErr
     }
 }
 
-impl<'a> Complaint<'a> {
-    /// What was found at an offset: what is wrong, what was expected, and the nearest right word if one is near.
-    pub fn found(
-        at: usize,
-        what: What<'a>,
-        expected: Expected<'a>,
-        nearest: Option<&'a str>,
-    ) -> Found<'a> {
-        Ok(Some(Complaint {
-            at,
-            what,
-            expected: Some(expected),
-            nearest,
-        }))
-    }
-
-    /// The object of a name that begins at an offset lacks a key.
-    pub fn missing(at: usize, name: &'static str, key: Key) -> Found<'a> {
-        let what = What::MissingKey(name, key.word);
-        let expected = Expected::Form(Some(key.word), key.form);
-        Complaint::found(at, what, expected, None)
-    }
-
+impl Complaint<'_> {
     /// Adds its lines: the place, the part of the script and what is wrong, what was expected, and the nearest right word.
     /// Part 0 is the head, and steps count from 1.
-    pub fn add_to(
+    fn add_to(
         self,
         text: Text<'_>,
         part: Option<u64>,
@@ -234,6 +226,57 @@ impl<'a> Complaint<'a> {
     }
 }
 
+/// What is told of a script.
+#[derive(Drop)]
+pub struct Report {
+    /// The part of the script that is told of, if it is known: 0 is the head, and steps count from 1.
+    pub part: Option<u64>,
+    pub lines: String,
+}
+
+impl Report {
+    /// Tells what is wrong in a text.
+    pub fn tell(&mut self, text: Text<'_>, complaint: Complaint<'_>) -> Looked {
+        complaint.add_to(text, self.part, &mut self.lines)?;
+        Err(Ended::Told)
+    }
+
+    /// The object of a name that begins at an offset lacks a key.
+    pub fn tell_missing(
+        &mut self,
+        text: Text<'_>,
+        at: usize,
+        name: &'static str,
+        key: Key,
+    ) -> Looked {
+        let complaint = Complaint {
+            at,
+            what: What::MissingKey(name, key.word),
+            expected: Some(Expected::Form(Some(key.word), key.form)),
+            nearest: None,
+        };
+        self.tell(text, complaint)
+    }
+
+    /// A value has not the form that is asked for.
+    pub fn tell_form(
+        &mut self,
+        text: Text<'_>,
+        owner: Owner,
+        found: Spot<'_>,
+        form: Form,
+    ) -> Looked {
+        let word = found.value.as_str().unwrap_or("");
+        let complaint = Complaint {
+            at: found.at,
+            what: owner.denied(),
+            expected: Some(Expected::Form(None, form)),
+            nearest: nearest_of(text.alloc, word, Choices::Words(form.choices()))?,
+        };
+        self.tell(text, complaint)
+    }
+}
+
 impl Owner {
     /// Where the items stand of a list that stands here.
     pub fn of_items(self) -> Self {
@@ -242,21 +285,14 @@ impl Owner {
             other => other,
         }
     }
-}
 
-/// A value has not the form that is asked for.
-pub fn wrong_form<'a>(text: Text<'a>, owner: Owner, found: Spot<'a>, form: Form) -> Found<'a> {
-    let word = found.value.as_str().unwrap_or("");
-    let near = nearest_of(text.alloc, word, Choices::Words(form.choices()))?;
-    Ok(Some(Complaint {
-        at: found.at,
-        what: match owner {
+    /// What is said of a value that should not stand here.
+    fn denied(self) -> What<'static> {
+        match self {
             Owner::Script => What::Told(" is no script"),
             Owner::FlowName => What::Told(" is no name of a flow"),
             Owner::Member(key) => What::NoValue(key, ""),
             Owner::Item(key) => What::NoItem(key),
-        },
-        expected: Some(Expected::Form(None, form)),
-        nearest: near,
-    }))
+        }
+    }
 }

@@ -4,7 +4,7 @@
 //! finds the key or the value that is to blame, and tells its line and column, what was expected there, and the nearest
 //! right word. Where it finds no culprit it tells the place of the step and the words of the fault. What scripts are made of stands in
 //! tables: `step_words`, `flow_words`, `chain_words`. A `Complaint` says what is wrong by words of these tables and of the script; it is
-//! written out once, at the end.
+//! told to the `Report` where it is found, and nothing more is looked at.
 #![tactic(auto)]
 
 mod chain_words;

@@ -1,7 +1,7 @@
 //! Steps that their flow does not allow.
 
 use crate::choices::Choices;
-use crate::complaint::{Complaint, Expected, Found, What};
+use crate::complaint::{Complaint, Expected, Looked, Report, What};
 use crate::flow_words::flow_rows;
 use crate::head::{Script, text_at};
 use crate::json::Spot;
@@ -29,28 +29,33 @@ fn lost_first<'a>(
 }
 
 /// A step that a flow of a kind does not have.
-fn wrong_step<'a>(script: Script<'a>, step: Spot<'a>, kind: &'a str) -> Found<'a> {
-    match script.text.member(step, "do")? {
-        Some(found) => {
-            let what = What::NoStep(name_of(kind), text_at(step.value, "do"));
-            let expected = Expected::OneOf("one of ", Choices::StepsOf(kind));
-            Complaint::found(found.at, what, expected, None)
-        }
-        None => Ok(None),
-    }
+fn no_step<'a>(script: Script<'a>, step: Spot<'a>, kind: &'a str, report: &mut Report) -> Looked {
+    let Some(found) = script.text.member(step, "do")? else {
+        return Ok(());
+    };
+    let complaint = Complaint {
+        at: found.at,
+        what: What::NoStep(name_of(kind), text_at(step.value, "do")),
+        expected: Some(Expected::OneOf("one of ", Choices::StepsOf(kind))),
+        nearest: None,
+    };
+    report.tell(script.text, complaint)
 }
 
-/// What is wrong with a step of the right form, where its flow does not allow it.
-pub fn not_allowed<'a>(script: Script<'a>, step: Spot<'a>) -> Found<'a> {
+/// Tells why a step of the right form is not allowed by its flow.
+pub fn tell_not_allowed<'a>(script: Script<'a>, step: Spot<'a>, report: &mut Report) -> Looked {
     let Some(flow) = script.flow_of(step.value) else {
-        return Ok(None);
+        return Ok(());
     };
     let kind = text_at(flow, "kind");
-    match lost_first(script, step, kind)? {
-        Some(found) => {
-            let expected = Expected::Words("no \"first\", which is for a shared flow");
-            Complaint::found(found.at, What::NoFirst(name_of(kind)), expected, None)
-        }
-        None => wrong_step(script, step, kind),
-    }
+    let Some(first) = lost_first(script, step, kind)? else {
+        return no_step(script, step, kind, report);
+    };
+    let complaint = Complaint {
+        at: first.at,
+        what: What::NoFirst(name_of(kind)),
+        expected: Some(Expected::Words("no \"first\", which is for a shared flow")),
+        nearest: None,
+    };
+    report.tell(script.text, complaint)
 }

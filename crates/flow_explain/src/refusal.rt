@@ -1,12 +1,13 @@
 //! Why a script is refused, in words.
 
-use crate::complaint::{Complaint, Expected, Found, Owner, What, wrong_form};
+use crate::complaint::{Complaint, Ended, Expected, Looked, Owner, Report, What};
 use crate::flow_words::{SCRIPT, VERSION};
 use crate::head::Script;
 use crate::json::{Spot, Text, not_json};
-use crate::names::{duplicate_name, unknown_name};
-use crate::not_allowed::not_allowed;
-use crate::search::{Aim, wrong_in};
+use crate::names::{look_at_new_name, look_at_uses};
+use crate::not_allowed::tell_not_allowed;
+use crate::search::{Aim, look_into};
+use crate::tasks::Task;
 use crate::words::Form;
 use flow_format::{MOST_BYTES, ScriptFault};
 use serde_json::Value;
@@ -24,51 +25,52 @@ fn part_of(fault: ScriptFault) -> Option<u64> {
     }
 }
 
-/// What is wrong with the form of a step, or else why its flow does not allow it.
-fn wrong_shape<'a>(script: Script<'a>, step: Spot<'a>) -> Found<'a> {
-    let found = wrong_in(script, Aim::Shape, step, Owner::Item("steps"), Form::Step)?;
-    if found.is_some() {
-        return Ok(found);
-    }
-    not_allowed(script, step)
-}
-
-/// What is wrong in a step.
-fn wrong_step<'a>(
+/// Looks at a step, and then at why its flow does not allow it.
+fn look_at_step<'a>(
     script: Script<'a>,
     index: usize,
     step: Spot<'a>,
     fault: ScriptFault,
-) -> Found<'a> {
+    report: &mut Report,
+) -> Looked {
+    let task = Task {
+        spot: step,
+        owner: Owner::Item("steps"),
+        form: Form::Step,
+    };
     match fault {
-        ScriptFault::UnknownName(_) => unknown_name(script, index, step),
-        ScriptFault::DuplicateName(_) => duplicate_name(script, index, step),
-        ScriptFault::TooLarge(_) => {
-            wrong_in(script, Aim::Limit, step, Owner::Item("steps"), Form::Step)
+        ScriptFault::UnknownName(_) => look_at_uses(script, index, step, report),
+        ScriptFault::DuplicateName(_) => look_at_new_name(script, index, step, report),
+        ScriptFault::TooLarge(_) => look_into(script, Aim::Limit, task, report),
+        _ => {
+            look_into(script, Aim::Shape, task, report)?;
+            tell_not_allowed(script, step, report)
         }
-        _ => wrong_shape(script, step),
     }
 }
 
-/// What is wrong with the version.
-fn wrong_version<'a>(script: Script<'a>) -> Found<'a> {
-    match script.text.member(script.root, "version")? {
-        Some(found) => {
-            let owner = Owner::Member("version");
-            wrong_form(script.text, owner, found, Form::Version)
-        }
-        None => Complaint::missing(script.root.at, SCRIPT.name, VERSION),
+/// Tells what is wrong with the version.
+fn tell_version(script: Script<'_>, report: &mut Report) -> Looked {
+    let (text, root) = (script.text, script.root);
+    match text.member(root, "version")? {
+        Some(found) => report.tell_form(text, Owner::Member("version"), found, Form::Version),
+        None => report.tell_missing(text, root.at, SCRIPT.name, VERSION),
     }
 }
 
-/// What is wrong in the head.
-fn wrong_head<'a>(script: Script<'a>, fault: ScriptFault) -> Found<'a> {
+/// Looks at the head.
+fn look_at_head(script: Script<'_>, fault: ScriptFault, report: &mut Report) -> Looked {
     let aim = match fault {
-        ScriptFault::BadVersion => return wrong_version(script),
+        ScriptFault::BadVersion => return tell_version(script, report),
         ScriptFault::TooLarge(_) => Aim::Limit,
         _ => Aim::Shape,
     };
-    wrong_in(script, aim, script.root, Owner::Script, Form::Script)
+    let task = Task {
+        spot: script.root,
+        owner: Owner::Script,
+        form: Form::Script,
+    };
+    look_into(script, aim, task, report)
 }
 
 /// The step that a part of a script is, if it is not the head.
@@ -79,28 +81,27 @@ fn step_of<'a>(script: Script<'a>, part: u64) -> Result<Option<Spot<'a>>, AllocE
     script.step(part.saturating_sub(1) as usize)
 }
 
-/// What is wrong in a part of a script, or at least where that part begins.
-fn wrong_part<'a>(
-    script: Script<'a>,
-    part: u64,
-    fault: ScriptFault,
-) -> Result<Complaint<'a>, AllocError> {
+/// Tells what is wrong in a part of a script, or at least where that part begins.
+fn tell_part(script: Script<'_>, part: u64, fault: ScriptFault, report: &mut Report) -> Looked {
     let step = step_of(script, part)?;
-    let found = match step {
-        Some(step) => wrong_step(script, part.saturating_sub(1) as usize, step, fault),
-        None => wrong_head(script, fault),
-    };
-    let at = step.unwrap_or(script.root).at;
-    Ok(found?.unwrap_or(Complaint {
-        at,
+    match step {
+        Some(step) => {
+            let index = part.saturating_sub(1) as usize;
+            look_at_step(script, index, step, fault, report)?;
+        }
+        None => look_at_head(script, fault, report)?,
+    }
+    let complaint = Complaint {
+        at: step.unwrap_or(script.root).at,
         what: What::Fault(fault),
         expected: None,
         nearest: None,
-    }))
+    };
+    report.tell(script.text, complaint)
 }
 
-/// Adds where the text stops being JSON.
-fn add_stop(text: Text<'_>, lines: &mut String) -> Result<(), AllocError> {
+/// Tells where the text stops being JSON.
+fn tell_stop(text: Text<'_>, report: &mut Report) -> Looked {
     let (at, what, expected) = match not_json(text)? {
         Some(stop) if stop.tells_value => (stop.at, What::Told(stop.what), Some(stop.expected)),
         Some(stop) => (stop.at, What::Words(stop.what), Some(stop.expected)),
@@ -115,32 +116,32 @@ fn add_stop(text: Text<'_>, lines: &mut String) -> Result<(), AllocError> {
         },
         nearest: None,
     };
-    complaint.add_to(text, None, lines)
+    report.tell(text, complaint)
 }
 
-/// Adds what is wrong in a part of the script of a text, whose value was read.
-fn add_wrong(
-    text: Text<'_>,
-    value: &Value,
-    part: u64,
-    fault: ScriptFault,
-    lines: &mut String,
-) -> Result<(), AllocError> {
-    let complaint = wrong_part(Script::new(text, value), part, fault)?;
-    complaint.add_to(text, Some(part), lines)
+/// Tells that a script has too many bytes.
+fn tell_size(text: Text<'_>, report: &mut Report) -> Looked {
+    let complaint = Complaint {
+        at: MOST_BYTES,
+        what: What::TooLong(text.bytes.len()),
+        expected: Some(Expected::AtMost(MOST_BYTES as u64)),
+        nearest: None,
+    };
+    report.tell(text, complaint)
 }
 
-/// Adds why a script whose text is JSON is refused.
-fn add_reason(
-    text: Text<'_>,
-    part: u64,
-    fault: ScriptFault,
-    lines: &mut String,
-) -> Result<(), AllocError> {
+/// Tells the fault's own words.
+fn tell_fault(fault: ScriptFault, report: &mut Report) -> Looked {
+    writeln!(report.lines, "{fault}")?;
+    Err(Ended::Told)
+}
+
+/// Tells why a script whose text is JSON is refused.
+fn tell_reason(text: Text<'_>, part: u64, fault: ScriptFault, report: &mut Report) -> Looked {
     match Value::from_slice(text.alloc, text.bytes) {
-        Ok(value) => add_wrong(text, &value, part, fault, lines),
-        Err(error) if error.is_memory() => Err(AllocError),
-        Err(_) => writeln!(lines, "{fault}"),
+        Ok(value) => tell_part(Script::new(text, &value), part, fault, report),
+        Err(error) if error.is_memory() => Err(Ended::OutOfMemory),
+        Err(_) => tell_fault(fault, report),
     }
 }
 
@@ -160,22 +161,18 @@ pub fn explain_refusal(
     fault: ScriptFault,
 ) -> Result<String, AllocError> {
     let text = Text { alloc, bytes };
-    let size = bytes.len();
-    let mut lines = String::new(alloc);
-    let told = match part_of(fault) {
-        Some(0) if size > MOST_BYTES => {
-            let complaint = Complaint {
-                at: MOST_BYTES,
-                what: What::TooLong(size),
-                expected: Some(Expected::AtMost(MOST_BYTES as u64)),
-                nearest: None,
-            };
-            complaint.add_to(text, Some(0), &mut lines)
-        }
-        Some(part) => add_reason(text, part, fault, &mut lines),
-        None if fault == ScriptFault::NotJson => add_stop(text, &mut lines),
-        None => writeln!(lines, "{fault}"),
+    let mut report = Report {
+        part: part_of(fault),
+        lines: String::new(alloc),
     };
-    told?;
-    Ok(lines)
+    let looked = match report.part {
+        Some(0) if bytes.len() > MOST_BYTES => tell_size(text, &mut report),
+        Some(part) => tell_reason(text, part, fault, &mut report),
+        None if fault == ScriptFault::NotJson => tell_stop(text, &mut report),
+        None => tell_fault(fault, &mut report),
+    };
+    match looked {
+        Err(Ended::OutOfMemory) => Err(AllocError),
+        _ => Ok(report.lines),
+    }
 }

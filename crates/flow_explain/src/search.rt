@@ -2,12 +2,12 @@
 
 use crate::chain_words::{FAULT, shape_of};
 use crate::choices::Choices;
-use crate::complaint::{Complaint, Expected, Found, Owner, What, wrong_form};
+use crate::complaint::{Complaint, Ended, Expected, Looked, Owner, Report, What};
 use crate::form::is_name;
 use crate::head::{Script, items_of};
 use crate::json::{Member, Spot, Text};
 use crate::nearest::nearest_of;
-use crate::tasks::{Inside, Task, add_task, inside_of};
+use crate::tasks::{Inside, Task, inside_of};
 use crate::words::{Form, Row, Shape, Version, row_named};
 use std::alloc::AllocError;
 
@@ -20,39 +20,42 @@ pub enum Aim {
     Limit,
 }
 
-/// A search through a part of a script.
-#[derive(Clone, Copy)]
-struct Search<'a> {
+/// A search through a part of a script, which ends where something is wrong.
+#[derive(Drop)]
+struct Search<'a, 'r> {
     text: Text<'a>,
     version: Version,
     aim: Aim,
+    /// What is to be looked at.
+    tasks: Vec<Task<'a>>,
+    report: &'r mut Report,
 }
 
-impl<'a> Search<'a> {
+impl<'a> Search<'a, '_> {
     /// A member of an object that has no such key, or none in this version, as these words say.
     fn no_key(
-        self,
+        &mut self,
         object: Spot<'a>,
         shape: Shape,
         member: Member<'a>,
         version: &'static str,
-    ) -> Found<'a> {
+    ) -> Looked {
         let keys = Choices::Keys(shape.keys, self.version);
-        let nearest = nearest_of(self.text.alloc, member.name, keys)?;
         let expected = match shape.missing(self.version, object.value) {
             Some(key) => Expected::Form(Some(key.word), key.form),
             None => Expected::OneOf("no key but ", keys),
         };
-        Complaint::found(
-            member.key,
-            What::NoKey(shape.name, version),
-            expected,
-            nearest,
-        )
+        let complaint = Complaint {
+            at: member.key,
+            what: What::NoKey(shape.name, version),
+            expected: Some(expected),
+            nearest: nearest_of(self.text.alloc, member.name, keys)?,
+        };
+        self.report.tell(self.text, complaint)
     }
 
     /// Looks for a key that an object has not.
-    fn unknown(self, object: Spot<'a>, shape: Shape) -> Found<'a> {
+    fn unknown(&mut self, object: Spot<'a>, shape: Shape) -> Looked {
         let keys = Choices::Keys(shape.keys, self.version);
         let mut from = object.at.saturating_add(1);
         for _ in 0..self.text.bytes.len() {
@@ -67,75 +70,77 @@ impl<'a> Search<'a> {
                 None => return self.no_key(object, shape, member, ""),
             }
         }
-        Ok(None)
+        Ok(())
+    }
+
+    /// Looks at a value later.
+    fn add(&mut self, spot: Spot<'a>, owner: Owner, form: Form) -> Result<(), AllocError> {
+        match self.tasks.push(Task { spot, owner, form }) {
+            Ok(_) => Ok(()),
+            Err(_) => Err(AllocError),
+        }
     }
 
     /// Looks at the values of an object later.
-    fn add_members(
-        self,
-        tasks: &mut Vec<Task<'a>>,
-        object: Spot<'a>,
-        shape: Shape,
-    ) -> Result<(), AllocError> {
+    fn add_members(&mut self, object: Spot<'a>, shape: Shape) -> Result<(), AllocError> {
         for key in shape.keys {
             if let Some(spot) = self.text.member(object, key.word)? {
-                let owner = Owner::Member(key.word);
-                add_task(tasks, spot, owner, key.form)?;
+                self.add(spot, Owner::Member(key.word), key.form)?;
             }
         }
         Ok(())
     }
 
-    /// Looks for a key that an object of known keys lacks, and later at its values.
-    fn known(self, tasks: &mut Vec<Task<'a>>, object: Spot<'a>, shape: Shape) -> Found<'a> {
-        match shape.missing(self.version, object.value) {
-            Some(key) => Complaint::missing(object.at, shape.name, key),
-            None => {
-                self.add_members(tasks, object, shape)?;
-                Ok(None)
-            }
+    /// Looks at the keys of an object: for one that it has not, and for one that it lacks. Later at its values.
+    fn object(&mut self, object: Spot<'a>, shape: Shape) -> Looked {
+        self.unknown(object, shape)?;
+        if let Some(key) = shape.missing(self.version, object.value) {
+            return self
+                .report
+                .tell_missing(self.text, object.at, shape.name, key);
         }
-    }
-
-    /// Looks at the keys of an object, and later at its values.
-    fn object(self, tasks: &mut Vec<Task<'a>>, object: Spot<'a>, shape: Shape) -> Found<'a> {
-        let found = self.unknown(object, shape)?;
-        if found.is_some() {
-            return Ok(found);
-        }
-        self.known(tasks, object, shape)
+        self.add_members(object, shape)?;
+        Ok(())
     }
 
     /// The value of a tag is no such word, or none in this version, as these words say.
     fn no_value(
-        self,
+        &mut self,
         found: Spot<'a>,
         tag: &'static str,
         rows: &'static [Row],
         version: &'static str,
-    ) -> Found<'a> {
+    ) -> Looked {
         let tags = Choices::Tags(rows, self.version);
         let word = found.value.as_str().unwrap_or("");
-        let nearest = nearest_of(self.text.alloc, word, tags)?;
-        let expected = Expected::OneOf("one of ", tags);
-        Complaint::found(found.at, What::NoValue(tag, version), expected, nearest)
+        let complaint = Complaint {
+            at: found.at,
+            what: What::NoValue(tag, version),
+            expected: Some(Expected::OneOf("one of ", tags)),
+            nearest: nearest_of(self.text.alloc, word, tags)?,
+        };
+        self.report.tell(self.text, complaint)
+    }
+
+    /// An object lacks its tag.
+    fn no_tag(&mut self, object: Spot<'a>, tag: &'static str, rows: &'static [Row]) -> Looked {
+        let complaint = Complaint {
+            at: object.at,
+            what: What::MissingTag(tag),
+            expected: Some(Expected::Tag(tag, Choices::Tags(rows, self.version))),
+            nearest: None,
+        };
+        self.report.tell(self.text, complaint)
     }
 
     /// Looks at an object whose keys its tag tells.
-    fn tagged(
-        self,
-        tasks: &mut Vec<Task<'a>>,
-        object: Spot<'a>,
-        tag: &'static str,
-        rows: &'static [Row],
-    ) -> Found<'a> {
+    fn tagged(&mut self, object: Spot<'a>, tag: &'static str, rows: &'static [Row]) -> Looked {
         let Some(found) = self.text.member(object, tag)? else {
-            let expected = Expected::Tag(tag, Choices::Tags(rows, self.version));
-            return Complaint::found(object.at, What::MissingTag(tag), expected, None);
+            return self.no_tag(object, tag, rows);
         };
         match row_named(rows, found.value.as_str().unwrap_or("")) {
             Some(row) if row.need.is_known(self.version) => {
-                self.object(tasks, object, shape_of(row, object.value))
+                self.object(object, shape_of(row, object.value))
             }
             Some(_) => self.no_value(found, tag, rows, self.version.words()),
             None => self.no_value(found, tag, rows, ""),
@@ -143,39 +148,34 @@ impl<'a> Search<'a> {
     }
 
     /// Looks at an item of a list, which is to have a form: later at an operator, which is looked into, and now at another.
-    fn item(self, tasks: &mut Vec<Task<'a>>, item: Task<'a>) -> Found<'a> {
-        let Task { spot, owner, form } = item;
+    fn item(&mut self, spot: Spot<'a>, owner: Owner, form: Form) -> Looked {
         match form {
             Form::Operator => {
-                add_task(tasks, spot, owner, form)?;
-                Ok(None)
+                self.add(spot, owner, form)?;
+                Ok(())
             }
-            _ if form.fits(spot.value) => Ok(None),
-            Form::Entry if spot.value.is_object() => self.object(tasks, spot, FAULT),
-            _ => wrong_form(self.text, owner, spot, form),
+            _ if form.fits(spot.value) => Ok(()),
+            Form::Entry if spot.value.is_object() => self.object(spot, FAULT),
+            _ => self.report.tell_form(self.text, owner, spot, form),
         }
     }
 
     /// Looks at the items of a list, which are to have a form, up to one that is wrong.
-    fn items(self, tasks: &mut Vec<Task<'a>>, list: Task<'a>, form: Form) -> Found<'a> {
+    fn items(&mut self, list: Task<'a>, form: Form) -> Looked {
         let owner = list.owner.of_items();
         let mut next = self.text.part_from(list.spot.at.saturating_add(1));
         for value in items_of(list.spot.value) {
             let Some(at) = next else {
                 break;
             };
-            let spot = Spot { value, at };
-            let found = self.item(tasks, Task { spot, owner, form })?;
-            if found.is_some() {
-                return Ok(found);
-            }
+            self.item(Spot { value, at }, owner, form)?;
             next = self.text.part_after(at);
         }
-        Ok(None)
+        Ok(())
     }
 
     /// Looks at the names of flows, and later at the flows.
-    fn flows(self, tasks: &mut Vec<Task<'a>>, flows: Spot<'a>) -> Found<'a> {
+    fn flows(&mut self, flows: Spot<'a>) -> Looked {
         let mut from = flows.at.saturating_add(1);
         for _ in 0..self.text.bytes.len() {
             let Some(flow) = self.text.member_from(flows, from)? else {
@@ -186,79 +186,79 @@ impl<'a> Search<'a> {
                     value: flows.value,
                     at: flow.key,
                 };
-                return wrong_form(self.text, Owner::FlowName, key, Form::Name);
+                return self
+                    .report
+                    .tell_form(self.text, Owner::FlowName, key, Form::Name);
             }
-            add_task(tasks, flow.spot, Owner::Item("flows"), Form::Flow)?;
+            self.add(flow.spot, Owner::Item("flows"), Form::Flow)?;
             from = flow.end;
         }
-        Ok(None)
+        Ok(())
     }
 
     /// Looks into a value of the right form.
-    fn inside(self, tasks: &mut Vec<Task<'a>>, task: Task<'a>) -> Found<'a> {
+    fn inside(&mut self, task: Task<'a>) -> Looked {
         match inside_of(task.form, task.spot.value) {
-            Inside::Nothing => Ok(None),
-            Inside::Members(shape) => self.object(tasks, task.spot, shape),
-            Inside::Tagged(tag, rows) => self.tagged(tasks, task.spot, tag, rows),
-            Inside::Items(form) => self.items(tasks, task, form),
-            Inside::Flows => self.flows(tasks, task.spot),
+            Inside::Nothing => Ok(()),
+            Inside::Members(shape) => self.object(task.spot, shape),
+            Inside::Tagged(tag, rows) => self.tagged(task.spot, tag, rows),
+            Inside::Items(form) => self.items(task, form),
+            Inside::Flows => self.flows(task.spot),
         }
     }
 
-    /// What is wrong with the limit of a value, where a limit is looked for.
-    fn past_limit(self, task: Task<'a>) -> Found<'a> {
+    /// Looks at the limit of a value, where limits are looked for.
+    fn limit(&mut self, task: Task<'a>) -> Looked {
         if let (Owner::Member(key), Aim::Limit) = (task.owner, self.aim)
             && let Some(limited) = task.form.limited(task.spot.value)
             && limited.size > limited.most
         {
-            let what = What::PastLimit(key, limited.size, limited.unit);
-            let expected = Expected::AtMost(limited.most);
-            return Complaint::found(task.spot.at, what, expected, None);
+            let complaint = Complaint {
+                at: task.spot.at,
+                what: What::PastLimit(key, limited.size, limited.unit),
+                expected: Some(Expected::AtMost(limited.most)),
+                nearest: None,
+            };
+            return self.report.tell(self.text, complaint);
         }
-        Ok(None)
+        Ok(())
     }
 
-    /// Looks at a value, and later at what is in it. Where limits are looked for, what passes one is wrong.
-    fn look(self, tasks: &mut Vec<Task<'a>>, task: Task<'a>) -> Found<'a> {
+    /// Looks at a value, and later at what is in it.
+    fn look(&mut self, task: Task<'a>) -> Looked {
         if !task.form.fits(task.spot.value) {
-            return wrong_form(self.text, task.owner, task.spot, task.form);
+            return self
+                .report
+                .tell_form(self.text, task.owner, task.spot, task.form);
         }
-        let found = self.past_limit(task)?;
-        if found.is_some() {
-            return Ok(found);
-        }
-        self.inside(tasks, task)
+        self.limit(task)?;
+        self.inside(task)
     }
 
     /// Looks at all values that are to be looked at. Each of them begins at a byte of its own.
-    fn all(self, tasks: &mut Vec<Task<'a>>) -> Found<'a> {
+    fn all(&mut self) -> Looked {
         for index in 0..self.text.bytes.len() {
-            let Some(task) = tasks.get(index).copied() else {
+            let Some(task) = self.tasks.get(index).copied() else {
                 break;
             };
-            let found = self.look(tasks, task)?;
-            if found.is_some() {
-                return Ok(found);
-            }
+            self.look(task)?;
         }
-        Ok(None)
+        Ok(())
     }
 }
 
-/// What is wrong in a value of a script that should have this form.
-pub fn wrong_in<'a>(
-    script: Script<'a>,
-    aim: Aim,
-    spot: Spot<'a>,
-    owner: Owner,
-    form: Form,
-) -> Found<'a> {
-    let search = Search {
+/// Tells what is wrong in a value of a script that should have this form.
+pub fn look_into<'a>(script: Script<'a>, aim: Aim, value: Task<'a>, report: &mut Report) -> Looked {
+    let mut tasks = Vec::new(script.text.alloc);
+    if tasks.push(value).is_err() {
+        return Err(Ended::OutOfMemory);
+    }
+    let mut search = Search {
         text: script.text,
         version: script.version,
         aim,
+        tasks,
+        report,
     };
-    let mut tasks = Vec::new(script.text.alloc);
-    add_task(&mut tasks, spot, owner, form)?;
-    search.all(&mut tasks)
+    search.all()
 }

@@ -7,7 +7,6 @@ use crate::json::Spot;
 use crate::step_words::step_rows;
 use crate::words::{Form, Row, Shape};
 use serde_json::Value;
-use std::alloc::AllocError;
 
 /// A value, and what it should be.
 #[derive(Clone, Copy)]
@@ -15,19 +14,6 @@ pub struct Task<'a> {
     pub spot: Spot<'a>,
     pub owner: Owner,
     pub form: Form,
-}
-
-/// A value more that is to be looked at.
-pub fn add_task<'a>(
-    tasks: &mut Vec<Task<'a>>,
-    spot: Spot<'a>,
-    owner: Owner,
-    form: Form,
-) -> Result<(), AllocError> {
-    match tasks.push(Task { spot, owner, form }) {
-        Ok(_) => Ok(()),
-        Err(_) => Err(AllocError),
-    }
 }
 
 /// What there is to look at inside a value.
