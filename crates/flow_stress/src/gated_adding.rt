@@ -20,10 +20,10 @@ impl Caller<'_> {
     /// Subscribes, reads twice, and leaves. `None` for want of memory.
     fn reads_gated_in_order<R: Wait>(&mut self, rt: &R, last: u64) -> Option<bool> {
         let mut subscription = self.state.subscribe(rt, &mut self.state_seat).ok()?;
-        let first = self.state.next(rt, &mut subscription).ok()?;
-        let second = self.state.next(rt, &mut subscription).ok()?;
+        let first = self.state.next(rt, &mut subscription);
+        let second = self.state.next(rt, &mut subscription);
         let _seat = self.state.unsubscribe(rt, subscription);
-        Some(are_in_order(last, first, second))
+        Some(are_in_order(last, first.ok()?, second.ok()?))
     }
 
     /// So many rounds of calls, as the dice say. The value never falls. `None` for want of memory.

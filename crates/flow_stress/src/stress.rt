@@ -85,12 +85,21 @@ pub fn stress<R: Threads + Wait + RandomSource + AllocGlobal + Sync>(
     alloc: Global,
     size: Size,
 ) -> Option<Found> {
-    let config = Config::new().replay(2).extra(4);
-    let (suspending, suspending_seat) = SharedFlow::new(alloc, config).ok()?;
-    let config = config.overflow(Overflow::DropOldest);
-    let (dropping, dropping_seat) = SharedFlow::new(alloc, config).ok()?;
-    let (word, word_seat) = WordState::new(alloc, 0, u32::MAX).ok()?;
-    let (state, state_seat) = StateFlow::new(alloc, 0, u64::MAX).ok()?;
+    let suspends = Config::new().replay(2).extra(4);
+    let drops = suspends.overflow(Overflow::DropOldest);
+    let (
+        Ok((suspending, suspending_seat)),
+        Ok((dropping, dropping_seat)),
+        Ok((word, word_seat)),
+        Ok((state, state_seat)),
+    ) = (
+        SharedFlow::new(alloc, suspends),
+        SharedFlow::new(alloc, drops),
+        WordState::new(alloc, 0, u32::MAX),
+        StateFlow::new(alloc, 0, u64::MAX),
+    ) else {
+        return None;
+    };
     let mut caller = Caller {
         suspending: &suspending,
         suspending_seat,
