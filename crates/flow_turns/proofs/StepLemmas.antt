@@ -1,18 +1,22 @@
 -- The steps of a turn, put together: what a sharing finds and what its calls did lead along the turn of flow_law.
-use Rattle.std.proofs.Common.{◌≡◌, ◌<◌, ◌≤◌, ℕ, Bool, true, false, nat_lt, if◌then◌else◌, List, ◌∷◌, ◌||◌, Option, Some, None, Result, Ok, Err, sym, ap, ◌∙◌, subst, arith}
+use Rattle.std.proofs.Common.{◌≡◌, ◌≢◌, ◌<◌, ◌≤◌, ℕ, Bool, true, false, nat_lt, if◌then◌else◌, List, ◌∷◌, ◌||◌, Option, Some, None, Result, Ok, Err, refl, sym, ap, ◌∙◌, subst, arith}
 use Rattle.std.proofs.lemmas.Bool.Decides.{nat_tests}
 use Rattle.flow_law.specs.declared.fault.FlowFault.{FlowFault}
+use Rattle.flow_law.specs.declared.fault.FlowFault.TheVariants.{OutOfMemory, TooLarge, NeedsBuffer, Exhausted, Unsupported, Busy as LockTaken}
+use Rattle.flow_law.specs.declared.chain.ChainFault.{ChainFault}
 use Rattle.flow_law.specs.declared.sharing.Started.{Started}
 use Rattle.flow_law.specs.declared.sharing.Command.{Command}
 use Rattle.flow_law.specs.declared.sharing.SharingObservation.{SharingObservation}
+use Rattle.flow_law.specs.declared.report.Event.{Event}
 use Rattle.flow_law.specs.declared.report.Report.{Report}
 use Rattle.flow_law.specs.declared.report.ShareFault.{ShareFault}
-use Rattle.flow_law.specs.declared.report.ShareFault.TheVariants.{Backwards}
+use Rattle.flow_law.specs.declared.report.ShareFault.TheVariants.{Backwards, Ended, Chain}
 use Rattle.flow_law.specs.ChainRun.{ChainRun}
 use Rattle.flow_law.specs.Sharing.{newest_command, last_moment}
 use Rattle.flow_law.specs.Steps.{Takes}
 use Rattle.flow_law.specs.SharingCalls.{TurnCall, TurnAnswer, ChainAnswer, ChainAndHub, to_hub, asks, counts, polls, cancels, resets}
-use Rattle.flow_law.specs.SharingTurn.{SharingState, Turned, after_ask, put, send, after_poll, collect_while_running, after_reset, reset_if_due, after_cancel, work, begin, after_count, turn_steps}
+use Rattle.flow_law.specs.SharingTurn.{SharingState, Turned, refusal, after_ask, put, send, after_poll, collect_while_running, after_reset, reset_if_due, after_cancel, work, begin, after_count, turn_steps}
+use Rattle.flow_turns.specs.TurnClauses.{ended_after}
 
 pub if-true : {X : Type 0} (P : X → Type 0) (b : Bool) (x y : X) → b ≡ true → P x → P (if b then x else y)
 if-true P true x y is p = p
@@ -33,6 +37,27 @@ pub same-end : {T : Type 0} (seen : List SharingObservation) (a b : Result Repor
     → ◌≡◌ {A = Turned T} (record { answer = a; seen = seen; state = s }) (record { answer = b; seen = seen; state = t })
 same-end {T} seen a b s t e same =
     ap (λ x. record { answer = x; seen = seen; state = s }) e ∙ ap (λ (x : SharingState T). record { answer = b; seen = seen; state = x }) same
+
+-- a refusal of the hub is no end of the sharing
+abbrev pub Goes-on : Result Event ShareFault → Type 0
+Goes-on outcome = (outcome ≢ Err Ended) × ((ended : Bool) → ended_after outcome ended ≡ ended)
+
+refusal-goes-on : (fault : FlowFault) → Goes-on (refusal fault)
+refusal-goes-on OutOfMemory = ((λ is. cc), λ ended. refl)
+refusal-goes-on TooLarge = ((λ is. cc), λ ended. refl)
+refusal-goes-on NeedsBuffer = ((λ is. cc), λ ended. refl)
+refusal-goes-on Exhausted = ((λ is. cc), λ ended. refl)
+refusal-goes-on Unsupported = ((λ is. cc), λ ended. refl)
+refusal-goes-on LockTaken = ((λ is. cc), λ ended. refl)
+
+pub event-is-no-end : (event : Event) → ◌≢◌ {A = Result Event ShareFault} (Ok event) (Err Ended)
+event-is-no-end event is = cc
+
+pub fault-is-no-end : (fault : ChainFault) → ◌≢◌ {A = Result Event ShareFault} (Err (Chain fault)) (Err Ended)
+fault-is-no-end fault is = cc
+
+pub goes-on : (outcome : Result Event ShareFault) (fault : FlowFault) → outcome ≡ refusal fault → Goes-on outcome
+goes-on outcome fault is = subst Goes-on (sym is) (refusal-goes-on fault)
 
 module _ {T H : Type 0} (does : (c : TurnCall T) → ChainAndHub T H → TurnAnswer c → ChainAndHub T H → Type 0) (old new : ChainAndHub T H) (r : Turned T) where
   module _ (command : Command) (seen : List SharingObservation) (s : SharingState T) where

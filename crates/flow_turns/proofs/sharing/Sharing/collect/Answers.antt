@@ -1,9 +1,11 @@
 use Rattle.std.proofs.Common.{true, false, Ok, Err, refl, sym, ap, ◌∙◌, subst}
+use Rattle.flow_law.specs.declared.report.Event.TheVariants.{Idle, Waiting, Completed}
 use Rattle.flow_law.specs.Steps.{Takes}
 use Rattle.flow_law.specs.SharingCalls.{CallDoes, HubStep}
 use Rattle.flow_law.specs.SharingTurn.{SharingState, reported, send}
 use Rattle.flow_turns.specs.SharingViews.{state_of, chain_and_hub}
-use Rattle.flow_turns.proofs.StepLemmas.{same-end, polls-hub}
+use Rattle.flow_turns.specs.TurnClauses.{ended_after}
+use Rattle.flow_turns.proofs.StepLemmas.{same-end, event-is-no-end, goes-on, polls-hub}
 use Rattle.flow_turns.proofs.sharing.Sharing.collect.Goals as goal
 
 pub returns-in-Err-clause-steps : goal.returns-in-Err-clause-steps
@@ -26,3 +28,31 @@ returns-clause-steps g c = λ command seen.
     polls-hub _ _ _ _ command seen (state_of c.args.self.now) (chain_and_hub g.C.Cold.whole g.C.Cold.rest c.is_waiting.new.self) (Ok false)
     (sym c.is_running.ensures ∙ c.if-not-is_running.false) c.if-self.false (rw c.if-waiting.false at c.in-Ok.ensures.polls)
     (subst P c.in-Ok.ensures.state (c.send.ensures.steps command seen))
+
+pub returns-in-Err-clause-ended : goal.returns-in-Err-clause-ended
+returns-in-Err-clause-ended g c =
+    ap (λ (s : SharingState g.row.C-Item.Denot). s.ended) c.in-Err.ensures.state ∙ sym ((goes-on c.refusal_of.result c.in-Err.fault c.refusal_of.ensures).1 c.args.self.now.ended)
+
+pub returns-in-Err-clause-not_ended : goal.returns-in-Err-clause-not_ended
+returns-in-Err-clause-not_ended g c = (goes-on c.refusal_of.result c.in-Err.fault c.refusal_of.ensures).0
+
+pub returns-then-not-is_running-clause-not_ended : goal.returns-then-not-is_running-clause-not_ended
+returns-then-not-is_running-clause-not_ended g c = event-is-no-end Idle
+
+pub returns-then-self-clause-not_ended : goal.returns-then-self-clause-not_ended
+returns-then-self-clause-not_ended g c = event-is-no-end Completed
+
+pub returns-then-waiting-clause-not_ended : goal.returns-then-waiting-clause-not_ended
+returns-then-waiting-clause-not_ended g c = event-is-no-end Waiting
+
+pub returns-clause-not_ended : goal.returns-clause-not_ended
+returns-clause-not_ended g c = c.send.ensures.not_ended
+
+pub returns-then-waiting-clause-ended : goal.returns-then-waiting-clause-ended
+returns-then-waiting-clause-ended g c = ap (λ (s : SharingState g.row.C-Item.Denot). s.ended) c.in-Ok.ensures.state
+
+pub returns-clause-ended : goal.returns-clause-ended
+returns-clause-ended g c = c.send.ensures.ended ∙ ap (λ (s : SharingState g.row.C-Item.Denot). ended_after c.send.result s.ended) c.in-Ok.ensures.state
+
+pub returns-clause-policy : goal.returns-clause-policy
+returns-clause-policy g c = c.send.ensures.policy ∙ c.in-Ok.ensures.policy

@@ -1,8 +1,9 @@
 use Rattle.std.proofs.Common.{◌≡◌, None, refl, sym, ◌∙◌}
 use Rattle.flow_law.specs.declared.chain.End.TheVariants.{Completed as AtEnd, Failed}
+use Rattle.flow_law.specs.declared.report.Event.TheVariants.{Pending, Completed}
 use Rattle.flow_law.specs.SharingCalls.{item, pending, end}
 use Rattle.flow_turns.specs.SharingViews.{state_of, chain_and_hub}
-use Rattle.flow_turns.proofs.StepLemmas.{same-parts, puts-kept, asks-chain}
+use Rattle.flow_turns.proofs.StepLemmas.{same-parts, event-is-no-end, fault-is-no-end, puts-kept, asks-chain}
 use Rattle.flow_turns.proofs.sharing.Sharing.send.Goals as goal
 
 pub returns-in-Some-clause-steps : goal.returns-in-Some-clause-steps
@@ -39,3 +40,18 @@ returns-in-Fault-clause-steps g c = λ command seen.
     none
     (c.in-Fault.ensures.gives, same-parts _ _ _ _ _ c.in-Fault.ensures.whole refl)
     (rw (c.take.ensures.after, none) refl, refl)
+
+pub returns-in-Some-clause-not_ended : goal.returns-in-Some-clause-not_ended
+returns-in-Some-clause-not_ended g c = c.put.ensures.not_ended
+
+pub returns-in-Item-clause-not_ended : goal.returns-in-Item-clause-not_ended
+returns-in-Item-clause-not_ended g c = c.put-in-Item.ensures.not_ended
+
+pub returns-in-Pending-clause-not_ended : goal.returns-in-Pending-clause-not_ended
+returns-in-Pending-clause-not_ended g c = event-is-no-end Pending
+
+pub returns-in-End-clause-not_ended : goal.returns-in-End-clause-not_ended
+returns-in-End-clause-not_ended g c = event-is-no-end Completed
+
+pub returns-in-Fault-clause-not_ended : goal.returns-in-Fault-clause-not_ended
+returns-in-Fault-clause-not_ended g c = fault-is-no-end c.in-Fault.fault

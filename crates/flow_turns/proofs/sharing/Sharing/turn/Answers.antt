@@ -1,22 +1,29 @@
-use Rattle.std.proofs.Common.{[], ◌∷◌, List, Result, Ok, Err, refl, sym, ap, ◌∙◌, subst}
+use Rattle.std.proofs.Common.{◌≡◌, [], ◌∷◌, List, Result, Ok, Err, refl, sym, ap, ◌∙◌, subst}
 use Rattle.flow_law.specs.declared.sharing.Command.{Command}
 use Rattle.flow_law.specs.declared.sharing.Command.TheVariants.{Keep}
 use Rattle.flow_law.specs.declared.sharing.SharingObservation.{SharingObservation}
 use Rattle.flow_law.specs.declared.report.Report.{Report}
 use Rattle.flow_law.specs.declared.report.ShareFault.{ShareFault}
-use Rattle.flow_law.specs.declared.report.ShareFault.TheVariants.{Backwards}
+use Rattle.flow_law.specs.declared.report.ShareFault.TheVariants.{Backwards, Ended}
 use Rattle.flow_law.specs.Sharing.{newest_command}
 use Rattle.flow_law.specs.Steps.{Takes}
 use Rattle.flow_law.specs.SharingCalls.{CallDoes, HubStep}
-use Rattle.flow_law.specs.SharingTurn.{SharingState, Turned, reported, begin}
+use Rattle.flow_law.specs.SharingTurn.{SharingState, Turned, refusal, reported, begin}
 use Rattle.flow_law.specs.TurnMeaning.{TurnResets}
 use Rattle.flow_law.proofs.TurnMeaningLemmas.{turn-means}
-use Rattle.flow_law.proofs.TurnResetLemmas.{begun-resets}
+use Rattle.flow_law.proofs.TurnResetLemmas.{uncounted-resets, unobserved-resets, begun-resets}
 use Rattle.flow_law.proofs.TurnQuietLemmas.{turn-quiet}
 use Rattle.flow_turns.specs.Policy.{HasSeen}
 use Rattle.flow_turns.specs.SharingViews.{state_of, chain_and_hub}
-use Rattle.flow_turns.proofs.StepLemmas.{same-end, counts-hub, observes-count, goes-back}
+use Rattle.flow_turns.proofs.StepLemmas.{if-true, same-end, counts-hub, observes-count, goes-back}
 use Rattle.flow_turns.proofs.sharing.Sharing.turn.Goals as goal
+
+pub returns-then-self-clause-turn : goal.returns-then-self-clause-turn
+returns-then-self-clause-turn g c = λ started seen stands.
+    let s = state_of c.args.self.now in
+    let both = chain_and_hub g.C.Cold.whole g.C.Cold.rest c.args.self.now in
+    let r : Turned g.row.C-Item.Denot = record { answer = Err Ended; seen = seen; state = s } in
+    (seen, stands, if-true (λ steps. Takes (CallDoes (HubStep g.H.Hub.does g.H.Hub.waits)) steps both r both) s.ended _ _ c.if-self.true (refl, refl))
 
 pub returns-in-Err-clause-turn : goal.returns-in-Err-clause-turn
 returns-in-Err-clause-turn g c = λ started seen stands. (
@@ -90,3 +97,63 @@ returns-clause-resets g c =
     (record { answer = reported c.in-Ok-observe.command c.begin-outcome.result; seen = []; state = state_of c.begin-outcome.new.self })
     (c.in-Ok.count, c.in-Ok.ensures.counts.0)
     (c.begin-outcome.ensures.steps [] c.counted.new.self.policy.running c.in-Ok-observe.ensures.runs)))
+
+pub returns-then-self-clause-means : goal.returns-then-self-clause-means
+returns-then-self-clause-means g c = λ started seen accepted stands between held. (c.if-self.true, refl, refl)
+
+pub returns-then-self-clause-between : goal.returns-then-self-clause-between
+returns-then-self-clause-between g c = λ started seen stands between. between
+
+pub returns-then-self-clause-quiet : goal.returns-then-self-clause-quiet
+returns-then-self-clause-quiet g c = λ started seen stands quiet.
+    let turn = returns-then-self-clause-turn g c started seen stands in turn-quiet g.H.Hub.does g.H.Hub.waits started c.args.now seen _ _ _ _ quiet turn.2
+
+pub returns-in-Err-clause-means : goal.returns-in-Err-clause-means
+returns-in-Err-clause-means g c = λ started seen accepted stands between held.
+    let turn = returns-in-Err-clause-turn g c started seen stands in
+    (turn-means _ started c.args.now seen _ _ _ _ accepted stands.running between turn.2).0 held
+
+pub returns-in-Err-clause-between : goal.returns-in-Err-clause-between
+returns-in-Err-clause-between g c = λ started seen stands between.
+    let turn = returns-in-Err-clause-turn g c started seen stands in
+    (turn-means _ started c.args.now seen _ _ _ _ [] stands.running between turn.2).1
+
+pub returns-in-Err-clause-quiet : goal.returns-in-Err-clause-quiet
+returns-in-Err-clause-quiet g c = λ started seen stands quiet.
+    let turn = returns-in-Err-clause-turn g c started seen stands in turn-quiet g.H.Hub.does g.H.Hub.waits started c.args.now seen _ _ _ _ quiet turn.2
+
+pub returns-in-Err-observe-clause-means : goal.returns-in-Err-observe-clause-means
+returns-in-Err-observe-clause-means g c = λ started seen accepted stands between held.
+    let turn = returns-in-Err-observe-clause-turn g c started seen stands in
+    (turn-means _ started c.args.now seen _ _ _ _ accepted stands.running between turn.2).0 held
+
+pub returns-in-Err-observe-clause-between : goal.returns-in-Err-observe-clause-between
+returns-in-Err-observe-clause-between g c = λ started seen stands between.
+    let turn = returns-in-Err-observe-clause-turn g c started seen stands in
+    (turn-means _ started c.args.now seen _ _ _ _ [] stands.running between turn.2).1
+
+pub returns-in-Err-observe-clause-quiet : goal.returns-in-Err-observe-clause-quiet
+returns-in-Err-observe-clause-quiet g c = λ started seen stands quiet.
+    let turn = returns-in-Err-observe-clause-turn g c started seen stands in turn-quiet g.H.Hub.does g.H.Hub.waits started c.args.now seen _ _ _ _ quiet turn.2
+
+pub returns-then-self-clause-resets : goal.returns-then-self-clause-resets
+returns-then-self-clause-resets g c =
+    unobserved-resets (HubStep g.H.Hub.does g.H.Hub.waits) c.args.self.now.hub (state_of c.args.self.now) (Err Ended) c.args.self.now.hub tt tt
+
+pub returns-in-Err-clause-resets : goal.returns-in-Err-clause-resets
+returns-in-Err-clause-resets g c =
+    let D = HubStep g.H.Hub.does g.H.Hub.waits in
+    let P : SharingState g.row.C-Item.Denot → Type 0 = λ s.
+    TurnResets D (state_of c.args.self.now) c.args.self.now.hub (reported Keep (refusal c.in-Err.fault)) s c.counted.new.self.hub in
+    let Q : Result Report ShareFault → Type 0 = λ answer.
+    TurnResets D (state_of c.args.self.now) c.args.self.now.hub answer (state_of c.counted.new.self) c.counted.new.self.hub in
+    subst Q (sym (c.report_of.ensures ∙ ap (reported Keep) c.refusal_of.ensures))
+    (subst P (sym c.in-Err.ensures.state) (uncounted-resets D c.args.self.now.hub (state_of c.args.self.now) c.in-Err.fault c.counted.new.self.hub))
+
+pub returns-in-Err-observe-clause-resets : goal.returns-in-Err-observe-clause-resets
+returns-in-Err-observe-clause-resets g c =
+    let D = HubStep g.H.Hub.does g.H.Hub.waits in
+    let same : state_of (record c.counted.new.self { policy = c.observe.new.self }) ≡ state_of c.args.self.now = rw c.in-Err-observe.ensures.unchanged c.in-Ok.ensures.state in
+    let P : SharingState g.row.C-Item.Denot → Type 0 = λ s.
+    TurnResets D (state_of c.args.self.now) c.args.self.now.hub (Err (Backwards c.in-Err-observe.backwards.last)) s c.counted.new.self.hub in
+    subst P (sym same) (unobserved-resets D c.args.self.now.hub (state_of c.args.self.now) (Err (Backwards c.in-Err-observe.backwards.last)) c.counted.new.self.hub tt tt)

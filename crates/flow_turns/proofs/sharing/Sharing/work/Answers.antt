@@ -3,7 +3,7 @@ use Rattle.flow_law.specs.Steps.{Takes}
 use Rattle.flow_law.specs.SharingCalls.{CallDoes, HubStep}
 use Rattle.flow_law.specs.SharingTurn.{SharingState, reported, reset_if_due}
 use Rattle.flow_turns.specs.SharingViews.{state_of, chain_and_hub}
-use Rattle.flow_turns.proofs.StepLemmas.{same-end, cancels-hub, cancels-nothing}
+use Rattle.flow_turns.proofs.StepLemmas.{same-end, goes-on, cancels-hub, cancels-nothing}
 use Rattle.flow_turns.proofs.sharing.Sharing.work.Goals as goal
 
 pub returns-then-not-is_work_due-clause-steps : goal.returns-then-not-is_work_due-clause-steps
@@ -24,3 +24,10 @@ returns-in-Err-clause-steps g c = λ command seen.
     cancels-hub _ _ _ _ command seen (state_of c.args.self.now) (chain_and_hub g.C.Cold.whole g.C.Cold.rest c.cancel.new.self) (Err c.in-Err.fault)
     (sym c.is_work_due.ensures ∙ c.if-not-is_work_due.false) c.in-Err.ensures.cancels
     (same-end seen _ _ _ _ (ap (reported command) c.refusal_of.ensures) c.in-Err.ensures.state, refl)
+
+pub returns-in-Err-clause-ended : goal.returns-in-Err-clause-ended
+returns-in-Err-clause-ended g c =
+    ap (λ (s : SharingState g.row.C-Item.Denot). s.ended) c.in-Err.ensures.state ∙ sym ((goes-on c.refusal_of.result c.in-Err.fault c.refusal_of.ensures).1 c.args.self.now.ended)
+
+pub returns-in-Err-clause-not_ended : goal.returns-in-Err-clause-not_ended
+returns-in-Err-clause-not_ended g c = (goes-on c.refusal_of.result c.in-Err.fault c.refusal_of.ensures).0
