@@ -1,2 +1,4 @@
+pub mod FollowingLemmas
 pub mod OpLemmas
+pub mod RangeLemmas
 pub mod SumLemmas

@@ -1,6 +1,8 @@
 -- The sums of an item and a list of entries, all of which are in range.
-use Rattle.std.proofs.Common.{◌≡◌, ℤ, ◌+ℤ◌, Bool, true, false, cond, ◌&&◌, List, [], ◌∷◌, map, Ok, Err, refl, ap}
+use Rattle.std.proofs.Common.{◌≡◌, ◌<◌, ◌+◌, ℕ, ℤ, ◌+ℤ◌, Bool, true, false, cond, ◌&&◌, List, [], ◌∷◌, length, get_or, drop, drop-cons, add-one, map, Ok, Err, refl, ap, arith, w64}
+use Rattle.std.proofs.lemmas.Grind.{common_steps}
 use Rattle.std.specs.List.{list_all}
+use mir.Val.{SFits}
 use Rattle.flow_law.specs.declared.chain.ChainFault.TheVariants.{Overflow}
 use Rattle.flow_law.specs.ChainRun.{ChainRun, gives}
 use Rattle.flow_law.specs.OperatorRuns.{continued, prepended, transform_run}
@@ -21,3 +23,13 @@ with_sums-fits x (d ∷ ds) r h = first-fits (is_i64 (x +ℤ d)) x d ds r h (wit
 pub with_sums-begins : (x : ℤ) (ds : List ℤ) (r : ChainRun ℤ) → list_all (λ e. is_i64 (x +ℤ e)) ds ≡ true
     → transform_run (sums ds) (gives x r) ≡ with_sums x ds (transform_run (sums ds) r)
 with_sums-begins x ds r fits = rw fits (with_sums-fits x ds (transform_run (sums ds) r) fits)
+
+pub fits_i64 : (x : ℤ) → SFits w64 x → is_i64 x ≡ true
+fits_i64 x fits = grind (arith, common_steps)
+
+pub over_i64 : (x : ℤ) → (SFits w64 x → ⊥) → is_i64 x ≡ false
+over_i64 x over = grind (arith, common_steps)
+
+-- the entry at i is the next one
+pub drop_here : (xs : List ℤ) (i : ℕ) (d : ℤ) → i < length xs → d ≡ get_or xs i d → drop i xs ≡ d ∷ drop (i + 1) xs
+drop_here xs i d here is = rw (add-one, drop-cons xs i d, ← is)
