@@ -1,19 +1,21 @@
 -- What the documented calls come to where a core has found out which case it is in.
-use Rattle.std.proofs.Common.{◌≡◌, ℕ, ◌+◌, Bool, true, false, cond, ◌==◌, List, Some, None, refl, sym, ap, ◌∙◌, ◌≤◌, length, ◌∷◌, [], arith}
-use Rattle.std.specs.Prelude.{Err, filter}
-use Rattle.std.specs.List.{slice_get}
+use Rattle.std.proofs.Common.{◌≡◌, ℕ, ◌+◌, Bool, true, false, not, ◌&&◌, ◌||◌, cond, ◌==◌, List, Some, None, refl, sym, ap, ◌∙◌, ◌≤◌, ◌<◌, length, ◌∷◌, [], arith}
+use Rattle.std.specs.Prelude.{Err, filter, nat_le, nat_lt}
+use Rattle.std.specs.List.{list_any, slice_get}
 use Rattle.std.specs.Option.{option_map_or}
 use Rattle.flow_law.specs.declared.fault.FlowFault.TheVariants.{OutOfMemory, Exhausted}
 use Rattle.flow_law.specs.declared.call.SharedCall.TheVariants as call
 use Rattle.flow_law.specs.declared.call.SharedReply.TheVariants as reply
 use Rattle.flow_law.specs.declared.outcome.Next.TheVariants.{Value, Empty, Gone}
 use Rattle.flow_law.specs.declared.states.SharedFlowState.{SharedFlowState}
-use Rattle.flow_law.specs.SharedFlow.{Answer, answer, issuing, is_exhausted, values, position_of, own_of}
-use Rattle.flow_law.specs.EmitRule.{EmitCase, emit_case, emit, emit_in, try_emit, try_emit_in}
+use Rattle.flow_law.specs.SharedFlow.{Answer, answer, issuing, is_exhausted, is_blocked, capacity, window, lag, values, position_of, own_of}
+use Rattle.flow_law.specs.EmitRule.{EmitCase, appends, offers, when_blocked, emit_case, emit, emit_in, try_emit, try_emit_in}
 use Rattle.flow_law.specs.SharedStep.{settle, advance, keep_own, read, next_from, next}
 use Rattle.flow_law.specs.SharedHistory.{reply_by, hands_out, is_refused, Replies}
 use Rattle.flow_law.specs.Standing.{Core}
 use Rattle.flow_law.specs.Covering.{Covers}
+use Rattle.std.proofs.lemmas.Bool.{lt-ltb, le-ltb}
+use Rattle.std.proofs.lemmas.List.{nil_from_length}
 use Rattle.flow_containers.proofs.QueueLemmas.{unequal}
 
 module _ {T : Type 0} where
@@ -22,6 +24,23 @@ module _ {T : Type 0} where
 
   pub issued_now : {R : Type 0} (s : SharedFlowState T) (a : Answer R T) → is_exhausted s ≡ false → issuing s a ≡ a
   issued_now s a left = ap (λ t. cond t (record { reply = Err Exhausted; after = s }) a) left
+
+  -- which case an emission is in
+  pub in_open : (s : SharedFlowState T) → is_blocked s ≡ false → 0 < capacity s → appends ≡ emit_case s
+  in_open s free room =
+      elim (length s.subscribers == 0) as (λ t. appends ≡ cond (t || (not (is_blocked s) && nat_lt 0 (capacity s))) appends (cond (is_blocked s) (when_blocked s.config.overflow) offers)) [
+        | true ↦ refl
+        | false ↦ rw free (rw (lt-ltb 0 (capacity s) room) refl)
+      ]
+
+  pub in_offers : (s : SharedFlowState T) → (length s.subscribers ≡ 0 → ⊥) → is_blocked s ≡ false → capacity s ≤ 0 → offers ≡ emit_case s
+  in_offers s some free none = rw (unequal (length s.subscribers) 0 some) (rw free (rw (le-ltb 0 (capacity s) none) refl))
+
+  pub in_blocked : (s : SharedFlowState T) → is_blocked s ≡ true → when_blocked s.config.overflow ≡ emit_case s
+  in_blocked s full = rw (unequal (length s.subscribers) 0 some) (rw full refl)
+    where
+      some : length s.subscribers ≡ 0 → ⊥
+      some none = cc (full, ap (list_any (λ u. nat_le (window s) (lag s u))) (nil_from_length s.subscribers none))
 
   pub emits_in : (v : T) (s : SharedFlowState T) (k : EmitCase) → emit_case s ≡ k → emit v s ≡ emit_in k v s
   emits_in v s k e = ap (λ c. emit_in c v s) e

@@ -4,12 +4,21 @@ use Rattle.flow_law.specs.SharedFlow.{is_blocked}
 use Rattle.flow_law.specs.Covering.{Covers}
 use Rattle.flow_law.specs.Laws.{RisesTo}
 use Rattle.flow_law.proofs.Rows.{rises_from}
-use Rattle.flow_law.proofs.CoveringLemmas.{settle_first, settle_blocked}
+use Rattle.std.proofs.lemmas.List.{nil_from_length}
+use Rattle.flow_law.proofs.CoveringLemmas.{settle_first, settle_blocked, settle_idle}
 use Rattle.flow_core.specs.SharedCore.{fields_of, kept_full}
 use Rattle.flow_containers.specs.Queue.{numbered_of}
 use Rattle.flow_core.proofs.SoundLemmas.{sound_queue}
 use Rattle.flow_core.proofs.EmissionLemmas.{covers-admitted, near_free}
 use Rattle.flow_core.proofs.shared.SharedCore.admit.Goals as goal
+
+pub returns-then-len-eq0-clause-settled : goal.returns-then-len-eq0-clause-settled
+returns-then-len-eq0-clause-settled g c = (
+  refl,
+  λ s stands.
+      let none : length s.queue ≡ 0 = omega (arith, ap (λ core. length core.queue) c.self.view_is, ap length stands.queue) in
+      subst (λ t. Covers c.args.self.now t) (sym (settle_idle s (nil_from_length s.queue none))) stands,
+)
 
 pub returns-then-is_blocked-clause-settled : goal.returns-then-is_blocked-clause-settled
 returns-then-is_blocked-clause-settled g c = (

@@ -1,6 +1,8 @@
-use Rattle.std.proofs.Common.{◌≡◌, ◌∙◌, ◌+◌, true, ap, arith}
+use Rattle.std.proofs.Common.{◌≡◌, ◌∙◌, ◌+◌, ◌-◌, true, false, if◌then◌else◌, length, sym, ap, arith}
+use Rattle.flow_law.specs.SharedFlow.{is_offering, cache_start}
 use Rattle.flow_law.specs.Covering.{kept_start}
 use Rattle.flow_law.proofs.CoveringLemmas.{least_position_bound}
+use Rattle.flow_law.proofs.HoldingLemmas.{start_is}
 use Rattle.flow_core.specs.SharedCore.{window_of, fields_of, kept_full}
 use Rattle.flow_core.proofs.RingLemmas.{offered_least}
 use Rattle.flow_core.proofs.shared.SharedCore.entry.Goals as goal
@@ -23,3 +25,14 @@ returns-else-is_offering-clause-within g c = (
   omega (arith, c.cache_start.ensures.start, least_position_bound (kept_start c.args.self.now) c.args.self.now.subscribers),
   c.cache_start.ensures.within.1,
 )
+
+pub returns-then-is_offering-clause-shown : goal.returns-then-is_offering-clause-shown
+returns-then-is_offering-clause-shown g c = λ s stands.
+    let offered : is_offering s ≡ true = sym (c.is_offering.ensures.shown s stands) ∙ c.if-is_offering.true in
+    c.saturating_sub.ensures ∙ ap (λ n. n - 1) (c.emitted.ensures ∙ ap (λ core. core.appended) c.self.view_is ∙ stands.appended)
+    ∙ sym (ap (λ t. if t then length s.emitted - 1 else cache_start s) offered)
+
+pub returns-else-is_offering-clause-shown : goal.returns-else-is_offering-clause-shown
+returns-else-is_offering-clause-shown g c = λ s stands.
+    let free : is_offering s ≡ false = sym (c.is_offering.ensures.shown s stands) ∙ c.if-is_offering.false in
+    c.cache_start.ensures.start ∙ start_is c.args.self.now s stands ∙ sym (ap (λ t. if t then length s.emitted - 1 else cache_start s) free)
