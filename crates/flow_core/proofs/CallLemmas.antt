@@ -1,10 +1,11 @@
 -- What the documented calls come to where a core has found out which case it is in.
-use Rattle.std.proofs.Common.{◌≡◌, ℕ, ◌+◌, Bool, true, false, not, ◌&&◌, ◌||◌, cond, ◌==◌, List, Some, None, refl, sym, ap, ◌∙◌, ◌≤◌, ◌<◌, length, ◌∷◌, [], arith}
+use Rattle.std.proofs.Common.{◌≡◌, ℕ, ◌+◌, Bool, true, false, not, ◌&&◌, ◌||◌, cond, ◌==◌, List, Some, None, refl, sym, ap, subst, ◌∙◌, ◌≤◌, ◌<◌, length, ◌∷◌, [], arith}
 use Rattle.std.specs.Prelude.{Err, filter, nat_le, nat_lt}
 use Rattle.std.specs.List.{list_any, slice_get}
 use Rattle.std.specs.Option.{option_map_or}
 use Rattle.flow_law.specs.declared.fault.FlowFault.TheVariants.{OutOfMemory, Exhausted}
 use Rattle.flow_law.specs.declared.call.SharedCall.TheVariants as call
+use Rattle.flow_law.specs.declared.call.SharedReply.{SharedReply}
 use Rattle.flow_law.specs.declared.call.SharedReply.TheVariants as reply
 use Rattle.flow_law.specs.declared.outcome.Next.TheVariants.{Value, Empty, Gone}
 use Rattle.flow_law.specs.declared.states.SharedFlowState.{SharedFlowState}
@@ -12,11 +13,11 @@ use Rattle.flow_law.specs.SharedFlow.{Answer, answer, issuing, is_exhausted, is_
 use Rattle.flow_law.specs.EmitRule.{EmitCase, appends, offers, when_blocked, emit_case, emit, emit_in, try_emit, try_emit_in}
 use Rattle.flow_law.specs.SharedStep.{settle, advance, keep_own, read, next_from, next}
 use Rattle.flow_law.specs.SharedHistory.{reply_by, hands_out, is_refused, Replies}
-use Rattle.flow_law.specs.Standing.{Core}
+use Rattle.flow_law.specs.Standing.{Core, StandsFor}
 use Rattle.flow_law.specs.Covering.{Covers}
 use Rattle.std.proofs.lemmas.Bool.{lt-ltb, le-ltb}
 use Rattle.std.proofs.lemmas.List.{nil_from_length}
-use Rattle.flow_containers.proofs.QueueLemmas.{unequal}
+use Rattle.flow_containers.proofs.QueueLemmas.{equal, unequal}
 
 module _ {T : Type 0} where
   pub not_exhausted : (core : Core T) (s : SharedFlowState T) → Covers core s → (core.issued ≡ core.config.limit → ⊥) → is_exhausted s ≡ false
@@ -47,6 +48,19 @@ module _ {T : Type 0} where
 
   pub tries_in : (v : T) (s : SharedFlowState T) (k : EmitCase) → emit_case s ≡ k → try_emit v s ≡ try_emit_in k v s
   tries_in v s k e = ap (λ c. try_emit_in c v s) e
+
+  -- a call that took the next number, and one that is refused since none is left
+  pub took_number : {R : Type 0} (said : R → SharedReply T) (core after : Core T) (s t : SharedFlowState T) (a : Answer R T) (r : R) → Covers core s → (core.issued ≡ core.config.limit → ⊥)
+      → a ≡ issuing s (answer r t) → StandsFor after t → (said r ≡ reply_by said a.reply) × StandsFor after a.after
+  took_number said core after s t a r stands left is there =
+      let all : a ≡ answer r t = is ∙ issued_now s (answer r t) (not_exhausted core s stands left) in
+      (sym (ap (λ b. reply_by said b.reply) all), subst (StandsFor after) (sym (ap (λ b. b.after) all)) there)
+
+  pub refused_number : {R : Type 0} (said : R → SharedReply T) (core : Core T) (s : SharedFlowState T) (a b : Answer R T) → Covers core s → core.issued ≡ core.config.limit
+      → a ≡ issuing s b → reply.Refused Exhausted ≡ reply_by said a.reply
+  refused_number said core s a b stands none is =
+      let exhausted : is_exhausted s ≡ true = equal s.issued s.config.limit (sym stands.issued ∙ none ∙ ap (λ c. c.limit) stands.config) in
+      sym (ap (λ d. reply_by said d.reply) is ∙ ap (λ t. reply_by said (cond t (record { reply = Err Exhausted; after = s }) b).reply) exhausted)
 
   pub next_own : (number : ℕ) (v : T) (own : List T) (s : SharedFlowState T) → own_of number s.subscribers ≡ v ∷ own → next number s ≡ answer (Value v) (keep_own number own s)
   next_own number v own s mine = ap (λ o. next_from number o s) mine
