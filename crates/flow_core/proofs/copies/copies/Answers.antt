@@ -1,6 +1,12 @@
 use Rattle.std.proofs.Common.{◌∙◌, ◌++◌, ◌∷◌, [], ◌≤◌, Some, sym, ap, subst, arith}
+use Rattle.circular_buffer.proofs.Places.{slice_get-some}
 use Rattle.flow_core.proofs.RingLemmas.{all_copied, copied_more, more_to_copy, of_an_error}
 use Rattle.flow_core.proofs.copies.copies.Goals as goal
+
+pub unreachable-requires : goal.unreachable-requires
+unreachable-requires g c =
+    let there = slice_get-some c.args.values.now.items c.loop-place.place (omega (arith, c.len-place-end.ensures.len)) in
+    cc (c.in_default.ensures, there.1)
 
 pub loop-place-preserved : goal.loop-place-preserved
 loop-place-preserved g c =

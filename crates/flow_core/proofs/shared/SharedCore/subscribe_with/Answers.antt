@@ -1,15 +1,15 @@
-use Rattle.std.proofs.Common.{◌≡◌, ◌∙◌, ◌+◌, ◌++◌, ◌∷◌, [], false, map, sym, ap, subst, arith}
+use Rattle.std.proofs.Common.{◌≡◌, ◌∙◌, ◌+◌, ◌++◌, ◌∷◌, [], false, not, map, refl, sym, ap, subst, arith}
 use Rattle.flow_law.specs.declared.call.SharedReply.TheVariants as reply
 use Rattle.flow_law.specs.SharedFlow.{answer, is_exhausted}
 use Rattle.flow_law.specs.SharedStep.{subscribe, enroll}
-use Rattle.flow_law.specs.SharedHistory.{reply_by}
+use Rattle.flow_law.specs.SharedHistory.{reply_by, is_refused}
 use Rattle.flow_law.specs.Standing.{StandsFor}
 use Rattle.flow_law.specs.Covering.{kept_start, kept_need}
 use Rattle.flow_law.proofs.Rows.{rises_higher}
 use Rattle.flow_law.proofs.CoveringLemmas.{least_position-append}
 use Rattle.flow_law.proofs.HoldingLemmas.{covers, stands-enroll}
 use Rattle.flow_core.specs.SharedCore.{window_of, fields_of, IsSound}
-use Rattle.flow_core.proofs.CallLemmas.{not_exhausted, issued_now}
+use Rattle.flow_core.proofs.CallLemmas.{not_exhausted, issued_now, refused_number}
 use Rattle.flow_core.proofs.RingLemmas.{within_least, floor_least, within-snoc}
 use Rattle.flow_core.proofs.SoundLemmas.{sound_standing}
 use Rattle.flow_core.proofs.shared.SharedCore.subscribe_with.Goals as goal
@@ -62,4 +62,28 @@ returns-in-Ok-clause-documented g c = λ name. (
             (subst (λ u. StandsFor (fields_of (record i { subscribers = u; issued = i.issued + 1 })) (enroll first s)) (sym c.in-Ok.ensures) joined),
       ),
   tt,
+)
+
+pub returns-then-self-clause-documented : goal.returns-then-self-clause-documented
+returns-then-self-clause-documented g c = λ name. (
+  λ s stands.
+      let none = sym (ap (λ core. core.issued) c.self.view_is) ∙ c.if-self.true ∙ ap (λ core. core.config.limit) c.self.view_is in
+      (refused_number reply.Subscribed c.args.self.now s (subscribe c.args.first.items s) _ (covers c.args.self.now s stands) none refl, stands),
+  refl,
+)
+
+pub invariant_of-self-in-Err : goal.invariant_of-self-in-Err
+invariant_of-self-in-Err g c = subst (λ u. IsSound (record c.self.inside { subscribers = u })) (sym c.in-Err.ensures.1) c.self.invariant
+
+pub returns-in-Err-clause-documented : goal.returns-in-Err-clause-documented
+returns-in-Err-clause-documented g c = λ name. (
+  λ s stands.
+      let i = c.self.inside in
+      let first = c.args.first.items in
+      let within : StandsFor (fields_of i) s = subst (λ k. StandsFor k s) (sym c.self.view_is) stands in
+      let all : subscribe first s ≡ answer (s.issued + 1) (enroll first s) = issued_now s _ (not_exhausted (fields_of i) s (covers (fields_of i) s within) c.if-self.false) in (
+        sym (ap (λ a. not (is_refused {T = g.row.T.Denot} (reply_by reply.Subscribed a.reply))) (sym all)),
+        subst (λ u. StandsFor (fields_of (record i { subscribers = u })) s) (sym c.in-Err.ensures.1) within,
+      ),
+  ap (λ u. fields_of (record c.self.inside { subscribers = u })) c.in-Err.ensures.1 ∙ c.self.view_is,
 )
