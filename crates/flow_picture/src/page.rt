@@ -28,6 +28,10 @@ impl Page {
         self.failed = self.failed || self.text.push(letter).is_err();
     }
 
+    pub fn push_number<N: Display + Drop>(&mut self, number: N) {
+        self.write_fmt(number);
+    }
+
     /// The same letter, so many times.
     pub fn push_times(&mut self, letter: char, count: usize) {
         for _ in 0..count {

@@ -33,8 +33,8 @@ fn add_value(page: &mut Page, value: &Value) {
         Value::String(word) => page.push_str(word.as_str()),
         Value::Array(items) => add_items(page, items.as_slice()),
         _ => match (value.as_i64(), value.as_u64()) {
-            (Some(number), _) => write!(page, "{number}"),
-            (None, Some(number)) => write!(page, "{number}"),
+            (Some(number), _) => page.push_number(number),
+            (None, Some(number)) => page.push_number(number),
             (None, None) => page.push_str("{..}"),
         },
     }
@@ -49,7 +49,7 @@ fn add_item(page: &mut Page, index: usize, item: &Value) {
         page.push_str(", ");
     }
     match item.as_i64() {
-        Some(number) => write!(page, "{number}"),
+        Some(number) => page.push_number(number),
         None => page.push_str(item.as_str().unwrap_or("fault")),
     }
 }
@@ -83,7 +83,7 @@ fn add_members(page: &mut Page, object: &Value, but: &str) {
 }
 
 /// A chain: where it comes from, and its operators.
-pub fn add_chain(page: &mut Page, chain: &Value) {
+fn add_chain(page: &mut Page, chain: &Value) {
     if let Some(source) = chain.get("from") {
         add_members(page, source, "");
     }
@@ -92,6 +92,14 @@ pub fn add_chain(page: &mut Page, chain: &Value) {
         page.push_str(text_of(op, "op"));
         add_members(page, op, "op");
     }
+}
+
+/// A collection in words.
+pub fn add_collection(page: &mut Page, step: usize, chain: &Value) {
+    page.push_str("step ");
+    page.push_number(step);
+    page.push_str(": collect");
+    add_chain(page, chain);
 }
 
 /// The value of a key, after a space: of a chain its source and its operators, and of another object its members.

@@ -5,10 +5,10 @@ use crate::layout::{Cell, Numbered, Part};
 use crate::page::Page;
 use crate::parts::parts_of;
 use crate::played::Played;
-use crate::script_words::{add_chain, text_of};
+use crate::script_words::{add_collection, text_of};
 use crate::steps::{add_all_heads, add_heads};
 use crate::style::{LEAST_WIDTH, LEGEND, LEGEND_HEIGHT, STYLE};
-use crate::svg_marks::{END_TEXT, add_cell, begin_text, pixels};
+use crate::svg_marks::{END_TEXT, add_attribute, add_cell, begin_text, pixels};
 use crate::widths::{NAME_WIDTH, add_cut};
 use serde_json::Value;
 use std::alloc::{AllocError, Global};
@@ -58,15 +58,18 @@ impl Canvas {
 
     /// The number of a step above its column, and what it does, in a word that rises to the right.
     fn add_number(&mut self, numbered: Numbered<'_>) {
-        let number = numbered.number;
         let x = pixels(1).saturating_add(self.x);
         let y = self.height.saturating_add(40);
         self.x = self.x.saturating_add(pixels(numbered.width));
         begin_text(&mut self.page, "h", x, self.height.saturating_add(54));
-        write!(
-            self.page,
-            "{number}</text>\n<text class=\"h\" transform=\"translate({x} {y}) rotate(-24)\">"
-        );
+        self.page.push_number(numbered.number);
+        self.page.push_str(END_TEXT);
+        self.page
+            .push_str("<text class=\"h\" transform=\"translate(");
+        self.page.push_number(x);
+        self.page.push(' ');
+        self.page.push_number(y);
+        self.page.push_str(") rotate(-24)\">");
         self.page.push_str(text_of(numbered.step, "do"));
         self.page.push_str(END_TEXT);
     }
@@ -74,8 +77,7 @@ impl Canvas {
     /// A collection in words.
     fn add_collection(&mut self, step: usize, chain: &Value) {
         let mut words = Page::new(self.alloc);
-        write!(words, "step {step}: collect");
-        add_chain(&mut words, chain);
+        add_collection(&mut words, step, chain);
         match words.finish() {
             Ok(words) => self.add_words(words.as_str()),
             Err(_) => self.page.fail(),
@@ -128,7 +130,9 @@ impl Canvas {
     fn add_legend(&mut self) {
         let y = self.height.saturating_add(10);
         self.height = y.saturating_add(LEGEND_HEIGHT);
-        writeln!(self.page, "<g transform=\"translate(0 {y})\">");
+        self.page.push_str("<g transform=\"translate(0 ");
+        self.page.push_number(y);
+        self.page.push_str(")\">\n");
         self.page.push_str(LEGEND);
         self.page.push_str("</svg>\n");
     }
@@ -144,13 +148,14 @@ impl Canvas {
 
     /// What stands before the lines of a script: they are a part of the description in words, after the flows.
     fn front(&self, script: &Value) -> Page {
-        let (width, height) = (self.width, self.height);
         let mut front = Page::new(self.alloc);
-        front.push_str("<svg xmlns=\"http://www.w3.org/2000/svg\" ");
-        write!(
-            front,
-            "viewBox=\"0 0 {width} {height}\" width=\"{width}\" height=\"{height}\" "
-        );
+        front.push_str("<svg xmlns=\"http://www.w3.org/2000/svg\" viewBox=\"0 0 ");
+        front.push_number(self.width);
+        front.push(' ');
+        front.push_number(self.height);
+        front.push('"');
+        add_attribute(&mut front, "width", self.width);
+        add_attribute(&mut front, "height", self.height);
         front.push_str(TITLE);
         add_heads(&mut front, script);
         front
@@ -166,7 +171,7 @@ impl Canvas {
 }
 
 /// The title, and the beginning of the description.
-const TITLE: &str = "\
+const TITLE: &str = " \
 role=\"img\" aria-labelledby=\"title lines\">
 <title id=\"title\">A flow script, step by step</title>
 <desc id=\"lines\">";

@@ -16,11 +16,32 @@ pub fn pixels(characters: usize) -> usize {
 /// The end of a text.
 pub const END_TEXT: &str = "</text>\n";
 
+/// The end of an element that has nothing in it.
+const END_ELEMENT: &str = "/>\n";
+
+/// The beginning of an element of a class.
+fn begin_element(page: &mut Page, element: &str, class: &str) {
+    page.push_str(element);
+    page.push_str(" class=\"");
+    page.push_str(class);
+    page.push('"');
+}
+
+/// An attribute that is a number.
+pub fn add_attribute(page: &mut Page, name: &str, number: usize) {
+    page.push(' ');
+    page.push_str(name);
+    page.push_str("=\"");
+    page.push_number(number);
+    page.push('"');
+}
+
 /// The beginning of a text of a class at a place.
 pub fn begin_text(page: &mut Page, class: &str, x: usize, y: usize) {
-    page.push_str("<text class=\"");
-    page.push_str(class);
-    write!(page, "\" x=\"{x}\" y=\"{y}\">");
+    begin_element(page, "<text", class);
+    add_attribute(page, "x", x);
+    add_attribute(page, "y", y);
+    page.push('>');
 }
 
 /// How a mark looks: the class of its box, the class of its words, and the radius of the box's corners.
@@ -68,11 +89,13 @@ fn add_box(
     x: usize,
     y: usize,
 ) {
-    let top = y.saturating_sub(height / 2);
-    page.push_str("<rect class=\"");
-    page.push_str(shape);
-    write!(page, "\" x=\"{x}\" y=\"{top}\" width=\"{width}\"");
-    writeln!(page, " height=\"{height}\" rx=\"{corner}\"/>");
+    begin_element(page, "<rect", shape);
+    add_attribute(page, "x", x);
+    add_attribute(page, "y", y.saturating_sub(height / 2));
+    add_attribute(page, "width", width);
+    add_attribute(page, "height", height);
+    add_attribute(page, "rx", corner);
+    page.push_str(END_ELEMENT);
 }
 
 /// A mark whose box begins at `x`, on the line at `y`.
@@ -105,9 +128,12 @@ fn add_line(page: &mut Page, cell: Cell<'_>, x: usize, middle: usize, y: usize) 
     let end = x.saturating_add(pixels(cell.width));
     let from = if cell.comes { x } else { middle };
     let to = if cell.goes_on { end } else { middle };
-    page.push_str("<line class=\"");
-    page.push_str(if cell.waits { "x d" } else { "x" });
-    writeln!(page, "\" x1=\"{from}\" y1=\"{y}\" x2=\"{to}\" y2=\"{y}\"/>");
+    begin_element(page, "<line", if cell.waits { "x d" } else { "x" });
+    add_attribute(page, "x1", from);
+    add_attribute(page, "y1", y);
+    add_attribute(page, "x2", to);
+    add_attribute(page, "y2", y);
+    page.push_str(END_ELEMENT);
 }
 
 /// A column of a lane from `x` on: its line, and the mark there.

@@ -6,7 +6,7 @@ use crate::page::Page;
 use crate::parts::parts_of;
 use crate::picture::Mark;
 use crate::played::Played;
-use crate::script_words::add_chain;
+use crate::script_words::add_collection;
 use crate::steps::add_all_heads;
 use crate::widths::{NAME_WIDTH, add_cut, add_lag, add_words, brackets, mark_width, number_width};
 use serde_json::Value;
@@ -58,15 +58,15 @@ fn add_cell(page: &mut Page, cell: Cell<'_>) {
 /// The number of a step above its column.
 fn add_number(page: &mut Page, numbered: Numbered<'_>) {
     let number = numbered.number;
-    write!(page, " {number}");
+    page.push(' ');
+    page.push_number(number);
     let taken = number_width(number as u64).saturating_add(1);
     page.push_times(' ', numbered.width.saturating_sub(taken));
 }
 
-/// A collection in words.
-fn add_collection(page: &mut Page, step: usize, chain: &Value) {
-    write!(page, "step {step}: collect");
-    add_chain(page, chain);
+/// A collection in words, on a line of its own.
+fn add_collection_line(page: &mut Page, step: usize, chain: &Value) {
+    add_collection(page, step, chain);
     page.push('\n');
 }
 
@@ -78,7 +78,7 @@ fn add_part(page: &mut Page, part: Part<'_>) {
         Part::Cell(cell) => add_cell(page, cell),
         Part::EndNumbers | Part::EndLane => end_line(page),
         Part::EndBand(_) => page.push('\n'),
-        Part::Collection(step, chain) => add_collection(page, step, chain),
+        Part::Collection(step, chain) => add_collection_line(page, step, chain),
     }
 }
 

@@ -39,7 +39,7 @@ pub fn words_width(words: Words<'_>) -> usize {
 pub fn add_words(page: &mut Page, words: Words<'_>) {
     match words {
         Words::None => {}
-        Words::Number(number) => write!(page, "{number}"),
+        Words::Number(number) => page.push_number(number),
         Words::More(count) => add_lag(page, count),
         Words::Text(words) => add_cut(page, words, WORDS_WIDTH),
     }
@@ -48,7 +48,8 @@ pub fn add_words(page: &mut Page, words: Words<'_>) {
 /// That so many more are there, if there are some.
 pub fn add_lag(page: &mut Page, count: u64) {
     if count > 0 {
-        write!(page, "+{count}");
+        page.push('+');
+        page.push_number(count);
     }
 }
 
