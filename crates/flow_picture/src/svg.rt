@@ -22,6 +22,42 @@ const LANE: usize = 38;
 /// The height of the steps' numbers and words above their columns.
 const HEADER: usize = 62;
 
+/// The number of a step above its column, and what it does, in a word that rises to the right from `y` on.
+fn add_step_head(page: &mut Page, numbered: Numbered<'_>, x: usize, y: usize) {
+    begin_text(page, "h", x, y.saturating_add(14));
+    page.push_number(numbered.number);
+    page.push_str(END_TEXT);
+    page.push_str("<text class=\"h\" transform=\"translate(");
+    page.push_number(x);
+    page.push(' ');
+    page.push_number(y);
+    page.push_str(") rotate(-24)\">");
+    page.push_str(text_of(numbered.step, "do"));
+    page.push_str(END_TEXT);
+}
+
+/// What the marks mean, from `y` on, and the end of the picture.
+fn add_legend(page: &mut Page, y: usize) {
+    page.push_str("<g transform=\"translate(0 ");
+    page.push_number(y);
+    page.push_str(")\">\n");
+    page.push_str(LEGEND);
+    page.push_str("</svg>\n");
+}
+
+/// What stands before the lines of a script: they are a part of the description in words, after the flows.
+fn add_front(page: &mut Page, script: &Value, width: usize, height: usize) {
+    page.push_str("<svg xmlns=\"http://www.w3.org/2000/svg\" viewBox=\"0 0 ");
+    page.push_number(width);
+    page.push(' ');
+    page.push_number(height);
+    page.push('"');
+    add_attribute(page, "width", width);
+    add_attribute(page, "height", height);
+    page.push_str(TITLE);
+    add_heads(page, script);
+}
+
 /// What follows the lines of a script: the end of the description, and the elements that were drawn so far. They go so far right
 /// and down.
 #[derive(Drop)]
@@ -61,17 +97,7 @@ impl Canvas {
         let x = pixels(1).saturating_add(self.x);
         let y = self.height.saturating_add(40);
         self.x = self.x.saturating_add(pixels(numbered.width));
-        begin_text(&mut self.page, "h", x, self.height.saturating_add(54));
-        self.page.push_number(numbered.number);
-        self.page.push_str(END_TEXT);
-        self.page
-            .push_str("<text class=\"h\" transform=\"translate(");
-        self.page.push_number(x);
-        self.page.push(' ');
-        self.page.push_number(y);
-        self.page.push_str(") rotate(-24)\">");
-        self.page.push_str(text_of(numbered.step, "do"));
-        self.page.push_str(END_TEXT);
+        add_step_head(&mut self.page, numbered, x, y);
     }
 
     /// A collection in words.
@@ -130,11 +156,7 @@ impl Canvas {
     fn add_legend(&mut self) {
         let y = self.height.saturating_add(10);
         self.height = y.saturating_add(LEGEND_HEIGHT);
-        self.page.push_str("<g transform=\"translate(0 ");
-        self.page.push_number(y);
-        self.page.push_str(")\">\n");
-        self.page.push_str(LEGEND);
-        self.page.push_str("</svg>\n");
+        add_legend(&mut self.page, y);
     }
 
     /// All that is drawn of a script.
@@ -146,25 +168,18 @@ impl Canvas {
         Ok(())
     }
 
-    /// What stands before the lines of a script: they are a part of the description in words, after the flows.
-    fn front(&self, script: &Value) -> Page {
-        let mut front = Page::new(self.alloc);
-        front.push_str("<svg xmlns=\"http://www.w3.org/2000/svg\" viewBox=\"0 0 ");
-        front.push_number(self.width);
-        front.push(' ');
-        front.push_number(self.height);
-        front.push('"');
-        add_attribute(&mut front, "width", self.width);
-        add_attribute(&mut front, "height", self.height);
-        front.push_str(TITLE);
-        add_heads(&mut front, script);
-        front
-    }
-
     /// What stands before the lines of a script, and after them.
     fn frame(self, script: &Value) -> Result<Frame, AllocError> {
-        let before = self.front(script).finish()?;
-        let Canvas { page, .. } = self;
+        let Canvas {
+            alloc,
+            page,
+            width,
+            height,
+            ..
+        } = self;
+        let mut front = Page::new(alloc);
+        add_front(&mut front, script, width, height);
+        let before = front.finish()?;
         let after = page.finish()?;
         Ok(Frame { before, after })
     }
