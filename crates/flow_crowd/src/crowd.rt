@@ -13,35 +13,45 @@ use std::sync::Wait;
 use std::thread;
 use std::thread::{JoinHandle, Scope, Threads};
 
-/// Starts a thread for each worker. `None` where one cannot be made.
+/// Starts a thread for each worker. Where one cannot be made, all are to stop.
 fn start_all<'s, E, R: Wait + Sync>(
     rt: &'s R,
     alloc: Global,
     scope: &Scope<'s, E>,
     workers: Vec<Worker<'s>>,
     size: CrowdSize,
-) -> Option<Vec<JoinHandle<Option<Received>>>> {
+    stop: &AtomicCell<bool>,
+) -> Vec<JoinHandle<Option<Received>>> {
     let mut handles = Vec::new(alloc);
     for worker in workers {
-        let handle = scope.spawn(move || worker.run(rt, size)).ok()?;
-        handles.push(handle).ok()?;
+        let is_started = match scope.spawn(move || worker.run(rt, size)) {
+            Ok(handle) => handles.push(handle).is_ok(),
+            Err(_) => false,
+        };
+        if !is_started {
+            stop.store(true);
+            break;
+        }
     }
-    Some(handles)
+    handles
 }
 
-/// What the subscribers got, in their order.
+/// What the subscribers got, in their order. Where there is no room for it, all are to stop.
 fn join_all<R: Threads>(
     rt: &R,
     alloc: Global,
     handles: Vec<JoinHandle<Option<Received>>>,
-) -> Option<Vec<Received>> {
+    stop: &AtomicCell<bool>,
+) -> Vec<Received> {
     let mut all = Vec::new(alloc);
     for handle in handles {
         if let Some(received) = handle.join(rt) {
-            all.push(received).ok()?;
+            if all.push(received).is_err() {
+                stop.store(true);
+            }
         }
     }
-    Some(all)
+    all
 }
 
 /// Makes the tokens, runs all threads, and answers what the subscribers got. `None` where all were to stop.
@@ -54,13 +64,10 @@ fn run_threads<'a, R: Threads + Wait + Sync>(
     let stop = maker.stop;
     let workers = maker.workers(rt, alloc, size)?;
     let received = thread::scope(thread::scope_env(), rt, move |scope| {
-        let handles = start_all(rt, alloc, scope, workers, size);
-        if handles.is_none() {
-            stop.store(true);
-        }
-        join_all(rt, alloc, handles?)
+        let handles = start_all(rt, alloc, scope, workers, size, stop);
+        join_all(rt, alloc, handles, stop)
     });
-    if stop.load() { None } else { received }
+    if stop.load() { None } else { Some(received) }
 }
 
 fn run<R: Threads + Wait + Sync>(rt: &R, alloc: Global, size: CrowdSize) -> Option<Vec<Received>> {
