@@ -1,11 +1,12 @@
 //! A thread that emits into a shared flow, in each of the ways that there are.
 ghost use Rattle.std.specs.Prelude.{◌≡◌};
 
-use crate::caller::Caller;
 use crate::found::{Found, NOTHING};
 use crate::order::Value;
+use crate::shared_caller::SharedCaller;
 use flow_shared::{Emitted, Polled, Seat, SharedFlow};
 use rand_core::utils::NextWord;
+use rand_pcg::Pcg32;
 use std::sync::Wait;
 use std::thread::yield_now;
 
@@ -32,20 +33,22 @@ fn emit<R: Wait>(rt: &R, flow: &SharedFlow<Value>, seat: Seat<Value>, value: Val
     Some(!was_waiting)
 }
 
-impl Caller<'_> {
+impl SharedCaller<'_> {
     /// Emits so many times, in either way, as the dice say. A value that was not emitted comes next.
-    pub fn emit_all<R: Wait>(&mut self, rt: &R, rounds: u32) -> Option<Found> {
+    pub fn emit_all<R: Wait>(
+        &mut self,
+        rt: &R,
+        dice: &mut Pcg32,
+        number: u32,
+        rounds: u32,
+    ) -> Option<Found> {
         let mut place = 0u32;
         for _ in 0..rounds {
-            let value = (self.number, place);
-            let is_emitted = if self.dice.next_word() % 2 == 0 {
-                let seat = self.suspending.seat(&mut self.suspending_seat);
-                emit(rt, self.suspending, seat, value)?
+            let value = (number, place);
+            let is_emitted = if dice.next_word() % 2 == 0 {
+                emit(rt, self.flow, self.flow.seat(&mut self.seat), value)?
             } else {
-                let emitted = self
-                    .suspending
-                    .try_emit(rt, &mut self.suspending_seat, value);
-                emitted.ok()?
+                self.flow.try_emit(rt, &mut self.seat, value).ok()?
             };
             if is_emitted {
                 place = place.wrapping_add(1);

@@ -6,16 +6,17 @@
 //! behind a gate. docs/THREADS.md says what is looked at.
 #![tactic(auto)]
 
-mod adding;
 mod arguments;
 mod caller;
 mod emitting;
 mod exchanging;
 mod found;
-mod gated_adding;
 mod order;
 mod reading;
+mod shared_caller;
+mod state_caller;
 mod stress;
+mod word_caller;
 
 use arguments::{Size, size_of};
 use found::Found;

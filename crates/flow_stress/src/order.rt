@@ -1,6 +1,7 @@
-//! Whether what a subscriber gets of each emitter is in the order in which that emitted it, and nothing twice.
+//! Whether what a subscriber gets is in order: of each emitter as that emitted it, and nothing twice; and of a value that never falls.
 use crate::arguments::MOST_THREADS;
 use crate::found::{Found, NOTHING};
+use flow_law::Next;
 
 /// An emitter, and which of its values it is, from 0.
 pub type Value = (u32, u32);
@@ -37,5 +38,15 @@ impl Order {
             None => false,
         };
         self.found.check(is_next);
+    }
+}
+
+/// What a new subscriber received of a value that never falls: first one that is no less than this, and then a greater one, or
+/// none.
+pub fn are_in_order(last: u64, first: Next<u64>, second: Next<u64>) -> bool {
+    match (first, second) {
+        (Next::Value(first), Next::Value(second)) => last <= first && first < second,
+        (Next::Value(first), Next::Empty) => last <= first,
+        _ => false,
     }
 }

@@ -1,9 +1,9 @@
 //! A thread that reads from a shared flow, leaves, and subscribes again, again and again.
 ghost use Rattle.std.specs.Prelude.{◌≡◌};
 
-use crate::caller::Caller;
 use crate::found::{Found, NOTHING};
 use crate::order::{Order, Value};
+use crate::shared_caller::SharedCaller;
 use flow_law::{FlowFault, Next};
 use flow_shared::{SharedFlow, Subscription};
 use rand_core::utils::NextWord;
@@ -42,14 +42,13 @@ fn read<R: Wait>(
     Some(order.found)
 }
 
-impl Caller<'_> {
+impl SharedCaller<'_> {
     /// So many calls, by one subscription after another.
-    pub fn read_all<R: Wait>(&mut self, rt: &R, rounds: u32) -> Option<Found> {
+    pub fn read_all<R: Wait>(&mut self, rt: &R, dice: &mut Pcg32, rounds: u32) -> Option<Found> {
         let mut found = NOTHING;
         for _ in 0..rounds / CALLS {
-            let subscribed = self.suspending.subscribe(rt, &mut self.suspending_seat);
-            let more = read(rt, self.suspending, subscribed.ok()?, &mut self.dice)?;
-            found = found.plus(more);
+            let subscription = self.flow.subscribe(rt, &mut self.seat).ok()?;
+            found = found.plus(read(rt, self.flow, subscription, dice)?);
         }
         Some(found)
     }

@@ -2,6 +2,9 @@
 use crate::arguments::Size;
 use crate::caller::Caller;
 use crate::found::{Found, NOTHING};
+use crate::shared_caller::SharedCaller;
+use crate::state_caller::StateCaller;
+use crate::word_caller::WordCaller;
 use flow_law::{Config, Overflow};
 use flow_shared::{SharedFlow, StateFlow};
 use flow_word::WordState;
@@ -21,31 +24,12 @@ impl<'a> Caller<'a> {
         Some(others)
     }
 
-    /// Everybody has left the state flow behind a gate, and no addition is lost or doubled. `None` for want of memory.
-    fn check_state<R: Wait>(&mut self, rt: &R, found: &mut Found) -> Option<()> {
-        let state = self.state.subscription_count(rt, &mut self.state_seat);
-        let value = self.state.value(rt, &mut self.state_seat).ok()?;
-        let added = found.added_gated;
-        found.check(state == 0);
-        found.check(value == added);
-        Some(())
-    }
-
-    /// Everybody has left the others, and no addition is lost or doubled.
-    fn check<R: Wait>(&mut self, rt: &R, found: &mut Found) {
-        let suspending = self
-            .suspending
-            .subscription_count(rt, &mut self.suspending_seat);
-        let dropping = self
-            .dropping
-            .subscription_count(rt, &mut self.dropping_seat);
-        let word = self.word.subscription_count(&mut self.word_seat);
-        let value = self.word.value(&mut self.word_seat);
-        let added = found.added;
-        found.check(suspending == 0);
-        found.check(dropping == 0);
-        found.check(word == 0);
-        found.check(value == added);
+    /// Everybody has left, and no addition is lost or doubled. `None` for want of memory.
+    fn check<R: Wait>(&mut self, rt: &R, found: &mut Found) -> Option<()> {
+        found.check(self.suspending.is_left(rt));
+        found.check(self.dropping.is_left(rt));
+        self.word.check(found);
+        self.state.check(rt, found)
     }
 
     /// Does the calls of each other caller in a thread of its own, and looks at the flows then.
@@ -64,8 +48,7 @@ impl<'a> Caller<'a> {
             &|_, caller| { caller.run(rt, size.rounds) },
         );
         let mut all = sum(&others)?;
-        self.check(rt, &mut all);
-        self.check_state(rt, &mut all)?;
+        self.check(rt, &mut all)?;
         Some(all)
     }
 }
@@ -101,14 +84,22 @@ pub fn stress<R: Threads + Wait + RandomSource + AllocGlobal + Sync>(
         return None;
     };
     let mut caller = Caller {
-        suspending: &suspending,
-        suspending_seat,
-        dropping: &dropping,
-        dropping_seat,
-        word: &word,
-        word_seat,
-        state: &state,
-        state_seat,
+        suspending: SharedCaller {
+            flow: &suspending,
+            seat: suspending_seat,
+        },
+        dropping: SharedCaller {
+            flow: &dropping,
+            seat: dropping_seat,
+        },
+        word: WordCaller {
+            flow: &word,
+            seat: word_seat,
+        },
+        state: StateCaller {
+            flow: &state,
+            seat: state_seat,
+        },
         number: 0,
         dice: Pcg32::new(size.seed, 0),
         found: None,
