@@ -5,6 +5,8 @@ use crate::compare::compare;
 use flow_gate::Gate;
 use flow_law::Guarded;
 use flow_testing::Refusing;
+use std::alloc::{Allocator, Global};
+use std::process::Abort;
 
 /// A state with any history.
 #[derive(Drop)]
@@ -19,16 +21,20 @@ impl Guarded for Named {
 }
 
 /// A gate takes memory three times. Each refusal hands the state back.
+fn refuse_each<A: Allocator + Copy>(rt: &impl Abort, memory: A, refusing: &Refusing<Global>) {
+    for number in 1..4 {
+        refusing.refuse(number);
+        match Gate::new(memory, Named { name: 7 }) {
+            Ok(_made) => panic!(rt; "it is refused"),
+            Err(failed) => compare(rt, 0, failed.value.name, 7),
+        }
+    }
+    let made = Gate::new(memory, Named { name: 7 });
+    compare(rt, 1, made.is_ok(), true);
+}
+
 #[test]
 fn a_new_gate_is_refused(rt: HostRuntime) {
     let memory = Refusing::new(rt.alloc());
-    for number in 1..4 {
-        memory.refuse(number);
-        match Gate::new(&memory, Named { name: 7 }) {
-            Ok(_made) => panic!(rt; "allocation {number} is refused"),
-            Err(failed) => compare(&rt, 0, failed.value.name, 7),
-        }
-    }
-    let made = Gate::new(&memory, Named { name: 7 });
-    compare(&rt, 1, made.is_ok(), true);
+    refuse_each(&rt, &memory, &memory);
 }
