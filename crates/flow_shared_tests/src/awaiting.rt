@@ -4,6 +4,7 @@ ghost use Rattle.flow_shared.specs.EmitFutures.{EmitsOne, sent_token};
 
 use flow_law::{FlowFault, FlowValue};
 use flow_shared::{EmitFuture, NextFuture, Seat, Sent, SharedFlow, Subscription};
+use futures::Future;
 use futures::executor::block_on;
 use futures::future::join;
 use std::alloc::AllocGlobal;
@@ -27,6 +28,18 @@ pub fn send<R: Wait + RandomSource + AllocGlobal, T: FlowValue>(
     block_on(rt, EmitFuture::new(flow, seat, value))
 }
 
+/// What two futures give that wait at once, on one thread.
+pub fn both<R, F, G>(rt: &R, first: F, second: G) -> io::Result<(F::Output, G::Output)>
+where
+    R: Wait + RandomSource + AllocGlobal,
+    F: Future<Output: Drop>,
+    G: Future<Output: Drop>,
+    requires { F.can_poll first × G.can_poll second }
+    ensures { IfOk result (λ given. F.gives first given.0 × G.gives second given.1) }
+{
+    block_on(rt, join(first, second))
+}
+
 /// What becomes of an emission, and of a subscriber's wait for its next value.
 pub type Exchange<T> = (Sent<T>, (Subscription<T>, Result<T, FlowFault>));
 
@@ -45,5 +58,5 @@ pub fn exchange<R: Wait + RandomSource + AllocGlobal, T: FlowValue>(
 {
     let emit = EmitFuture::new(flow, seat, value);
     let next = NextFuture::new(flow, subscription);
-    block_on(rt, join(emit, next))
+    both(rt, emit, next)
 }

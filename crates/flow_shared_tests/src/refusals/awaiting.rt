@@ -14,17 +14,17 @@ use std::process::Abort;
 use std::sync::Wait;
 
 /// The emission is refused, at once and by a future, and the seat and the value come back. Then it waits.
-fn emits<R: Wait + Abort, A: Allocator + Copy>(
+fn emits<R: Wait + Abort, T: Numbered<Memory = A>, A: Allocator + Copy>(
     rt: &R,
     task: &MockTask,
-    flow: &SharedFlow<Boxed<i64, A>, A>,
-    seat: Seat<Boxed<i64, A>, A>,
+    flow: &SharedFlow<T, A>,
+    seat: Seat<T, A>,
     memory: A,
     refusing: &Refusing<Global>,
 )
     requires { seat.table_id ≡ flow.now.table_id }
 {
-    let value = Boxed::of(rt, memory, 3);
+    let value = T::of(rt, memory, 3);
     refusing.refuse(1);
     let Emitted::Refused(seat, value, fault) = flow.emit_now(seat, value) else {
         panic!(rt; "it is refused")
@@ -41,11 +41,11 @@ fn emits<R: Wait + Abort, A: Allocator + Copy>(
 }
 
 /// The subscriber is refused the first value, at once and by a future, and its subscription comes back. Then it receives it.
-fn receives<R: Wait + Abort, A: Allocator + Copy>(
+fn receives<R: Wait + Abort, T: Numbered<Memory = A>, A: Allocator + Copy>(
     rt: &R,
     task: &MockTask,
-    flow: &SharedFlow<Boxed<i64, A>, A>,
-    subscription: Subscription<Boxed<i64, A>, A>,
+    flow: &SharedFlow<T, A>,
+    subscription: Subscription<T, A>,
     refusing: &Refusing<Global>,
 )
     requires { subscription.token.table_id ≡ flow.now.table_id }
@@ -67,21 +67,21 @@ fn receives<R: Wait + Abort, A: Allocator + Copy>(
 }
 
 /// A subscriber has not read 1 and 2. A third value waits, and the subscriber receives the first one. Both are refused twice.
-fn play<R: Wait + Abort, A: Allocator + Copy>(
+fn play<R: Wait + Abort, T: Numbered<Memory = A>, A: Allocator + Copy>(
     rt: &R,
     task: &MockTask,
     memory: A,
     refusing: &Refusing<Global>,
 ) {
-    let Ok((flow, mut seat)) = SharedFlow::<Boxed<i64, A>, A>::new(memory, SMALL) else {
+    let Ok((flow, mut seat)) = SharedFlow::<T, A>::new(memory, SMALL) else {
         panic!(rt; "a flow")
     };
     let Ok(subscription) = flow.subscribe(rt, &mut seat) else {
         panic!(rt; "a subscription")
     };
-    let first = flow.try_emit(rt, &mut seat, Boxed::of(rt, memory, 1));
+    let first = flow.try_emit(rt, &mut seat, T::of(rt, memory, 1));
     compare(rt, 0, first.ok(), Some(true));
-    let second = flow.try_emit(rt, &mut seat, Boxed::of(rt, memory, 2));
+    let second = flow.try_emit(rt, &mut seat, T::of(rt, memory, 2));
     compare(rt, 0, second.ok(), Some(true));
     emits(rt, task, &flow, seat, memory, refusing);
     receives(rt, task, &flow, subscription, refusing);
@@ -91,5 +91,5 @@ fn play<R: Wait + Abort, A: Allocator + Copy>(
 fn calls_at_once_and_futures_are_refused(rt: HostRuntime) {
     let memory = Refusing::new(rt.alloc());
     let task = MockTask::new(&rt).expect(&rt, "a task");
-    play(&rt, &task, &memory, &memory);
+    play::<_, Boxed<i64, _>, _>(&rt, &task, &memory, &memory);
 }
