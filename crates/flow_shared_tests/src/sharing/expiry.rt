@@ -1,5 +1,5 @@
 //! A flow forgets what it replays some time after the chain has stopped (`replayExpirationMillis`).
-use crate::sharing::playing::Flow::{Shared, State};
+use crate::sharing::playing::FlowKind::{Shared, State};
 use crate::sharing::playing::{Chain, Example};
 use crate::sharing::sharing_steps::Step::{Flow, Turn};
 use crate::steps::Step::{Cache, Next, Subscribe, Unsubscribe};

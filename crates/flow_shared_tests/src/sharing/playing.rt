@@ -1,10 +1,12 @@
 //! Worked examples of `shareIn` and `stateIn`, over flows for several threads. Those over flows for one thread are scripts.
+ghost use Rattle.std.specs.Prelude.{◌≡◌, false};
+
 use crate::compare::compare;
 use crate::playing::{FlowPlayer, Played};
 use crate::sharing::sharing_steps::{Step, turn};
 use flow_cold::{Entry, Scripted};
 use flow_law::{Config, Started};
-use flow_shared::{SharedFlow, StateFlow};
+use flow_shared::{Flow, FlowSeat, SharedFlow, StateFlow};
 use flow_sharing::{Hub, SharedFlowHub, Sharing, StateFlowHub};
 use std::alloc::Global;
 use std::process::Abort;
@@ -14,7 +16,7 @@ use std::sync::Wait;
 pub struct Example {
     pub chain: Chain,
     pub started: Started,
-    pub flow: Flow,
+    pub flow: FlowKind,
     pub steps: &'static [Step],
 }
 
@@ -28,7 +30,7 @@ pub enum Chain {
 }
 
 /// The flow of an example.
-pub enum Flow {
+pub enum FlowKind {
     /// A shared flow that replays so many values (`shareIn`).
     Shared(u32),
     /// A state flow, whose first value is 0 (`stateIn`).
@@ -59,8 +61,8 @@ impl Chain {
     }
 }
 
-/// Takes the steps of a sharing into a flow that is lent to its hub, and on which the player takes steps.
-fn lend<R: Wait + Abort, S: Played<i64, Global>, H: Hub<Item = i64>>(
+/// Takes the steps of a sharing, and of the flow that its hub borrows.
+fn take_steps<R: Wait + Abort, S: Played<i64, Global>, H: Hub<Item = i64>>(
     rt: &R,
     first: usize,
     steps: &[Step],
@@ -76,6 +78,24 @@ fn lend<R: Wait + Abort, S: Played<i64, Global>, H: Hub<Item = i64>>(
     }
 }
 
+/// Shares the chain of an example into a flow that this hub borrows, and takes the example's steps.
+fn play_on<R: Wait + Abort, S: Played<i64, Global>, H: Hub<Item = i64>>(
+    rt: &R,
+    alloc: Global,
+    first: usize,
+    example: &Example,
+    flow: &Flow<S>,
+    seat: FlowSeat<S>,
+    hub: H,
+)
+    requires seat { seat.table_id ≡ flow.now.table_id }
+    requires hub { H.waits hub ≡ false }
+{
+    let mut sharing = Sharing::new(example.chain.make(rt, alloc), example.started, hub);
+    let mut player = FlowPlayer::new(alloc, alloc, flow, seat);
+    take_steps(rt, first, example.steps, &mut sharing, &mut player);
+}
+
 /// Takes the steps of an example of a shared flow that replays so many values. It has room for 64, those included.
 fn play_shared<R: Wait + Abort>(
     rt: &R,
@@ -87,18 +107,14 @@ fn play_shared<R: Wait + Abort>(
     let config = Config::new().replay(replay).extra(64 - replay.min(64));
     let (flow, mut seat) = SharedFlow::new(alloc, config).expect(rt, "a flow");
     let hub = SharedFlowHub::new(&flow, &mut seat);
-    let mut sharing = Sharing::new(example.chain.make(rt, alloc), example.started, hub);
-    let mut player = FlowPlayer::new(alloc, alloc, &flow, seat);
-    lend(rt, first, example.steps, &mut sharing, &mut player);
+    play_on(rt, alloc, first, example, &flow, seat, hub);
 }
 
 /// Takes the steps of an example of a state flow, which has the value 0 first.
 fn play_state<R: Wait + Abort>(rt: &R, alloc: Global, first: usize, example: &Example) {
     let (flow, mut seat) = StateFlow::new(alloc, 0, u64::MAX).expect(rt, "a flow");
     let hub = StateFlowHub::new(&flow, &mut seat, 0);
-    let mut sharing = Sharing::new(example.chain.make(rt, alloc), example.started, hub);
-    let mut player = FlowPlayer::new(alloc, alloc, &flow, seat);
-    lend(rt, first, example.steps, &mut sharing, &mut player);
+    play_on(rt, alloc, first, example, &flow, seat, hub);
 }
 
 /// Plays the examples. Step 7 of the example 3 has the place 307, from this one on.
@@ -106,8 +122,8 @@ pub fn play<R: Wait + Abort>(rt: &R, alloc: Global, first: usize, examples: &[Ex
     for (number, example) in examples.iter().enumerate() {
         let place = first.saturating_add(number.saturating_mul(100));
         match example.flow {
-            Flow::Shared(replay) => play_shared(rt, alloc, place, example, replay),
-            Flow::State => play_state(rt, alloc, place, example),
+            FlowKind::Shared(replay) => play_shared(rt, alloc, place, example, replay),
+            FlowKind::State => play_state(rt, alloc, place, example),
         }
     }
 }

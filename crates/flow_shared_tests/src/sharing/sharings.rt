@@ -1,6 +1,6 @@
 //! Worked examples of `shareIn` and `stateIn`.
 use crate::sharing::expiry;
-use crate::sharing::playing::Flow::{Shared, State};
+use crate::sharing::playing::FlowKind::{Shared, State};
 use crate::sharing::playing::{Chain, Example, play};
 use crate::sharing::sharing_steps::Step::{Count, Flow, Refused, Turn, Turns};
 use crate::steps::Step::{Cache, Next, Subscribe, Unsubscribe};
