@@ -64,7 +64,6 @@ fn is_last<T: FlowValue>(last: &Option<T>, item: &T) -> bool
 
 impl<C: Cold> Distinct<C> {
     /// Items are compared as values of flows are.
-    #[tactic(auto, using(flow_law::proofs::ChainLemmas::distinct_means))]
     pub fn new(upstream: C) -> Self
         requires { C.sound upstream }
         ensures sound { ⟦<Distinct<C> as Cold>⟧.sound result }

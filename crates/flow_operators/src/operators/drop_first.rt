@@ -52,7 +52,6 @@ impl<C: Cold> Cold for DropFirst<C> {
 }
 
 impl<C: Cold> DropFirst<C> {
-    #[tactic(auto, using(flow_law::proofs::ChainLemmas::drop_means))]
     /// A count of 0 gives the chain as it is.
     pub fn new(upstream: C, count: u64) -> Self
         requires { C.sound upstream }

@@ -56,7 +56,6 @@ impl<C: Cold, M: ItemTest<C::Item>> Cold for DropWhile<C, M> {
 
 impl<C: Cold, M: ItemTest<C::Item>> DropWhile<C, M> {
     /// The chain from where it stands, and the test that its first items are to pass to be dropped.
-    #[tactic(auto, using(flow_law::proofs::ChainLemmas::drop_while_means))]
     pub fn new(upstream: C, test: M) -> Self
         requires sound { C.sound upstream }
         requires decides { M.sound test }

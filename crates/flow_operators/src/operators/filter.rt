@@ -51,7 +51,6 @@ impl<C: Cold, M: ItemTest<C::Item>> Cold for Filter<C, M> {
 
 impl<C: Cold, M: ItemTest<C::Item>> Filter<C, M> {
     /// The chain from where it stands, and the test that its items are to pass.
-    #[tactic(auto, using(flow_law::proofs::ChainLemmas::filter_means))]
     pub fn new(upstream: C, test: M) -> Self
         requires sound { C.sound upstream }
         requires decides { M.sound test }

@@ -112,7 +112,6 @@ where
 {
     /// A fault that the closure answers ends the chain, too. `meaning` is for contracts: its type says which chain
     /// the closure opens.
-    #[tactic(auto, using(flow_law::proofs::ChainLemmas::flat_map_means))]
     pub fn new(upstream: C, meaning: M, closure: F) -> Self
         requires sound { C.sound upstream }
         requires callable { F.IsAlwaysCallable closure }

@@ -57,7 +57,6 @@ where
     M: ItemComputation<C::Item, U>,
 {
     /// A fault that the computation answers ends the chain; of that item nothing is given.
-    #[tactic(auto, using(flow_law::proofs::ChainLemmas::map_means))]
     pub fn new(upstream: C, computation: M) -> Self
         requires sound { C.sound upstream }
         requires computes { M.sound computation }

@@ -64,7 +64,6 @@ where
     M: PairComputation<C::Item, C::Item, C::Item>,
 {
     /// A fault that the computation answers ends the chain.
-    #[tactic(auto, using(flow_law::proofs::ChainLemmas::running_reduce_means))]
     pub fn new(upstream: C, computation: M) -> Self
         requires sound { C.sound upstream }
         requires computes { M.sound computation }

@@ -58,7 +58,6 @@ where
     M: PairComputation<U, C::Item, U>,
 {
     /// The initial value is given without asking the upstream. A fault that the computation answers ends the chain.
-    #[tactic(auto, using(flow_law::proofs::ChainLemmas::scan_means))]
     pub fn new(upstream: C, initial: U, computation: M) -> Self
         requires sound { C.sound upstream }
         requires computes { M.sound computation }

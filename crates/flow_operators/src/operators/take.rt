@@ -21,7 +21,6 @@ pub struct Take<C> {
 
 impl<C: Cold> Take<C> {
     /// A count of 0 is refused, and the chain is dropped.
-    #[tactic(auto, using(flow_law::proofs::ChainLemmas::take_means))]
     pub fn new(upstream: C, count: u64) -> Result<Self, ChainFault>
         requires { C.sound upstream }
         ensures sound { IfOk result ⟦<Take<C> as Cold>⟧.sound }

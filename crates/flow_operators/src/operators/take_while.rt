@@ -50,7 +50,6 @@ impl<C: Cold, M: ItemTest<C::Item>> Cold for TakeWhile<C, M> {
 
 impl<C: Cold, M: ItemTest<C::Item>> TakeWhile<C, M> {
     /// The chain from where it stands, and the test that ends it.
-    #[tactic(auto, using(flow_law::proofs::ChainLemmas::take_while_means))]
     pub fn new(upstream: C, test: M) -> Self
         requires sound { C.sound upstream }
         requires decides { M.sound test }

@@ -95,7 +95,6 @@ where
 {
     /// A fault that the closure answers ends the chain; of that item nothing is given. `meaning` is for contracts:
     /// its type says which list the closure makes.
-    #[tactic(auto, using(flow_law::proofs::ChainLemmas::transform_means))]
     pub fn new(upstream: C, meaning: M, closure: F) -> Self
         requires sound { C.sound upstream }
         requires callable { F.IsAlwaysCallable closure }

@@ -65,7 +65,6 @@ where
     M: PairComputation<L::Item, R::Item, U>,
 {
     /// A fault that the computation answers ends the chain.
-    #[tactic(auto, using(flow_law::proofs::ChainLemmas::zip_means))]
     pub fn new(left: L, right: R, computation: M) -> Self
         requires left { L.sound left }
         requires right { R.sound right }
