@@ -12,14 +12,21 @@ pub struct Frame {
     pub after: String,
 }
 
+impl Frame {
+    /// A page before the lines, and nothing after them.
+    pub(crate) fn before_lines(alloc: Global, page: Page) -> Result<Self, AllocError> {
+        let before = page.finish()?;
+        Ok(Frame {
+            before,
+            after: String::new(alloc),
+        })
+    }
+}
+
 /// The flows of a script before its lines. The rules stand beside these.
 pub fn explained_frame(alloc: Global, script: &Value) -> Result<Frame, AllocError> {
     let mut page = Page::new(alloc);
     add_heads(&mut page, script);
     page.push('\n');
-    let before = page.finish()?;
-    Ok(Frame {
-        before,
-        after: String::new(alloc),
-    })
+    Frame::before_lines(alloc, page)
 }

@@ -73,6 +73,11 @@ impl<'a> Parts<'a> {
         self.failed = self.failed || self.parts.push(part).is_err();
     }
 
+    /// There was no memory for something that belongs to the parts.
+    fn fail(&mut self) {
+        self.failed = true;
+    }
+
     /// The parts, where there was memory for all of them.
     pub fn finish(self) -> Result<Vec<Part<'a>>, AllocError> {
         if self.failed {
@@ -210,19 +215,15 @@ impl<'a> Band<'_, 'a> {
     }
 
     /// The numbers of the columns, if there are steps, and the lanes that the band has marks on.
-    fn add_to(
-        &self,
-        alloc: Global,
-        parts: &mut Parts<'a>,
-        lanes: &[Lane<'a>],
-        steps: &'a [Value],
-    ) -> Result<(), AllocError> {
+    fn add_to(&self, alloc: Global, parts: &mut Parts<'a>, lanes: &[Lane<'a>], steps: &'a [Value]) {
         if !steps.is_empty() {
             self.add_numbers(parts, steps);
         }
-        self.add_lanes(parts, lanes_of(alloc, self.marks)?.as_slice(), lanes);
+        match lanes_of(alloc, self.marks) {
+            Ok(places) => self.add_lanes(parts, places.as_slice(), lanes),
+            Err(_) => parts.fail(),
+        }
         parts.push(Part::EndBand(self.width()));
-        Ok(())
     }
 }
 
@@ -233,7 +234,7 @@ fn add_bands<'a>(
     picture: &Picture<'a>,
     steps: &'a [Value],
     widths: &[usize],
-) -> Result<(), AllocError> {
+) {
     let mut from = 0;
     let mut first = 0;
     for _ in 0..widths.len() {
@@ -245,7 +246,7 @@ fn add_bands<'a>(
                 widths: widths.get(from..to).unwrap_or(&[]),
                 marks: picture.marks.get(first..last).unwrap_or(&[]),
             };
-            band.add_to(alloc, parts, picture.lanes.as_slice(), steps)?;
+            band.add_to(alloc, parts, picture.lanes.as_slice(), steps);
         }
         from = to;
         first = last;
@@ -253,7 +254,6 @@ fn add_bands<'a>(
             break;
         }
     }
-    Ok(())
 }
 
 /// Adds the parts of a picture, with these steps above their columns.
@@ -262,10 +262,11 @@ pub fn add_parts<'a>(
     parts: &mut Parts<'a>,
     picture: &Picture<'a>,
     steps: &'a [Value],
-) -> Result<(), AllocError> {
-    if picture.failed {
-        return Err(AllocError);
+) {
+    match widths_of(alloc, picture) {
+        Ok(widths) if !picture.failed => {
+            add_bands(alloc, parts, picture, steps, widths.as_slice());
+        }
+        _ => parts.fail(),
     }
-    let widths = widths_of(alloc, picture)?;
-    add_bands(alloc, parts, picture, steps, widths.as_slice())
 }

@@ -83,13 +83,17 @@ impl Canvas {
     }
 
     /// What the flows are, and the lines of those that were refused.
-    fn add_heads(&mut self, script: &Value, played: Played<'_>) -> Result<(), AllocError> {
+    fn add_heads(&mut self, script: &Value, played: Played<'_>) {
         let mut heads = Page::new(self.alloc);
         add_all_heads(&mut heads, script, played);
-        for head in heads.finish()?.as_str().lines() {
-            self.add_words(head);
+        match heads.finish() {
+            Ok(heads) => {
+                for head in heads.as_str().lines() {
+                    self.add_words(head);
+                }
+            }
+            Err(_) => self.page.fail(),
         }
-        Ok(())
     }
 
     /// The number of a step above its column, and what it does, in a word that rises to the right.
@@ -146,9 +150,15 @@ impl Canvas {
         }
     }
 
-    fn add_parts(&mut self, parts: &[Part<'_>]) {
-        for part in parts {
-            self.add_part(*part);
+    /// The parts, where there was memory for them.
+    fn add_parts(&mut self, parts: Result<Vec<Part<'_>>, AllocError>) {
+        match parts {
+            Ok(parts) => {
+                for part in parts.as_slice() {
+                    self.add_part(*part);
+                }
+            }
+            Err(_) => self.page.fail(),
         }
     }
 
@@ -160,12 +170,11 @@ impl Canvas {
     }
 
     /// All that is drawn of a script.
-    fn add_all(&mut self, script: &Value, played: Played<'_>) -> Result<(), AllocError> {
+    fn add_all(&mut self, script: &Value, played: Played<'_>) {
         self.page.push_str(STYLE);
-        self.add_heads(script, played)?;
-        self.add_parts(parts_of(self.alloc, script, played)?.as_slice());
+        self.add_heads(script, played);
+        self.add_parts(parts_of(self.alloc, script, played));
         self.add_legend();
-        Ok(())
     }
 
     /// What stands before the lines of a script, and after them.
@@ -179,8 +188,9 @@ impl Canvas {
         } = self;
         let mut front = Page::new(alloc);
         add_front(&mut front, script, width, height);
-        let before = front.finish()?;
-        let after = page.finish()?;
+        let (Ok(before), Ok(after)) = (front.finish(), page.finish()) else {
+            return Err(AllocError);
+        };
         Ok(Frame { before, after })
     }
 }
@@ -200,6 +210,6 @@ pub fn svg_frame(alloc: Global, script: &Value, played: Played<'_>) -> Result<Fr
         height: 12,
         x: 0,
     };
-    canvas.add_all(script, played)?;
+    canvas.add_all(script, played);
     canvas.frame(script)
 }

@@ -82,9 +82,15 @@ fn add_part(page: &mut Page, part: Part<'_>) {
     }
 }
 
-fn add_parts(page: &mut Page, parts: &[Part<'_>]) {
-    for part in parts {
-        add_part(page, *part);
+/// The parts, where there was memory for them.
+fn add_parts(page: &mut Page, parts: Result<Vec<Part<'_>>, AllocError>) {
+    match parts {
+        Ok(parts) => {
+            for part in parts.as_slice() {
+                add_part(page, *part);
+            }
+        }
+        Err(_) => page.fail(),
     }
 }
 
@@ -93,11 +99,7 @@ pub fn text_frame(alloc: Global, script: &Value, played: Played<'_>) -> Result<F
     let mut page = Page::new(alloc);
     add_all_heads(&mut page, script, played);
     page.push('\n');
-    add_parts(&mut page, parts_of(alloc, script, played)?.as_slice());
+    add_parts(&mut page, parts_of(alloc, script, played));
     page.push_str(LEGEND);
-    let before = page.finish()?;
-    Ok(Frame {
-        before,
-        after: String::new(alloc),
-    })
+    Frame::before_lines(alloc, page)
 }
