@@ -65,6 +65,9 @@ module _ {T : Type 0} where
   pub next_own : (number : ℕ) (v : T) (own : List T) (s : SharedFlowState T) → own_of number s.subscribers ≡ v ∷ own → next number s ≡ answer (Value v) (keep_own number own s)
   next_own number v own s mine = ap (λ o. next_from number o s) mine
 
+  pub next_gone : (number : ℕ) (s : SharedFlowState T) → own_of number s.subscribers ≡ [] → position_of number s.subscribers ≡ None → next number s ≡ answer Gone s
+  next_gone number s none nowhere = ap (λ o. next_from number o s) none ∙ ap (λ o. option_map_or (λ position. read number position s) o (answer Gone s)) nowhere
+
   pub next_value : (number p : ℕ) (v : T) (s : SharedFlowState T) → own_of number s.subscribers ≡ [] → position_of number s.subscribers ≡ Some p → slice_get (values s) p ≡ Some v
       → next number s ≡ answer (Value v) (settle (advance number (p + 1) s))
   next_value number p v s none at here =

@@ -3,3 +3,4 @@ pub mod SoundLemmas
 pub mod EmissionLemmas
 pub mod CallLemmas
 pub mod StateLemmas
+pub mod DrainSteps

@@ -1,7 +1,9 @@
 -- Rows of a state core beside the subscribers that the definitions have.
-use Rattle.std.proofs.Common.{◌≡◌, ◌≢◌, ℕ, List, map, Option, Some, refl, sym, subst, ◌∙◌}
-use Rattle.flow_law.specs.declared.call.StateCall.TheVariants.{TakeNext}
-use Rattle.flow_law.specs.declared.call.StateReply.TheVariants.{Refused}
+use Rattle.std.proofs.Common.{◌≡◌, ◌≢◌, ℕ, inl, inr, Bool, true, false, List, map, Option, Some, refl, ap, sym, subst, ◌∙◌}
+use Rattle.std.specs.Prelude.{◌↔◌, IsTrue}
+use Rattle.std.proofs.lemmas.Bool.{both_ways}
+use Rattle.flow_law.specs.declared.call.StateCall.TheVariants.{CompareAndSet, TakeNext}
+use Rattle.flow_law.specs.declared.call.StateReply.TheVariants.{Answered, Refused}
 use Rattle.flow_law.specs.declared.fault.FlowFault.{FlowFault}
 use Rattle.flow_law.specs.declared.fault.FlowFault.TheVariants.{OutOfMemory}
 use Rattle.flow_law.specs.declared.states.StateFlowState.{StateFlowState}
@@ -26,3 +28,15 @@ module _ {T : Type 0} where
       → Replies s (TakeNext number) (Refused fault)
   copy_refused s number last fault there differs is =
       subst (λ f. Replies s (TakeNext number) (Refused f)) (sym is) (subst (λ o. IsDue s.value o) (sym there) differs)
+
+  -- the comparison with what is expected, and what becomes of the value
+  pub exchanged : (inside now s : StateFlowState T) (expect update : T) (found is : Bool) → inside ≡ now → now ≡ s → (IsTrue is ↔ inside.value ≡ expect) → found ≡ is → found ≡ true
+      → Replies s (CompareAndSet expect update) (Answered true) × (record inside { value = update } ≡ record s { value = update })
+  exchanged inside now s expect update found is view same exact finds it =
+      let all = view ∙ same in
+      (inl (sym (ap (λ k. k.value) all) ∙ exact.0 (sym finds ∙ it), refl), ap (λ (k : StateFlowState T). record k { value = update }) all)
+
+  pub kept : (inside now s : StateFlowState T) (expect update : T) (found is : Bool) → inside ≡ now → now ≡ s → (IsTrue is ↔ inside.value ≡ expect) → found ≡ is → found ≡ false
+      → Replies s (CompareAndSet expect update) (Answered false)
+  kept inside now s expect update found is view same exact finds it =
+      inr (λ equal. both_ways is (sym finds ∙ it) (exact.1 (ap (λ k. k.value) (view ∙ same) ∙ equal)), refl)

@@ -29,3 +29,6 @@ pub returns-in_err-copy-clause-any : goal.returns-in_err-copy-clause-any
 returns-in_err-copy-clause-any g c =
     of_an_error c.from_residual.result
     (more_to_copy c.args.from c.loop-place.place c.args.values.now.items c.in-Some.value.now (omega (arith, c.loop-place.auto.place)) (sym c.in-Some.ensures))
+
+pub unreachable-unreachable : goal.unreachable-unreachable
+unreachable-unreachable g c = absurd c.unreachable.result

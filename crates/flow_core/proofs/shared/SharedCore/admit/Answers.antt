@@ -56,3 +56,15 @@ returns-in-Some-clause-admitted g c =
             sym (settle_first s first queue here free),
           ),
     )
+
+pub invariant_of-self : goal.invariant_of-self
+invariant_of-self g c = absurd (c.if-len-eq0.false (c.len.ensures ∙ ap length c.in-None.ensures.0))
+
+pub push-requires-clause-free : goal.push-requires-clause-free
+push-requires-clause-free g c = ap kept_full c.self.view_is ∙ sym c.is_blocked.ensures.own ∙ c.if-is_blocked.false
+
+pub push-requires-clause-issued : goal.push-requires-clause-issued
+push-requires-clause-issued g c = omega (arith, ap length c.in-Some.ensures, c.self.invariant.numbers)
+
+pub returns-in-None-clause-settled : goal.returns-in-None-clause-settled
+returns-in-None-clause-settled g c = absurd (c.if-len-eq0.false (c.len.ensures ∙ ap length c.in-None.ensures.0))

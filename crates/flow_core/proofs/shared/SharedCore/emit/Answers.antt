@@ -84,3 +84,12 @@ returns-in-DropsLatest-clause-documented g c = (
       (sym (ap (λ a. reply_by reply.Emitted a.reply) all), subst (StandsFor c.args.self.now) (sym (ap (λ a. a.after) all)) stands),
   tt,
 )
+
+pub append-requires : goal.append-requires
+append-requires g c = record { free = c.in-Appends.ensures.found }
+
+pub append-requires-in-Offers : goal.append-requires-in-Offers
+append-requires-in-Offers g c = record { free = c.in-Offers.ensures.found }
+
+pub append_dropping-requires : goal.append_dropping-requires
+append_dropping-requires g c = record { full = c.in-DropsOldest.ensures.found }

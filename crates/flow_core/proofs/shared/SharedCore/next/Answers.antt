@@ -12,7 +12,7 @@ use Rattle.flow_law.proofs.HoldingLemmas.{covers, same_value, stands-own}
 use Rattle.std.specs.Prelude.{Ok}
 use Rattle.flow_containers.specs.Receiving.{Receives}
 use Rattle.flow_core.specs.SharedCore.{window_of, fields_of, IsSound}
-use Rattle.flow_core.proofs.CallLemmas.{next_own, next_value, next_empty, next_wants_memory}
+use Rattle.flow_core.proofs.CallLemmas.{next_own, next_gone, next_value, next_empty, next_wants_memory}
 use Rattle.flow_containers.proofs.ReceivingLemmas.{found_below}
 use Rattle.flow_core.proofs.RingLemmas.{least_at, within_at, within-moved, within-with_own}
 use Rattle.flow_core.proofs.SoundLemmas.{sound_subscribers}
@@ -138,5 +138,42 @@ returns-in-Err g c = record {
           subst (λ u. StandsFor (fields_of (record i { subscribers = u })) s) (sym c.in-Err.ensures.4) within,
         ),
     ap (λ u. fields_of (record c.self.inside { subscribers = u })) c.in-Err.ensures.4 ∙ c.self.view_is,
+  );
+}
+
+pub receive-requires-clause-held : goal.receive-requires-clause-held
+receive-requires-clause-held g c = c.self.invariant.held
+
+pub invariant_of-self-in-Ok-Empty : goal.invariant_of-self-in-Ok-Empty
+invariant_of-self-in-Ok-Empty g c =
+    let i = c.self.inside in
+    let given = subst (λ r. Receives c.args.id.number i.values.items i.subscribers (Ok r) c.receive.new.self) c.in-Ok-Empty.field-0-is c.in-Ok-Empty.ensures in
+    subst (λ u. IsSound (record i { subscribers = u })) (sym given.2) c.self.invariant
+
+pub invariant_of-self-in-Ok-Gone : goal.invariant_of-self-in-Ok-Gone
+invariant_of-self-in-Ok-Gone g c =
+    let i = c.self.inside in
+    let given = subst (λ r. Receives c.args.id.number i.values.items i.subscribers (Ok r) c.receive.new.self) c.in-Ok-Gone.field-0-is c.in-Ok-Gone.ensures in
+    subst (λ u. IsSound (record i { subscribers = u })) (sym given.2) c.self.invariant
+
+pub invariant_of-self-in-Err : goal.invariant_of-self-in-Err
+invariant_of-self-in-Err g c = subst (λ u. IsSound (record c.self.inside { subscribers = u })) (sym c.in-Err.ensures.4) c.self.invariant
+
+pub returns-in-Ok-Gone : goal.returns-in-Ok-Gone
+returns-in-Ok-Gone g c = record {
+  documented = (
+    λ s stands.
+        let i = c.self.inside in
+        let number = c.args.id.number in
+        let given = subst (λ r. Receives number i.values.items i.subscribers (Ok r) c.receive.new.self) c.in-Ok-Gone.field-0-is c.in-Ok-Gone.ensures in
+        let within : StandsFor (fields_of i) s = subst (λ k. StandsFor k s) (sym c.self.view_is) stands in
+        let none : own_of number s.subscribers ≡ [] = ap (own_of number) (sym within.subscribers) ∙ given.0 in
+        let nowhere : position_of number s.subscribers ≡ None = ap (position_of number) (sym within.subscribers) ∙ given.1 in
+        let all = next_gone number s none nowhere in (
+          sym (ap (λ a. reply_by reply.Received a.reply) all),
+          subst (λ t. StandsFor (fields_of (record i { subscribers = c.receive.new.self })) t) (sym (ap (λ a. a.after) all))
+              (subst (λ u. StandsFor (fields_of (record i { subscribers = u })) s) (sym given.2) within),
+        ),
+    tt,
   );
 }
