@@ -4,3 +4,4 @@ pub mod EmitCountLemmas
 pub mod EmitRuns
 pub mod NextRuns
 pub mod Refusals
+pub mod Yields

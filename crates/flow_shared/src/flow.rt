@@ -104,16 +104,12 @@ impl<S: FlowCore + Drop, A: Allocator + Copy> Flow<S, A> {
         ensures busy { IfErr result (λ back. IsBusy seat.old seat.new × (back ≡ call)) }
     {
         let own = seat.seat.take().unwrap();
-        match self.call_by_now(own, call) {
-            Ok((own, answer)) => {
-                seat.seat = Some(own);
-                Ok(answer)
-            }
-            Err((own, call)) => {
-                seat.seat = Some(own);
-                Err(call)
-            }
-        }
+        let (own, answer) = match self.call_by_now(own, call) {
+            Ok((own, answer)) => (own, Ok(answer)),
+            Err((own, call)) => (own, Err(call)),
+        };
+        seat.seat = Some(own);
+        answer
     }
 
     /// Makes a seat through another. Call it for each thread that is to call the flow, before the thread starts, or for
