@@ -9,3 +9,4 @@ pub mod CountLemmas
 pub mod RaisedLemmas
 pub mod SubscribersLemmas
 pub mod ReceivingLemmas
+pub mod FreshLemmas
