@@ -4,7 +4,6 @@ use crate::head::text_at;
 use crate::step_words::{is_allowed, step_rows};
 use crate::words::{Key, Row, Version};
 use serde_json::{Map, Value};
-use std::alloc::AllocError;
 
 /// Words of which one is right. Some of a list may be out of place.
 #[derive(Clone, Copy)]
@@ -79,28 +78,4 @@ impl<'a> Choices<'a> {
         }
         None
     }
-}
-
-/// Adds some words, one after the other.
-pub fn add_words(to: &mut String, words: &[&str]) -> Result<(), AllocError> {
-    for word in words {
-        to.push_str(word)?;
-    }
-    Ok(())
-}
-
-/// Words between quotes, as they are listed in a sentence, and what stands before them.
-pub fn add_choices(to: &mut String, before: &str, choices: Choices<'_>) -> Result<(), AllocError> {
-    to.push_str(before)?;
-    let mut opening = "\"";
-    for index in 0..usize::MAX {
-        let Some((word, is_right)) = choices.at(index) else {
-            break;
-        };
-        if is_right {
-            add_words(to, &[opening, word, "\""])?;
-            opening = ", \"";
-        }
-    }
-    Ok(())
 }

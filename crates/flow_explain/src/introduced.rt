@@ -1,8 +1,8 @@
 //! The steps that introduce names.
 
-use crate::choices::add_words;
 use crate::head::{Script, text_at};
-use crate::json::Place;
+use crate::json::Text;
+use crate::report::Report;
 use serde_json::Value;
 use std::alloc::AllocError;
 
@@ -59,24 +59,22 @@ pub struct Introduced<'a> {
 }
 
 impl Introduced<'_> {
-    /// What the name stands for.
-    fn add_use(self, to: &mut String) -> Result<(), AllocError> {
-        let (words, flow) = (self.words, self.flow);
-        if flow.is_empty() {
-            add_words(to, &[words, ", "])
-        } else {
-            write!(to, "{words} of \"{flow}\", ")
+    /// Adds what the name stands for.
+    pub fn add_use(self, report: &mut Report) {
+        report.add(&[self.words]);
+        if !self.flow.is_empty() {
+            report.add(&[" of \"", self.flow, "\""]);
         }
+        report.add(&[", "]);
     }
 
-    /// The step that introduced the name, and its place, and before that what the name stands for if it is told.
-    pub fn add_to(self, bytes: &[u8], tells_use: bool, to: &mut String) -> Result<(), AllocError> {
-        if tells_use {
-            self.add_use(to)?;
-        }
-        let step = self.index.saturating_add(1);
-        let place = Place::at(bytes, self.at);
-        write!(to, "of step {step} ({place})")
+    /// Adds the step that introduced the name, and its place.
+    pub fn add_step(self, text: Text<'_>, report: &mut Report) {
+        report.add(&["of step "]);
+        report.add_number((self.index as u64).saturating_add(1));
+        report.add(&[" ("]);
+        report.add_place(text, self.at);
+        report.add(&[")"]);
     }
 }
 

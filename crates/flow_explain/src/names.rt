@@ -1,30 +1,24 @@
 //! The names that the steps of a script use, and those that they introduce twice.
 
 use crate::choices::Choices;
-use crate::complaint::{Complaint, Expected, Looked, Report, What};
 use crate::head::{Script, text_at};
 use crate::introduced::{Named, introduced_before};
 use crate::json::Spot;
-use crate::nearest::nearest_of;
+use crate::report::{EXPECTED, Looked, Report};
 use crate::words::Version;
 use serde_json::Value;
 
 /// No flow has the name that a step gives.
 fn unknown_flow<'a>(script: Script<'a>, found: Spot<'a>, report: &mut Report) -> Looked {
+    report.begin_value(script.text, found.at);
+    report.add(&[" is no flow of the script", EXPECTED, "a name of \"flows\""]);
     let word = found.value.as_str().unwrap_or("");
-    let nearest = match script.root.value.get("flows") {
+    match script.root.value.get("flows") {
         Some(Value::Object(flows)) => {
-            nearest_of(script.text.alloc, word, Choices::Flows(flows))?
+            report.end_near(script.text.alloc, word, Choices::Flows(flows))
         }
-        _ => None,
-    };
-    let complaint = Complaint {
-        at: found.at,
-        what: What::Told(" is no flow of the script"),
-        expected: Some(Expected::Words("a name of \"flows\"")),
-        nearest,
-    };
-    report.tell(script.text, complaint)
+        _ => report.end(),
+    }
 }
 
 /// No earlier step introduced the name for this use.
@@ -37,19 +31,16 @@ fn unknown_use<'a>(
     report: &mut Report,
 ) -> Looked {
     let word = found.value.as_str().unwrap_or("");
+    let other = introduced_before(script, index, word)?;
+    report.begin_value(script.text, found.at);
+    report.add(&[named.denied, EXPECTED, named.expected]);
+    if let Some(other) = other {
+        report.add(&["; this one is "]);
+        other.add_use(report);
+        other.add_step(script.text, report);
+    }
     let choices = Choices::Names(script.steps_before(index), named.tag, flow);
-    let nearest = nearest_of(script.text.alloc, word, choices)?;
-    let expected = match introduced_before(script, index, word)? {
-        Some(other) => Expected::Other(named.expected, other, true),
-        None => Expected::Words(named.expected),
-    };
-    let complaint = Complaint {
-        at: found.at,
-        what: What::Told(named.denied),
-        expected: Some(expected),
-        nearest,
-    };
-    report.tell(script.text, complaint)
+    report.end_near(script.text.alloc, word, choices)
 }
 
 /// Looks at the name of the flow that a step is about.
@@ -97,11 +88,8 @@ pub fn look_at_new_name<'a>(
     let Some(first) = introduced_before(script, index, word)? else {
         return Ok(());
     };
-    let complaint = Complaint {
-        at: found.at,
-        what: What::Told(" is taken"),
-        expected: Some(Expected::Other("a new name", first, false)),
-        nearest: None,
-    };
-    report.tell(script.text, complaint)
+    report.begin_value(script.text, found.at);
+    report.add(&[" is taken", EXPECTED, "a new name; this one is "]);
+    first.add_step(script.text, report);
+    report.end()
 }

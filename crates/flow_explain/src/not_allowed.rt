@@ -1,10 +1,10 @@
 //! Steps that their flow does not allow.
 
 use crate::choices::Choices;
-use crate::complaint::{Complaint, Expected, Looked, Report, What};
 use crate::flow_words::flow_rows;
 use crate::head::{Script, text_at};
 use crate::json::Spot;
+use crate::report::{EXPECTED, Looked, Report};
 use crate::words::{Version, row_named};
 use std::alloc::AllocError;
 
@@ -29,17 +29,16 @@ fn lost_first<'a>(
 }
 
 /// A step that a flow of a kind does not have.
-fn no_step<'a>(script: Script<'a>, step: Spot<'a>, kind: &'a str, report: &mut Report) -> Looked {
+fn no_step<'a>(script: Script<'a>, step: Spot<'a>, kind: &str, report: &mut Report) -> Looked {
     let Some(found) = script.text.member(step, "do")? else {
         return Ok(());
     };
-    let complaint = Complaint {
-        at: found.at,
-        what: What::NoStep(name_of(kind), text_at(step.value, "do")),
-        expected: Some(Expected::OneOf("one of ", Choices::StepsOf(kind))),
-        nearest: None,
-    };
-    report.tell(script.text, complaint)
+    let name = text_at(step.value, "do");
+    report.begin(script.text, found.at);
+    report.add(&[name_of(kind), " has no step "]);
+    report.add(&[name, EXPECTED, "one of "]);
+    report.add_choices(Choices::StepsOf(kind));
+    report.end()
 }
 
 /// Tells why a step of the right form is not allowed by its flow.
@@ -51,11 +50,12 @@ pub fn tell_not_allowed<'a>(script: Script<'a>, step: Spot<'a>, report: &mut Rep
     let Some(first) = lost_first(script, step, kind)? else {
         return no_step(script, step, kind, report);
     };
-    let complaint = Complaint {
-        at: first.at,
-        what: What::NoFirst(name_of(kind)),
-        expected: Some(Expected::Words("no \"first\", which is for a shared flow")),
-        nearest: None,
-    };
-    report.tell(script.text, complaint)
+    report.begin(script.text, first.at);
+    report.add(&[
+        name_of(kind),
+        " gives no subscriber first values of its own",
+        EXPECTED,
+        "no \"first\", which is for a shared flow",
+    ]);
+    report.end()
 }

@@ -1,11 +1,11 @@
 //! Why a script is refused, in words.
 
-use crate::complaint::{Complaint, Ended, Expected, Looked, Owner, Report, What};
 use crate::flow_words::{SCRIPT, VERSION};
 use crate::head::Script;
 use crate::json::{Spot, Text, not_json};
 use crate::names::{look_at_new_name, look_at_uses};
 use crate::not_allowed::tell_not_allowed;
+use crate::report::{EXPECTED, Ended, Looked, Owner, Report};
 use crate::search::{Aim, look_into};
 use crate::tasks::Task;
 use crate::words::Form;
@@ -91,49 +91,44 @@ fn tell_part(script: Script<'_>, part: u64, fault: ScriptFault, report: &mut Rep
         }
         None => look_at_head(script, fault, report)?,
     }
-    let complaint = Complaint {
-        at: step.unwrap_or(script.root).at,
-        what: What::Fault(fault),
-        expected: None,
-        nearest: None,
-    };
-    report.tell(script.text, complaint)
+    report.begin(script.text, step.unwrap_or(script.root).at);
+    tell_fault(fault, report)
 }
 
 /// Tells where the text stops being JSON.
 fn tell_stop(text: Text<'_>, report: &mut Report) -> Looked {
-    let (at, what, expected) = match not_json(text)? {
-        Some(stop) if stop.tells_value => (stop.at, What::Told(stop.what), Some(stop.expected)),
-        Some(stop) => (stop.at, What::Words(stop.what), Some(stop.expected)),
-        None => (0, What::Words("the text is JSON"), None),
-    };
-    let complaint = Complaint {
-        at,
-        what,
-        expected: match expected {
-            Some(words) => Some(Expected::Words(words)),
-            None => None,
-        },
-        nearest: None,
-    };
-    report.tell(text, complaint)
+    match not_json(text)? {
+        Some(stop) => {
+            if stop.tells_value {
+                report.begin_value(text, stop.at);
+            } else {
+                report.begin(text, stop.at);
+            }
+            report.add(&[stop.what, EXPECTED, stop.expected]);
+        }
+        None => {
+            report.begin(text, 0);
+            report.add(&["the text is JSON"]);
+        }
+    }
+    report.end()
 }
 
 /// Tells that a script has too many bytes.
 fn tell_size(text: Text<'_>, report: &mut Report) -> Looked {
-    let complaint = Complaint {
-        at: MOST_BYTES,
-        what: What::TooLong(text.bytes.len()),
-        expected: Some(Expected::AtMost(MOST_BYTES as u64)),
-        nearest: None,
-    };
-    report.tell(text, complaint)
+    report.begin(text, MOST_BYTES);
+    report.add(&["the script has "]);
+    report.add_number(text.bytes.len() as u64);
+    report.add(&[" bytes", EXPECTED, "at most "]);
+    report.add_number(MOST_BYTES as u64);
+    report.end()
 }
 
 /// Tells the fault's own words.
 fn tell_fault(fault: ScriptFault, report: &mut Report) -> Looked {
-    writeln!(report.lines, "{fault}")?;
-    Err(Ended::Told)
+    let added = write!(report.lines, "{fault}");
+    report.note(added);
+    report.end()
 }
 
 /// Tells why a script whose text is JSON is refused.
@@ -164,6 +159,7 @@ pub fn explain_refusal(
     let mut report = Report {
         part: part_of(fault),
         lines: String::new(alloc),
+        is_out_of_memory: false,
     };
     let looked = match report.part {
         Some(0) if bytes.len() > MOST_BYTES => tell_size(text, &mut report),

@@ -2,14 +2,12 @@
 
 use crate::chain_words::{FAULT, shape_of};
 use crate::choices::Choices;
-use crate::complaint::{Complaint, Ended, Expected, Looked, Owner, Report, What};
 use crate::form::is_name;
 use crate::head::{Script, items_of};
 use crate::json::{Member, Spot, Text};
-use crate::nearest::nearest_of;
+use crate::report::{EXPECTED, Ended, Looked, Owner, Report};
 use crate::tasks::{Inside, Task, inside_of};
 use crate::words::{Form, Row, Shape, Version, row_named};
-use std::alloc::AllocError;
 
 /// What is looked for.
 #[derive(Clone, Copy)]
@@ -41,17 +39,17 @@ impl<'a> Search<'a, '_> {
         version: &'static str,
     ) -> Looked {
         let keys = Choices::Keys(shape.keys, self.version);
-        let expected = match shape.missing(self.version, object.value) {
-            Some(key) => Expected::Form(Some(key.word), key.form),
-            None => Expected::OneOf("no key but ", keys),
-        };
-        let complaint = Complaint {
-            at: member.key,
-            what: What::NoKey(shape.name, version),
-            expected: Some(expected),
-            nearest: nearest_of(self.text.alloc, member.name, keys)?,
-        };
-        self.report.tell(self.text, complaint)
+        self.report.begin_value(self.text, member.key);
+        self.report
+            .add(&[" is no key of ", shape.name, version, EXPECTED]);
+        match shape.missing(self.version, object.value) {
+            Some(key) => self.report.add_key(key),
+            None => {
+                self.report.add(&["no key but "]);
+                self.report.add_choices(keys);
+            }
+        }
+        self.report.end_near(self.text.alloc, member.name, keys)
     }
 
     /// Looks for a key that an object has not.
@@ -74,15 +72,15 @@ impl<'a> Search<'a, '_> {
     }
 
     /// Looks at a value later.
-    fn add(&mut self, spot: Spot<'a>, owner: Owner, form: Form) -> Result<(), AllocError> {
+    fn add(&mut self, spot: Spot<'a>, owner: Owner, form: Form) -> Looked {
         match self.tasks.push(Task { spot, owner, form }) {
             Ok(_) => Ok(()),
-            Err(_) => Err(AllocError),
+            Err(_) => Err(Ended::OutOfMemory),
         }
     }
 
     /// Looks at the values of an object later.
-    fn add_members(&mut self, object: Spot<'a>, shape: Shape) -> Result<(), AllocError> {
+    fn add_members(&mut self, object: Spot<'a>, shape: Shape) -> Looked {
         for key in shape.keys {
             if let Some(spot) = self.text.member(object, key.word)? {
                 self.add(spot, Owner::Member(key.word), key.form)?;
@@ -99,8 +97,7 @@ impl<'a> Search<'a, '_> {
                 .report
                 .tell_missing(self.text, object.at, shape.name, key);
         }
-        self.add_members(object, shape)?;
-        Ok(())
+        self.add_members(object, shape)
     }
 
     /// The value of a tag is no such word, or none in this version, as these words say.
@@ -112,25 +109,34 @@ impl<'a> Search<'a, '_> {
         version: &'static str,
     ) -> Looked {
         let tags = Choices::Tags(rows, self.version);
+        self.report.begin_value(self.text, found.at);
+        self.report.add(&[
+            " is no value of \"",
+            tag,
+            "\"",
+            version,
+            EXPECTED,
+            "one of ",
+        ]);
+        self.report.add_choices(tags);
         let word = found.value.as_str().unwrap_or("");
-        let complaint = Complaint {
-            at: found.at,
-            what: What::NoValue(tag, version),
-            expected: Some(Expected::OneOf("one of ", tags)),
-            nearest: nearest_of(self.text.alloc, word, tags)?,
-        };
-        self.report.tell(self.text, complaint)
+        self.report.end_near(self.text.alloc, word, tags)
     }
 
     /// An object lacks its tag.
     fn no_tag(&mut self, object: Spot<'a>, tag: &'static str, rows: &'static [Row]) -> Looked {
-        let complaint = Complaint {
-            at: object.at,
-            what: What::MissingTag(tag),
-            expected: Some(Expected::Tag(tag, Choices::Tags(rows, self.version))),
-            nearest: None,
-        };
-        self.report.tell(self.text, complaint)
+        self.report.begin(self.text, object.at);
+        self.report.add(&[
+            "there is no \"",
+            tag,
+            "\"",
+            EXPECTED,
+            "\"",
+            tag,
+            "\", one of ",
+        ]);
+        self.report.add_choices(Choices::Tags(rows, self.version));
+        self.report.end()
     }
 
     /// Looks at an object whose keys its tag tells.
@@ -150,10 +156,7 @@ impl<'a> Search<'a, '_> {
     /// Looks at an item of a list, which is to have a form: later at an operator, which is looked into, and now at another.
     fn item(&mut self, spot: Spot<'a>, owner: Owner, form: Form) -> Looked {
         match form {
-            Form::Operator => {
-                self.add(spot, owner, form)?;
-                Ok(())
-            }
+            Form::Operator => self.add(spot, owner, form),
             _ if form.fits(spot.value) => Ok(()),
             Form::Entry if spot.value.is_object() => self.object(spot, FAULT),
             _ => self.report.tell_form(self.text, owner, spot, form),
@@ -213,13 +216,12 @@ impl<'a> Search<'a, '_> {
             && let Some(limited) = task.form.limited(task.spot.value)
             && limited.size > limited.most
         {
-            let complaint = Complaint {
-                at: task.spot.at,
-                what: What::PastLimit(key, limited.size, limited.unit),
-                expected: Some(Expected::AtMost(limited.most)),
-                nearest: None,
-            };
-            return self.report.tell(self.text, complaint);
+            self.report.begin(self.text, task.spot.at);
+            self.report.add(&["\"", key, "\": "]);
+            self.report.add_number(limited.size);
+            self.report.add(&[" ", limited.unit, EXPECTED, "at most "]);
+            self.report.add_number(limited.most);
+            return self.report.end();
         }
         Ok(())
     }
@@ -249,16 +251,13 @@ impl<'a> Search<'a, '_> {
 
 /// Tells what is wrong in a value of a script that should have this form.
 pub fn look_into<'a>(script: Script<'a>, aim: Aim, value: Task<'a>, report: &mut Report) -> Looked {
-    let mut tasks = Vec::new(script.text.alloc);
-    if tasks.push(value).is_err() {
-        return Err(Ended::OutOfMemory);
-    }
     let mut search = Search {
         text: script.text,
         version: script.version,
         aim,
-        tasks,
+        tasks: Vec::new(script.text.alloc),
         report,
     };
+    search.add(value.spot, value.owner, value.form)?;
     search.all()
 }

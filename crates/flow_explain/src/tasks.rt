@@ -1,9 +1,9 @@
 //! What is to be looked at in a script, and what there is to look at inside a value.
 
 use crate::chain_words::{CHAIN, operator_rows, source_shape};
-use crate::complaint::Owner;
 use crate::flow_words::{SCRIPT, STOP, flow_rows};
 use crate::json::Spot;
+use crate::report::Owner;
 use crate::step_words::step_rows;
 use crate::words::{Form, Row, Shape};
 use serde_json::Value;
