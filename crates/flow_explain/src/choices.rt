@@ -67,15 +67,4 @@ impl<'a> Choices<'a> {
             Choices::Names(steps, tag, flow) => Some(name_of(steps.get(index)?, tag, flow)),
         }
     }
-
-    /// The index of a word, and whether it may be chosen.
-    pub fn find(self, word: &str) -> Option<(usize, bool)> {
-        for index in 0..usize::MAX {
-            let (choice, is_right) = self.at(index)?;
-            if choice == word {
-                return Some((index, is_right));
-            }
-        }
-        None
-    }
 }

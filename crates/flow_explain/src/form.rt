@@ -1,7 +1,6 @@
 //! The forms of values: which values have them, their limits, and what a reader is told of them.
 
 use crate::chain_words::{MOST_ITEMS, MOST_SPREAD};
-use crate::choices::Choices;
 use crate::flow_words::{MOST_FLOWS, MOST_STEPS, STARTED_WORDS};
 use crate::head::items_of;
 use crate::words::Form;
@@ -57,31 +56,23 @@ pub struct Limited {
 impl Form {
     /// Whether a value has the form. What stands in a list or an object is not looked at, but for a range and a fault.
     pub fn fits(self, value: &Value) -> bool {
+        let word = value.as_str().unwrap_or("");
         match self {
             Form::Version => matches!(value.as_u64(), Some(1 | 2)),
             Form::Signed => value.as_i64().is_some(),
             Form::Unsigned | Form::Spread => value.as_u64().is_some(),
             Form::Short => is_short(Some(value)),
-            Form::Name => is_name(value.as_str().unwrap_or("")),
-            Form::OneOf(words) => {
-                Choices::Words(words)
-                    .find(value.as_str().unwrap_or(""))
-                    .is_some()
-            }
+            Form::Name => is_name(word),
+            Form::OneOf(words) => words.contains(&word),
             Form::Tag => value.is_string(),
             Form::Numbers(_) | Form::Entries | Form::Operators | Form::Steps => value.is_array(),
             Form::Range => range_len(value).is_some(),
             Form::Entry => {
                 value.is_i64()
-                    || value.as_str() == Some("pending")
+                    || word == "pending"
                     || (members_len(value) == 1 && is_short(value.get("fault")))
             }
-            Form::Started => {
-                value.is_object()
-                    || Choices::Words(STARTED_WORDS)
-                        .find(value.as_str().unwrap_or(""))
-                        .is_some()
-            }
+            Form::Started => value.is_object() || STARTED_WORDS.contains(&word),
             Form::Source => members_len(value) > 0,
             Form::Chain | Form::Operator => value.is_object(),
             Form::Flow | Form::Flows | Form::Step | Form::Script => value.is_object(),

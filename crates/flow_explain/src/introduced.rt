@@ -18,14 +18,14 @@ pub struct Named {
     pub expected: &'static str,
 }
 
-const EMISSION: Named = Named {
+static EMISSION: Named = Named {
     tag: "emit",
     words: "an emission",
     denied: " is no emission of this flow that an earlier step introduced",
     expected: "the name of an emission",
 };
 
-const SUBSCRIBER: Named = Named {
+static SUBSCRIBER: Named = Named {
     tag: "subscribe",
     words: "a subscriber",
     denied: " is no subscriber of this flow that an earlier step introduced",
@@ -34,12 +34,12 @@ const SUBSCRIBER: Named = Named {
 
 impl Named {
     /// What a step introduces by its name, or else what it uses by it.
-    pub fn by(step: &Value) -> (Option<Named>, Option<Named>) {
+    pub fn by(step: &Value) -> (Option<&'static Named>, Option<&'static Named>) {
         match text_at(step, "do") {
-            "emit" => (Some(EMISSION), None),
-            "subscribe" => (Some(SUBSCRIBER), None),
-            "poll" | "cancel" => (None, Some(EMISSION)),
-            "next" | "unsubscribe" => (None, Some(SUBSCRIBER)),
+            "emit" => (Some(&EMISSION), None),
+            "subscribe" => (Some(&SUBSCRIBER), None),
+            "poll" | "cancel" => (None, Some(&EMISSION)),
+            "next" | "unsubscribe" => (None, Some(&SUBSCRIBER)),
             _ => (None, None),
         }
     }

@@ -27,7 +27,7 @@ fn unknown_use<'a>(
     index: usize,
     flow: &'a str,
     found: Spot<'a>,
-    named: Named,
+    named: &Named,
     report: &mut Report,
 ) -> Looked {
     let word = found.value.as_str().unwrap_or("");

@@ -114,8 +114,11 @@ impl Report {
     /// Begins with the key or the value at an offset.
     pub fn begin_value(&mut self, text: Text<'_>, at: usize) {
         self.begin(text, at);
-        let added = text.add_raw(&mut self.lines, at);
-        self.note(added);
+        let (told, after) = text.told(at);
+        match String::from_utf8_lossy(text.alloc, told) {
+            Ok(told) => self.add(&[told.as_str(), after]),
+            Err(_) => self.is_out_of_memory = true,
+        }
     }
 
     /// Words between quotes, as they are listed in a sentence.

@@ -7,7 +7,7 @@ use crate::head::{Script, items_of};
 use crate::json::{Member, Spot, Text};
 use crate::report::{EXPECTED, Ended, Looked, Owner, Report};
 use crate::tasks::{Inside, Task, inside_of};
-use crate::words::{Form, Row, Shape, Version, row_named};
+use crate::words::{Form, Row, Shape, Version, key_named, row_named};
 
 /// What is looked for.
 #[derive(Clone, Copy)]
@@ -54,19 +54,20 @@ impl<'a> Search<'a, '_> {
 
     /// Looks for a key that an object has not.
     fn unknown(&mut self, object: Spot<'a>, shape: Shape) -> Looked {
-        let keys = Choices::Keys(shape.keys, self.version);
         let mut from = object.at.saturating_add(1);
         for _ in 0..self.text.bytes.len() {
             let Some(member) = self.text.member_from(object, from)? else {
                 break;
             };
-            match keys.find(member.name) {
-                Some((_, true)) => from = member.end,
-                Some((_, false)) => {
-                    return self.no_key(object, shape, member, self.version.words());
+            let version = match key_named(shape.keys, member.name) {
+                Some(key) if key.need.is_known(self.version) => {
+                    from = member.end;
+                    continue;
                 }
-                None => return self.no_key(object, shape, member, ""),
-            }
+                Some(_) => self.version.words(),
+                None => "",
+            };
+            return self.no_key(object, shape, member, version);
         }
         Ok(())
     }
@@ -144,13 +145,14 @@ impl<'a> Search<'a, '_> {
         let Some(found) = self.text.member(object, tag)? else {
             return self.no_tag(object, tag, rows);
         };
-        match row_named(rows, found.value.as_str().unwrap_or("")) {
+        let version = match row_named(rows, found.value.as_str().unwrap_or("")) {
             Some(row) if row.need.is_known(self.version) => {
-                self.object(object, shape_of(row, object.value))
+                return self.object(object, shape_of(row, object.value));
             }
-            Some(_) => self.no_value(found, tag, rows, self.version.words()),
-            None => self.no_value(found, tag, rows, ""),
-        }
+            Some(_) => self.version.words(),
+            None => "",
+        };
+        self.no_value(found, tag, rows, version)
     }
 
     /// Looks at an item of a list, which is to have a form: later at an operator, which is looked into, and now at another.

@@ -96,6 +96,16 @@ pub struct Key {
     pub need: Need,
 }
 
+/// The key of a word, in whatever version.
+pub fn key_named(keys: &'static [Key], word: &str) -> Option<Key> {
+    for key in keys {
+        if key.word == word {
+            return Some(*key);
+        }
+    }
+    None
+}
+
 /// An object of scripts, by the name that a reader is told, and its keys.
 #[derive(Clone, Copy)]
 pub struct Shape {

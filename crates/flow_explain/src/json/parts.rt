@@ -182,20 +182,19 @@ impl<'a> Text<'a> {
         Some(Spot { value, at })
     }
 
-    /// Adds the value that begins at an offset as it is written, in short.
-    pub fn add_raw(self, to: &mut String, at: usize) -> Result<(), AllocError> {
+    /// The value that begins at an offset as it is told, in short, and what is told after it.
+    pub fn told(self, at: usize) -> (&'a [u8], &'static str) {
         match self.rest(at).first() {
-            None => return to.push_str("the end of the text"),
-            Some(b'{') => return to.push_str("an object"),
-            Some(b'[') => return to.push_str("a list"),
-            Some(_) => {}
+            None => ("the end of the text".as_bytes(), ""),
+            Some(b'{') => ("an object".as_bytes(), ""),
+            Some(b'[') => ("a list".as_bytes(), ""),
+            Some(_) => {
+                let raw = self.raw(at);
+                match raw.get(..MOST_TOLD) {
+                    Some(told) if raw.len() > MOST_TOLD => (told, ".."),
+                    _ => (raw, ""),
+                }
+            }
         }
-        let raw = self.raw(at);
-        let told = raw.get(..MOST_TOLD).unwrap_or(raw);
-        to.push_str(String::from_utf8_lossy(self.alloc, told)?.as_str())?;
-        if raw.len() > MOST_TOLD {
-            to.push_str("..")?;
-        }
-        Ok(())
     }
 }
