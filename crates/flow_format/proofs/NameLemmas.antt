@@ -20,8 +20,11 @@ position_from-map : {X Y : Type 0} (p : Y → Bool) (f : X → Y) (k : ℕ) (xs 
 position_from-map p f k [] = refl
 position_from-map p f k (x ∷ xs) = ap (λ r. cond (p (f x)) (Some k) r) (position_from-map p f (k + 1) xs)
 
-pub position-map : {X Y : Type 0} (p : Y → Bool) (f : X → Y) (xs : List X) → position p (map f xs) ≡ position (λ x. p (f x)) xs
+position-map : {X Y : Type 0} (p : Y → Bool) (f : X → Y) (xs : List X) → position p (map f xs) ≡ position (λ x. p (f x)) xs
 position-map p f xs = position_from-zero p (map f xs) ∙ position_from-map p f 0 xs ∙ sym (position_from-zero (λ x. p (f x)) xs)
+
+pub position-found : {X Y : Type 0} (p : Y → Bool) (f : X → Y) (xs : List X) (found : Option ℕ) → found ≡ position (λ x. p (f x)) xs → position p (map f xs) ≡ found
+position-found p f xs found is = position-map p f xs ∙ sym is
 
 -- ---- the place of the first element that passes
 

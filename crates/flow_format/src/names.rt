@@ -25,20 +25,6 @@ impl<'a> FlowNames<'a> {
         }
     }
 
-    /// Which emission the name stands for.
-    fn emission(&self, name: &str) -> Option<usize>
-        ensures { result ≡ checks.place_of name.now (lists_of self.now).emissions }
-    {
-        self.emissions.get_index_of(name)
-    }
-
-    /// Which subscriber the name stands for.
-    fn subscriber(&self, name: &str) -> Option<usize>
-        ensures { result ≡ checks.place_of name.now (lists_of self.now).subscribers }
-    {
-        self.subscribers.get_index_of(name)
-    }
-
     fn is_known(&self, name: &str) -> bool
         ensures { result ≡ checks.is_known name.now (lists_of self.now) }
     {
@@ -96,7 +82,7 @@ impl<'a> Names<'a> {
         let Some(names) = self.flows.get(flow) else {
             return Err(ScriptFault::UnknownName(at));
         };
-        match names.emission(name) {
+        match names.emissions.get_index_of(name) {
             Some(place) => Ok(place),
             None => Err(ScriptFault::UnknownName(at)),
         }
@@ -106,10 +92,10 @@ impl<'a> Names<'a> {
     pub fn subscriber(&self, flow: usize, at: u64, name: &str) -> Result<usize, ScriptFault>
         ensures { checks.Gives (checks.subscriber_at flow at name.now (row_of self.now)) result }
     {
-        let Some(lists) = self.flows.get(flow) else {
+        let Some(names) = self.flows.get(flow) else {
             return Err(ScriptFault::UnknownName(at));
         };
-        match lists.subscriber(name) {
+        match names.subscribers.get_index_of(name) {
             Some(place) => Ok(place),
             None => Err(ScriptFault::UnknownName(at)),
         }
