@@ -52,3 +52,15 @@ returns-in-Keep-clause-steps g c =
     (record { answer = reported Keep c.work-in-Keep.result; seen = all; state = state_of c.work-in-Keep.new.self }) (chain_and_hub g.C.Cold.whole g.C.Cold.rest c.work-in-Keep.new.self) in
     subst P is (c.work-in-Keep.ensures.steps Keep all) in
     subst G (sym c.in-Keep.is) begun
+
+pub returns-in-Start-clause-not_ended : goal.returns-in-Start-clause-not_ended
+returns-in-Start-clause-not_ended g c = c.work.ensures.not_ended
+
+pub returns-in-Stop-clause-not_ended : goal.returns-in-Stop-clause-not_ended
+returns-in-Stop-clause-not_ended g c = c.work-in-Stop.ensures.not_ended
+
+pub returns-in-StopAndReset-clause-not_ended : goal.returns-in-StopAndReset-clause-not_ended
+returns-in-StopAndReset-clause-not_ended g c = c.work-in-StopAndReset.ensures.not_ended
+
+pub returns-in-Keep-clause-not_ended : goal.returns-in-Keep-clause-not_ended
+returns-in-Keep-clause-not_ended g c = c.work-in-Keep.ensures.not_ended

@@ -31,3 +31,9 @@ returns-in-Err-clause-ended g c =
 
 pub returns-in-Err-clause-not_ended : goal.returns-in-Err-clause-not_ended
 returns-in-Err-clause-not_ended g c = (goes-on c.refusal_of.result c.in-Err.fault c.refusal_of.ensures).0
+
+pub returns-then-not-self-clause-not_ended : goal.returns-then-not-self-clause-not_ended
+returns-then-not-self-clause-not_ended g c = c.collect.ensures.not_ended
+
+pub returns-in-Ok-clause-not_ended : goal.returns-in-Ok-clause-not_ended
+returns-in-Ok-clause-not_ended g c = c.collect-in-Ok.ensures.not_ended

@@ -31,3 +31,9 @@ returns-in-Err-clause-ended g c =
 
 pub returns-in-Err-clause-not_ended : goal.returns-in-Err-clause-not_ended
 returns-in-Err-clause-not_ended g c = (goes-on c.refusal_of.result c.in-Err.fault c.refusal_of.ensures).0
+
+pub returns-then-not-is_work_due-clause-not_ended : goal.returns-then-not-is_work_due-clause-not_ended
+returns-then-not-is_work_due-clause-not_ended g c = c.collect.ensures.not_ended
+
+pub returns-in-Ok-clause-not_ended : goal.returns-in-Ok-clause-not_ended
+returns-in-Ok-clause-not_ended g c = c.reset_if_due.ensures.not_ended

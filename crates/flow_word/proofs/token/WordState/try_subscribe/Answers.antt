@@ -1,4 +1,4 @@
-use Rattle.std.proofs.Common.{rules, ◌≡◌, ◌+◌, ◌/◌, ◌∷◌, [], map, sym, ap, subst, ◌∙◌, arith}
+use Rattle.std.proofs.Common.{rules, Some, None, ◌≡◌, ◌+◌, ◌/◌, ◌∷◌, [], map, sym, ap, subst, ◌∙◌, arith}
 use Rattle.flow_law.specs.declared.call.StateCall.TheVariants.{Subscribe}
 use Rattle.flow_law.specs.declared.call.StateReply.TheVariants.{Subscribed}
 use Rattle.flow_law.specs.declared.states.StateFlowState.{StateFlowState}
@@ -11,6 +11,10 @@ use Rattle.flow_word.specs.Tokens.{word_id, token_of}
 use Rattle.flow_word.proofs.SeatSteps.{making}
 use Rattle.flow_word.proofs.Subscribing.{finding, entering}
 use Rattle.flow_word.proofs.token.WordState.try_subscribe.Goals as goal
+
+-- an answer is not the lack of one
+answered : {X P : Type 0} (x : X) → Some x ≡ None → P
+answered x is = absurd (cc)
 
 pub load-word-requires : goal.load-word-requires
 load-word-requires g c = (search rules, search rules, finding _ _ _ _ _ _ _ (ap (λ m. m.0) c.seat.invariant))
@@ -46,3 +50,9 @@ returns-clause-subscribed g c =
       (λ i. token (word_id (p.ensures.3 i) (only (p.ensures.4 i).0).start) (only (p.ensures.4 i).0).knows)
           ∙ (λ i. token (word_id e.new.seat.table_id (only (map (with_knows child) (alone i))).start) (only (map (with_knows child) (alone i))).knows),
     )
+
+pub returns-then-issued-from-clause-lost : goal.returns-then-issued-from-clause-lost
+returns-then-issued-from-clause-lost g c = λ is. answered _ is
+
+pub returns-clause-lost : goal.returns-clause-lost
+returns-clause-lost g c = λ is. answered _ is
