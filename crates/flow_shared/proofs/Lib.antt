@@ -1,4 +1,5 @@
 pub mod Inside
+pub mod Drains
 pub mod Emissions
 pub mod EmitCountLemmas
 pub mod EmitRuns

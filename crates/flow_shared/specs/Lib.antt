@@ -1,5 +1,6 @@
 pub mod Tokens
 pub mod Calls
+pub mod Drains
 pub mod SharedReplies
 pub mod StateReplies
 pub mod EmitCounts

@@ -1,22 +1,135 @@
 //! Taking all that a subscriber of a flow for several threads can receive now.
-ghost use Rattle.std.specs.Prelude.{◌≡◌, ◌≢◌, Ok};
+ghost use Rattle.std.specs.Prelude.{◌≡◌, ◌≢◌, ◌+◌, ◌≤◌, Ok};
+ghost use Rattle.std.specs.Vec.{vec_len, vec_capacity};
 ghost use Rattle.flow_law.specs.Draining.{DrainsBy};
+ghost use Rattle.flow_law.specs.Growth.{NamesOnlyMade};
+ghost use Rattle.flow_law.specs.History.{IsSubscription};
+ghost use Rattle.flow_law.specs.Tokens.{numbered};
 ghost use Rattle.flow_law.specs.declared.outcome.Drained.TheVariants.{Gone};
+ghost use Rattle.flow_core.specs.SubId.{number_of};
 ghost use Rattle.flow_shared.specs.Calls.{NextsOf};
+ghost use Rattle.flow_shared.specs.Drains.{CoreNexts, TakesBy, TakesInside};
 
 use crate::flow::Flow;
-use crate::token::FlowSubscription;
-use flow_core::FlowCore;
+use crate::token::{FlowSeat, FlowSubscription};
+use flow_core::{FlowCore, SubId};
+use flow_gate::{Held, Seat};
 use flow_law::{Drained, FlowFault, Next};
 use std::alloc::Allocator;
+use std::marker::Brand;
+use std::snapshot::Snapshot;
 use std::sync::Wait;
 
+/// `next` of a core again and again, each value into a list that has room for all.
+fn take_values<S: FlowCore, B: Allocator>(
+    core: &mut S,
+    id: SubId,
+    most: usize,
+    values: &mut Vec<S::Item, B>,
+) -> Result<Drained, FlowFault>
+    requires { vec_len values.old + most ≤ vec_capacity values.old }
+    ensures { TakesBy (CoreNexts S.kind (number_of id) S.stands_as) most
+        core.old values.old.items result values.new.items core.new }
+{
+    for _ in 0..most {
+        match core.next(id)? {
+            Next::Value(value) => values.push_reserved(value),
+            Next::Empty => return Ok(Drained::Empty),
+            Next::Gone => return Ok(Drained::Gone),
+        }
+    }
+    Ok(Drained::Most)
+}
+
+/// The same of the core inside a gate, and leaving with the events that name the calls.
+fn take_inside<S: FlowCore, A: Allocator + Copy, B: Allocator>(
+    held: Held<'_, S, A>,
+    id: SubId,
+    most: usize,
+    values: &mut Vec<S::Item, B>,
+) -> (Seat<S, A>, Result<Drained, FlowFault>)
+    requires stood { S.stands held.first held.state held.token.knows.seen }
+    requires subscribed { IsSubscription S.kind held.token.knows (number_of id) }
+    requires names { NamesOnlyMade held.token.knows.name held.token.knows.made held.token.knows.seen }
+    requires some { most ≢ 0 }
+    requires room { vec_len values.old + most ≤ vec_capacity values.old }
+    ensures { TakesInside S.kind (number_of id) S.stands_as most
+        held.entry values.old.items result.1 values.new.items result.0 }
+{
+    let mut held = held;
+    let before = Snapshot::of(values);
+    let ended = take_values(held.state(), id, most, values);
+    let seat = held.leave::<Brand, _>(&(id, before, &*values, &ended));
+    (seat, ended)
+}
+
 impl<S: FlowCore + Drop, A: Allocator + Copy> Flow<S, A> {
+    /// `next` of a subscriber again and again, under one entry: no other caller comes between.
+    fn take<R: Wait, B: Allocator>(
+        &self,
+        rt: &R,
+        seat: &mut FlowSeat<S, A>,
+        id: SubId,
+        most: usize,
+        values: &mut Vec<S::Item, B>,
+    ) -> Result<Drained, FlowFault>
+        requires flow { seat.old.table_id ≡ self.now.table_id }
+        requires subscribed { IsSubscription S.kind seat.old.knows (number_of id) }
+        requires some { most ≢ 0 }
+        requires room { vec_len values.old + most ≤ vec_capacity values.old }
+        ensures drained { DrainsBy (NextsOf S.kind self.now) most
+            (numbered seat.old (number_of id)) values.old.items
+            result values.new.items (numbered seat.new (number_of id)) }
+        ensures subscribed { IsSubscription S.kind seat.new.knows (number_of id) }
+        ensures flow { seat.new.table_id ≡ seat.old.table_id }
+    {
+        let own = seat.seat.take().unwrap();
+        let held = self.gate.enter(rt, own);
+        let (own, ended) = take_inside(held, id, most, values);
+        seat.seat = Some(own);
+        ended
+    }
+
+    /// The same, under one entry for all that the list has room for.
+    fn drain_by<R: Wait, B: Allocator>(
+        &self,
+        rt: &R,
+        seat: &mut FlowSeat<S, A>,
+        id: SubId,
+        most: usize,
+        values: &mut Vec<S::Item, B>,
+    ) -> Result<Drained, FlowFault>
+        requires flow { seat.old.table_id ≡ self.now.table_id }
+        requires subscribed { IsSubscription S.kind seat.old.knows (number_of id) }
+        ensures drained { DrainsBy (NextsOf S.kind self.now) most
+            (numbered seat.old (number_of id)) values.old.items
+            result values.new.items (numbered seat.new (number_of id)) }
+        ensures subscribed { IsSubscription S.kind seat.new.knows (number_of id) }
+        ensures flow { seat.new.table_id ≡ seat.old.table_id }
+    {
+        let mut left = most;
+        while left > 0 {
+            if values.reserve(1).is_err() {
+                return Err(FlowFault::OutOfMemory);
+            }
+            let room = left.min(values.capacity() - values.len());
+            match self.take(rt, seat, id, room, values) {
+                Ok(Drained::Most) => left -= room,
+                Ok(Drained::Empty) => return Ok(Drained::Empty),
+                Ok(Drained::Gone) => return Ok(Drained::Gone),
+                Err(fault) => return Err(fault),
+            }
+        }
+        Ok(Drained::Most)
+    }
+
     /// Takes what the subscriber can receive now, at most `most` values, to the end of the list: what `next`
-    /// answers, again and again, in order. `Ok` says why it stopped. Between two values other callers may come.
+    /// answers, again and again, in order. `Ok` says why it stopped.
     ///
     /// Room for a value is made before it is taken. So where memory is wanting the value is still in the flow, those
-    /// before it are in the list, and the call can be made again.
+    /// before it are in the list, and the call can be made again. All that the list has room for is taken under one
+    /// entry, which costs little more than one `next`: call it with a list that is kept. Other callers come between two
+    /// values only where the list has to grow.
     pub fn drain<R: Wait, B: Allocator>(
         &self,
         rt: &R,
@@ -32,16 +145,7 @@ impl<S: FlowCore + Drop, A: Allocator + Copy> Flow<S, A> {
         ensures number { subscription.new.number ≡ subscription.old.number }
         ensures live { result ≢ Ok Gone }
     {
-        for _ in 0..most {
-            if values.reserve(1).is_err() {
-                return Err(FlowFault::OutOfMemory);
-            }
-            match self.next(rt, subscription)? {
-                Next::Value(value) => values.push_reserved(value),
-                Next::Empty => return Ok(Drained::Empty),
-                Next::Gone => unreachable!(),
-            }
-        }
-        Ok(Drained::Most)
+        let id = subscription.id;
+        self.drain_by(rt, &mut subscription.seat, id, most, values)
     }
 }

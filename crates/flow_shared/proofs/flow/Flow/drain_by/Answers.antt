@@ -1,0 +1,62 @@
+use Rattle.std.proofs.Common.{◌≡◌, ◌≢◌, ◌+◌, ◌-◌, ◌≤◌, ℕ, List, ◌∙◌, sym, ap, subst, arith}
+use Rattle.std.specs.Prelude.{Ok, Err, Result}
+use Rattle.flow_law.specs.declared.fault.FlowFault.{FlowFault}
+use Rattle.flow_law.specs.declared.outcome.Next.{Next}
+use Rattle.flow_law.specs.declared.outcome.Drained.{Drained}
+use Rattle.flow_law.specs.declared.outcome.Drained.TheVariants as drained
+use Rattle.flow_law.specs.Draining.{DrainsBy}
+use Rattle.flow_law.specs.Tokens.{numbered}
+use Rattle.flow_law.proofs.DrainingLemmas.{HasTaken}
+use Rattle.flow_core.specs.SubId.{number_of}
+use Rattle.flow_shared.specs.Calls.{NextsOf}
+use Rattle.flow_shared.proofs.Drains.{taken_room, drained_within}
+use Rattle.flow_shared.proofs.flow.Flow.drain_by.Goals as goal
+
+-- so many values are left to take, of which there is room for some
+module _ {X T : Type 0} (R : X → Result (Next T) FlowFault → X → Type 0) (most left room : ℕ) (old now after : X) (old_list list same longer : List T) (taken : HasTaken R (most - left) old old_list list now)
+    (within : left ≤ most) (fits : room ≤ left) (is : same ≡ list) (result : Result Drained FlowFault) (d : DrainsBy R room now same result longer after) where
+  so_far : HasTaken R (most - left) old old_list same now
+  so_far = subst (λ (l : List T). HasTaken R (most - left) old old_list l now) (sym is) taken
+
+  takes_on : result ≡ Ok drained.Most → HasTaken R (most - (left - room)) old old_list longer after
+  takes_on all =
+      let far : (most - left) + room ≡ most - (left - room) = omega (arith, within, fits) in
+      subst (λ (n : ℕ). HasTaken R n old old_list longer after) far
+      (taken_room R (most - left) room old now after old_list same longer so_far (subst (λ (r : Result Drained FlowFault). DrainsBy R room now same r longer after) all d))
+
+  ends_with : (given : Result Drained FlowFault) → result ≡ given → given ≢ Ok drained.Most → DrainsBy R most old old_list given longer after
+  ends_with given e other =
+      drained_within R (most - left) room old now after old_list same longer so_far most given (omega (arith, within, fits)) other (subst (λ (r : Result Drained FlowFault). DrainsBy R room now same r longer after) e d)
+
+pub loop-left-preserved : goal.loop-left-preserved
+loop-left-preserved g c =
+    let n = number_of c.args.id in
+    record {
+      within = omega (arith, c.loop-left.invariant.within);
+      taken = takes_on (NextsOf g.S.FlowCore.kind c.args.self.now) c.args.most c.loop-left.left c.min-room.result (numbered c.args.seat.now n) (numbered c.loop-left.seat n) (numbered c.take.new.seat n)
+          c.args.values.now.items c.loop-left.values.items c.reserve.new.self.items c.take.new.values.items c.loop-left.invariant.taken c.loop-left.invariant.within (omega (arith, c.min-room.ensures))
+          c.reserve.ensures.items c.take.result c.take.ensures.drained (c.in-Ok-Most.is ∙ ap Ok c.in-Ok-Most.field-0-is);
+      subscribed = c.take.ensures.subscribed;
+      flow = c.take.ensures.flow ∙ c.loop-left.invariant.flow;
+    }
+
+pub returns-in-Ok-Empty-clause-drained : goal.returns-in-Ok-Empty-clause-drained
+returns-in-Ok-Empty-clause-drained g c =
+    let n = number_of c.args.id in
+    ends_with (NextsOf g.S.FlowCore.kind c.args.self.now) c.args.most c.loop-left.left c.min-room.result (numbered c.args.seat.now n) (numbered c.loop-left.seat n) (numbered c.take.new.seat n)
+    c.args.values.now.items c.loop-left.values.items c.reserve.new.self.items c.take.new.values.items c.loop-left.invariant.taken c.loop-left.invariant.within (omega (arith, c.min-room.ensures))
+    c.reserve.ensures.items c.take.result c.take.ensures.drained (Ok drained.Empty) (c.in-Ok-Empty.is ∙ ap Ok c.in-Ok-Empty.field-0-is) (λ e. cc)
+
+pub returns-in-Ok-Gone-clause-drained : goal.returns-in-Ok-Gone-clause-drained
+returns-in-Ok-Gone-clause-drained g c =
+    let n = number_of c.args.id in
+    ends_with (NextsOf g.S.FlowCore.kind c.args.self.now) c.args.most c.loop-left.left c.min-room.result (numbered c.args.seat.now n) (numbered c.loop-left.seat n) (numbered c.take.new.seat n)
+    c.args.values.now.items c.loop-left.values.items c.reserve.new.self.items c.take.new.values.items c.loop-left.invariant.taken c.loop-left.invariant.within (omega (arith, c.min-room.ensures))
+    c.reserve.ensures.items c.take.result c.take.ensures.drained (Ok drained.Gone) (c.in-Ok-Gone.is ∙ ap Ok c.in-Ok-Gone.field-0-is) (λ e. cc)
+
+pub returns-in-Err-clause-drained : goal.returns-in-Err-clause-drained
+returns-in-Err-clause-drained g c =
+    let n = number_of c.args.id in
+    ends_with (NextsOf g.S.FlowCore.kind c.args.self.now) c.args.most c.loop-left.left c.min-room.result (numbered c.args.seat.now n) (numbered c.loop-left.seat n) (numbered c.take.new.seat n)
+    c.args.values.now.items c.loop-left.values.items c.reserve.new.self.items c.take.new.values.items c.loop-left.invariant.taken c.loop-left.invariant.within (omega (arith, c.min-room.ensures))
+    c.reserve.ensures.items c.take.result c.take.ensures.drained (Err c.in-Err.fault) c.in-Err.is (λ e. cc)

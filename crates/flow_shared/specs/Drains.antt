@@ -1,0 +1,56 @@
+-- Draining under one entry: what the calls of the core do in a row, and what the caller has then said.
+use Rattle.std.specs.Prelude.{◌≡◌, ◌↔◌, ℕ, ◌≤◌, List, [], ◌∷◌, ◌++◌, map, length, Result, Ok, Err}
+use Rattle.flow_law.specs.declared.fault.FlowFault.{FlowFault}
+use Rattle.flow_law.specs.declared.history.Said.{Said}
+use Rattle.flow_law.specs.declared.outcome.Next.{Next}
+use Rattle.flow_law.specs.declared.outcome.Next.TheVariants as next
+use Rattle.flow_law.specs.declared.outcome.Drained.{Drained}
+use Rattle.flow_law.specs.declared.outcome.Drained.TheVariants as drained
+use Rattle.flow_law.specs.Draining.{NextsGive}
+use Rattle.flow_law.specs.Growth.{adds}
+use Rattle.flow_law.specs.History.{Kind, replied}
+use Rattle.flow_law.specs.OneHistory.{said}
+use Rattle.flow_law.specs.Standing.{Documents}
+use Rattle.flow_law.specs.Tokens.{knowing}
+use Rattle.flow_gate.specs.Tokens.{Token, HeldState}
+
+module _ {X T : Type 0} (Nexts : X → Result (Next T) FlowFault → X → Type 0) where
+  -- what ended it: there were enough values, or the next call
+  abbrev pub EndsByCall : X → Result Drained FlowFault → X → Type 0
+  EndsByCall before (Ok drained.Most) after = before ≡ after
+  EndsByCall before (Ok drained.Empty) after = Nexts before (Ok next.Empty) after
+  EndsByCall before (Ok drained.Gone) after = Nexts before (Ok next.Gone) after
+  EndsByCall before (Err fault) after = Nexts before (Err fault) after
+
+  -- a drain whose list has room for all
+  pub record TakesBy (most : ℕ) (old : X) (old_list : List T) (result : Result Drained FlowFault) (new_list : List T) (new : X) : Type 0 where
+    pub values : List T
+    -- after the last of them
+    pub last : X
+    pub taken : NextsGive Nexts old values last
+    pub ended : EndsByCall last result new
+    pub appended : new_list ≡ old_list ++ values
+    pub within : length values ≤ most
+    pub enough : (result ≡ Ok drained.Most) ↔ (length values ≡ most)
+
+module _ {T S C R : Type 0} (kind : Kind T S C R) (number : ℕ) where
+  -- one `next` of a core of this kind
+  abbrev pub CoreNexts : {K : Type 0} → (K → S → Type 0) → K → Result (Next T) FlowFault → K → Type 0
+  CoreNexts StandsAs old answer new = Documents kind StandsAs old (kind.take_next number) (replied kind kind.received answer) new
+
+  -- the calls that gave the values
+  abbrev pub said_values : List T → List (Said C R)
+  said_values values = map (λ v. said (kind.take_next number) (kind.received (next.Value v))) values
+
+  -- the call that ended it, if one did
+  abbrev pub said_end : Result Drained FlowFault → List (Said C R)
+  said_end (Ok drained.Most) = []
+  said_end (Ok drained.Empty) = said (kind.take_next number) (kind.received next.Empty) ∷ []
+  said_end (Ok drained.Gone) = said (kind.take_next number) (kind.received next.Gone) ∷ []
+  said_end (Err fault) = said (kind.take_next number) (kind.refused fault) ∷ []
+
+  -- Who was inside took these values and left.
+  pub record TakesInside {K : Type 0} (StandsAs : K → S → Type 0) (most : ℕ) (held : HeldState K (Said C R)) (old_list : List T) (result : Result Drained FlowFault) (new_list : List T) (after : Token (Said C R)) : Type 0 where
+    pub core : K
+    pub takes : TakesBy (CoreNexts StandsAs) most held.state old_list result new_list core
+    pub left : after ≡ knowing held.token (adds (said_values takes.values ++ said_end result) held.token.knows)
