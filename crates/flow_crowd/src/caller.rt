@@ -2,7 +2,7 @@
 ghost use Rattle.std.specs.Prelude.{◌≡◌, IfSome};
 
 use crate::order::Order;
-use crate::reader::Reader;
+use crate::reader::{AT_ONCE, Reader};
 use crate::size::CrowdSize;
 use crate::worker::Worker;
 use crossbeam_utils::atomic::AtomicCell;
@@ -59,11 +59,13 @@ impl<'a> Caller<'a> {
     fn reader<R: Wait>(&mut self, rt: &R, alloc: Global, size: CrowdSize) -> Option<Reader<'a>> {
         let order = Order::new(u64::from(size.values));
         let orders = vec![in alloc; order; size.emitters as usize].ok()?;
+        let taken = Vec::with_capacity(alloc, AT_ONCE).ok()?;
         match self.flow.subscribe(rt, &mut self.seat) {
             Ok(subscription) => Some(Reader {
                 flow: self.flow,
                 subscription,
                 stop: self.stop,
+                taken,
                 orders,
             }),
             Err(_fault) => None,
