@@ -1,12 +1,15 @@
 //! A chain of whole numbers as a tree: sources at its leaves, operators above them.
 ghost use Rattle.std.specs.Prelude.{◌≡◌, ◌≤◌, ℤ, true, false};
-ghost use Rattle.flow_law.specs.ChainRun.{ChainRun};
+ghost use Rattle.flow_law.specs.ChainRun.{ChainRun, gives};
+ghost use Rattle.flow_law.specs.OperatorRuns.{zip_run};
 ghost use Rattle.flow_cold.specs.declared.script_chain.node.Node.{size-Node};
 ghost use Rattle.flow_operators.specs.Asking.{AskGives, IsFinal};
-ghost use Rattle.flow_operators.specs.Behind.{Leaves};
+ghost use Rattle.flow_operators.specs.Behind.{AsksOnce, Leaves};
 ghost use Rattle.flow_cold.specs.Answers.{asked_of};
+ghost use Rattle.flow_cold.specs.Numbers.{joined};
 ghost use Rattle.flow_cold.specs.OperatorAsks.{after_stage};
 ghost use Rattle.flow_cold.specs.Operators.{IsStageOver, operator_whole, stage_rest};
+ghost use Rattle.flow_cold.specs.Pairing.{pairing_rest};
 ghost use Rattle.flow_cold.specs.ScriptChain.{IsNodeOver, NodeAsksBehind, node_depth, node_rest, node_whole};
 
 use crate::script_chain::answer::Answer;
@@ -58,12 +61,7 @@ pub fn ask_node(node: &mut Node) -> Answer
         Node::List(list) => Answer::of(list.ask()),
         Node::Range(range) => Answer::of(range.ask()),
         Node::Script(script) => Answer::of(script.ask()),
-        Node::On(upstream, stage) => {
-            if let Phase::Over = stage.phase {
-                return Answer::End;
-            }
-            ask_stage(upstream, stage)
-        }
+        Node::On(upstream, stage) => ask_stage(upstream, stage),
         Node::Zip(left, right, pairing) => {
             if pairing.ended {
                 return Answer::End;
@@ -75,38 +73,57 @@ pub fn ask_node(node: &mut Node) -> Answer
                     answer => return pairing.without_item(answer),
                 },
             };
-            let asked = ask_node(right);
-            pairing.on_right(first, asked)
+            ask_right(right, pairing, first)
         }
     }
 }
 
-/// Gives the next answer of an operator that is not over: its upstream is asked until there is one.
+/// Gives the next answer of an operator: its upstream is asked until there is one, where there is none without it.
+// The box is passed, and not the node in it: each ask would save a register more, to keep the node's place.
 #[cycle(asking)]
-fn ask_stage(upstream: &mut Node, stage: &mut Stage) -> Answer
-    requires { ¬ IsStageOver stage.old }
-    ensures whole { node_whole upstream.new ≡ node_whole upstream.old }
+fn ask_stage(upstream: &mut Box<Node>, stage: &mut Stage) -> Answer
+    ensures whole { node_whole upstream.new.value ≡ node_whole upstream.old.value }
     ensures operator { (r : ChainRun ℤ)
         → operator_whole stage.new.operator r ≡ operator_whole stage.old.operator r }
-    ensures gives { AskGives (stage_rest stage.old (node_rest upstream.old)) (asked_of result)
-        (stage_rest stage.new (node_rest upstream.new)) }
+    ensures gives { AskGives (stage_rest stage.old (node_rest upstream.old.value)) (asked_of result)
+        (stage_rest stage.new (node_rest upstream.new.value)) }
     ensures over { IsFinal (asked_of result) → IsStageOver stage.new }
-    ensures behind { Leaves (after_stage stage.old (node_rest upstream.old)) (asked_of result)
-        (node_rest upstream.new) }
-    ensures depth { node_depth upstream.new ≡ node_depth upstream.old }
-    ensures size { size-Node upstream.new ≤ size-Node upstream.old }
+    ensures behind { Leaves (after_stage stage.old (node_rest upstream.old.value)) (asked_of result)
+        (node_rest upstream.new.value) }
+    ensures depth { node_depth upstream.new.value ≡ node_depth upstream.old.value }
+    ensures end { IsStageOver stage.old
+        → (result ≡ Answer.End) × upstream.new ≡ upstream.old × stage.new ≡ stage.old }
+    ensures size { size-Node upstream.new.value ≤ size-Node upstream.old.value }
 {
     loop {
-        if let Phase::Holding = stage.phase {
-            if let Some(answer) = stage.next_held() {
-                return answer;
-            }
+        if let Some(answer) = stage.next_alone() {
+            return answer;
         }
         let asked = ask_node(upstream);
         if let Some(answer) = stage.on_answer(asked) {
             return answer;
         }
     }
+}
+
+/// Gives the answer of a zip that has a left item: its right side is asked.
+// Not inlined: each ask of any node would save two registers more, for this alone.
+#[cycle(asking)]
+#[inline(never)]
+fn ask_right(right: &mut Node, pairing: &mut Pairing, first: i64) -> Answer
+    requires { pairing.old.ended ≡ false }
+    ensures whole { node_whole right.new ≡ node_whole right.old }
+    ensures by { pairing.new.by ≡ pairing.old.by }
+    ensures gives { (left : ChainRun ℤ)
+        → AskGives (zip_run (joined pairing.old.by) (gives first left) (node_rest right.old)) (asked_of result)
+        (pairing_rest pairing.new left (node_rest right.new)) }
+    ensures over { IsFinal (asked_of result) → pairing.new.ended ≡ true }
+    ensures behind { AsksOnce (node_rest right.old) (asked_of result) (node_rest right.new) }
+    ensures depth { node_depth right.new ≡ node_depth right.old }
+    ensures size { size-Node right.new ≤ size-Node right.old }
+{
+    let asked = ask_node(right);
+    pairing.on_right(first, asked)
 }
 
 /// Starts the chain anew.

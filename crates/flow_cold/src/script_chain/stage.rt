@@ -1,5 +1,5 @@
 //! An operator with one upstream, in a chain.
-ghost use Rattle.std.specs.Prelude.{◌≡◌, ℤ, None, MatchOption, IfSome};
+ghost use Rattle.std.specs.Prelude.{◌≡◌, ℤ, Some, None, MatchOption, IfSome};
 ghost use Rattle.flow_law.specs.ChainRun.{ChainRun};
 ghost use Rattle.flow_operators.specs.Asking.{AskGives, IsFinal, IsItem};
 ghost use Rattle.flow_operators.specs.Behind.{Leaves};
@@ -20,8 +20,29 @@ impl Stage {
         Stage { operator, phase }
     }
 
+    /// The next answer for which the upstream is not asked: the end of an operator that is over, or what is held back.
+    /// `None` where the upstream is to be asked.
+    pub fn next_alone(&mut self) -> Option<Answer>
+        ensures whole { (r : ChainRun ℤ) → operator_whole self.new.operator r
+            ≡ operator_whole self.old.operator r }
+        ensures gives { (r : ChainRun ℤ) → MatchOption result (stage_rest self.new r ≡ stage_rest self.old r)
+            (λ given. AskGives (stage_rest self.old r) (asked_of given) (stage_rest self.new r)) }
+        ensures behind { (r : ChainRun ℤ)
+            → MatchOption result (after_stage self.old r ≡ after_stage self.new r)
+            (λ _. after_stage self.old r ≡ r) }
+        ensures ready { result ≡ None → self.new.phase ≡ Phase.Ready }
+        ensures over { IfSome result (λ given. IsFinal (asked_of given) → IsStageOver self.new) }
+        ensures end { IsStageOver self.old → (result ≡ Some Answer.End) × self.new ≡ self.old }
+    {
+        match self.phase {
+            Phase::Ready => None,
+            Phase::Holding => self.next_held(),
+            Phase::Over => Some(Answer::End),
+        }
+    }
+
     /// The next answer of what is held back; `None` where the upstream is to be asked.
-    pub fn next_held(&mut self) -> Option<Answer>
+    fn next_held(&mut self) -> Option<Answer>
         requires { self.old.phase ≡ Phase.Holding }
         ensures whole { (r : ChainRun ℤ) → operator_whole self.new.operator r
             ≡ operator_whole self.old.operator r }
