@@ -14,19 +14,32 @@ module _ {X T : Type 0} (Nexts : X → Result (Next T) FlowFault → X → Type 
   abbrev pub NextsGive : X → List T → X → Type 0
   NextsGive = FoldsTo (λ before value after. Nexts before (Ok (next.Value value)) after)
 
-  -- what ended it: there were enough values, or the next call, or the list had no room
-  abbrev pub EndsBy : X → Result Drained FlowFault → X → Type 0
-  EndsBy before (Ok drained.Most) after = before ≡ after
-  EndsBy before (Ok drained.Empty) after = Nexts before (Ok next.Empty) after
-  EndsBy before (Ok drained.Gone) after = Nexts before (Ok next.Gone) after
-  EndsBy before (Err fault) after = Nexts before (Err fault) after ⊎ ((fault ≡ OutOfMemory) × (before ≡ after))
+  -- what ended it: there were enough values, or the next call
+  abbrev pub EndsByCall : X → Result Drained FlowFault → X → Type 0
+  EndsByCall before (Ok drained.Most) after = before ≡ after
+  EndsByCall before (Ok drained.Empty) after = Nexts before (Ok next.Empty) after
+  EndsByCall before (Ok drained.Gone) after = Nexts before (Ok next.Gone) after
+  EndsByCall before (Err fault) after = Nexts before (Err fault) after
 
-  pub record DrainsBy (most : ℕ) (old : X) (old_list : List T) (result : Result Drained FlowFault) (new_list : List T) (new : X) : Type 0 where
+  -- the same, or the list had no room
+  abbrev pub EndsBy : X → Result Drained FlowFault → X → Type 0
+  EndsBy before (Ok end) after = EndsByCall before (Ok end) after
+  EndsBy before (Err fault) after = EndsByCall before (Err fault) after ⊎ ((fault ≡ OutOfMemory) × (before ≡ after))
+
+  -- at most so many values were taken, of which `Ends` says what ended it
+  pub record Takes (Ends : X → Result Drained FlowFault → X → Type 0) (most : ℕ) (old : X) (old_list : List T) (result : Result Drained FlowFault) (new_list : List T) (new : X) : Type 0 where
     pub values : List T
     -- after the last of them
     pub last : X
     pub taken : NextsGive old values last
-    pub ended : EndsBy last result new
+    pub ended : Ends last result new
     pub appended : new_list ≡ old_list ++ values
     pub within : length values ≤ most
     pub enough : (result ≡ Ok drained.Most) ↔ (length values ≡ most)
+
+  abbrev pub DrainsBy : ℕ → X → List T → Result Drained FlowFault → List T → X → Type 0
+  DrainsBy = Takes EndsBy
+
+  -- a drain whose list has room for all
+  abbrev pub TakesBy : ℕ → X → List T → Result Drained FlowFault → List T → X → Type 0
+  TakesBy = Takes EndsByCall

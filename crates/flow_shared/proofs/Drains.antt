@@ -11,7 +11,7 @@ use Rattle.flow_law.specs.declared.outcome.Next.{Next}
 use Rattle.flow_law.specs.declared.outcome.Next.TheVariants as next
 use Rattle.flow_law.specs.declared.outcome.Drained.{Drained}
 use Rattle.flow_law.specs.declared.outcome.Drained.TheVariants as drained
-use Rattle.flow_law.specs.Draining.{NextsGive, DrainsBy, EndsBy}
+use Rattle.flow_law.specs.Draining.{NextsGive, DrainsBy, TakesBy, EndsBy, EndsByCall}
 use Rattle.flow_law.specs.Growth.{Fits, NamesOnlyMade, adds, event, events_of, knowledge}
 use Rattle.flow_law.specs.History.{Kind, MayCall, IsSubscription, subscriber, replied}
 use Rattle.flow_law.specs.Lawful.{Lawful}
@@ -23,33 +23,10 @@ use Rattle.flow_law.proofs.Names.{fits_own, grew_refl}
 use Rattle.flow_law.proofs.TokenLemmas.{stands_next, may_grows, may_speak, never_gone, subscription_after_next, subscription_met}
 use Rattle.flow_gate.specs.Tokens.{Token, Origin, HeldState, Finds}
 use Rattle.flow_shared.specs.Calls.{NextsOf, NumberedToken}
-use Rattle.flow_shared.specs.Drains.{CoreNexts, EndsByCall, TakesBy, TakesInside, said_values, said_end}
+use Rattle.flow_shared.specs.Drains.{CoreNexts, TakesInside, said_values, said_end}
 
 -- a drain as far as it has come, and how it ends
 module _ {X T : Type 0} (R : X → Result (Next T) FlowFault → X → Type 0) where
-  pub takes_most : (most : ℕ) (old now : X) (old_list list : List T) → HasTaken R most old old_list list now → TakesBy R most old old_list (Ok drained.Most) list now
-  takes_most most old now old_list list h = record {
-    values = h.values;
-    last = now;
-    taken = h.taken;
-    ended = refl;
-    appended = h.appended;
-    within = omega (arith, h.counted);
-    enough = (λ _. h.counted, λ _. refl);
-  }
-
-  pub takes_before : (n most : ℕ) (old now after : X) (old_list list : List T) (result : Result Drained FlowFault) → HasTaken R n old old_list list now → n < most
-      → EndsByCall R now result after → result ≢ Ok drained.Most → TakesBy R most old old_list result list after
-  takes_before n most old now after old_list list result h less ended other = record {
-    values = h.values;
-    last = now;
-    taken = h.taken;
-    ended = ended;
-    appended = h.appended;
-    within = omega (arith, h.counted, less);
-    enough = (λ e. absurd (other e), λ e. absurd (omega (arith, h.counted, less, e)));
-  }
-
   -- the drains under one entry each, one after the other
   folds_on : {A : Type 0} (P : X → A → X → Type 0) (p q r : X) (xs ys : List A) → FoldsTo P p xs q → FoldsTo P q ys r → FoldsTo P p (xs ++ ys) r
   folds_on P p q r [] ys one others = subst (λ (x : X). FoldsTo P x ys r) (sym one) others
@@ -217,9 +194,7 @@ module _ {K T S C R : Type 0} (kind : Kind T S C R) (StandsAs : K → S → Type
       drains = record { values = t.values; last = numbered drawn.last n; taken = drawn.taken; ended = by_call result drawn.ended; appended = t.appended; within = t.within; enough = t.enough }
         where
           by_call : (r : Result Drained FlowFault) → EndsByCall (NextsOf kind flow) (numbered drawn.last n) r (numbered (seen_after t.values result) n) → EndsBy (NextsOf kind flow) (numbered drawn.last n) r (numbered (seen_after t.values result) n)
-          by_call (Ok drained.Most) e = e
-          by_call (Ok drained.Empty) e = e
-          by_call (Ok drained.Gone) e = e
+          by_call (Ok end) e = e
           by_call (Err fault) e = inl e
 
       pub subscribed_still : IsSubscription kind (seen_after t.values result).knows n

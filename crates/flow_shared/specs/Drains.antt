@@ -6,32 +6,13 @@ use Rattle.flow_law.specs.declared.outcome.Next.{Next}
 use Rattle.flow_law.specs.declared.outcome.Next.TheVariants as next
 use Rattle.flow_law.specs.declared.outcome.Drained.{Drained}
 use Rattle.flow_law.specs.declared.outcome.Drained.TheVariants as drained
-use Rattle.flow_law.specs.Draining.{NextsGive}
+use Rattle.flow_law.specs.Draining.{TakesBy}
 use Rattle.flow_law.specs.Growth.{adds}
 use Rattle.flow_law.specs.History.{Kind, replied}
 use Rattle.flow_law.specs.OneHistory.{said}
 use Rattle.flow_law.specs.Standing.{Documents}
 use Rattle.flow_law.specs.Tokens.{knowing}
 use Rattle.flow_gate.specs.Tokens.{Token, HeldState}
-
-module _ {X T : Type 0} (Nexts : X → Result (Next T) FlowFault → X → Type 0) where
-  -- what ended it: there were enough values, or the next call
-  abbrev pub EndsByCall : X → Result Drained FlowFault → X → Type 0
-  EndsByCall before (Ok drained.Most) after = before ≡ after
-  EndsByCall before (Ok drained.Empty) after = Nexts before (Ok next.Empty) after
-  EndsByCall before (Ok drained.Gone) after = Nexts before (Ok next.Gone) after
-  EndsByCall before (Err fault) after = Nexts before (Err fault) after
-
-  -- a drain whose list has room for all
-  pub record TakesBy (most : ℕ) (old : X) (old_list : List T) (result : Result Drained FlowFault) (new_list : List T) (new : X) : Type 0 where
-    pub values : List T
-    -- after the last of them
-    pub last : X
-    pub taken : NextsGive Nexts old values last
-    pub ended : EndsByCall last result new
-    pub appended : new_list ≡ old_list ++ values
-    pub within : length values ≤ most
-    pub enough : (result ≡ Ok drained.Most) ↔ (length values ≡ most)
 
 module _ {T S C R : Type 0} (kind : Kind T S C R) (number : ℕ) where
   -- one `next` of a core of this kind

@@ -1,14 +1,14 @@
 //! Taking all that a subscriber of a flow for several threads can receive now.
 ghost use Rattle.std.specs.Prelude.{◌≡◌, ◌≢◌, ◌+◌, ◌≤◌, Ok};
 ghost use Rattle.std.specs.Vec.{vec_len, vec_capacity};
-ghost use Rattle.flow_law.specs.Draining.{DrainsBy};
+ghost use Rattle.flow_law.specs.Draining.{DrainsBy, TakesBy};
 ghost use Rattle.flow_law.specs.Growth.{NamesOnlyMade};
 ghost use Rattle.flow_law.specs.History.{IsSubscription};
 ghost use Rattle.flow_law.specs.Tokens.{numbered};
 ghost use Rattle.flow_law.specs.declared.outcome.Drained.TheVariants.{Gone};
 ghost use Rattle.flow_core.specs.SubId.{number_of};
 ghost use Rattle.flow_shared.specs.Calls.{NextsOf};
-ghost use Rattle.flow_shared.specs.Drains.{CoreNexts, TakesBy, TakesInside};
+ghost use Rattle.flow_shared.specs.Drains.{CoreNexts, TakesInside};
 
 use crate::flow::Flow;
 use crate::token::{FlowSeat, FlowSubscription};
@@ -113,11 +113,9 @@ impl<S: FlowCore + Drop, A: Allocator + Copy> Flow<S, A> {
                 return Err(FlowFault::OutOfMemory);
             }
             let room = left.min(values.capacity() - values.len());
-            match self.take(rt, seat, id, room, values) {
-                Ok(Drained::Most) => left -= room,
-                Ok(Drained::Empty) => return Ok(Drained::Empty),
-                Ok(Drained::Gone) => return Ok(Drained::Gone),
-                Err(fault) => return Err(fault),
+            match self.take(rt, seat, id, room, values)? {
+                Drained::Most => left -= room,
+                ended => return Ok(ended),
             }
         }
         Ok(Drained::Most)

@@ -122,10 +122,10 @@ impl<S: FlowCore + Drop, A: Allocator + Copy> Flow<S, A> {
         ensures maker { seat.new ≡ knowing seat.old (makes seat.old.knows) }
         ensures made { result ≡ knowing seat.old (child seat.old.knows) }
     {
-        let mut inside = seat.seat.take().unwrap();
-        let made = self.gate.seat(&mut inside);
-        seat.seat = Some(inside);
-        FlowSeat { seat: Some(made) }
+        let inside = seat.seat.as_mut().unwrap();
+        FlowSeat {
+            seat: Some(self.gate.seat(inside)),
+        }
     }
 
     /// Ends the flow, and gives its core: what all calls so far led to, for one thread. `None` only where somebody who

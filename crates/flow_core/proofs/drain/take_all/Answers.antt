@@ -1,9 +1,9 @@
-use Rattle.std.proofs.Common.{◌≡◌, ◌+◌, ◌≤◌, ◌∷◌, [], ◌++◌, ◌∙◌, sym, ap, subst, arith}
+use Rattle.std.proofs.Common.{◌≡◌, ◌+◌, ◌≤◌, ◌∷◌, [], ◌++◌, ◌∙◌, refl, sym, ap, subst, arith}
 use Rattle.std.specs.Prelude.{Ok, Err}
 use Rattle.std.specs.Vec.{vec_len, vec_capacity}
 use Rattle.std.proofs.lemmas.Result.{err_from_is_err_and}
-use Rattle.flow_law.specs.Draining.{DrainsBy}
-use Rattle.flow_law.proofs.DrainingLemmas.{HasTaken, taken_none, taken_more, drained_most}
+use Rattle.flow_law.specs.Draining.{DrainsBy, EndsBy}
+use Rattle.flow_law.proofs.DrainingLemmas.{HasTaken, taken_none, taken_more, takes_most}
 use Rattle.flow_core.specs.SubId.{number_of}
 use Rattle.flow_core.proofs.DrainSteps.{by_empty, by_gone, by_fault, for_memory, where_ok}
 use Rattle.flow_core.proofs.drain.take_all.Goals as goal
@@ -29,8 +29,8 @@ pub returns : goal.returns
 returns g c =
     let nexts = g.S.TakesNext.nexts (number_of c.args.id) in
     let all : c.loop.counter ≡ c.args.most = omega (arith, c.loop-test.false, c.loop.auto.counter-end) in
-    drained_most nexts c.args.most c.args.core.now c.loop.core c.args.values.now.items c.loop.values.items
-    (subst (λ n. HasTaken nexts n c.args.core.now c.args.values.now.items c.loop.values.items c.loop.core) all c.loop.invariant)
+    takes_most nexts (EndsBy nexts) c.args.most c.args.core.now c.loop.core c.args.values.now.items c.loop.values.items
+    (subst (λ n. HasTaken nexts n c.args.core.now c.args.values.now.items c.loop.values.items c.loop.core) all c.loop.invariant) refl
 
 pub returns-in-Empty : goal.returns-in-Empty
 returns-in-Empty g c =

@@ -1,11 +1,11 @@
-use Rattle.std.proofs.Common.{◌≡◌, ◌∙◌, sym, ap, subst, arith}
+use Rattle.std.proofs.Common.{◌≡◌, ◌∙◌, refl, sym, ap, subst, arith}
 use Rattle.std.specs.Prelude.{Ok, Err}
 use Rattle.std.proofs.lemmas.Result.{err_from_is_err_and}
 use Rattle.flow_core.specs.SubId.{number_of}
 use Rattle.flow_law.specs.declared.outcome.Drained.TheVariants as drained
-use Rattle.flow_law.proofs.DrainingLemmas.{HasTaken, taken_none, taken_more}
-use Rattle.flow_shared.specs.Drains.{CoreNexts, TakesBy}
-use Rattle.flow_shared.proofs.Drains.{takes_most, takes_before}
+use Rattle.flow_law.proofs.DrainingLemmas.{HasTaken, taken_none, taken_more, takes_most, takes_before}
+use Rattle.flow_law.specs.Draining.{TakesBy, EndsByCall}
+use Rattle.flow_shared.specs.Drains.{CoreNexts}
 use Rattle.flow_shared.proofs.drain.take_values.Goals as goal
 
 pub loop-init : goal.loop-init
@@ -31,19 +31,19 @@ pub returns : goal.returns
 returns g c =
     let R = CoreNexts g.S.FlowCore.kind (number_of c.args.id) g.S.FlowCore.stands_as in
     let all : c.loop.counter ≡ c.args.most = omega (arith, c.loop-test.false, c.loop.auto.counter-end) in
-    takes_most R c.args.most c.args.core.now c.loop.core c.args.values.now.items c.loop.values.items
-    (subst (λ n. HasTaken R n c.args.core.now c.args.values.now.items c.loop.values.items c.loop.core) all c.loop.invariant.taken)
+    takes_most R (EndsByCall R) c.args.most c.args.core.now c.loop.core c.args.values.now.items c.loop.values.items
+    (subst (λ n. HasTaken R n c.args.core.now c.args.values.now.items c.loop.values.items c.loop.core) all c.loop.invariant.taken) refl
 
 pub returns-in-Empty : goal.returns-in-Empty
 returns-in-Empty g c =
     let R = CoreNexts g.S.FlowCore.kind (number_of c.args.id) g.S.FlowCore.stands_as in
-    takes_before R c.loop.counter c.args.most c.args.core.now c.loop.core c.next.new.self c.args.values.now.items c.loop.values.items (Ok drained.Empty) c.loop.invariant.taken c.loop-test.true
+    takes_before R (EndsByCall R) c.loop.counter c.args.most c.args.core.now c.loop.core c.next.new.self c.args.values.now.items c.loop.values.items (Ok drained.Empty) c.loop.invariant.taken c.loop-test.true
     (subst (λ r. R c.loop.core r c.next.new.self) (c.in_ok-value.was ∙ ap Ok c.in-Empty.is) c.next.ensures) (λ e. cc)
 
 pub returns-in-Gone : goal.returns-in-Gone
 returns-in-Gone g c =
     let R = CoreNexts g.S.FlowCore.kind (number_of c.args.id) g.S.FlowCore.stands_as in
-    takes_before R c.loop.counter c.args.most c.args.core.now c.loop.core c.next.new.self c.args.values.now.items c.loop.values.items (Ok drained.Gone) c.loop.invariant.taken c.loop-test.true
+    takes_before R (EndsByCall R) c.loop.counter c.args.most c.args.core.now c.loop.core c.next.new.self c.args.values.now.items c.loop.values.items (Ok drained.Gone) c.loop.invariant.taken c.loop-test.true
     (subst (λ r. R c.loop.core r c.next.new.self) (c.in_ok-value.was ∙ ap Ok c.in-Gone.is) c.next.ensures) (λ e. cc)
 
 pub returns-in_err-value : goal.returns-in_err-value
@@ -51,5 +51,5 @@ returns-in_err-value g c =
     let R = CoreNexts g.S.FlowCore.kind (number_of c.args.id) g.S.FlowCore.stands_as in
     let given = err_from_is_err_and c.from_residual.result c.from_residual.ensures.1 in
     subst (λ r. TakesBy R c.args.most c.args.core.now c.args.values.now.items r c.loop.values.items c.next.new.self) (sym given.1)
-    (takes_before R c.loop.counter c.args.most c.args.core.now c.loop.core c.next.new.self c.args.values.now.items c.loop.values.items (Err given.0) c.loop.invariant.taken c.loop-test.true
+    (takes_before R (EndsByCall R) c.loop.counter c.args.most c.args.core.now c.loop.core c.next.new.self c.args.values.now.items c.loop.values.items (Err given.0) c.loop.invariant.taken c.loop-test.true
     (subst (λ r. R c.loop.core r c.next.new.self) (c.in_err-value.was ∙ ap Err (sym given.2)) c.next.ensures) (λ e. cc))

@@ -1,5 +1,6 @@
 use Rattle.std.proofs.Common.{◌≡◌, ◌≢◌, ◌+◌, ◌-◌, ◌≤◌, ℕ, List, ◌∙◌, sym, ap, subst, arith}
 use Rattle.std.specs.Prelude.{Ok, Err, Result}
+use Rattle.std.proofs.lemmas.Result.{err_from_is_err_and}
 use Rattle.flow_law.specs.declared.fault.FlowFault.{FlowFault}
 use Rattle.flow_law.specs.declared.outcome.Next.{Next}
 use Rattle.flow_law.specs.declared.outcome.Drained.{Drained}
@@ -35,28 +36,24 @@ loop-left-preserved g c =
       within = omega (arith, c.loop-left.invariant.within);
       taken = takes_on (NextsOf g.S.FlowCore.kind c.args.self.now) c.args.most c.loop-left.left c.min-room.result (numbered c.args.seat.now n) (numbered c.loop-left.seat n) (numbered c.take.new.seat n)
           c.args.values.now.items c.loop-left.values.items c.reserve.new.self.items c.take.new.values.items c.loop-left.invariant.taken c.loop-left.invariant.within (omega (arith, c.min-room.ensures))
-          c.reserve.ensures.items c.take.result c.take.ensures.drained (c.in-Ok-Most.is ∙ ap Ok c.in-Ok-Most.field-0-is);
+          c.reserve.ensures.items c.take.result c.take.ensures.drained (c.in_ok-ended.was ∙ ap Ok c.in-Most.is);
       subscribed = c.take.ensures.subscribed;
       flow = c.take.ensures.flow ∙ c.loop-left.invariant.flow;
     }
 
-pub returns-in-Ok-Empty-clause-drained : goal.returns-in-Ok-Empty-clause-drained
-returns-in-Ok-Empty-clause-drained g c =
+pub returns-in_default : goal.returns-in_default
+returns-in_default g c =
     let n = number_of c.args.id in
-    ends_with (NextsOf g.S.FlowCore.kind c.args.self.now) c.args.most c.loop-left.left c.min-room.result (numbered c.args.seat.now n) (numbered c.loop-left.seat n) (numbered c.take.new.seat n)
+    let drained = ends_with (NextsOf g.S.FlowCore.kind c.args.self.now) c.args.most c.loop-left.left c.min-room.result (numbered c.args.seat.now n) (numbered c.loop-left.seat n) (numbered c.take.new.seat n)
     c.args.values.now.items c.loop-left.values.items c.reserve.new.self.items c.take.new.values.items c.loop-left.invariant.taken c.loop-left.invariant.within (omega (arith, c.min-room.ensures))
-    c.reserve.ensures.items c.take.result c.take.ensures.drained (Ok drained.Empty) (c.in-Ok-Empty.is ∙ ap Ok c.in-Ok-Empty.field-0-is) (λ e. cc)
+    c.reserve.ensures.items c.take.result c.take.ensures.drained (Ok c.in_ok-ended.ended) c.in_ok-ended.was (λ e. c.in_default.not-Most (cc e)) in
+    record { drained = drained; subscribed = c.take.ensures.subscribed; flow = c.take.ensures.flow ∙ c.loop-left.invariant.flow ∙ sym c.requires.flow }
 
-pub returns-in-Ok-Gone-clause-drained : goal.returns-in-Ok-Gone-clause-drained
-returns-in-Ok-Gone-clause-drained g c =
+pub returns-in_err-ended-clause-drained : goal.returns-in_err-ended-clause-drained
+returns-in_err-ended-clause-drained g c =
     let n = number_of c.args.id in
-    ends_with (NextsOf g.S.FlowCore.kind c.args.self.now) c.args.most c.loop-left.left c.min-room.result (numbered c.args.seat.now n) (numbered c.loop-left.seat n) (numbered c.take.new.seat n)
+    let given = err_from_is_err_and c.from_residual.result c.from_residual.ensures.1 in
+    subst (λ (r : Result Drained FlowFault). DrainsBy (NextsOf g.S.FlowCore.kind c.args.self.now) c.args.most (numbered c.args.seat.now n) c.args.values.now.items r c.take.new.values.items (numbered c.take.new.seat n)) (sym given.1)
+    (ends_with (NextsOf g.S.FlowCore.kind c.args.self.now) c.args.most c.loop-left.left c.min-room.result (numbered c.args.seat.now n) (numbered c.loop-left.seat n) (numbered c.take.new.seat n)
     c.args.values.now.items c.loop-left.values.items c.reserve.new.self.items c.take.new.values.items c.loop-left.invariant.taken c.loop-left.invariant.within (omega (arith, c.min-room.ensures))
-    c.reserve.ensures.items c.take.result c.take.ensures.drained (Ok drained.Gone) (c.in-Ok-Gone.is ∙ ap Ok c.in-Ok-Gone.field-0-is) (λ e. cc)
-
-pub returns-in-Err-clause-drained : goal.returns-in-Err-clause-drained
-returns-in-Err-clause-drained g c =
-    let n = number_of c.args.id in
-    ends_with (NextsOf g.S.FlowCore.kind c.args.self.now) c.args.most c.loop-left.left c.min-room.result (numbered c.args.seat.now n) (numbered c.loop-left.seat n) (numbered c.take.new.seat n)
-    c.args.values.now.items c.loop-left.values.items c.reserve.new.self.items c.take.new.values.items c.loop-left.invariant.taken c.loop-left.invariant.within (omega (arith, c.min-room.ensures))
-    c.reserve.ensures.items c.take.result c.take.ensures.drained (Err c.in-Err.fault) c.in-Err.is (λ e. cc)
+    c.reserve.ensures.items c.take.result c.take.ensures.drained (Err given.0) (c.in_err-ended.was ∙ ap Err (sym given.2)) (λ e. cc))
