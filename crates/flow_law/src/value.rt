@@ -7,6 +7,7 @@ mod items;
 mod numbers;
 mod owned;
 mod packed;
+mod packed_compound;
 mod truth;
 
 use crate::fault::FlowFault;
