@@ -12,8 +12,8 @@ use Rattle.flow_cold.specs.declared.script_chain.node.Stage.{Stage}
 use Rattle.flow_cold.specs.declared.script_chain.operator.Operator.{Operator}
 use Rattle.flow_cold.specs.declared.script_chain.operator.Operator.TheVariants.{Map, Filter, TakeWhile, Transform, Take, DropFirst, DropWhile, Scan, RunningReduce, FlatMapRange, FlatMapRepeat, Distinct}
 use Rattle.flow_cold.specs.declared.script_chain.state.Adding.{Adding}
-use Rattle.flow_cold.specs.declared.script_chain.state.Following.{Following}
-use Rattle.flow_cold.specs.declared.script_chain.state.Repeating.{Repeating}
+use Rattle.flow_cold.specs.declared.script_chain.inner.Following.{Following}
+use Rattle.flow_cold.specs.declared.script_chain.inner.Repeating.{Repeating}
 use Rattle.flow_cold.specs.declared.script_chain.operator.Step.{Step}
 use Rattle.flow_cold.specs.declared.script_chain.operator.Step.TheVariants.{Nothing, Held}
 use Rattle.flow_cold.specs.Numbers.{passes, sums, spread_run}

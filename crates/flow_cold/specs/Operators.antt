@@ -13,8 +13,8 @@ use Rattle.flow_cold.specs.declared.script_chain.node.Phase.{Phase}
 use Rattle.flow_cold.specs.declared.script_chain.node.Phase.TheVariants.{Ready, Holding, Over}
 use Rattle.flow_cold.specs.declared.script_chain.node.Stage.{Stage}
 use Rattle.flow_cold.specs.declared.script_chain.state.Adding.{Adding}
-use Rattle.flow_cold.specs.declared.script_chain.state.Following.{Following}
-use Rattle.flow_cold.specs.declared.script_chain.state.Repeating.{Repeating}
+use Rattle.flow_cold.specs.declared.script_chain.inner.Following.{Following}
+use Rattle.flow_cold.specs.declared.script_chain.inner.Repeating.{Repeating}
 use Rattle.flow_cold.specs.declared.script_chain.state.Scanning.{Scanning}
 use Rattle.flow_cold.specs.declared.script_chain.operator.Step.{Step}
 use Rattle.flow_cold.specs.declared.script_chain.operator.Step.TheVariants.{Item, Last, Nothing, Held, End, Fault}

@@ -5,6 +5,7 @@ ghost use Rattle.flow_cold.specs.ScriptChain.{node_depth};
 mod answer;
 mod build;
 mod drop_while;
+mod inner;
 mod node;
 mod numbers;
 mod op;

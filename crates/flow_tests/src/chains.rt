@@ -7,4 +7,5 @@ mod methods;
 mod operators;
 mod refused_copies;
 mod script_chains;
+mod script_examples;
 mod streams;

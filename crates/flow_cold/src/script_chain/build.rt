@@ -8,14 +8,13 @@ ghost use Rattle.flow_cold.specs.ScriptChain.{IsNodeOver, NodeAsksBehind, node_d
 
 use crate::script_chain::ScriptChain;
 use crate::script_chain::drop_while::DroppingWhile;
+use crate::script_chain::inner::{Following, Repeating};
 use crate::script_chain::node::{Node, Stage, ask_node, rewind_node};
 use crate::script_chain::op::{Joining, Op, Source, Spread};
 use crate::script_chain::operator::Operator;
 use crate::script_chain::pairing::Pairing;
 use crate::script_chain::running_reduce::Reducing;
-use crate::script_chain::state::{
-    Adding, Comparing, Dropping, Following, Mapping, Repeating, Scanning, Taking,
-};
+use crate::script_chain::state::{Adding, Comparing, Dropping, Mapping, Scanning, Taking};
 use flow_law::ChainFault;
 use flow_operators::{Asked, Cold};
 use std::alloc::Global;

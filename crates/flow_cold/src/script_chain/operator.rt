@@ -5,12 +5,11 @@ ghost use Rattle.flow_cold.specs.OperatorAsks.{HeldLeaves, StepLeaves, after_hel
 ghost use Rattle.flow_cold.specs.Operators.{HeldGives, StepGives, after_number, after_step, first_phase, held_rest, operator_whole, ready_rest, rest_in};
 
 use crate::script_chain::drop_while::DroppingWhile;
+use crate::script_chain::inner::{Following, Repeating};
 use crate::script_chain::node::Phase;
 use crate::script_chain::op::Test;
 use crate::script_chain::running_reduce::Reducing;
-use crate::script_chain::state::{
-    Adding, Comparing, Dropping, Following, Mapping, Repeating, Scanning, Taking,
-};
+use crate::script_chain::state::{Adding, Comparing, Dropping, Mapping, Scanning, Taking};
 use flow_law::ChainFault;
 
 /// An operator, in the state that it has while its chain is asked.

@@ -1,7 +1,7 @@
 use Rattle.std.proofs.Common.{to_z-of_z, rules, w64}
 use mir.Val.{SFits}
 use Rattle.flow_cold.proofs.RangeLemmas.{range_run-more, range_run-last, next_fits}
-use Rattle.flow_cold.proofs.script_chain.state.Following.next_held.Goals as goal
+use Rattle.flow_cold.proofs.script_chain.inner.Following.next_held.Goals as goal
 
 pub returns-then-item-self-2-clause-gives : goal.returns-then-item-self-2-clause-gives
 returns-then-item-self-2-clause-gives c = λ r.

@@ -1,7 +1,7 @@
 use Rattle.std.proofs.Common.{rules, w64, to_z-of_z}
 use mir.Val.{SFits}
 use Rattle.flow_cold.proofs.FollowingLemmas.{following_ok, following_err}
-use Rattle.flow_cold.proofs.script_chain.state.Following.on_item.Goals as goal
+use Rattle.flow_cold.proofs.script_chain.inner.Following.on_item.Goals as goal
 
 pub returns-in-Ok-clause-gives : goal.returns-in-Ok-clause-gives
 returns-in-Ok-clause-gives c = λ r.
