@@ -7,10 +7,11 @@ use Rattle.serde_json.specs.Data.{Members, no_members, member, put}
 use Rattle.serde_json.specs.Events.{members_len}
 use Rattle.serde_json.specs.View.{view, members_view}
 use Rattle.serde_json.specs.declared.value.Value.{Value}
-use Rattle.flow_format.specs.declared.fault.ScriptFault.{ScriptFault}
+use Rattle.flow_chain_format.specs.declared.fault.ScriptFault.{ScriptFault}
 use Rattle.flow_format.specs.Flows.{flows_after, in_key_order, named_flow, named_flows, no_flows_of}
-use Rattle.flow_format.specs.Results.{comes_first}
-use Rattle.flow_format.proofs.ReadLemmas.{members_len_is, stays-first}
+use Rattle.flow_chain_format.specs.Results.{comes_first}
+use Rattle.flow_chain_format.proofs.ListLemmas.{members_len_is}
+use Rattle.flow_chain_format.proofs.ResultLemmas.{stays-first}
 
 -- a map has its members in the order of their keys
 pub ordered : (es : List (String Global × Value)) → IsStrictlySortedBy string_cmp (keys_of es) → in_key_order (members_view es) ≡ members_view es

@@ -1,4 +1,3 @@
 pub mod NameLemmas
 pub mod ReadLemmas
-pub mod ChainLemmas
 pub mod FlowsLemmas

@@ -6,11 +6,11 @@ use Rattle.std.proofs.lemmas.List.{map-set}
 use Rattle.std.specs.List.{list_any, position, position_from}
 use Rattle.std.specs.Str.{bytes_eq}
 use Rattle.std.proofs.lemmas.Iterator.Adapters.{position_from-zero}
-use Rattle.flow_format.specs.declared.fault.ScriptFault.TheVariants.{DuplicateName}
+use Rattle.flow_chain_format.specs.declared.fault.ScriptFault.TheVariants.{DuplicateName}
 use Rattle.flow_format.specs.declared.names.FlowNames.{FlowNames}
 use Rattle.flow_format.specs.Checks.{NameLists, introduced, is_known, names_at, no_names}
 use Rattle.flow_format.specs.Names.{lists_of}
-use Rattle.flow_format.proofs.ReadLemmas.{rest_from}
+use Rattle.flow_chain_format.proofs.ListLemmas.{rest_from}
 
 pub list_any-map : {X Y : Type 0} (p : Y → Bool) (f : X → Y) (xs : List X) → list_any p (map f xs) ≡ list_any (λ x. p (f x)) xs
 list_any-map p f [] = refl

@@ -6,9 +6,9 @@ use Rattle.flow_format.specs.declared.script.Step.TheVariants as step
 use Rattle.flow_format.specs.declared.script.NamedFlow.{NamedFlow}
 use Rattle.flow_format.specs.declared.script.ScriptFlow.{ScriptFlow}
 use Rattle.flow_format.specs.declared.script.ScriptFlow.TheVariants as flow
-use Rattle.flow_format.specs.ChainFormat.{Build}
+use Rattle.flow_chain_format.specs.ChainFormat.{Build}
 use Rattle.flow_format.specs.Heads.{Head, NamedHead, shared_flow, state_flow, shared_chain, state_chain}
-use Rattle.flow_format.specs.Chains.{build_of}
+use Rattle.flow_chain_format.specs.Chains.{build_of}
 
 pub data Action : Type 0 where
   -- with the place of the flow

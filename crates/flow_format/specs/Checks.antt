@@ -1,6 +1,6 @@
 -- Why a script is refused, and in which order: the first fault that is found is the script's.
 -- Begin with `read_script`. The forms are in Format.
-use Rattle.std.specs.Prelude.{◌≡◌, ℕ, ◌+◌, Bool, false, not, ◌||◌, nat_lt, if◌then◌else◌, ℤ, codes, List, [], ◌∷◌, ◌++◌, length, slice_get, slice_set, replicate, position, Option, Some, is_some, Result, Ok, Err, Vec}
+use Rattle.std.specs.Prelude.{ℕ, ◌+◌, Bool, false, not, ◌||◌, nat_lt, if◌then◌else◌, ℤ, codes, List, [], ◌∷◌, ◌++◌, length, slice_get, slice_set, replicate, position, Option, Some, is_some, Result, Ok, Err, Vec}
 use Rattle.std.specs.Prelude.{option_map, option_and_then}
 use Rattle.std.specs.Option.{option_map_or}
 use Rattle.std.specs.List.{list_any}
@@ -12,26 +12,27 @@ use Rattle.serde_json.specs.Events.{items_len}
 use Rattle.serde_json.specs.Find.{get, as_array, as_object}
 use Rattle.serde_json.specs.View.{view}
 use Rattle.serde_json.specs.declared.value.Value.{Value as JsonValue}
-use Rattle.flow_format.specs.declared.fault.ScriptFault.{ScriptFault}
-use Rattle.flow_format.specs.declared.fault.ScriptFault.TheVariants.{OutOfMemory, ReadFailed, WriteFailed, NotJson, BadVersion, BadShape, UnknownName, DuplicateName, TooLarge}
-pub use Rattle.flow_format.specs.Results.{result_then, result_map, or_fault}
+use Rattle.flow_chain_format.specs.declared.fault.ScriptFault.{ScriptFault}
+use Rattle.flow_chain_format.specs.declared.fault.ScriptFault.TheVariants.{NotJson, BadVersion, BadShape, UnknownName, DuplicateName, TooLarge}
+use Rattle.flow_chain_format.specs.Results.{result_then, result_map, or_fault}
 use Rattle.flow_format.specs.declared.script.Script.{Script}
 use Rattle.flow_format.specs.declared.script.FlowStep.{FlowStep}
 use Rattle.flow_format.specs.declared.script.FlowStep.TheVariants as step
 use Rattle.flow_format.specs.declared.script.Step.{Step}
 use Rattle.flow_format.specs.Actions.{Action, on_flow, collect, action_of, actions_of, heads_of}
 use Rattle.flow_format.specs.Actions as action
-use Rattle.flow_format.specs.ChainFormat.{Build, chain_in}
+use Rattle.flow_chain_format.specs.ChainFormat.{Build, chain_in}
 use Rattle.flow_format.specs.declared.verb.Verb.{Verb}
 use Rattle.flow_format.specs.declared.verb.Verb.TheVariants.{Flow, Collect}
 use Rattle.flow_format.specs.declared.verb.FlowVerb.{FlowVerb}
 use Rattle.flow_format.specs.declared.verb.FlowVerb.TheVariants.{TryEmit, Emit, Poll, Cancel, Subscribe, SubscribeWith, Next, Unsubscribe, Cache, Count, Reset, Value, Set, CompareAndSet, Turn}
-use Rattle.flow_format.specs.Format.{u64_at, i64_at, name_at, where_true, allows, verb_of, version_of}
+use Rattle.flow_chain_format.specs.Members.{u64_at, i64_at, name_at, where_true, version_of}
+use Rattle.flow_format.specs.Format.{allows, verb_of}
 use Rattle.flow_format.specs.Flows.{head_in}
 use Rattle.flow_format.specs.Heads.{NamedHead, kind_at}
-use Rattle.flow_format.specs.SourceFormat.{numbers_of, whole_numbers}
-use Rattle.flow_format.specs.declared.version.Version.{Version}
-use Rattle.flow_format.specs.declared.version.Version.TheVariants.{One, Two}
+use Rattle.flow_chain_format.specs.SourceFormat.{numbers_of, whole_numbers}
+use Rattle.flow_chain_format.specs.declared.version.Version.{Version}
+use Rattle.flow_chain_format.specs.declared.version.Version.TheVariants.{One, Two}
 
 -- the most bytes, and the most steps
 abbrev pub most_bytes : ℕ
@@ -210,19 +211,6 @@ abbrev pub read_script : List ℕ → Result Checked ScriptFault
 read_script bytes = if nat_lt most_bytes (length bytes) then Err (TooLarge 0) else result_then script_of (json_of bytes)
 
 -- ---- what a reader gives
-
--- a result is what is meant, or tells that memory was refused
-abbrev pub Gives : {A : Type 0} → Result A ScriptFault → Result A ScriptFault → Type 0
-Gives meaning (Ok a) = meaning ≡ Ok a
-Gives meaning (Err OutOfMemory) = Unit {0}
-Gives meaning (Err ReadFailed) = ⊥
-Gives meaning (Err WriteFailed) = ⊥
-Gives meaning (Err NotJson) = meaning ≡ Err NotJson
-Gives meaning (Err BadVersion) = meaning ≡ Err BadVersion
-Gives meaning (Err (BadShape at)) = meaning ≡ Err (BadShape at)
-Gives meaning (Err (UnknownName at)) = meaning ≡ Err (UnknownName at)
-Gives meaning (Err (DuplicateName at)) = meaning ≡ Err (DuplicateName at)
-Gives meaning (Err (TooLarge at)) = meaning ≡ Err (TooLarge at)
 
 -- a result with the names after it
 abbrev pub then_names : Result (Unit {0}) ScriptFault → List NameLists → Result (List NameLists) ScriptFault

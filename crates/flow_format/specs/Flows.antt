@@ -4,13 +4,13 @@ use Rattle.std.specs.Prelude.{ℕ, nat_lt, if◌then◌else◌, List, [], ◌∷
 use Rattle.serde_json.specs.Data.{Data, Items, Members, no_members, member, put}
 use Rattle.serde_json.specs.Events.{members_len}
 use Rattle.serde_json.specs.Find.{get, as_array, as_object}
-use Rattle.flow_format.specs.declared.fault.ScriptFault.{ScriptFault}
-use Rattle.flow_format.specs.declared.fault.ScriptFault.TheVariants.{BadShape, TooLarge}
-use Rattle.flow_format.specs.declared.version.Version.{Version}
-use Rattle.flow_format.specs.declared.version.Version.TheVariants.{One, Two}
-use Rattle.flow_format.specs.Format.{has_members, is_name, where_true}
+use Rattle.flow_chain_format.specs.declared.fault.ScriptFault.{ScriptFault}
+use Rattle.flow_chain_format.specs.declared.fault.ScriptFault.TheVariants.{BadShape, TooLarge}
+use Rattle.flow_chain_format.specs.declared.version.Version.{Version}
+use Rattle.flow_chain_format.specs.declared.version.Version.TheVariants.{One, Two}
+use Rattle.flow_chain_format.specs.Members.{has_members, is_name, where_true}
 use Rattle.flow_format.specs.Heads.{NamedHead, flow_in, only_in}
-use Rattle.flow_format.specs.Results.{result_then, result_map, or_fault, first_fault}
+use Rattle.flow_chain_format.specs.Results.{result_then, result_map, or_fault, first_fault}
 
 abbrev pub most_flows : ℕ
 most_flows = 64

@@ -1,12 +1,10 @@
--- What the JSON text of a script says: its head, and the keys of each step.
--- Begin with `config_of` and `verb_of`. The head is in Heads. What is refused, and in which order, is in Checks.
-use Rattle.std.specs.Prelude.{ℕ, ◌+◌, ◌^◌, ◌-◌, Bool, true, false, ◌&&◌, ◌||◌, ◌==◌, nat_lt, nat_le, if◌then◌else◌, ℤ, List, length, Option, Some, None, option_and_then, is_some, codes}
+-- What the JSON text of a script says: the configuration of a flow, and the keys of each step.
+-- Begin with `config_of` and `verb_of`. Members are in Members of flow_chain_format, the head is in Heads. What is refused, and in which order, is in Checks.
+use Rattle.std.specs.Prelude.{ℕ, ◌+◌, ◌^◌, ◌-◌, Bool, true, false, if◌then◌else◌, List, Option, Some, None, option_and_then, is_some, codes}
 use Rattle.std.specs.Option.{option_map_or}
-use Rattle.std.specs.List.{list_all}
 use Rattle.std.specs.Str.{bytes_eq}
 use Rattle.serde_json.specs.Data.{Data}
-use Rattle.serde_json.specs.Events.{members_len}
-use Rattle.serde_json.specs.Find.{get, as_number, as_u64, as_i64, as_str, as_object}
+use Rattle.serde_json.specs.Find.{get, as_number, as_u64}
 use Rattle.flow_law.specs.declared.config.Config.{Config}
 use Rattle.flow_law.specs.declared.config.Overflow.{Overflow}
 use Rattle.flow_law.specs.declared.config.Overflow.TheVariants.{Suspend, DropOldest, DropLatest}
@@ -15,44 +13,13 @@ use Rattle.flow_format.specs.declared.verb.Verb.TheVariants.{Flow, Collect}
 use Rattle.flow_format.specs.declared.verb.FlowVerb.{FlowVerb}
 use Rattle.flow_format.specs.declared.verb.FlowVerb.TheVariants.{TryEmit, Emit, Poll, Cancel, Subscribe, SubscribeWith, Next, Unsubscribe, Cache, Count, Reset, Value, Set, CompareAndSet, Turn}
 use Rattle.flow_format.specs.declared.verb.Rule.{Rule}
-use Rattle.flow_format.specs.declared.version.Version.{Version}
-use Rattle.flow_format.specs.declared.version.Version.TheVariants.{One, Two}
+use Rattle.flow_chain_format.specs.Members.{u32_at, text_at, has_members, where_true}
+use Rattle.flow_chain_format.specs.declared.version.Version.{Version}
+use Rattle.flow_chain_format.specs.declared.version.Version.TheVariants.{One, Two}
 use Rattle.flow_format.specs.declared.verb.Kind.{Kind}
 use Rattle.flow_format.specs.declared.verb.Kind.TheVariants as kind
 
--- ---- members of an object
-
-abbrev pub u64_at : List ℕ → Data → Option ℕ
-u64_at key d = option_and_then as_u64 (option_and_then as_number (get key d))
-
-abbrev pub u32_at : List ℕ → Data → Option ℕ
-u32_at key d = option_and_then (λ n. if nat_lt n (2 ^ 32) then Some n else None) (u64_at key d)
-
-abbrev pub i64_at : List ℕ → Data → Option ℤ
-i64_at key d = option_and_then as_i64 (option_and_then as_number (get key d))
-
-abbrev pub text_at : List ℕ → Data → Option (List ℕ)
-text_at key d = option_and_then as_str (get key d)
-
--- An object of so many members. Where that many keys were found in it, it has no other
-abbrev pub has_members : ℕ → Data → Bool
-has_members count d = option_map_or (λ ms. members_len ms == count) (as_object d) false
-
--- the shape, if the test passes
-abbrev pub where_true : {A : Type 0} → Bool → Option A → Option A
-where_true test o = if test then o else None
-
--- a to z, 0 to 9, and _
-abbrev pub is_name_byte : ℕ → Bool
-is_name_byte b = (nat_le 97 b && nat_le b 122) || (nat_le 48 b && nat_le b 57) || (b == 95)
-
-abbrev pub is_name : List ℕ → Bool
-is_name bs = nat_lt 0 (length bs) && nat_le (length bs) 32 && list_all is_name_byte bs
-
-abbrev pub name_at : List ℕ → Data → Option (List ℕ)
-name_at key d = option_and_then (λ name. where_true (is_name name) (Some name)) (text_at key d)
-
--- ---- the head
+-- ---- the configuration of a flow
 
 abbrev pub overflow_named : List ℕ → Option Overflow
 overflow_named text =
@@ -74,12 +41,6 @@ config_of d =
     where_true (has_members (with_limit 4 d) d)
     (Some (record { replay = replay; extra = extra; overflow = overflow; limit = limit })))
     (limit_at d)) (option_and_then overflow_named (text_at (codes "overflow") d))) (u32_at (codes "extra") d)) (u32_at (codes "replay") d)
-
-abbrev pub version_numbered : ℕ → Option Version
-version_numbered number = if number == 1 then Some One else (if number == 2 then Some Two else None)
-
-abbrev pub version_of : Data → Option Version
-version_of d = option_and_then version_numbered (u64_at (codes "version") d)
 
 -- ---- steps
 

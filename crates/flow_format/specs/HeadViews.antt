@@ -5,12 +5,12 @@ use Rattle.std.specs.declared.alloc.Global.{Global}
 use Rattle.serde_json.specs.Data.{Items}
 use Rattle.serde_json.specs.View.{view, items_view}
 use Rattle.serde_json.specs.declared.value.Value.{Value}
-use Rattle.flow_format.specs.declared.fault.ScriptFault.{ScriptFault}
+use Rattle.flow_chain_format.specs.declared.fault.ScriptFault.{ScriptFault}
 use Rattle.flow_format.specs.declared.script.NamedFlow.{NamedFlow}
 use Rattle.flow_format.specs.declared.script.ScriptFlow.{ScriptFlow}
 use Rattle.flow_format.specs.declared.read_share.ShareParts.{ShareParts}
 use Rattle.flow_format.specs.declared.read_share.StateInParts.{StateInParts}
-use Rattle.flow_format.specs.Results.{result_map}
+use Rattle.flow_chain_format.specs.Results.{result_map}
 use Rattle.flow_format.specs.Actions.{head_of_flow, named_head, heads_of}
 use Rattle.flow_format.specs.Heads.{Head, NamedHead}
 use Rattle.flow_format.specs.Heads as heads

@@ -9,15 +9,16 @@ use Rattle.flow_law.specs.declared.config.Config.{Config}
 use Rattle.flow_law.specs.Sharing.{never}
 use Rattle.flow_law.specs.declared.sharing.Started.{Started}
 use Rattle.flow_law.specs.declared.sharing.Started.TheVariants.{Eagerly, Lazily, WhileSubscribed}
-use Rattle.flow_format.specs.declared.fault.ScriptFault.{ScriptFault}
-use Rattle.flow_format.specs.declared.fault.ScriptFault.TheVariants.{BadShape}
-use Rattle.flow_format.specs.declared.version.Version.{Version}
-use Rattle.flow_format.specs.declared.version.Version.TheVariants.{One, Two}
+use Rattle.flow_chain_format.specs.declared.fault.ScriptFault.{ScriptFault}
+use Rattle.flow_chain_format.specs.declared.fault.ScriptFault.TheVariants.{BadShape}
+use Rattle.flow_chain_format.specs.declared.version.Version.{Version}
+use Rattle.flow_chain_format.specs.declared.version.Version.TheVariants.{One, Two}
 use Rattle.flow_format.specs.declared.verb.Kind.{Kind}
 use Rattle.flow_format.specs.declared.verb.Kind.TheVariants as kind
-use Rattle.flow_format.specs.Results.{result_then, result_map, or_fault}
-use Rattle.flow_format.specs.Format.{u64_at, u32_at, i64_at, text_at, has_members, where_true, with_limit, limit_at, config_of}
-use Rattle.flow_format.specs.ChainFormat.{Build, chain_in}
+use Rattle.flow_chain_format.specs.Results.{result_then, result_map, or_fault}
+use Rattle.flow_chain_format.specs.Members.{u64_at, u32_at, i64_at, text_at, has_members, where_true}
+use Rattle.flow_format.specs.Format.{with_limit, limit_at, config_of}
+use Rattle.flow_chain_format.specs.ChainFormat.{Build, chain_in}
 
 -- what a head says of a flow
 pub data Head : Type 0 where

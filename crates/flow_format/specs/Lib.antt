@@ -1,11 +1,7 @@
-pub mod Results
 pub mod Format
-pub mod SourceFormat
-pub mod ChainFormat
 pub mod Heads
 pub mod Flows
 pub mod Actions
 pub mod Checks
 pub mod Names
-pub mod Chains
 pub mod HeadViews

@@ -1,10 +1,11 @@
 //! The names that the steps of a script introduce.
 ghost use Rattle.std.specs.Prelude.{◌≡◌, false, OnOk, IfOk, IfErr, replicate};
 ghost use Rattle.std.specs.List.{list_any};
+ghost use Rattle.flow_chain_format.specs.Results.{Gives};
 ghost use Rattle.flow_format.specs.Checks as checks;
 ghost use Rattle.flow_format.specs.Names.{lists_of, row_of};
 
-use crate::fault::ScriptFault;
+use flow_chain_format::ScriptFault;
 use indexmap::IndexSet;
 use std::alloc::Global;
 
@@ -77,7 +78,7 @@ impl<'a> Names<'a> {
 
     /// Which emission of a flow the name stands for.
     pub fn emission(&self, flow: usize, at: u64, name: &str) -> Result<usize, ScriptFault>
-        ensures { checks.Gives (checks.emission_at flow at name.now (row_of self.now)) result }
+        ensures { Gives (checks.emission_at flow at name.now (row_of self.now)) result }
     {
         let Some(names) = self.flows.get(flow) else {
             return Err(ScriptFault::UnknownName(at));
@@ -90,7 +91,7 @@ impl<'a> Names<'a> {
 
     /// Which subscriber of a flow the name stands for.
     pub fn subscriber(&self, flow: usize, at: u64, name: &str) -> Result<usize, ScriptFault>
-        ensures { checks.Gives (checks.subscriber_at flow at name.now (row_of self.now)) result }
+        ensures { Gives (checks.subscriber_at flow at name.now (row_of self.now)) result }
     {
         let Some(names) = self.flows.get(flow) else {
             return Err(ScriptFault::UnknownName(at));
@@ -113,7 +114,7 @@ impl<'a> Names<'a> {
     }
 
     pub fn add_emission(&mut self, flow: usize, at: u64, name: &'a str) -> Result<(), ScriptFault>
-        ensures { checks.Gives (checks.introduces_emission flow at name.now (row_of self.old))
+        ensures { Gives (checks.introduces_emission flow at name.now (row_of self.old))
             (checks.then_names result (row_of self.new)) }
     {
         if self.is_known(name) {
@@ -126,7 +127,7 @@ impl<'a> Names<'a> {
     }
 
     pub fn add_subscriber(&mut self, flow: usize, at: u64, name: &'a str) -> Result<(), ScriptFault>
-        ensures { checks.Gives (checks.introduces_subscriber flow at name.now (row_of self.old))
+        ensures { Gives (checks.introduces_subscriber flow at name.now (row_of self.old))
             (checks.then_names result (row_of self.new)) }
     {
         if self.is_known(name) {

@@ -2,15 +2,15 @@
 ghost use Rattle.std.specs.Prelude.{◌≡◌, ◌<◌, ◌+◌, Ok, Err, length};
 ghost use Rattle.serde_json.specs.Find.{as_object};
 ghost use Rattle.serde_json.specs.View.{view, items_view};
+ghost use Rattle.flow_chain_format.specs.Results.{Gives};
 ghost use Rattle.flow_format.specs.Checks as checks;
 ghost use Rattle.flow_format.specs.Actions.{heads_of};
 
-use crate::fault::ScriptFault;
 use crate::names::Names;
 use crate::read_head::head_in;
 use crate::read_step::step_of;
 use crate::script::{NamedFlow, Script, Step};
-use crate::version::{Version, version_of};
+use flow_chain_format::{ScriptFault, Version, version_of};
 use serde_json::Value;
 use std::alloc::Global;
 
@@ -25,7 +25,7 @@ fn steps_of(
     flows: &[NamedFlow],
     steps: &[Value],
 ) -> Result<Vec<Step>, ScriptFault>
-    ensures { let heads = heads_of flows.now in checks.Gives
+    ensures { let heads = heads_of flows.now in Gives
         (checks.steps_of version heads 1 (checks.nothing_named heads) (items_view steps.now))
         (checks.steps_result result) }
 {
@@ -53,7 +53,7 @@ fn checked(
     flows: Vec<NamedFlow>,
     steps: &[Value],
 ) -> Result<Script, ScriptFault>
-    ensures { checks.Gives (checks.checked version (heads_of flows.items, items_view steps.now))
+    ensures { Gives (checks.checked version (heads_of flows.items, items_view steps.now))
         (checks.script_result result) }
 {
     if steps.len() > MOST_STEPS {
@@ -66,7 +66,7 @@ fn checked(
 }
 
 fn script_of(alloc: Global, value: &Value) -> Result<Script, ScriptFault>
-    ensures { checks.Gives (checks.script_of (view value.now)) (checks.script_result result) }
+    ensures { Gives (checks.script_of (view value.now)) (checks.script_result result) }
 {
     if !value.is_object() {
         return Err(ScriptFault::BadShape(0));
@@ -82,7 +82,7 @@ fn script_of(alloc: Global, value: &Value) -> Result<Script, ScriptFault>
 
 /// The data of a JSON text.
 fn json_of(alloc: Global, bytes: &[u8]) -> Result<Value, ScriptFault>
-    ensures { checks.Gives (checks.json_of bytes.now) (checks.value_result result) }
+    ensures { Gives (checks.json_of bytes.now) (checks.value_result result) }
 {
     match Value::from_slice(alloc, bytes) {
         Ok(value) => Ok(value),
@@ -98,7 +98,7 @@ fn json_of(alloc: Global, bytes: &[u8]) -> Result<Value, ScriptFault>
 
 /// Reads a script whole, and checks each step of it.
 pub fn read_script(alloc: Global, bytes: &[u8]) -> Result<Script, ScriptFault>
-    ensures { checks.Gives (checks.read_script bytes.now) (checks.script_result result) }
+    ensures { Gives (checks.read_script bytes.now) (checks.script_result result) }
 {
     if bytes.len() > MOST_BYTES {
         return Err(ScriptFault::TooLarge(0));

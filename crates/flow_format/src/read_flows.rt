@@ -1,18 +1,16 @@
 //! Reading the flows of a script of version 2, each with its name.
 ghost use Rattle.std.specs.Prelude.{◌≡◌, ◌++◌, [], ◌∷◌, Ok, Result, List};
 ghost use Rattle.serde_json.specs.View.{view, members_view};
-ghost use Rattle.flow_format.specs.declared.fault.ScriptFault.{ScriptFault as TheScriptFault};
+ghost use Rattle.flow_chain_format.specs.declared.fault.ScriptFault.{ScriptFault as TheScriptFault};
 ghost use Rattle.flow_format.specs.Actions.{heads_of, named_head};
-ghost use Rattle.flow_format.specs.Checks.{Gives};
+ghost use Rattle.flow_chain_format.specs.Results.{Gives};
 ghost use Rattle.flow_format.specs.Flows as row;
 ghost use Rattle.flow_format.specs.Heads.{NamedHead};
 ghost use Rattle.flow_format.specs.HeadViews.{flows_result, named_flow_result};
 
-use crate::fault::{ScriptFault, first_fault, is_final};
-use crate::members::is_name;
 use crate::read_head::flow_in;
 use crate::script::NamedFlow;
-use crate::version::Version;
+use flow_chain_format::{ScriptFault, Version, first_fault, is_final, is_name};
 use serde_json::{Map, Value};
 use std::alloc::Global;
 

@@ -1,62 +1,21 @@
 //! Reading a script's head.
-ghost use Rattle.std.specs.Prelude.{◌≡◌, codes, Ok, Err, option_map, option_and_then};
+ghost use Rattle.std.specs.Prelude.{◌≡◌, Ok, Err, option_map};
 ghost use Rattle.serde_json.specs.View.{view, items_view};
+ghost use Rattle.flow_chain_format.specs.Results.{Gives, or_fault};
 ghost use Rattle.flow_format.specs.Format as format;
 ghost use Rattle.flow_format.specs.Actions.{head_of_flow, heads_of};
 ghost use Rattle.flow_format.specs.Flows as row;
 ghost use Rattle.flow_format.specs.Heads as heads;
-ghost use Rattle.flow_format.specs.Results.{or_fault};
-ghost use Rattle.flow_format.specs.Checks.{Gives};
 ghost use Rattle.flow_format.specs.HeadViews.{flow_result, flows_result, head_result};
 
-use crate::fault::ScriptFault;
-use crate::members::{has_members, i64_at, limit_at, text_at, u32_at, with_limit};
+use crate::read_config::{config_of, limit_at, with_limit};
 use crate::read_flows::named_flows;
 use crate::read_share::{share_in, state_in};
 use crate::script::{NamedFlow, ScriptFlow};
 use crate::verb::Kind;
-use crate::version::Version;
-use flow_law::{Config, Overflow};
+use flow_chain_format::{ScriptFault, Version, has_members, i64_at, text_at};
 use serde_json::Value;
 use std::alloc::Global;
-
-fn overflow_named(text: &str) -> Option<Overflow>
-    ensures { result ≡ format.overflow_named text.now }
-{
-    match text {
-        "suspend" => Some(Overflow::Suspend),
-        "drop_oldest" => Some(Overflow::DropOldest),
-        "drop_latest" => Some(Overflow::DropLatest),
-        _ => None,
-    }
-}
-
-fn overflow_at(flow: &Value) -> Option<Overflow>
-    ensures { result ≡ option_and_then format.overflow_named
-        (format.text_at (codes "overflow") (view flow.now)) }
-{
-    let text = text_at(flow, "overflow")?;
-    overflow_named(text)
-}
-
-/// The configuration of a shared flow.
-fn config_of(flow: &Value) -> Option<Config>
-    ensures { result ≡ format.config_of (view flow.now) }
-{
-    let replay = u32_at(flow, "replay")?;
-    let extra = u32_at(flow, "extra")?;
-    let overflow = overflow_at(flow)?;
-    let limit = limit_at(flow)?;
-    if !has_members(flow, with_limit(4, flow)) {
-        return None;
-    }
-    Some(Config {
-        replay,
-        extra,
-        overflow,
-        limit,
-    })
-}
 
 /// A state flow.
 fn state_of(flow: &Value) -> Option<ScriptFlow>

@@ -1,13 +1,12 @@
 //! Which flow of a script a step is about.
 ghost use Rattle.std.specs.Prelude.{◌≡◌};
 ghost use Rattle.serde_json.specs.View.{view};
+ghost use Rattle.flow_chain_format.specs.Results.{Gives};
 ghost use Rattle.flow_format.specs.Actions.{heads_of, named_head};
 ghost use Rattle.flow_format.specs.Checks as checks;
 
-use crate::fault::ScriptFault;
-use crate::members::name_at;
 use crate::script::NamedFlow;
-use crate::version::Version;
+use flow_chain_format::{ScriptFault, Version, name_at};
 use serde_json::Value;
 
 fn is_named(flow: &NamedFlow, name: &str) -> bool
@@ -38,7 +37,7 @@ pub fn place_at(
     at: u64,
     step: &Value,
 ) -> Result<usize, ScriptFault>
-    ensures { checks.Gives (checks.place_at version (heads_of flows.now) at (view step.now)) result }
+    ensures { Gives (checks.place_at version (heads_of flows.now) at (view step.now)) result }
 {
     match version {
         Version::One => Ok(0),

@@ -2,14 +2,12 @@
 ghost use Rattle.std.specs.Prelude.{◌≡◌, option_map};
 ghost use Rattle.serde_json.specs.View.{view};
 ghost use Rattle.flow_format.specs.Heads as heads;
-ghost use Rattle.flow_format.specs.Checks.{Gives};
+ghost use Rattle.flow_chain_format.specs.Results.{Gives};
 ghost use Rattle.flow_format.specs.HeadViews.{parts_of, state_in_parts_of, flow_result};
 
-use crate::fault::ScriptFault;
-use crate::members::{has_members, i64_at, limit_at, u32_at, u64_at, with_limit};
-use crate::read_chain::chain_in;
+use crate::read_config::{limit_at, with_limit};
 use crate::script::ScriptFlow;
-use crate::version::Version;
+use flow_chain_format::{ScriptFault, Version, chain_in, has_members, i64_at, u32_at, u64_at};
 use flow_law::{NEVER, Started};
 use serde_json::Value;
 use std::alloc::Global;

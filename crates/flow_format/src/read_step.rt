@@ -1,23 +1,20 @@
 //! Reading a step.
 ghost use Rattle.std.specs.Prelude.{◌≡◌, Ok, Err, option_map};
 ghost use Rattle.serde_json.specs.View.{view};
+ghost use Rattle.flow_chain_format.specs.Results.{Gives};
 ghost use Rattle.flow_format.specs.Actions.{heads_of};
 ghost use Rattle.flow_format.specs.Format as format;
 ghost use Rattle.flow_format.specs.Checks as checks;
 ghost use Rattle.flow_format.specs.Names.{row_of, written_of};
-ghost use Rattle.flow_format.specs.Chains.{build_result};
+ghost use Rattle.flow_chain_format.specs.Chains.{build_result};
 
-use crate::fault::ScriptFault;
-use crate::members::{has_members, text_at};
 use crate::names::Names;
-use crate::read_chain::chain_in;
 use crate::read_head::kind_at;
 use crate::read_place::place_at;
-use crate::read_source::numbers_of;
-use crate::script::{Build, FlowStep, NamedFlow, Step};
+use crate::script::{FlowStep, NamedFlow, Step};
 use crate::verb::{FlowVerb, Verb, rule_named};
-use crate::version::Version;
 use crate::written::{Written, written_by};
+use flow_chain_format::{Build, ScriptFault, Version, chain_in, has_members, numbers_of, text_at};
 use serde_json::Value;
 use std::alloc::Global;
 
@@ -68,7 +65,7 @@ fn named_step<'a>(
     at: u64,
     written: Written<'a>,
 ) -> Result<Step, ScriptFault>
-    ensures { checks.Gives (checks.named_step flow at (row_of names.old) (written_of written.entry))
+    ensures { Gives (checks.named_step flow at (row_of names.old) (written_of written.entry))
         (checks.named_result result (row_of names.new)) }
 {
     match written {
@@ -115,7 +112,7 @@ fn flow_step<'a>(
     at: u64,
     step: &'a Value,
 ) -> Result<Step, ScriptFault>
-    ensures { checks.Gives
+    ensures { Gives
         (checks.flow_step_by version (heads_of flows.now) verb at (row_of names.old) (view step.now))
         (checks.named_result result (row_of names.new)) }
 {
@@ -136,7 +133,7 @@ fn collected_in(
     at: u64,
     step: &Value,
 ) -> Result<Build, ScriptFault>
-    ensures { checks.Gives (checks.collected_in version at (view step.now)) (build_result result) }
+    ensures { Gives (checks.collected_in version at (view step.now)) (build_result result) }
 {
     match step.get("chain") {
         Some(chain) => chain_in(alloc, version, at, chain),
@@ -153,7 +150,7 @@ pub fn step_of<'a>(
     at: u64,
     step: &'a Value,
 ) -> Result<Step, ScriptFault>
-    ensures { checks.Gives (checks.step_of version (heads_of flows.now) at (row_of names.old) (view step.now))
+    ensures { Gives (checks.step_of version (heads_of flows.now) at (row_of names.old) (view step.now))
         (checks.named_result result (row_of names.new)) }
 {
     let Some(verb) = verb_of(version, step) else {

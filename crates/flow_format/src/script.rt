@@ -1,10 +1,7 @@
 //! A script that was read and checked.
 
-use flow_cold::{ChainFault, ScriptChain};
+use flow_chain_format::Build;
 use flow_law::{Config, Started};
-
-/// A chain of a script, or why it could not be built. That is no fault of the script, but what its collection tells.
-pub type Build = Result<ScriptChain, ChainFault>;
 
 /// A step about a flow. A name is known by how many names of its kind were introduced before it for that flow: emissions
 /// and subscribers are counted apart.

@@ -4,10 +4,9 @@ ghost use Rattle.serde_json.specs.View.{view, items_view};
 ghost use Rattle.flow_format.specs.Checks as checks;
 ghost use Rattle.flow_format.specs.Names.{written_of};
 
-use crate::members::{i64_at, name_at, u64_at};
-use crate::read_source::are_whole_numbers;
 use crate::script::FlowStep;
 use crate::verb::FlowVerb;
+use flow_chain_format::{are_whole_numbers, i64_at, name_at, u64_at};
 use serde_json::Value;
 
 /// A step on a flow as it is written, with the name and the value that it has.

@@ -20,7 +20,7 @@ use Rattle.flow_law.specs.declared.report.Event.TheVariants as event
 use Rattle.flow_law.specs.declared.report.Report.{Report}
 use Rattle.flow_law.specs.declared.report.ShareFault.{ShareFault}
 use Rattle.flow_law.specs.declared.report.ShareFault.TheVariants as share_fault
-use Rattle.flow_format.specs.ChainFormat.{Build}
+use Rattle.flow_chain_format.specs.ChainFormat.{Build}
 use Rattle.flow_law.specs.declared.outcome.Emit.TheVariants.{Done, Queued}
 use Rattle.flow_law.specs.declared.outcome.Next.{Next}
 use Rattle.flow_law.specs.declared.outcome.Next.TheVariants.{Value, Empty, Gone}

@@ -13,8 +13,8 @@ use Rattle.flow_turns.specs.OverCores.{Emits}
 use Rattle.flow_turns.specs.StateHub.{state_flow_of}
 use Rattle.flow_lines.specs.declared.player.Player.{Player}
 use Rattle.flow_lines.specs.declared.player.Player.TheVariants.{Shared, State, Share, StateIn}
-use Rattle.flow_format.specs.ChainFormat.{BuiltChain}
-use Rattle.flow_format.specs.Chains.{build_of}
+use Rattle.flow_chain_format.specs.ChainFormat.{BuiltChain}
+use Rattle.flow_chain_format.specs.Chains.{build_of}
 use Rattle.flow_format.specs.Heads.{Head}
 use Rattle.flow_lines.specs.Lines.{refusal_text, share_fault_text}
 use Rattle.flow_lines.specs.Memory.{IsToldFlowFault, IsToldFault}

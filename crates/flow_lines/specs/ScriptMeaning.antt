@@ -3,11 +3,12 @@
 use Rattle.std.specs.Prelude.{ℕ, ℤ, List, [], ◌∷◌, ◌++◌, slice_get, slice_set, Option, Some, None, option_and_then, Result, Ok, Err, codes}
 use Rattle.std.specs.Option.{option_map_or}
 use Rattle.flow_law.specs.SharedFlow.{config_fault, first_state}
-use Rattle.flow_format.specs.declared.fault.ScriptFault.{ScriptFault}
+use Rattle.flow_chain_format.specs.declared.fault.ScriptFault.{ScriptFault}
 use Rattle.flow_format.specs.Heads.{Head, NamedHead, shared_chain, state_chain}
 use Rattle.flow_format.specs.Heads as head
 use Rattle.flow_format.specs.Actions.{Action, on_flow, subscribe_with, collect}
-use Rattle.flow_format.specs.Checks.{result_map, read_script}
+use Rattle.flow_chain_format.specs.Results.{result_map}
+use Rattle.flow_format.specs.Checks.{read_script}
 use Rattle.flow_lines.specs.Lines.{lined, refusal_text, share_fault_text, collection_text}
 use Rattle.flow_law.specs.declared.report.ShareFault.TheVariants.{Chain, Flow}
 use Rattle.flow_turns.specs.ShareIn.{share_config}

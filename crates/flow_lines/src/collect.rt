@@ -1,6 +1,6 @@
 //! Collecting a chain, and the line of that.
 ghost use Rattle.std.specs.Prelude.{◌≡◌, ◌++◌, Ok, Err, OnOk, IfErr};
-ghost use Rattle.flow_format.specs.Chains.{build_of, built_of};
+ghost use Rattle.flow_chain_format.specs.Chains.{build_of, built_of};
 ghost use Rattle.flow_lines.specs.Lines as lines;
 ghost use Rattle.flow_lines.specs.Memory.{IsToldEnd};
 

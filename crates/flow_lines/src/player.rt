@@ -1,7 +1,7 @@
 //! A flow of a script, as its steps are played on it.
 ghost use Rattle.std.specs.Prelude.{◌≡◌, OnOk, IfErr};
 ghost use Rattle.flow_format.specs.Actions.{head_of_flow};
-ghost use Rattle.flow_format.specs.Chains.{build_of};
+ghost use Rattle.flow_chain_format.specs.Chains.{build_of};
 ghost use Rattle.flow_format.specs.Heads.{Head, shared_chain, state_chain};
 ghost use Rattle.flow_lines.specs.ScriptMeaning as meaning;
 ghost use Rattle.flow_lines.specs.Players.{Makes, MakesSharing, Rewinds, Shows};

@@ -3,9 +3,10 @@
 use Rattle.std.specs.Prelude.{◌≡◌, ◌⊎◌, ◌≤◌, ◌+◌, ℕ, Bool, true, false, not, ◌&&◌, ◌==◌, List, length, take, Option, Result, Ok, Err, IfSome, String, string_bytes}
 use Rattle.std.specs.declared.alloc.Global.{Global}
 use Rattle.std.specs.Io.KnownBytes.{Appends, Keeps, Consumes}
-use Rattle.flow_format.specs.declared.fault.ScriptFault.{ScriptFault}
-use Rattle.flow_format.specs.declared.fault.ScriptFault.TheVariants.{OutOfMemory, ReadFailed, WriteFailed, NotJson, BadVersion, BadShape, UnknownName, DuplicateName, TooLarge}
-use Rattle.flow_format.specs.Checks.{result_map, most_bytes}
+use Rattle.flow_chain_format.specs.declared.fault.ScriptFault.{ScriptFault}
+use Rattle.flow_chain_format.specs.declared.fault.ScriptFault.TheVariants.{OutOfMemory, ReadFailed, WriteFailed, NotJson, BadVersion, BadShape, UnknownName, DuplicateName, TooLarge}
+use Rattle.flow_chain_format.specs.Results.{result_map}
+use Rattle.flow_format.specs.Checks.{most_bytes}
 use Rattle.flow_lines.specs.declared.observing.Observed.{Observed}
 use Rattle.flow_lines.specs.ScriptMeaning.{meaning}
 

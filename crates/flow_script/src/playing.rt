@@ -1,6 +1,6 @@
 //! Playing a script from a reader to a writer.
 ghost use Rattle.std.specs.Prelude.{◌≡◌, false};
-ghost use Rattle.flow_format.specs.Checks.{Gives};
+ghost use Rattle.flow_chain_format.specs.Results.{Gives};
 ghost use Rattle.flow_lines.specs.ScriptMeaning.{meaning};
 ghost use Rattle.flow_script.specs.Playing.{Plays, TakesWithin, text_result, observed_result, is_read_failed, is_write_failed};
 ghost use Rattle.flow_script.specs.Watching.{inner_of, has_failed};

@@ -1,8 +1,10 @@
 use Rattle.std.proofs.Common.{◌≡◌, Ok, Err, List, ap, subst, ◌∙◌}
 use Rattle.serde_json.specs.View.{items_view}
 use Rattle.flow_format.specs.Actions.{Action, actions_of, heads_of}
-use Rattle.flow_format.specs.Checks.{Checked, nothing_named, result_map, steps_of}
-use Rattle.flow_format.proofs.ReadLemmas.{checked_is, too_long_is, gives_err}
+use Rattle.flow_format.specs.Checks.{Checked, nothing_named, steps_of}
+use Rattle.flow_chain_format.specs.Results.{result_map}
+use Rattle.flow_format.proofs.ReadLemmas.{checked_is, too_long_is}
+use Rattle.flow_chain_format.proofs.ResultLemmas.{gives_err}
 use Rattle.flow_format.proofs.read.checked.Goals as goal
 
 pub returns-then-steps-gt-MOST_STEPS : goal.returns-then-steps-gt-MOST_STEPS

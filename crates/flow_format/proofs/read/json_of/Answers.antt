@@ -4,8 +4,8 @@ use Rattle.std.specs.Str.{is_utf8}
 use Rattle.std.proofs.lemmas.Str.{is_utf8-from_IsUtf8, IsUtf8-from_is_utf8}
 use Rattle.serde_json.specs.Read.{read}
 use Rattle.serde_json.specs.Errors.{IsMemory}
-use Rattle.flow_format.specs.declared.fault.ScriptFault.TheVariants.{NotJson}
-use Rattle.flow_format.specs.Checks.{or_fault}
+use Rattle.flow_chain_format.specs.declared.fault.ScriptFault.TheVariants.{NotJson}
+use Rattle.flow_chain_format.specs.Results.{or_fault}
 use Rattle.flow_format.proofs.ReadLemmas.{json_is}
 use Rattle.flow_format.proofs.read.json_of.Goals as goal
 

@@ -4,7 +4,8 @@ use Rattle.flow_format.specs.Actions.{action_of, actions_of, heads_of}
 use Rattle.flow_format.specs.Checks.{steps_of, nothing_named}
 use Rattle.flow_format.specs.Names.{row_of}
 use Rattle.flow_format.proofs.NameLemmas.{map-snoc}
-use Rattle.flow_format.proofs.ReadLemmas.{gives_err, steps_err, steps_more}
+use Rattle.flow_chain_format.proofs.ResultLemmas.{gives_err}
+use Rattle.flow_format.proofs.ReadLemmas.{steps_err, steps_more}
 use Rattle.flow_format.proofs.read.steps_of.Goals as goal
 
 pub returns-in-Err-step_of : goal.returns-in-Err-step_of

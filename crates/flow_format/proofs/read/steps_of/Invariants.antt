@@ -1,6 +1,7 @@
 use Rattle.std.proofs.Common.{◌≡◌, ◌+◌, ◌++◌, drop}
 use Rattle.serde_json.specs.View.{items_view}
-use Rattle.flow_format.specs.Checks.{result_map, steps_of, nothing_named}
+use Rattle.flow_chain_format.specs.Results.{result_map}
+use Rattle.flow_format.specs.Checks.{steps_of, nothing_named}
 use Rattle.flow_format.specs.Actions.{actions_of, heads_of}
 use Rattle.flow_format.specs.Names.{row_of}
 use Rattle.flow_format.proofs.read.steps_of.Given as goal

@@ -1,11 +1,11 @@
 use Rattle.std.proofs.Common.{◌≡◌, rules, string_bytes, sym, ap, subst, ◌∙◌}
 use Rattle.serde_json.specs.View.{view, members_view}
 use Rattle.flow_format.specs.Actions.{heads_of}
-use Rattle.flow_format.specs.Checks.{Gives}
+use Rattle.flow_chain_format.specs.Results.{Gives}
 use Rattle.flow_format.specs.Flows.{flows_after, named_flow, no_flows_of, with_flow}
 use Rattle.flow_format.specs.HeadViews.{flows_result, named_flow_result}
 use Rattle.flow_format.proofs.FlowsLemmas.{flows-begin, flows-final}
-use Rattle.flow_format.proofs.ReadLemmas.{final-whole}
+use Rattle.flow_chain_format.proofs.ResultLemmas.{final-whole}
 use Rattle.flow_format.proofs.read_flows.named_flows.Goals as goal
 
 pub loop-name-init : goal.loop-name-init

@@ -1,7 +1,7 @@
 use Rattle.std.proofs.Common.{◌≡◌, Result, List}
 use Rattle.serde_json.specs.View.{members_view}
-use Rattle.flow_format.specs.declared.fault.ScriptFault.{ScriptFault}
-use Rattle.flow_format.specs.Checks.{Gives}
+use Rattle.flow_chain_format.specs.declared.fault.ScriptFault.{ScriptFault}
+use Rattle.flow_chain_format.specs.Results.{Gives}
 use Rattle.flow_format.specs.Flows.{flows_after, named_flows}
 use Rattle.flow_format.specs.Heads.{NamedHead}
 use Rattle.flow_format.specs.HeadViews.{flows_result}

@@ -1,9 +1,9 @@
 use Rattle.std.proofs.Common.{ap, subst, sym, Err}
-use Rattle.flow_format.specs.Checks.{Gives}
+use Rattle.flow_chain_format.specs.Results.{Gives}
 use Rattle.flow_format.specs.Flows.{with_flow}
 use Rattle.flow_format.specs.Actions.{named_head}
 use Rattle.flow_format.specs.HeadViews.{flows_result}
-use Rattle.flow_format.proofs.ReadLemmas.{gives_after}
+use Rattle.flow_chain_format.proofs.ResultLemmas.{gives_after}
 use Rattle.flow_format.proofs.read_flows.with_flow.Goals as goal
 
 pub returns-in-Err : goal.returns-in-Err

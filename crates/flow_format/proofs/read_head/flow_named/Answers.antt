@@ -1,6 +1,6 @@
 use Rattle.std.proofs.Common.{sym, subst}
 use Rattle.serde_json.specs.View.{view}
-use Rattle.flow_format.specs.Checks.{Gives}
+use Rattle.flow_chain_format.specs.Results.{Gives}
 use Rattle.flow_format.specs.Heads.{flow_named}
 use Rattle.flow_format.specs.HeadViews.{flow_result}
 use Rattle.flow_format.proofs.read_head.flow_named.Goals as goal

@@ -1,6 +1,7 @@
 use Rattle.std.proofs.Common.{◌≡◌, true, false, Some, ap, ◌∙◌}
 use Rattle.serde_json.specs.View.{view}
-use Rattle.flow_format.specs.Format.{has_members, with_limit, where_true}
+use Rattle.flow_chain_format.specs.Members.{has_members, where_true}
+use Rattle.flow_format.specs.Format.{with_limit}
 use Rattle.flow_format.specs.HeadViews.{parts_of}
 use Rattle.flow_format.proofs.ReadLemmas.{all-four}
 use Rattle.flow_format.proofs.read_share.share_parts.Goals as goal

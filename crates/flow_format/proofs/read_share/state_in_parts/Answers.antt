@@ -2,7 +2,8 @@ use Rattle.std.proofs.Common.{rules, ◌≡◌, w64, true, false, Some, ap, ◌�
 use Rattle.std.proofs.Math.Facts.{to_z-of_z}
 use mir.Val.{to_z, of_z}
 use Rattle.serde_json.specs.View.{view}
-use Rattle.flow_format.specs.Format.{has_members, with_limit, where_true}
+use Rattle.flow_chain_format.specs.Members.{has_members, where_true}
+use Rattle.flow_format.specs.Format.{with_limit}
 use Rattle.flow_format.specs.HeadViews.{state_in_parts_of}
 use Rattle.flow_format.proofs.ReadLemmas.{all-four}
 use Rattle.flow_format.proofs.read_share.state_in_parts.Goals as goal

@@ -1,5 +1,5 @@
 use Rattle.std.proofs.Common.{ap}
-use Rattle.flow_format.specs.Chains.{build_of, built_of}
+use Rattle.flow_chain_format.specs.Chains.{build_of, built_of}
 use Rattle.flow_lines.proofs.player.rewound.Goals as goal
 
 pub returns-in-Ok : goal.returns-in-Ok

@@ -1,7 +1,8 @@
 use Rattle.std.proofs.Common.{None, Some, ap, ◌∙◌}
 use Rattle.std.specs.Str.{bytes_eq}
-use Rattle.flow_format.specs.declared.fault.ScriptFault.TheVariants.{UnknownName}
-use Rattle.flow_format.specs.Checks.{NameLists, or_fault, place_of}
+use Rattle.flow_chain_format.specs.declared.fault.ScriptFault.TheVariants.{UnknownName}
+use Rattle.flow_format.specs.Checks.{NameLists, place_of}
+use Rattle.flow_chain_format.specs.Results.{or_fault}
 use Rattle.flow_format.proofs.NameLemmas.{names-there, no-names-there, position-found}
 use Rattle.flow_format.proofs.names.Names.emission.Goals as goal
 

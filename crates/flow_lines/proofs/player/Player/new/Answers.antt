@@ -5,7 +5,7 @@ use Rattle.std.specs.Option.{option_map_or}
 use Rattle.flow_law.specs.SharedFlow.{config_fault, first_state}
 use Rattle.flow_law.specs.StateFlow.{first_state_flow}
 use Rattle.flow_format.specs.Actions.{head_of_flow}
-use Rattle.flow_format.specs.Chains.{build_of}
+use Rattle.flow_chain_format.specs.Chains.{build_of}
 use Rattle.flow_format.specs.Heads.{state_chain}
 use Rattle.flow_lines.specs.Lines.{refusal_text}
 use Rattle.flow_lines.specs.Memory.{IsToldFlowFault}

@@ -1,0 +1,5 @@
+pub mod Results
+pub mod Members
+pub mod SourceFormat
+pub mod ChainFormat
+pub mod Chains
