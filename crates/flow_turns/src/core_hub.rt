@@ -43,13 +43,12 @@ impl<T: FlowValue, A: Allocator + Copy> Hub for CoreHub<T, A> {
     }
 
     fn put(&mut self, value: T) -> Result<bool, Refused<T>> {
-        match self.core.emit(value) {
-            Ok(Emit::Done) => Ok(false),
-            Ok(Emit::Queued(number)) => {
+        match self.core.emit(value)? {
+            Emit::Done => Ok(false),
+            Emit::Queued(number) => {
                 self.emission = Some(number);
                 Ok(true)
             }
-            Err(refused) => Err(refused),
         }
     }
 
