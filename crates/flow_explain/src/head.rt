@@ -1,7 +1,7 @@
 //! A script that was read as JSON: its version, its steps and its flows.
 
-use crate::json::{Spot, Text};
 use crate::words::Version;
+use json_places::{Spot, Text};
 use serde_json::Value;
 use std::alloc::AllocError;
 

@@ -1,8 +1,8 @@
 //! The steps that introduce names.
 
 use crate::head::{Script, text_at};
-use crate::json::Text;
 use crate::report::Report;
+use json_places::Text;
 use serde_json::Value;
 use std::alloc::AllocError;
 

@@ -3,9 +3,9 @@
 use crate::choices::Choices;
 use crate::head::{Script, text_at};
 use crate::introduced::{Named, introduced_before};
-use crate::json::Spot;
 use crate::report::{EXPECTED, Looked, Report};
 use crate::words::Version;
+use json_places::Spot;
 use serde_json::Value;
 
 /// No flow has the name that a step gives.

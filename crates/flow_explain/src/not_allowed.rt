@@ -3,9 +3,9 @@
 use crate::choices::Choices;
 use crate::flow_words::flow_rows;
 use crate::head::{Script, text_at};
-use crate::json::Spot;
 use crate::report::{EXPECTED, Looked, Report};
 use crate::words::{Version, row_named};
+use json_places::Spot;
 use std::alloc::AllocError;
 
 /// What a reader is told a flow of a kind is.

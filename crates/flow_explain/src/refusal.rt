@@ -2,7 +2,6 @@
 
 use crate::flow_words::{SCRIPT, VERSION};
 use crate::head::Script;
-use crate::json::{Spot, Text, not_json};
 use crate::names::{look_at_new_name, look_at_uses};
 use crate::not_allowed::tell_not_allowed;
 use crate::report::{EXPECTED, Ended, Looked, Owner, Report};
@@ -10,6 +9,7 @@ use crate::search::{Aim, look_into};
 use crate::tasks::Task;
 use crate::words::Form;
 use flow_format::{MOST_BYTES, ScriptFault};
+use json_places::{Spot, Text, not_json};
 use serde_json::Value;
 use std::alloc::{AllocError, Global};
 

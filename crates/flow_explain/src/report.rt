@@ -1,9 +1,9 @@
 //! What is told of what is wrong in a script, and where.
 
 use crate::choices::Choices;
-use crate::json::{Place, Spot, Text};
 use crate::nearest::nearest_of;
 use crate::words::{Form, Key};
+use json_places::{Place, Spot, Text};
 use std::alloc::{AllocError, Global};
 
 /// Where in a script a value stands.

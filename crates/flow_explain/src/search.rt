@@ -4,10 +4,10 @@ use crate::chain_words::{FAULT, shape_of};
 use crate::choices::Choices;
 use crate::form::is_name;
 use crate::head::{Script, items_of};
-use crate::json::{Member, Spot, Text};
 use crate::report::{EXPECTED, Ended, Looked, Owner, Report};
 use crate::tasks::{Inside, Task, inside_of};
 use crate::words::{Form, Row, Shape, Version, key_named, row_named};
+use json_places::{Member, Spot, Text};
 
 /// What is looked for.
 #[derive(Clone, Copy)]

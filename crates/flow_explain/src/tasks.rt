@@ -2,10 +2,10 @@
 
 use crate::chain_words::{CHAIN, operator_rows, source_shape};
 use crate::flow_words::{SCRIPT, STOP, flow_rows};
-use crate::json::Spot;
 use crate::report::Owner;
 use crate::step_words::step_rows;
 use crate::words::{Form, Row, Shape};
+use json_places::Spot;
 use serde_json::Value;
 
 /// A value, and what it should be.

@@ -1,5 +1,5 @@
 use Rattle.std.specs.Prelude.{◌<◌}
-use Rattle.flow_explain.proofs.json.places.Place.at.Given as goal
+use Rattle.json_places.proofs.places.Place.at.Given as goal
 
 abbrev pub invariant-loop-byte : goal.invariant-loop-byte
 invariant-loop-byte l = (0 < l.place.line) × (0 < l.place.column)

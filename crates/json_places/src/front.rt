@@ -1,6 +1,6 @@
 //! Where a text stops being JSON.
 
-use crate::json::parts::{Quoted, Text};
+use crate::parts::{Quoted, Text};
 use serde_json::{Error, Value};
 use std::alloc::AllocError;
 use std::str::from_utf8;
@@ -8,13 +8,13 @@ use std::str::from_utf8;
 /// Where and why a text stops being JSON.
 #[derive(Clone, Copy)]
 pub struct Stop {
-    /// The offset.
+    /// The offset: that of the text's end where the text only breaks off.
     pub at: usize,
     /// Whether what stands there is to be told before what is wrong with it.
     pub tells_value: bool,
-    /// What is wrong there.
+    /// What is wrong there, in words. They follow the value where that is told.
     pub what: &'static str,
-    /// What was expected there.
+    /// What was expected there, in words.
     pub expected: &'static str,
 }
 
@@ -171,16 +171,12 @@ fn fault_at(bytes: &[u8], offset: usize) -> Stop {
     }
 }
 
-/// Where a text stops being JSON, and what was expected there: nothing, where all of it is JSON.
+/// Where a text stops being JSON, and what was expected there: nothing, where all of it is JSON. Bytes that are no UTF-8 are no JSON,
+/// nor is a text with more than 127 brackets open at once. The error says that memory was wanting.
 pub fn not_json(text: Text<'_>) -> Result<Option<Stop>, AllocError> {
     match Value::from_slice(text.alloc, text.bytes) {
         Ok(_) => Ok(None),
-        Err(error) => {
-            if error.is_memory() {
-                Err(AllocError)
-            } else {
-                Ok(Some(fault_at(text.bytes, offset_of(text.bytes, &error))))
-            }
-        }
+        Err(error) if error.is_memory() => Err(AllocError),
+        Err(error) => Ok(Some(fault_at(text.bytes, offset_of(text.bytes, &error)))),
     }
 }

@@ -6,9 +6,9 @@ use std::alloc::{AllocError, Global};
 /// A text, and the memory in which what is told of it is made.
 #[derive(Clone, Copy)]
 pub struct Text<'a> {
-    /// For what is made.
+    /// Where the memory comes from.
     pub alloc: Global,
-    /// All of the text.
+    /// All of the text, which need be neither JSON nor UTF-8.
     pub bytes: &'a [u8],
 }
 
@@ -17,7 +17,7 @@ pub struct Text<'a> {
 pub struct Spot<'a> {
     /// The value as it was read.
     pub value: &'a Value,
-    /// Where it begins.
+    /// The offset of its first byte.
     pub at: usize,
 }
 
@@ -26,7 +26,7 @@ pub struct Spot<'a> {
 pub struct Member<'a> {
     /// Its key as it was read.
     pub name: &'a str,
-    /// Where the key begins.
+    /// The offset at which the key begins, by its quote.
     pub key: usize,
     /// Its value, and where that begins. Where a key is there twice, the value is the last one.
     pub spot: Spot<'a>,
@@ -106,7 +106,7 @@ impl<'a> Text<'a> {
         rest.get(..length).unwrap_or(rest)
     }
 
-    /// Where the next key or value begins, from an offset on, if the object or the list does not end before it.
+    /// Where the next key or value begins, from an offset outside of them on, if the object, the list or the text does not end before it.
     pub fn part_from(self, from: usize) -> Option<usize> {
         for (index, byte) in self.rest(from).iter().enumerate() {
             match *byte {
@@ -118,12 +118,13 @@ impl<'a> Text<'a> {
         None
     }
 
-    /// Where the key or the value begins that follows the one at an offset.
+    /// Where the key or the value begins that follows the one at an offset, if the object, the list or the text does not end before it.
     pub fn part_after(self, at: usize) -> Option<usize> {
         self.part_from(at.saturating_add(self.raw(at).len()))
     }
 
-    /// The next member of an object, from an offset on, if the object does not end before it.
+    /// The next member of an object, if there is one more, from the offset behind its opening bracket or the `end` of the member before on.
+    /// What is no object has none. The error says that memory was wanting.
     pub fn member_from(
         self,
         object: Spot<'a>,
@@ -153,7 +154,8 @@ impl<'a> Text<'a> {
         }
     }
 
-    /// The value of a key of an object. Where a key is there twice, the last one counts.
+    /// The value of a key of an object, if there is one. Where a key is there twice, the last one counts. What is no object has none.
+    /// The error says that memory was wanting.
     pub fn member(self, object: Spot<'a>, key: &str) -> Result<Option<Spot<'a>>, AllocError> {
         let mut found = None;
         if object.value.get(key).is_none() {
@@ -172,7 +174,7 @@ impl<'a> Text<'a> {
         Ok(found)
     }
 
-    /// An item of a list, where the first one has the index 0.
+    /// An item of a list, if it has so many: the first one has the index 0. What is no list has none.
     pub fn item(self, list: Spot<'a>, index: usize) -> Option<Spot<'a>> {
         let value = list.value.get(index)?;
         let mut at = self.part_from(list.at.saturating_add(1))?;
@@ -182,7 +184,8 @@ impl<'a> Text<'a> {
         Some(Spot { value, at })
     }
 
-    /// The value that begins at an offset as it is told, in short, and what is told after it.
+    /// The value that begins at an offset as it is told, and what is told after it: at most 48 bytes, which may end within a character,
+    /// and then "..". Of an object, a list and the end of the text it is told what they are.
     pub fn told(self, at: usize) -> (&'a [u8], &'static str) {
         match self.rest(at).first() {
             None => ("the end of the text".as_bytes(), ""),
