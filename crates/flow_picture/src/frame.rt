@@ -1,7 +1,6 @@
 //! What stands around the lines of a script.
 
-use crate::page::Page;
-use crate::steps::add_heads;
+use flow_marks::{Page, add_heads};
 use serde_json::Value;
 use std::alloc::{AllocError, Global};
 

@@ -1,7 +1,7 @@
 //! Where the marks of a picture stand: columns of a width in characters, in bands that are at most 100 wide.
 
-use crate::picture::{Lane, Mark, Picture};
 use crate::widths::{NAME_WIDTH, mark_width};
+use flow_marks::{Lane, Mark, Picture};
 use serde_json::Value;
 use std::alloc::{AllocError, Global};
 
@@ -74,7 +74,7 @@ impl<'a> Parts<'a> {
     }
 
     /// There was no memory for something that belongs to the parts.
-    fn fail(&mut self) {
+    pub fn fail(&mut self) {
         self.failed = true;
     }
 
@@ -264,9 +264,7 @@ pub fn add_parts<'a>(
     steps: &'a [Value],
 ) {
     match widths_of(alloc, picture) {
-        Ok(widths) if !picture.failed => {
-            add_bands(alloc, parts, picture, steps, widths.as_slice());
-        }
-        _ => parts.fail(),
+        Ok(widths) => add_bands(alloc, parts, picture, steps, widths.as_slice()),
+        Err(_) => parts.fail(),
     }
 }

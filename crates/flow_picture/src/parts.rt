@@ -1,16 +1,21 @@
 //! The parts of all pictures of a script.
 
-use crate::collection::collected;
 use crate::layout::{Part, Parts, add_parts};
-use crate::played::Played;
-use crate::steps::steps_drawing;
+use flow_marks::{Picture, Played, collection_picture, steps_picture};
 use serde_json::Value;
 use std::alloc::{AllocError, Global};
 
-/// The picture of the steps.
-fn add_steps<'a>(alloc: Global, parts: &mut Parts<'a>, script: &'a Value, played: Played<'a>) {
-    let drawing = steps_drawing(alloc, script, played);
-    add_parts(alloc, parts, &drawing.picture, played.steps);
+/// A picture, where there was memory for it, with these steps above its columns.
+fn add_picture<'a>(
+    alloc: Global,
+    parts: &mut Parts<'a>,
+    picture: Result<Picture<'a>, AllocError>,
+    steps: &'a [Value],
+) {
+    match picture {
+        Ok(picture) => add_parts(alloc, parts, &picture, steps),
+        Err(_) => parts.fail(),
+    }
 }
 
 /// The pictures of the collections.
@@ -18,8 +23,8 @@ fn add_collections<'a>(alloc: Global, parts: &mut Parts<'a>, played: Played<'a>)
     for (place, step) in played.steps.iter().enumerate() {
         if let Some(chain) = step.get("chain") {
             parts.push(Part::Collection(place.saturating_add(1), chain));
-            let picture = collected(alloc, chain, played.line(place));
-            add_parts(alloc, parts, &picture, &[]);
+            let picture = collection_picture(alloc, chain, played.line(place));
+            add_picture(alloc, parts, picture, &[]);
         }
     }
 }
@@ -31,7 +36,8 @@ pub fn parts_of<'a>(
     played: Played<'a>,
 ) -> Result<Vec<Part<'a>>, AllocError> {
     let mut parts = Parts::new(alloc);
-    add_steps(alloc, &mut parts, script, played);
+    let picture = steps_picture(alloc, script, played);
+    add_picture(alloc, &mut parts, picture, played.steps);
     add_collections(alloc, &mut parts, played);
     parts.finish()
 }

@@ -2,14 +2,11 @@
 
 use crate::frame::Frame;
 use crate::layout::{Cell, Numbered, Part};
-use crate::page::Page;
 use crate::parts::parts_of;
-use crate::played::Played;
-use crate::script_words::{add_collection, text_of};
-use crate::steps::{add_all_heads, add_heads};
 use crate::style::{LEAST_WIDTH, LEGEND, LEGEND_HEIGHT, STYLE};
 use crate::svg_marks::{END_TEXT, add_attribute, add_cell, begin_text, pixels};
 use crate::widths::{NAME_WIDTH, add_cut};
+use flow_marks::{Page, Played, add_all_heads, add_collection, add_heads, text_of};
 use serde_json::Value;
 use std::alloc::{AllocError, Global};
 

@@ -1,9 +1,8 @@
 //! The marks of a lane and its line as SVG.
 
 use crate::layout::Cell;
-use crate::page::Page;
-use crate::picture::{Mark, Sign, Words};
 use crate::widths::{add_lag, add_words, words_width};
+use flow_marks::{Mark, Page, Sign, Words};
 
 /// How wide a character is, in pixels.
 const CHARACTER: usize = 9;

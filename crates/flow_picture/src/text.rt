@@ -2,13 +2,9 @@
 
 use crate::frame::Frame;
 use crate::layout::{Cell, MOST_WIDTH, Numbered, Part};
-use crate::page::Page;
 use crate::parts::parts_of;
-use crate::picture::Mark;
-use crate::played::Played;
-use crate::script_words::add_collection;
-use crate::steps::add_all_heads;
 use crate::widths::{NAME_WIDTH, add_cut, add_lag, add_words, brackets, mark_width, number_width};
+use flow_marks::{Mark, Page, Played, add_all_heads, add_collection};
 use serde_json::Value;
 use std::alloc::{AllocError, Global};
 

@@ -1,7 +1,6 @@
 //! How wide the words and the marks of a picture are, in characters.
 
-use crate::page::Page;
-use crate::picture::{Mark, Sign, Words};
+use flow_marks::{Mark, Page, Sign, Words};
 
 /// The most characters of a name before its lane.
 pub const NAME_WIDTH: usize = 14;

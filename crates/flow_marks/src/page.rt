@@ -13,6 +13,7 @@ pub struct Page {
 }
 
 impl Page {
+    /// A text without a letter.
     pub fn new(alloc: Global) -> Self {
         Page {
             text: String::new(alloc),
@@ -20,14 +21,17 @@ impl Page {
         }
     }
 
+    /// Some words.
     pub fn push_str(&mut self, words: &str) {
         self.failed = self.failed || self.text.push_str(words).is_err();
     }
 
+    /// A letter.
     pub fn push(&mut self, letter: char) {
         self.failed = self.failed || self.text.push(letter).is_err();
     }
 
+    /// A number, in digits.
     pub fn push_number<N: Display + Drop>(&mut self, number: N) {
         self.write_fmt(number);
     }
@@ -40,7 +44,7 @@ impl Page {
     }
 
     /// What `write!` and `writeln!` add.
-    pub fn write_fmt<D: Display + Drop>(&mut self, words: D) {
+    pub(crate) fn write_fmt<D: Display + Drop>(&mut self, words: D) {
         self.failed = self.failed || self.text.write_fmt(words).is_err();
     }
 
@@ -54,12 +58,12 @@ impl Page {
         }
     }
 
-    /// There was no memory for something that belongs into the text.
+    /// There was no memory for something that belongs into the text, so that `finish` gives none.
     pub fn fail(&mut self) {
         self.failed = true;
     }
 
-    /// The text, where there was memory for all of it.
+    /// The text, where there was memory for all of it. The error says that some was wanting.
     pub fn finish(self) -> Result<String, AllocError> {
         if self.failed {
             return Err(AllocError);

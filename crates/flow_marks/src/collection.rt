@@ -3,7 +3,7 @@
 use crate::picture::{Picture, Sign, Words};
 use crate::script_words::items_of;
 use serde_json::Value;
-use std::alloc::Global;
+use std::alloc::{AllocError, Global};
 
 /// How many items of a lane are drawn.
 const MOST_ITEMS: usize = 24;
@@ -121,12 +121,17 @@ fn add_columns<'a>(picture: &mut Picture<'a>, source: Source<'a>, line: &'a str)
     }
 }
 
-/// The picture of a collection, by the chain and the line that it wrote.
-pub fn collected<'a>(alloc: Global, chain: &'a Value, line: &'a str) -> Picture<'a> {
+/// The picture of a collection, by the chain and the line that it wrote: of each lane at most 24 items and, where there are more, the mark
+/// of two dots. The error says that memory was wanting.
+pub fn collection_picture<'a>(
+    alloc: Global,
+    chain: &'a Value,
+    line: &'a str,
+) -> Result<Picture<'a>, AllocError> {
     let source = Source::new(chain);
     let mut picture = Picture::new(alloc);
     picture.add_lane(source.name, None);
     picture.add_lane("result", None);
     add_columns(&mut picture, source, line);
-    picture
+    picture.finish()
 }

@@ -6,20 +6,21 @@ use crate::script_words::{add_step, text_of};
 use serde_json::Value;
 use std::alloc::AllocError;
 
-/// The lines of a script. The first ones tell of flows that were refused, each other with its step.
+/// The lines of a script. The first ones tell of flows that were refused, each other with its step. Of what is missing here nothing is
+/// told: a line that is not there is empty, and a number that is not there is 0.
 #[derive(Clone, Copy)]
 pub struct Played<'a> {
     /// The steps that were played.
     pub steps: &'a [Value],
     /// The parts of the text between its line feeds.
     pub lines: &'a [&'a str],
-    /// How many lines come before that of the first step.
+    /// How many lines come before that of the first step, one for each flow that was refused.
     pub refused: usize,
-    /// How many values each step emitted, where its flow is a shared flow.
+    /// How many values each step emitted, in the order of the steps: `None`, where its flow is no shared flow.
     pub emitted: &'a [Option<u64>],
-    /// How many values the subscriber of each step has still to receive after it.
+    /// How many values the subscriber of each step has still to receive after it: `None`, where it is about none.
     pub lags: &'a [Option<u64>],
-    /// The same of the subscriber that each step introduced, once the last step was played.
+    /// The same of the subscriber that each step introduced, once the last step was played: `None`, where it introduced none.
     pub last_lags: &'a [Option<u64>],
 }
 
@@ -38,7 +39,7 @@ fn number_at(numbers: &[Option<u64>], place: usize) -> Option<u64> {
 }
 
 impl<'a> Played<'a> {
-    /// The line of a step.
+    /// The line of the step at a place: the first step has the place 0.
     pub fn line(&self, step: usize) -> &'a str {
         match self.lines.get(step.saturating_add(self.refused)) {
             Some(line) => line,
@@ -47,7 +48,7 @@ impl<'a> Played<'a> {
     }
 
     /// What is seen beside the line of a step.
-    pub fn seen(&self, step: usize) -> Seen {
+    pub(crate) fn seen(&self, step: usize) -> Seen {
         Seen {
             emitted: number_at(self.emitted, step),
             lag: number_at(self.lags, step).unwrap_or(0),
@@ -55,7 +56,7 @@ impl<'a> Played<'a> {
     }
 
     /// How far behind the subscriber is in the end that a step introduced: 0, where it introduced none.
-    pub fn last_lag(&self, step: usize) -> u64 {
+    pub(crate) fn last_lag(&self, step: usize) -> u64 {
         number_at(self.last_lags, step).unwrap_or(0)
     }
 
@@ -100,7 +101,7 @@ impl<'a> Played<'a> {
     }
 
     /// What stands before the line at a place: the end of the line before it, with its rule where those of a script are told,
-    /// and the step that wrote the line, in words.
+    /// and the step that wrote the line, in words. It is added to `words`. The error says that memory was wanting.
     pub fn add_words_before(
         &self,
         words: &mut String,

@@ -1,26 +1,14 @@
-//! What a step's line says of the lanes, as marks.
+//! The marks of a step, by its tag and its line.
 
-use crate::picture::{Picture, Sign, Words};
+use crate::picture::{Sign, Words};
 use crate::played::Seen;
 use crate::rules::Line;
-use crate::script_words::{number_of, text_of};
-use indexmap::IndexSet;
+use crate::script_words::number_of;
 use serde_json::Value;
-use std::alloc::Global;
-
-/// A picture that grows by a column with each step.
-#[derive(Drop)]
-pub struct Drawing<'a> {
-    pub picture: Picture<'a>,
-    /// The names of the flows: their lanes come first.
-    pub flows: IndexSet<&'a str>,
-    /// The names of subscribers and emissions: their lanes come next.
-    pub names: IndexSet<&'a str>,
-}
 
 /// What stands in the marks of a step.
 #[derive(Clone, Copy)]
-enum Content {
+pub enum Content {
     Nothing,
     /// The number that the step gives by this key.
     Member(&'static str),
@@ -34,7 +22,7 @@ enum Content {
 
 /// What becomes of the lane of the subscriber or the emission that a step is about.
 #[derive(Clone, Copy)]
-enum Named {
+pub enum Named {
     Untouched,
     Marked(Sign),
     /// It ends with this mark.
@@ -43,7 +31,7 @@ enum Named {
 
 /// The marks of a step: on the lane of its flow, and on that of its name.
 #[derive(Clone, Copy)]
-struct Marks(Option<Sign>, Named, Content);
+pub struct Marks(pub Option<Sign>, pub Named, pub Content);
 
 /// The marks of the steps with this tag and such a line.
 #[derive(Clone, Copy)]
@@ -207,7 +195,7 @@ impl Row {
 }
 
 /// The marks of a step with this tag and line, where the emission that it is about goes on or does not.
-fn marks_of(tag: &str, line: &str, goes_on: bool) -> Marks {
+pub fn marks_of(tag: &str, line: &str, goes_on: bool) -> Marks {
     for row in &ROWS {
         if row.is_about(tag, line, goes_on) {
             return row.2;
@@ -218,7 +206,7 @@ fn marks_of(tag: &str, line: &str, goes_on: bool) -> Marks {
 
 impl Marks {
     /// The same, unless the flow told that it took the value and dropped it.
-    fn seen(self, seen: Seen) -> Marks {
+    pub fn seen(self, seen: Seen) -> Marks {
         let Marks(on_flow, on_named, content) = self;
         match (on_flow, on_named, seen.emitted) {
             (Some(Sign::Value), Named::Ended(_), Some(0)) => {
@@ -231,102 +219,14 @@ impl Marks {
 }
 
 impl Content {
-    fn words<'a>(self, step: &Value, line: &'a str, emission: Option<i64>) -> Words<'a> {
+    /// What stands in the marks of a step with this line, which may be about an emission that goes on with this value.
+    pub fn words<'a>(self, step: &Value, line: &'a str, emission: Option<i64>) -> Words<'a> {
         match self {
             Content::Nothing => Words::None,
             Content::Member(key) => Words::Number(number_of(step, key)),
             Content::Line => Words::Text(line),
             Content::Received => Words::of_value(line.strip_prefix("value ").unwrap_or(line)),
             Content::Emission => Words::Number(emission.unwrap_or(0)),
-        }
-    }
-}
-
-impl<'a> Drawing<'a> {
-    pub fn new(alloc: Global) -> Self {
-        Drawing {
-            picture: Picture::new(alloc),
-            flows: IndexSet::new(alloc),
-            names: IndexSet::new(alloc),
-        }
-    }
-
-    pub fn add_flow(&mut self, name: &'a str) {
-        let is_full = self.flows.insert(name).is_err();
-        self.picture.failed = self.picture.failed || is_full;
-        self.picture.add_lane(name, None);
-    }
-
-    /// The lane of the flow that a step is about.
-    fn flow_lane(&self, step: &Value) -> usize {
-        self.flows.get_index_of(text_of(step, "flow")).unwrap_or(0)
-    }
-
-    /// The lane of the subscriber or the emission that a step is about.
-    fn named_lane(&self, step: &Value) -> usize {
-        let name = self.names.get_index_of(text_of(step, "name")).unwrap_or(0);
-        name.saturating_add(self.flows.len())
-    }
-
-    /// A lane for the name that a step introduces.
-    fn add_name(&mut self, step: &'a Value) {
-        let waits = match text_of(step, "do") {
-            "emit" => Some(number_of(step, "value")),
-            "subscribe" => None,
-            _ => return,
-        };
-        let name = text_of(step, "name");
-        let is_full = self.names.insert(name).is_err();
-        self.picture.failed = self.picture.failed || is_full;
-        self.picture.add_lane(name, waits);
-    }
-
-    /// A mark on the lane of the flow that a step is about.
-    fn mark_flow(&mut self, flow: usize, sign: Sign, words: Words<'a>, line: &str) {
-        if line == "no flow" {
-            // The lane of a flow that was refused has marks, and no line.
-            self.picture.end_lane(flow, 0);
-        }
-        self.picture.add_mark(flow, sign, words, 0);
-    }
-
-    /// A mark on the lane of the subscriber or the emission that a step is about.
-    fn mark_named(&mut self, lane: usize, named: Named, words: Words<'a>, lag: u64) {
-        match named {
-            Named::Untouched => {}
-            Named::Marked(sign) => self.picture.add_mark(lane, sign, words, lag),
-            Named::Ended(sign) => {
-                let column = self.picture.columns;
-                self.picture.end_lane(lane, column);
-                self.picture.add_mark(lane, sign, words, 0);
-            }
-        }
-    }
-
-    /// The marks of one step more, by the line that it writes and by what is seen beside it.
-    pub fn add_step(&mut self, step: &'a Value, line: &'a str, seen: Seen) {
-        self.add_name(step);
-        let (flow, named) = (self.flow_lane(step), self.named_lane(step));
-        let emission = self.picture.open_value(named);
-        let marks = marks_of(text_of(step, "do"), line, emission.is_some());
-        let Marks(on_flow, on_named, content) = marks.seen(seen);
-        let words = content.words(step, line, emission);
-        match (on_flow, seen.emitted) {
-            (Some(sign), _) => self.mark_flow(flow, sign, words, line),
-            (None, Some(count)) if count > 0 => {
-                self.mark_flow(flow, Sign::Value, Words::More(count), line);
-            }
-            _ => {}
-        }
-        self.mark_named(named, on_named, words, seen.lag);
-        self.picture.columns = self.picture.columns.saturating_add(1);
-    }
-
-    /// How many values the subscriber that a step introduced has still to receive in the end, if there are some.
-    pub fn add_last_lag(&mut self, step: &Value, lag: u64) {
-        if lag > 0 {
-            let lane = self.named_lane(step);
-            self.picture.add_mark(lane, Sign::Over, Words::None, lag);
         }
     }
 }

@@ -1,6 +1,6 @@
 //! What is drawn: lanes, and the marks on them, from left to right.
 
-use std::alloc::Global;
+use std::alloc::{AllocError, Global};
 
 /// What a mark tells.
 #[derive(Clone, Copy)]
@@ -13,28 +13,34 @@ pub enum Sign {
     Lost,
     /// There was nothing to receive or to end.
     Nothing,
+    /// The subscriber is there from now on.
     Begins,
+    /// The subscriber is gone, or the list of items has ended.
     Ends,
-    /// The script has ended.
+    /// The script has ended, and a subscriber has still something to receive.
     Over,
     /// What the flow answered.
     Told,
+    /// The step was refused, or its chain failed.
     Refused,
 }
 
 /// What stands in a mark.
 #[derive(Clone, Copy)]
 pub enum Words<'a> {
+    /// Nothing.
     None,
+    /// A value.
     Number(i64),
-    /// So many more.
+    /// So many values more.
     More(u64),
+    /// A line or a part of one, of whatever length.
     Text(&'a str),
 }
 
 impl<'a> Words<'a> {
     /// A value as a line tells it.
-    pub fn of_value(text: &'a str) -> Self {
+    pub(crate) fn of_value(text: &'a str) -> Self {
         match text.parse::<i64>() {
             Ok(number) => Words::Number(number),
             Err(_) => Words::Text(text),
@@ -45,44 +51,50 @@ impl<'a> Words<'a> {
 /// A mark on a lane.
 #[derive(Clone, Copy)]
 pub struct Mark<'a> {
-    /// The place of its lane.
+    /// The place of its lane among the picture's, from 0.
     pub lane: usize,
-    /// The place of its column.
+    /// The place of its column, from 0.
     pub column: usize,
+    /// What it tells.
     pub sign: Sign,
+    /// What stands in it.
     pub words: Words<'a>,
-    /// How many values more are there for the subscriber.
+    /// How many values more are there for the subscriber of its lane: 0, too, where the lane is that of no subscriber.
     pub lag: u64,
 }
 
 /// A line of the picture, from left to right: that of a flow, a subscriber or an emission.
 #[derive(Clone, Copy)]
 pub struct Lane<'a> {
+    /// The name of the flow, the subscriber or the emission.
     pub name: &'a str,
     /// The column where it begins.
     pub begins: usize,
-    /// The column where it ends, or `OPEN`.
+    /// The last column where it is there: `usize::MAX`, where it does not end.
     pub ends: usize,
     /// The value of an emission whose emitter waits until it ends.
     pub waits: Option<i64>,
 }
 
 /// The end of a lane that does not end.
-pub const OPEN: usize = usize::MAX;
+const OPEN: usize = usize::MAX;
 
 /// Lanes, and the marks on them in the order of their columns.
 #[derive(Drop)]
 pub struct Picture<'a> {
+    /// Its lanes, from the uppermost one on.
     pub lanes: Vec<Lane<'a>>,
+    /// Its marks, from the first column on. Some lanes have none in a column.
     pub marks: Vec<Mark<'a>>,
     /// How many columns there are.
     pub columns: usize,
-    /// Whether there was no memory for a lane or a mark: then the picture is of no use.
-    pub failed: bool,
+    /// Whether there was no memory for a lane or a mark.
+    pub(crate) failed: bool,
 }
 
 impl<'a> Picture<'a> {
-    pub fn new(alloc: Global) -> Self {
+    /// No lane and no mark.
+    pub(crate) fn new(alloc: Global) -> Self {
         Picture {
             lanes: Vec::new(alloc),
             marks: Vec::new(alloc),
@@ -92,7 +104,7 @@ impl<'a> Picture<'a> {
     }
 
     /// A lane that begins at the next column.
-    pub fn add_lane(&mut self, name: &'a str, waits: Option<i64>) {
+    pub(crate) fn add_lane(&mut self, name: &'a str, waits: Option<i64>) {
         let lane = Lane {
             name,
             begins: self.columns,
@@ -103,7 +115,7 @@ impl<'a> Picture<'a> {
     }
 
     /// A mark in the next column.
-    pub fn add_mark(&mut self, lane: usize, sign: Sign, words: Words<'a>, lag: u64) {
+    pub(crate) fn add_mark(&mut self, lane: usize, sign: Sign, words: Words<'a>, lag: u64) {
         let mark = Mark {
             lane,
             column: self.columns,
@@ -115,7 +127,7 @@ impl<'a> Picture<'a> {
     }
 
     /// The next column comes, where the last one has a mark.
-    pub fn end_column(&mut self) {
+    pub(crate) fn end_column(&mut self) {
         if let Some(mark) = self.marks.last()
             && mark.column == self.columns
         {
@@ -124,14 +136,14 @@ impl<'a> Picture<'a> {
     }
 
     /// The lane ends at a column.
-    pub fn end_lane(&mut self, lane: usize, column: usize) {
+    pub(crate) fn end_lane(&mut self, lane: usize, column: usize) {
         if lane < self.lanes.len() {
             self.lanes[lane].ends = column;
         }
     }
 
     /// Whether the lane has not ended.
-    pub fn is_open(&self, lane: usize) -> bool {
+    pub(crate) fn is_open(&self, lane: usize) -> bool {
         match self.lanes.get(lane) {
             Some(lane) => lane.ends == OPEN,
             None => false,
@@ -139,8 +151,16 @@ impl<'a> Picture<'a> {
     }
 
     /// The value of an emission that goes on.
-    pub fn open_value(&self, lane: usize) -> Option<i64> {
+    pub(crate) fn open_value(&self, lane: usize) -> Option<i64> {
         let lane = self.lanes.get(lane)?;
         if lane.ends == OPEN { lane.waits } else { None }
+    }
+
+    /// The picture, where there was memory for all of it.
+    pub(crate) fn finish(self) -> Result<Self, AllocError> {
+        if self.failed {
+            return Err(AllocError);
+        }
+        Ok(self)
     }
 }

@@ -3,7 +3,7 @@
 use crate::page::Page;
 use serde_json::Value;
 
-/// The text of a member, or none.
+/// The text of a member of an object: an empty one, where it has no such member or that is no text.
 pub fn text_of<'a>(value: &'a Value, key: &str) -> &'a str {
     match value.get(key) {
         Some(member) => member.as_str().unwrap_or(""),
@@ -19,7 +19,7 @@ pub fn number_of(value: &Value, key: &str) -> i64 {
     }
 }
 
-/// The items of a member, or none.
+/// The items of a member of an object: none, where it has no such member or that is no list.
 pub fn items_of<'a>(value: &'a Value, key: &str) -> &'a [Value] {
     match value.get(key) {
         Some(Value::Array(items)) => items.as_slice(),
@@ -94,7 +94,7 @@ fn add_chain(page: &mut Page, chain: &Value) {
     }
 }
 
-/// A collection in words.
+/// The collection of a chain in words, without a line feed. The number of its step counts from 1.
 pub fn add_collection(page: &mut Page, step: usize, chain: &Value) {
     page.push_str("step ");
     page.push_number(step);

@@ -1,11 +1,12 @@
 //! The picture of a script's steps, and its flows in words.
 
-use crate::marks::Drawing;
+use crate::drawing::Drawing;
 use crate::page::Page;
+use crate::picture::Picture;
 use crate::played::Played;
 use crate::script_words::{add_flow, text_of};
 use serde_json::Value;
-use std::alloc::Global;
+use std::alloc::{AllocError, Global};
 
 /// The flow of a script that names none, unless its steps only collect chains.
 fn single_flow(script: &Value) -> Option<&Value> {
@@ -34,24 +35,28 @@ fn add_steps<'a>(drawing: &mut Drawing<'a>, played: Played<'a>) {
     }
 }
 
-/// How far behind the subscribers are in the end, in a column after the last step. Who has received all has no mark.
+/// How far behind the subscribers are in the end. Who has received all has no mark.
 fn add_last_lags<'a>(drawing: &mut Drawing<'a>, played: Played<'a>) {
     for (place, step) in played.steps.iter().enumerate() {
         drawing.add_last_lag(step, played.last_lag(place));
     }
-    drawing.picture.end_column();
 }
 
-/// A lane for each flow, subscriber and emission, and a column for each step that was played.
-pub fn steps_drawing<'a>(alloc: Global, script: &'a Value, played: Played<'a>) -> Drawing<'a> {
+/// The picture of a script's steps: a lane for each flow, subscriber and emission, a column for each step that was played, and one more
+/// where subscribers are behind in the end. The error says that memory was wanting.
+pub fn steps_picture<'a>(
+    alloc: Global,
+    script: &'a Value,
+    played: Played<'a>,
+) -> Result<Picture<'a>, AllocError> {
     let mut drawing = Drawing::new(alloc);
     add_lanes(&mut drawing, script);
     add_steps(&mut drawing, played);
     add_last_lags(&mut drawing, played);
-    drawing
+    drawing.finish()
 }
 
-/// What the flows are, a line for each.
+/// What the flows of a script are, a line for each, which ends with a line feed. Of a script whose steps only collect chains it is nothing.
 pub fn add_heads(page: &mut Page, script: &Value) {
     if let Some(flow) = single_flow(script) {
         add_flow(page, "flow", flow);
@@ -62,7 +67,7 @@ pub fn add_heads(page: &mut Page, script: &Value) {
     }
 }
 
-/// What the flows are, and the lines of those that were refused.
+/// What the flows of a script are, a line for each, and then the lines of those that were refused.
 pub fn add_all_heads(page: &mut Page, script: &Value, played: Played<'_>) {
     add_heads(page, script);
     for line in played.lines.iter().take(played.refused) {
