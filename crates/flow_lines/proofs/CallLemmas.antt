@@ -4,7 +4,7 @@ use Rattle.flow_law.specs.History.{Kind}
 use Rattle.flow_law.specs.Standing.{Documents}
 use Rattle.flow_format.specs.declared.script.FlowStep.{FlowStep}
 use Rattle.flow_lines.specs.FlowMeaning.{Played, HasLines, IsLine, given, turn_by, with_number}
-use Rattle.flow_lines.specs.Lines.{lined}
+use Rattle.flow_answers.specs.Lines.{lined}
 use Rattle.flow_lines.specs.Numbers.{Numbers}
 
 module _ {K S C R : Type 0} (kind : Kind ℤ S C R) (played : Played S C R) (Stands : K → S → Type 0) (lines : HasLines kind played) where

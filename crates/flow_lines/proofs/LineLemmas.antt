@@ -15,8 +15,8 @@ use Rattle.flow_law.specs.declared.states.StateFlowState.{StateFlowState}
 use Rattle.flow_law.specs.SharedHistory as shared
 use Rattle.flow_law.specs.StateFlow as state
 use Rattle.flow_lines.specs.FlowMeaning.{HasLines, IsLine, given}
-use Rattle.flow_lines.specs.Lines.{refusal_text}
-use Rattle.flow_lines.specs.Memory.{IsToldFlowFault}
+use Rattle.flow_answers.specs.Lines.{refusal_text}
+use Rattle.flow_answers.specs.Memory.{IsToldFlowFault}
 use Rattle.flow_lines.specs.SharedMeaning.{plays_shared}
 use Rattle.flow_lines.specs.StateMeaning.{plays_state}
 use Rattle.flow_lines.proofs.StateLemmas.{reply-is}

@@ -1,6 +1,7 @@
 -- Small facts on results and lists, and steps on a state flow.
 use Rattle.std.proofs.Common.{◌≡◌, ℤ, Result, Ok, Err, OnOk, String, Global, List, [], ◌∷◌, ◌++◌, length, string_bytes, refl, ap, ◌∙◌, arith}
-use Rattle.flow_lines.specs.Lines.{lined, not_allowed}
+use Rattle.flow_answers.specs.Lines.{lined}
+use Rattle.flow_lines.specs.FlowMeaning.{not_allowed}
 use Rattle.flow_lines.specs.ScriptMeaning.{shared, state, share, state_in, state_turn, player_turn, player_subscribes_with}
 use Rattle.flow_lines.specs.Shown.{Follows}
 use Rattle.flow_lines.specs.Players.{Shows}

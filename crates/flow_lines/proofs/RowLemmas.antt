@@ -5,10 +5,11 @@ use Rattle.flow_format.specs.declared.script.Step.{Step}
 use Rattle.flow_format.specs.Actions.{action_of, actions_of}
 use Rattle.flow_format.specs.Heads.{Head, NamedHead}
 use Rattle.flow_lines.specs.declared.player.Player.{Player as KeptPlayer}
-use Rattle.flow_lines.specs.declared.refusal.Refusal.{Refusal}
 use Rattle.flow_lines.specs.declared.row.PlayedFlow.{PlayedFlow as Kept}
-use Rattle.flow_lines.specs.Lines.{lined}
-use Rattle.flow_lines.specs.Players.{IsTold, Makes, Shows, refused_text}
+use Rattle.flow_answers.specs.declared.refusal.Refusal.{Refusal}
+use Rattle.flow_answers.specs.Lines.{lined}
+use Rattle.flow_answers.specs.Refusals.{IsTold, refused_text}
+use Rattle.flow_lines.specs.Players.{Makes, Shows}
 use Rattle.flow_lines.specs.Rows.{AddsFlow, FollowsPlace, FollowsRow, ShowsFlow, ShowsPlace, ShowsRow}
 use Rattle.flow_lines.specs.ScriptMeaning.{Play, Player, PlayedFlow, first_played, flow_at, lines_from, place_turn, player_of, turn, turn_at, with_flow}
 

@@ -16,8 +16,8 @@ use Rattle.flow_law.specs.Steps.{After, Takes}
 use Rattle.flow_cold.specs.declared.script_chain.ScriptChain.{ScriptChain}
 use Rattle.flow_turns.specs.declared.sharing.Sharing.{Sharing}
 use Rattle.flow_turns.specs.SharingViews.{state_of, HasObserved}
-use Rattle.flow_lines.specs.Lines.{turn_text}
-use Rattle.flow_lines.specs.Memory.{IsToldFault}
+use Rattle.flow_answers.specs.Lines.{turn_text}
+use Rattle.flow_answers.specs.Memory.{IsToldFault}
 use Rattle.flow_lines.specs.Numbers.{Numbers}
 use Rattle.flow_lines.specs.SharingMeaning.{SharingPlay, first_sharing, turn_at}
 use Rattle.flow_lines.specs.Sharings.{ShowsSharing, TurnsAsDocumented, both_of}

@@ -8,8 +8,8 @@ use Rattle.flow_law.specs.History.{Kind}
 use Rattle.flow_law.specs.Lawful.{number_in}
 use Rattle.flow_format.specs.declared.script.FlowStep.{FlowStep}
 use Rattle.flow_format.specs.declared.script.FlowStep.TheVariants as step
-use Rattle.flow_lines.specs.Lines.{not_allowed, refusal_text, test_text, next_text, list_text}
-use Rattle.flow_lines.specs.Memory.{IsToldFlowFault}
+use Rattle.flow_answers.specs.Lines.{refusal_text, test_text, next_text, list_text}
+use Rattle.flow_answers.specs.Memory.{IsToldFlowFault}
 use Rattle.flow_lines.specs.Numbers.{Numbers, number_at, with_emission, with_subscriber}
 
 -- a step's line, and what is played on after it, with what the names stand for then
@@ -17,6 +17,10 @@ pub record Turn (P : Type 0) : Type 0 where
   pub line : List ℕ
   pub after : P
   pub numbers : Numbers
+
+-- the line of a step that the flow does not allow. No script that is read has one
+abbrev pub not_allowed : List ℕ
+not_allowed = codes "not allowed"
 
 -- An emission that was done at once, or refused, waits for nobody. A subscription that was refused is gone
 abbrev pub line_without_call : FlowStep → List ℕ

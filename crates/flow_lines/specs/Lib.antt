@@ -1,5 +1,3 @@
-pub mod Lines
-pub mod Memory
 pub mod Numbers
 pub mod FlowMeaning
 pub mod StateMeaning

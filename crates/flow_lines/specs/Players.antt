@@ -1,13 +1,12 @@
 -- What a player stands for, and how it is made. No public clause cites this module.
-use Rattle.std.specs.Prelude.{◌≡◌, ◌⊎◌, ℕ, List, Result, Ok, Err}
+use Rattle.std.specs.Prelude.{◌≡◌, ◌⊎◌, Result, Ok, Err}
 use Rattle.flow_law.specs.Standing.{StandsFor}
 use Rattle.flow_cold.specs.declared.script_chain.ScriptChain.{ScriptChain}
 use Rattle.flow_cold.specs.ScriptChain.{node_whole, node_rest}
 use Rattle.flow_law.specs.declared.report.ShareFault.{ShareFault}
 use Rattle.flow_law.specs.declared.report.ShareFault.TheVariants.{Chain, Flow}
 use Rattle.flow_law.specs.declared.fault.FlowFault.TheVariants.{OutOfMemory}
-use Rattle.flow_lines.specs.declared.refusal.Refusal.{Refusal}
-use Rattle.flow_lines.specs.declared.refusal.Refusal.TheVariants as refusal
+use Rattle.flow_answers.specs.declared.refusal.Refusal.{Refusal}
 use Rattle.flow_law.specs.declared.chain.ChainFault.{ChainFault}
 use Rattle.flow_turns.specs.OverCores.{Emits}
 use Rattle.flow_turns.specs.StateHub.{state_flow_of}
@@ -16,8 +15,8 @@ use Rattle.flow_lines.specs.declared.player.Player.TheVariants.{Shared, State, S
 use Rattle.flow_chain_format.specs.ChainFormat.{BuiltChain}
 use Rattle.flow_chain_format.specs.Chains.{build_of}
 use Rattle.flow_format.specs.Heads.{Head}
-use Rattle.flow_lines.specs.Lines.{refusal_text, share_fault_text}
-use Rattle.flow_lines.specs.Memory.{IsToldFlowFault, IsToldFault}
+use Rattle.flow_answers.specs.Lines.{share_fault_text}
+use Rattle.flow_answers.specs.Refusals.{IsTold, refused_text}
 use Rattle.flow_lines.specs.ScriptMeaning.{player_of}
 use Rattle.flow_lines.specs.ScriptMeaning as player
 use Rattle.flow_lines.specs.Sharings.{ShowsSharing}
@@ -33,15 +32,6 @@ Shows _ _ = ⊥
 abbrev pub MakesSharing : Head → Result Player ShareFault → Type 0
 MakesSharing head (Ok made) = (p : player.Player) × (player_of head ≡ Ok p) × Shows made p
 MakesSharing head (Err fault) = (player_of head ≡ Err (share_fault_text fault)) ⊎ (fault ≡ Flow OutOfMemory)
-
--- the rest of the line that tells why a flow was not made
-abbrev pub refused_text : Refusal → List ℕ
-refused_text (refusal.Flow fault) = refusal_text fault
-refused_text (refusal.Sharing fault) = share_fault_text fault
-
-abbrev pub IsTold : Refusal → Type 0
-IsTold (refusal.Flow fault) = IsToldFlowFault fault
-IsTold (refusal.Sharing fault) = IsToldFault fault
 
 -- the player before the first step, or why the flow was not made
 abbrev pub Makes : Head → Result Player Refusal → Type 0

@@ -5,7 +5,7 @@ use Rattle.std.specs.declared.alloc.Global.{Global}
 use Rattle.flow_format.specs.Actions.{Action}
 use Rattle.flow_format.specs.Heads.{NamedHead}
 use Rattle.flow_lines.specs.declared.row.PlayedFlow.{PlayedFlow as Kept}
-use Rattle.flow_lines.specs.Lines.{lined}
+use Rattle.flow_answers.specs.Lines.{lined}
 use Rattle.flow_lines.specs.Players.{Shows}
 use Rattle.flow_lines.specs.ScriptMeaning.{Play, PlayedFlow, RowTurn, lines_from, place_turn, player_of, text_of, with_flow}
 use Rattle.flow_lines.specs.Shown.{numbers_of}

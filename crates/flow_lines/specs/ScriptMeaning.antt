@@ -9,7 +9,7 @@ use Rattle.flow_format.specs.Heads as head
 use Rattle.flow_format.specs.Actions.{Action, on_flow, subscribe_with, collect}
 use Rattle.flow_chain_format.specs.Results.{result_map}
 use Rattle.flow_format.specs.Checks.{read_script}
-use Rattle.flow_lines.specs.Lines.{lined, refusal_text, share_fault_text, collection_text}
+use Rattle.flow_answers.specs.Lines.{lined, refusal_text, share_fault_text, collection_text}
 use Rattle.flow_law.specs.declared.report.ShareFault.TheVariants.{Chain, Flow}
 use Rattle.flow_turns.specs.ShareIn.{share_config}
 use Rattle.flow_law.specs.declared.states.EmittingFlow.{EmittingFlow}

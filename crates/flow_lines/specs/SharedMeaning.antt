@@ -8,7 +8,7 @@ use Rattle.flow_law.specs.SharedHistory.{answer_to, shared_flow}
 use Rattle.flow_format.specs.declared.script.FlowStep.{FlowStep}
 use Rattle.flow_format.specs.declared.script.FlowStep.TheVariants as step
 use Rattle.flow_lines.specs.FlowMeaning.{Played, Turn, called}
-use Rattle.flow_lines.specs.Lines.{line_of}
+use Rattle.flow_answers.specs.Lines.{line_of}
 use Rattle.flow_lines.specs.Numbers.{Numbers, number_at}
 
 abbrev pub shared_reply : SharedCall ℤ → SharedFlowState ℤ → SharedReply ℤ

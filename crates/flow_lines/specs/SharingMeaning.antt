@@ -15,7 +15,7 @@ use Rattle.flow_law.specs.Steps.{After}
 use Rattle.flow_format.specs.declared.script.FlowStep.{FlowStep}
 use Rattle.flow_format.specs.declared.script.FlowStep.TheVariants as step
 use Rattle.flow_lines.specs.FlowMeaning.{Turn, without_call}
-use Rattle.flow_lines.specs.Lines.{turn_text}
+use Rattle.flow_answers.specs.Lines.{turn_text}
 use Rattle.flow_lines.specs.Numbers.{Numbers}
 
 pub record SharingPlay (F : Type 0) : Type 0 where

@@ -5,7 +5,7 @@ use Rattle.std.specs.declared.alloc.Global.{Global}
 use Rattle.flow_core.specs.SubId.{number_of}
 use Rattle.flow_lines.specs.declared.numbers.Numbers.{Numbers as Kept}
 use Rattle.flow_lines.specs.FlowMeaning.{Turn}
-use Rattle.flow_lines.specs.Lines.{lined}
+use Rattle.flow_answers.specs.Lines.{lined}
 use Rattle.flow_lines.specs.Numbers.{Numbers}
 
 -- what the player keeps of names

@@ -13,7 +13,7 @@ use Rattle.flow_law.specs.StateFlow.{last_of, is_exhausted}
 use Rattle.flow_format.specs.declared.script.FlowStep.{FlowStep}
 use Rattle.flow_format.specs.declared.script.FlowStep.TheVariants as step
 use Rattle.flow_lines.specs.FlowMeaning.{Played}
-use Rattle.flow_lines.specs.Lines.{state_line_of}
+use Rattle.flow_answers.specs.Lines.{state_line_of}
 
 abbrev pub is_last : ℤ → Option ℤ → Bool
 is_last value None = false

@@ -1,14 +1,27 @@
-//! The steps that every kind of flow has, each with its line.
+//! The steps that every kind of flow has, each with its line, and the line of a step that makes no call.
 ghost use Rattle.std.specs.Prelude.{◌≡◌, OnOk, IfErr};
-ghost use Rattle.flow_lines.specs.FlowMeaning.{flow_turn};
+ghost use Rattle.flow_answers.specs.Lines as lines;
+ghost use Rattle.flow_lines.specs.FlowMeaning.{flow_turn, line_without_call};
 ghost use Rattle.flow_lines.specs.Shown.{Follows};
 
-use crate::lines::{
-    add_count, add_line, add_line_without_call, add_list, add_next, add_refusal, add_test,
-};
 use crate::numbers::Numbers;
 use crate::script_core::ScriptCore;
+use flow_answers::{add_count, add_line, add_list, add_next, add_refusal, add_test};
 use flow_format::{FlowStep, ScriptFault};
+
+/// The line of a step that makes no call.
+pub fn add_line_without_call(text: &mut String, step: FlowStep) -> Result<(), ScriptFault>
+    ensures line { OnOk result (lines.AddsLine (line_without_call step) text.old text.new) }
+    ensures refused { IfErr result (λ refused. refused ≡ ScriptFault.OutOfMemory) }
+{
+    match step {
+        FlowStep::Poll(_) => add_line(text, "done")?,
+        FlowStep::Next(_) => add_line(text, "gone")?,
+        FlowStep::Cancel(_) | FlowStep::Unsubscribe(_) => add_line(text, "false")?,
+        _ => add_line(text, "not allowed")?,
+    }
+    Ok(())
+}
 
 fn try_emit<F: ScriptCore>(
     core: &mut F,

@@ -1,21 +1,17 @@
 //! The lines of a JSON flow script that was read.
 //!
-//! A checked script is played over flows for one thread, and each step adds its line to a text. Nothing is read or written here.
+//! A checked script is played over flows for one thread, and each step adds its line to a text: what the flow answers, as
+//! `flow_answers` writes it. Nothing is read or written here.
 #![tactic(auto)]
 
-mod collect;
 mod flow_steps;
-mod lines;
-mod memory;
 mod numbers;
 mod observing;
 mod player;
-mod refusal;
 mod row;
 mod script_core;
 mod script_hub;
 mod script_lines;
-mod share_lines;
 mod shared_calls;
 mod sharing_steps;
 mod state_calls;

@@ -30,21 +30,13 @@ impl Numbers {
     pub fn emission_at(&self, place: usize) -> Option<u64>
         ensures { result ≡ number_at place (numbers_of self.now).emissions }
     {
-        if place < self.emissions.len() {
-            self.emissions[place]
-        } else {
-            None
-        }
+        *self.emissions.get(place)?
     }
 
     pub fn subscriber_at(&self, place: usize) -> Option<SubId>
         ensures { option_map number_of result ≡ number_at place (numbers_of self.now).subscribers }
     {
-        if place < self.subscribers.len() {
-            self.subscribers[place]
-        } else {
-            None
-        }
+        *self.subscribers.get(place)?
     }
 
     /// How many names of subscribers were introduced.
@@ -57,10 +49,9 @@ impl Numbers {
         ensures added { OnOk result (numbers_of self.new ≡ with_emission number (numbers_of self.old)) }
         ensures fault { IfErr result (λ fault. fault ≡ ScriptFault.OutOfMemory) }
     {
-        match self.emissions.push(number) {
-            Ok(()) => Ok(()),
-            Err(_) => Err(ScriptFault::OutOfMemory),
-        }
+        self.emissions
+            .push(number)
+            .map_err(|_| ScriptFault::OutOfMemory)
     }
 
     /// The next name of a subscriber, unless its subscription was refused.
@@ -69,9 +60,8 @@ impl Numbers {
             numbers_of self.new ≡ with_subscriber (option_map number_of id) (numbers_of self.old)) }
         ensures fault { IfErr result (λ fault. fault ≡ ScriptFault.OutOfMemory) }
     {
-        match self.subscribers.push(id) {
-            Ok(()) => Ok(()),
-            Err(_) => Err(ScriptFault::OutOfMemory),
-        }
+        self.subscribers
+            .push(id)
+            .map_err(|_| ScriptFault::OutOfMemory)
     }
 }

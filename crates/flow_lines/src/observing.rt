@@ -157,15 +157,13 @@ impl Seen {
             lags,
             named,
         } = self;
-        match last_lags(alloc, row, named.as_slice()) {
-            Ok(last_lags) => Ok(Observed {
-                text,
-                refused,
-                emitted,
-                lags,
-                last_lags,
-            }),
-            Err(_) => Err(ScriptFault::OutOfMemory),
-        }
+        let last_lags = last_lags(alloc, row, named.as_slice())?;
+        Ok(Observed {
+            text,
+            refused,
+            emitted,
+            lags,
+            last_lags,
+        })
     }
 }

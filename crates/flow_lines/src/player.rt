@@ -2,17 +2,16 @@
 ghost use Rattle.std.specs.Prelude.{◌≡◌, OnOk, IfErr};
 ghost use Rattle.flow_format.specs.Actions.{head_of_flow};
 ghost use Rattle.flow_chain_format.specs.Chains.{build_of};
-ghost use Rattle.flow_format.specs.Heads.{Head, shared_chain, state_chain};
+ghost use Rattle.flow_format.specs.Heads.{shared_chain, state_chain};
 ghost use Rattle.flow_lines.specs.ScriptMeaning as meaning;
 ghost use Rattle.flow_lines.specs.Players.{Makes, MakesSharing, Rewinds, Shows};
 ghost use Rattle.flow_lines.specs.Shown.{Follows};
 
-use crate::flow_steps::flow_step;
-use crate::lines::add_line_without_call;
+use crate::flow_steps::{add_line_without_call, flow_step};
 use crate::numbers::Numbers;
-use crate::refusal::Refusal;
 use crate::shared_calls::subscribe_with;
 use crate::sharing_steps::sharing_step;
+use flow_answers::Refusal;
 use flow_cold::{Cold, ScriptChain};
 use flow_core::{SharedCore, StateCore};
 use flow_format::{Build, FlowStep, ScriptFault, ScriptFlow};
@@ -52,14 +51,9 @@ impl Player {
     ) -> Result<Self, ShareFault>
         ensures { MakesSharing (shared_chain (build_of chain) started replay limit) result }
     {
-        let chain = match rewound(chain) {
-            Ok(chain) => chain,
-            Err(fault) => return Err(fault),
-        };
-        match share_in(alloc, chain, started, replay, limit) {
-            Ok(sharing) => Ok(Player::Share(sharing)),
-            Err(fault) => Err(fault),
-        }
+        let chain = rewound(chain)?;
+        let sharing = share_in(alloc, chain, started, replay, limit)?;
+        Ok(Player::Share(sharing))
     }
 
     fn state_in(
@@ -71,24 +65,9 @@ impl Player {
     ) -> Result<Self, ShareFault>
         ensures { MakesSharing (state_chain (build_of chain) started initial limit) result }
     {
-        let chain = match rewound(chain) {
-            Ok(chain) => chain,
-            Err(fault) => return Err(fault),
-        };
-        match state_in(alloc, chain, started, initial, limit) {
-            Ok(sharing) => Ok(Player::StateIn(sharing)),
-            Err(fault) => Err(fault),
-        }
-    }
-
-    /// The flow before the first step, where a sharing was made.
-    fn sharing(made: Result<Self, ShareFault>) -> Result<Self, Refusal>
-        ensures { (head : Head) → MakesSharing head made → Makes head result }
-    {
-        match made {
-            Ok(player) => Ok(player),
-            Err(fault) => Err(Refusal::Sharing(fault)),
-        }
+        let chain = rewound(chain)?;
+        let sharing = state_in(alloc, chain, started, initial, limit)?;
+        Ok(Player::StateIn(sharing))
     }
 
     /// A flow before the first step.
@@ -96,10 +75,7 @@ impl Player {
         ensures { Makes (head_of_flow flow) result }
     {
         match flow {
-            ScriptFlow::Shared(config) => match SharedCore::new(alloc, config) {
-                Ok(core) => Ok(Player::Shared(core)),
-                Err(fault) => Err(Refusal::Flow(fault)),
-            },
+            ScriptFlow::Shared(config) => Ok(Player::Shared(SharedCore::new(alloc, config)?)),
             ScriptFlow::State { initial, limit } => {
                 Ok(Player::State(StateCore::new(alloc, initial, limit)))
             }
@@ -108,13 +84,13 @@ impl Player {
                 started,
                 replay,
                 limit,
-            } => Player::sharing(Player::share(alloc, chain, started, replay, limit)),
+            } => Ok(Player::share(alloc, chain, started, replay, limit)?),
             ScriptFlow::StateIn {
                 chain,
                 started,
                 initial,
                 limit,
-            } => Player::sharing(Player::state_in(alloc, chain, started, initial, limit)),
+            } => Ok(Player::state_in(alloc, chain, started, initial, limit)?),
         }
     }
 

@@ -3,16 +3,14 @@ ghost use Rattle.std.specs.Prelude.{◌≡◌, ◌++◌, [], ◌∷◌, ℕ, Lis
 ghost use Rattle.flow_format.specs.Actions.{action_of, heads_of, named_head};
 ghost use Rattle.flow_format.specs.Heads.{NamedHead};
 ghost use Rattle.flow_lines.specs.declared.row.PlayedFlow.{PlayedFlow as Kept};
-ghost use Rattle.flow_lines.specs.Lines as lines;
+ghost use Rattle.flow_answers.specs.Lines as lines;
 ghost use Rattle.flow_lines.specs.Players.{Makes, Shows};
 ghost use Rattle.flow_lines.specs.Rows.{AddsFlow, Begins, FollowsPlace, FollowsRow, ShowsFlow};
 ghost use Rattle.flow_lines.specs.ScriptMeaning as meaning;
 
-use crate::collect::add_collection;
-use crate::lines::add_line;
 use crate::numbers::Numbers;
 use crate::player::Player;
-use crate::refusal::{Refusal, add_refused};
+use flow_answers::{Refusal, add_collection, add_line, add_refused};
 use flow_format::{FlowStep, NamedFlow, ScriptFault, Step};
 use std::alloc::{AllocError, Global};
 
@@ -36,10 +34,7 @@ impl PlayedFlow {
 
     /// How many values it has emitted, where it is a shared flow.
     pub fn emission_count(&self) -> Option<u64> {
-        match self.player.shared_core() {
-            Some(core) => Some(core.emission_count()),
-            None => None,
-        }
+        Some(self.player.shared_core()?.emission_count())
     }
 
     /// How many names of subscribers were introduced.
@@ -69,10 +64,7 @@ fn add_place(
     ensures added { OnOk result (row.new.items ≡ row.old.items ++ place ∷ []) }
     ensures fault { IfErr result (λ fault. fault ≡ ScriptFault.OutOfMemory) }
 {
-    match row.push(place) {
-        Ok(()) => Ok(()),
-        Err(_) => Err(ScriptFault::OutOfMemory),
-    }
+    row.push(place).map_err(|_| ScriptFault::OutOfMemory)
 }
 
 /// A flow that was made takes its place before the first step, and the script goes on.

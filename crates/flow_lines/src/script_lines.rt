@@ -25,11 +25,7 @@ impl ScriptLines for Script {
     {
         let Script { flows, steps } = self;
         let mut text = String::new(alloc);
-        let made = match begin(alloc, &mut text, flows) {
-            Ok(made) => made,
-            Err(fault) => return Err(fault),
-        };
-        let Some(mut row) = made else {
+        let Some(mut row) = begin(alloc, &mut text, flows)? else {
             return Ok(text);
         };
         for step in steps {
@@ -47,23 +43,14 @@ impl ScriptLines for Script {
         let Script { flows, steps } = self;
         let mut text = String::new(alloc);
         let mut seen = Seen::new(alloc);
-        let made = match begin(alloc, &mut text, flows) {
-            Ok(made) => made,
-            Err(fault) => return Err(fault),
-        };
+        let made = begin(alloc, &mut text, flows)?;
         let refused = text.as_str().lines().count();
         let Some(mut row) = made else {
-            return match seen.observed(alloc, &[], text, refused) {
-                Ok(observed) => Ok(observed),
-                Err(fault) => Err(fault),
-            };
+            return seen.observed(alloc, &[], text, refused);
         };
         for step in steps {
             seen.play(alloc, &mut row, &mut text, step)?;
         }
-        match seen.observed(alloc, row.as_slice(), text, refused) {
-            Ok(observed) => Ok(observed),
-            Err(fault) => Err(fault),
-        }
+        seen.observed(alloc, row.as_slice(), text, refused)
     }
 }

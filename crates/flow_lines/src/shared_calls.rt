@@ -6,9 +6,10 @@ ghost use Rattle.flow_lines.specs.FlowMeaning.{own_turn};
 ghost use Rattle.flow_lines.specs.SharedMeaning.{plays_shared, subscribes_with};
 ghost use Rattle.flow_lines.specs.Shown.{Follows};
 
-use crate::lines::{add_line, add_line_without_call, add_refusal, add_test, add_wait};
+use crate::flow_steps::add_line_without_call;
 use crate::numbers::Numbers;
 use crate::script_core::ScriptCore;
+use flow_answers::{add_line, add_refusal, add_test, add_wait};
 use flow_core::SharedCore;
 use flow_format::{FlowStep, ScriptFault};
 use flow_law::{Emit, FlowFault};
@@ -116,10 +117,7 @@ impl ScriptCore for SharedCore<i64> {
     ghost played = { plays_shared };
 
     fn try_emit_value(&mut self, value: i64) -> Result<bool, FlowFault> {
-        match self.try_emit(value) {
-            Ok(accepted) => Ok(accepted),
-            Err(refused) => Err(refused.fault),
-        }
+        Ok(self.try_emit(value)?)
     }
 
     fn cached_values(&self) -> Result<Vec<i64>, FlowFault> {

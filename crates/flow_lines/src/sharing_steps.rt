@@ -5,10 +5,10 @@ ghost use Rattle.flow_lines.specs.SharingMeaning as meaning;
 ghost use Rattle.flow_lines.specs.Shown.{Follows};
 ghost use Rattle.flow_lines.specs.Sharings.{ShowsSharing};
 
-use crate::lines::add_line_without_call;
+use crate::flow_steps::add_line_without_call;
 use crate::numbers::Numbers;
 use crate::script_hub::ScriptHub;
-use crate::share_lines::{add_report, add_share_fault};
+use flow_answers::{add_report, add_share_fault};
 use flow_cold::ScriptChain;
 use flow_format::{FlowStep, ScriptFault};
 use flow_turns::Sharing;

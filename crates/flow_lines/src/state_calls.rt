@@ -5,9 +5,10 @@ ghost use Rattle.flow_lines.specs.FlowMeaning.{own_turn};
 ghost use Rattle.flow_lines.specs.StateMeaning.{IsState, plays_state};
 ghost use Rattle.flow_lines.specs.Shown.{Follows};
 
-use crate::lines::{add_line, add_line_without_call, add_refusal, add_test, add_value};
+use crate::flow_steps::add_line_without_call;
 use crate::numbers::Numbers;
 use crate::script_core::ScriptCore;
+use flow_answers::{add_line, add_refusal, add_test, add_value};
 use flow_core::StateCore;
 use flow_format::{FlowStep, ScriptFault};
 use flow_law::FlowFault;

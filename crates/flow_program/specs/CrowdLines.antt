@@ -3,7 +3,7 @@ use Rattle.std.specs.Prelude.{◌≡◌, ◌⊎◌, ℕ, ℤ, ◌+◌, ◌*◌, 
 use Rattle.std.specs.Fmt.{signed_decimal}
 use Rattle.flow_crowd.specs.declared.reader.Received.{Received}
 use Rattle.flow_crowd.specs.declared.size.CrowdSize.{CrowdSize}
-use Rattle.flow_lines.specs.Lines.{lined}
+use Rattle.flow_answers.specs.Lines.{lined}
 use Rattle.flow_script.specs.Telling.{Tells, memory_line}
 use Rattle.flow_program.specs.declared.command.Command.{Command}
 use Rattle.flow_program.specs.declared.command.Command.TheVariants.{Crowd, Count}

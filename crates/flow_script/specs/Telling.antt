@@ -3,7 +3,7 @@ use Rattle.std.specs.Prelude.{◌≡◌, ◌++◌, ℕ, Bool, true, false, List,
 use Rattle.std.specs.Io.KnownBytes.{Appends}
 use Rattle.flow_chain_format.specs.declared.fault.ScriptFault.{ScriptFault}
 use Rattle.flow_chain_format.specs.declared.fault.ScriptFault.TheVariants.{OutOfMemory, ReadFailed, WriteFailed, NotJson, BadVersion, BadShape, UnknownName, DuplicateName, TooLarge}
-use Rattle.flow_lines.specs.Lines.{lined}
+use Rattle.flow_answers.specs.Lines.{lined}
 
 abbrev pub memory_line : List ℕ
 memory_line = lined (codes "out of memory")

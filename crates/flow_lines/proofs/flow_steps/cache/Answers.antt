@@ -1,6 +1,6 @@
 use Rattle.std.proofs.Common.{string_bytes, refl}
 use Rattle.flow_format.specs.declared.script.FlowStep.TheVariants as step
-use Rattle.flow_lines.specs.Lines.{refusal_text}
+use Rattle.flow_answers.specs.Lines.{refusal_text}
 use Rattle.flow_lines.specs.Shown.{numbers_of}
 use Rattle.flow_lines.proofs.CallLemmas.{tells}
 use Rattle.flow_lines.proofs.flow_steps.cache.Goals as goal

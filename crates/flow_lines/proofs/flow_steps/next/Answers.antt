@@ -2,7 +2,7 @@ use Rattle.std.proofs.Common.{string_bytes, refl, sym, ap}
 use Rattle.std.specs.Prelude.{option_map}
 use Rattle.flow_core.specs.SubId.{number_of}
 use Rattle.flow_format.specs.declared.script.FlowStep.TheVariants as step
-use Rattle.flow_lines.specs.Lines.{refusal_text, next_text}
+use Rattle.flow_answers.specs.Lines.{refusal_text, next_text}
 use Rattle.flow_lines.specs.Numbers.{number_at}
 use Rattle.flow_lines.specs.Shown.{numbers_of}
 use Rattle.flow_lines.proofs.CallLemmas.{tells}

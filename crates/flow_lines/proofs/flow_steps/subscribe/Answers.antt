@@ -2,7 +2,7 @@ use Rattle.std.proofs.Common.{[], string_bytes, codes, refl, sym, ap, ◌∙◌}
 use Rattle.flow_core.specs.SubId.{number_of}
 use Rattle.flow_lines.specs.Numbers.{with_subscriber}
 use Rattle.flow_format.specs.declared.script.FlowStep.TheVariants as step
-use Rattle.flow_lines.specs.Lines.{refusal_text}
+use Rattle.flow_answers.specs.Lines.{refusal_text}
 use Rattle.flow_lines.specs.Shown.{numbers_of}
 use Rattle.flow_lines.proofs.CallLemmas.{tells}
 use Rattle.flow_lines.proofs.flow_steps.subscribe.Goals as goal

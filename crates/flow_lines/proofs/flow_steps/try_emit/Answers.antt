@@ -2,7 +2,7 @@ use Rattle.std.proofs.Common.{string_bytes, refl, subst}
 use Rattle.std.proofs.Math.Facts.{to_z-of_z}
 use Rattle.flow_law.specs.Standing.{Documents}
 use Rattle.flow_format.specs.declared.script.FlowStep.TheVariants as step
-use Rattle.flow_lines.specs.Lines.{refusal_text, test_text}
+use Rattle.flow_answers.specs.Lines.{refusal_text, test_text}
 use Rattle.flow_lines.specs.Shown.{numbers_of}
 use Rattle.flow_lines.proofs.CallLemmas.{tells}
 use Rattle.flow_lines.proofs.flow_steps.try_emit.Goals as goal

@@ -5,7 +5,7 @@ use Rattle.flow_law.specs.declared.call.SharedReply.TheVariants.{Refused, Subscr
 use Rattle.flow_law.specs.SharedHistory.{shared_flow}
 use Rattle.flow_law.specs.Standing.{StandsFor}
 use Rattle.flow_format.specs.declared.script.FlowStep.TheVariants as step
-use Rattle.flow_lines.specs.Lines.{refusal_text}
+use Rattle.flow_answers.specs.Lines.{refusal_text}
 use Rattle.flow_lines.specs.SharedMeaning.{plays_shared}
 use Rattle.flow_lines.specs.Shown.{numbers_of}
 use Rattle.flow_lines.proofs.CallLemmas.{tells}

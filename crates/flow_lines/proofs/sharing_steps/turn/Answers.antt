@@ -1,5 +1,5 @@
 use Rattle.std.proofs.Common.{Ok, Err, ◌++◌, string_bytes, refl, ap, ◌∙◌}
-use Rattle.flow_lines.specs.Lines.{lined}
+use Rattle.flow_answers.specs.Lines.{lined}
 use Rattle.flow_lines.specs.Shown.{numbers_of}
 use Rattle.flow_lines.proofs.SharingLemmas.{turned, told-had}
 use Rattle.flow_lines.proofs.sharing_steps.turn.Goals as goal

@@ -6,7 +6,7 @@ use Rattle.flow_law.specs.declared.call.StateReply.TheVariants.{Answered}
 use Rattle.flow_law.specs.StateFlow.{state_flow}
 use Rattle.flow_law.specs.Standing.{StateConforms}
 use Rattle.flow_format.specs.declared.script.FlowStep.TheVariants as step
-use Rattle.flow_lines.specs.Lines.{test_text}
+use Rattle.flow_answers.specs.Lines.{test_text}
 use Rattle.flow_lines.specs.StateMeaning.{IsState, plays_state}
 use Rattle.flow_lines.specs.Shown.{numbers_of}
 use Rattle.flow_lines.proofs.CallLemmas.{tells}

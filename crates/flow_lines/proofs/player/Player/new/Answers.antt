@@ -1,37 +1,60 @@
-use Rattle.std.proofs.Common.{rules, inl, inr, ◌≡◌, Some, Ok, Err, sym, ap, subst, w64, ◌∙◌}
+use Rattle.std.proofs.Common.{rules, inl, inr, ◌≡◌, ◌⊎◌, Result, Ok, Err, sym, ap, subst, w64, ◌∙◌}
 use Rattle.std.proofs.Math.Facts.{to_z-of_z}
+use Rattle.std.proofs.lemmas.Result.{err_from_is_err_and}
 use mir.Val.{to_z, of_z}
 use Rattle.std.specs.Option.{option_map_or}
-use Rattle.flow_law.specs.SharedFlow.{config_fault, first_state}
+use Rattle.flow_law.specs.declared.config.Config.{Config}
+use Rattle.flow_law.specs.declared.fault.FlowFault.{FlowFault}
+use Rattle.flow_law.specs.declared.fault.FlowFault.TheVariants.{OutOfMemory}
+use Rattle.flow_law.specs.declared.report.ShareFault.{ShareFault}
+use Rattle.flow_law.specs.declared.report.ShareFault.TheVariants as share_fault
+use Rattle.flow_law.specs.SharedFlow.{NoFlow, first_state}
 use Rattle.flow_law.specs.StateFlow.{first_state_flow}
 use Rattle.flow_format.specs.Actions.{head_of_flow}
 use Rattle.flow_chain_format.specs.Chains.{build_of}
-use Rattle.flow_format.specs.Heads.{state_chain}
-use Rattle.flow_lines.specs.Lines.{refusal_text}
-use Rattle.flow_lines.specs.Memory.{IsToldFlowFault}
-use Rattle.flow_lines.specs.Players.{MakesSharing}
+use Rattle.flow_format.specs.Heads.{Head, state_chain}
+use Rattle.flow_format.specs.Heads as head
+use Rattle.flow_answers.specs.declared.refusal.Refusal.{Refusal}
+use Rattle.flow_answers.specs.declared.refusal.Refusal.TheVariants.{Flow, Sharing}
+use Rattle.flow_answers.specs.Lines.{refusal_text, share_fault_text}
+use Rattle.flow_answers.specs.Memory.{IsToldFault, IsToldFlowFault}
+use Rattle.flow_lines.specs.declared.player.Player.{Player as Kept}
+use Rattle.flow_lines.specs.Players.{Makes, MakesSharing}
 use Rattle.flow_lines.specs.ScriptMeaning.{player_of, shared, state}
 use Rattle.flow_lines.proofs.player.Player.new.Goals as goal
 
-pub returns-in-Ok : goal.returns-in-Ok
-returns-in-Ok c =
+-- a shared flow that is refused
+no-flow : (of : Head) (config : Config) (fault : FlowFault) (refused : Refusal) (result : Result Kept Refusal)
+    → of ≡ head.shared_flow config → NoFlow config fault → result ≡ Err refused → refused ≡ Flow fault → Makes of result
+no-flow of config fault refused result is none answered flow = subst (Makes of) (sym (answered ∙ ap Err flow)) (told none)
+  where
+    told : NoFlow config fault → IsToldFlowFault fault → player_of of ≡ Err (refusal_text fault)
+    told (inl faulty) _ = ap player_of is ∙ ap (λ o. option_map_or (λ f. Err (refusal_text f)) o (Ok (shared (first_state config)))) faulty
+    told (inr memory) is_told = absurd (subst IsToldFlowFault memory.1 is_told)
+
+-- a sharing that is refused
+no-sharing : (of : Head) (fault : ShareFault) (refused : Refusal) (result : Result Kept Refusal)
+    → MakesSharing of (Err fault) → result ≡ Err refused → refused ≡ Sharing fault → Makes of result
+no-sharing of fault refused result makes answered sharing = subst (Makes of) (sym (answered ∙ ap Err sharing)) (told makes)
+  where
+    told : (player_of of ≡ Err (share_fault_text fault)) ⊎ (fault ≡ share_fault.Flow OutOfMemory) → IsToldFault fault → player_of of ≡ Err (share_fault_text fault)
+    told (inl line) _ = line
+    told (inr memory) is_told = absurd (subst IsToldFault memory is_told)
+
+pub returns-in_ok-new-in-Shared : goal.returns-in_ok-new-in-Shared
+returns-in_ok-new-in-Shared c =
     let config = c.in-Shared.config in
     let made = Ok (shared (first_state config)) in (
       shared (first_state config),
-      ap (λ flow. player_of (head_of_flow flow)) c.in-Shared.is ∙ ap (λ o. option_map_or (λ fault. Err (refusal_text fault)) o made) c.in-Ok.ensures.0,
-      c.in-Ok.ensures.1,
+      ap (λ flow. player_of (head_of_flow flow)) c.in-Shared.is ∙ ap (λ o. option_map_or (λ fault. Err (refusal_text fault)) o made) c.in_ok-new-in-Shared.ensures.0,
+      c.in_ok-new-in-Shared.ensures.1,
     )
 
-pub returns-in-Err : goal.returns-in-Err
-returns-in-Err c = λ told.
-    let config = c.in-Shared.config in
-    let made = Ok (shared (first_state config)) in
-    let of_fault : config_fault config ≡ Some c.in-Err.fault → player_of (head_of_flow c.args.flow) ≡ Err (refusal_text c.in-Err.fault) = λ none.
-    ap (λ flow. player_of (head_of_flow flow)) c.in-Shared.is ∙ ap (λ o. option_map_or (λ fault. Err (refusal_text fault)) o made) none in
-    elim c.in-Err.ensures [
-      | inl none ↦ of_fault none
-      | inr memory ↦ absurd (subst IsToldFlowFault memory.1 told)
-    ]
+pub returns-in_err-new-in-Shared : goal.returns-in_err-new-in-Shared
+returns-in_err-new-in-Shared c =
+    let refused = c.from_residual in
+    let given = err_from_is_err_and refused.result refused.ensures.1 in
+    no-flow (head_of_flow c.args.flow) c.in-Shared.config _ given.0 refused.result (ap head_of_flow c.in-Shared.is) c.in_err-new-in-Shared.ensures given.1 given.2
 
 pub returns-in-State : goal.returns-in-State
 returns-in-State c =
@@ -42,11 +65,29 @@ returns-in-State c =
       subst (λ v. c.new-in-State.result ≡ first_state_flow limit v) same c.new-in-State.ensures,
     )
 
-pub returns-in-Share : goal.returns-in-Share
-returns-in-Share c = c.sharing.ensures (head_of_flow c.args.flow) (subst (λ flow. MakesSharing (head_of_flow flow) c.share.result) (sym c.in-Share.is) c.share.ensures)
+pub returns-in_ok-share-in-Share : goal.returns-in_ok-share-in-Share
+returns-in_ok-share-in-Share c = subst (λ flow. MakesSharing (head_of_flow flow) (Ok c.in_ok-share-in-Share.field-0)) (sym c.in-Share.is) c.in_ok-share-in-Share.ensures
 
-pub returns-in-StateIn : goal.returns-in-StateIn
-returns-in-StateIn c =
+pub returns-in_err-share-in-Share : goal.returns-in_err-share-in-Share
+returns-in_err-share-in-Share c =
+    let refused = c.from_residual-in_err-share-in-Share in
+    let given = err_from_is_err_and refused.result refused.ensures.1 in
+    let fault = c.in_err-share-in-Share.field-0.0 in
+    let makes = subst (λ flow. MakesSharing (head_of_flow flow) (Err fault)) (sym c.in-Share.is) c.in_err-share-in-Share.ensures in
+    no-sharing (head_of_flow c.args.flow) fault given.0 refused.result makes given.1 given.2
+
+pub returns-in_ok-state_in-in-StateIn : goal.returns-in_ok-state_in-in-StateIn
+returns-in_ok-state_in-in-StateIn c =
     let same : to_z w64 (of_z w64 c.in-StateIn.initial) ≡ c.in-StateIn.initial = search (rules, to_z-of_z) in
-    let made = subst (λ v. MakesSharing (state_chain (build_of c.in-StateIn.chain) c.in-StateIn.started v c.in-StateIn.limit) c.state_in.result) same c.state_in.ensures in
-    c.sharing-in-StateIn.ensures (head_of_flow c.args.flow) (subst (λ flow. MakesSharing (head_of_flow flow) c.state_in.result) (sym c.in-StateIn.is) made)
+    let made = subst (λ v. MakesSharing (state_chain (build_of c.in-StateIn.chain) c.in-StateIn.started v c.in-StateIn.limit) (Ok c.in_ok-state_in-in-StateIn.field-0)) same c.in_ok-state_in-in-StateIn.ensures in
+    subst (λ flow. MakesSharing (head_of_flow flow) (Ok c.in_ok-state_in-in-StateIn.field-0)) (sym c.in-StateIn.is) made
+
+pub returns-in_err-state_in-in-StateIn : goal.returns-in_err-state_in-in-StateIn
+returns-in_err-state_in-in-StateIn c =
+    let refused = c.from_residual-in_err-state_in-in-StateIn in
+    let given = err_from_is_err_and refused.result refused.ensures.1 in
+    let fault = c.in_err-state_in-in-StateIn.field-0.0 in
+    let same : to_z w64 (of_z w64 c.in-StateIn.initial) ≡ c.in-StateIn.initial = search (rules, to_z-of_z) in
+    let made = subst (λ v. MakesSharing (state_chain (build_of c.in-StateIn.chain) c.in-StateIn.started v c.in-StateIn.limit) (Err fault)) same c.in_err-state_in-in-StateIn.ensures in
+    let makes = subst (λ flow. MakesSharing (head_of_flow flow) (Err fault)) (sym c.in-StateIn.is) made in
+    no-sharing (head_of_flow c.args.flow) fault given.0 refused.result makes given.1 given.2

@@ -9,24 +9,24 @@ use Rattle.flow_turns.specs.ShareIn.{share_config}
 use Rattle.flow_turns.specs.CoreHub.{emission_of}
 use Rattle.flow_turns.specs.OverCores.{Emits}
 use Rattle.flow_format.specs.Heads.{shared_chain}
-use Rattle.flow_lines.specs.Lines.{share_fault_text}
+use Rattle.flow_answers.specs.Lines.{share_fault_text}
 use Rattle.flow_lines.specs.ScriptMeaning.{player_of, share}
 use Rattle.flow_lines.specs.SharingMeaning.{first_sharing}
 use Rattle.flow_lines.proofs.SharingLemmas.{begun, chained, none-waits}
 use Rattle.flow_lines.proofs.player.Player.share.Goals as goal
 
-pub returns-in-Ok-share_in : goal.returns-in-Ok-share_in
-returns-in-Ok-share_in c =
+pub returns : goal.returns
+returns c =
     let started = c.args.started in
-    let built = c.in-Ok.ensures.0 in
+    let built = c.in_ok-chain.ensures.0 in
     let flow : EmittingFlow ℤ = record { flow = first_state (share_config c.args.replay c.args.limit); waiting = None } in
-    let sharing = c.in-Ok-share_in.sharing in
-    let made = c.in-Ok-share_in.ensures in
-    let is = made.chain ∙ ap (λ r. chained r (node_rest c.in-Ok.chain.node) sharing.hub) c.in-Ok.ensures.2 ∙ ap (λ r. chained built.run r sharing.hub) c.in-Ok.ensures.3 in
+    let sharing = c.in_ok-sharing.sharing in
+    let made = c.in_ok-sharing.ensures in
+    let is = made.chain ∙ ap (λ r. chained r (node_rest c.in_ok-chain.chain.node) sharing.hub) c.in_ok-chain.ensures.2 ∙ ap (λ r. chained built.run r sharing.hub) c.in_ok-chain.ensures.3 in
     let play = first_sharing built.run started flow in
     let waits = none-waits (emission_of sharing.hub) (made.quiet (ap (λ (z : SharingState _). z.runs) made.state) (ap (λ (z : SharingState _). z.cancel_due) made.state)) in (
       share play,
-      ap (λ b. player_of (shared_chain b started c.args.replay c.args.limit)) c.in-Ok.ensures.1
+      ap (λ b. player_of (shared_chain b started c.args.replay c.args.limit)) c.in_ok-chain.ensures.1
           ∙ ap (λ o. option_map_or (λ fault. Err (share_fault_text (Flow fault))) o (Ok (share play))) made.flow.0,
       begun Emits sharing started built.run flow made.nothing made.state is (made.flow.1, waits),
     )

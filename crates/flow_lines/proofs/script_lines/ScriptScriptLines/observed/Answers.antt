@@ -7,7 +7,7 @@ use Rattle.flow_lines.proofs.script_lines.ScriptScriptLines.observed.Goals as go
 
 pub loop-step-init : goal.loop-step-init
 loop-step-init c =
-    let begun = subst (Begins (heads_of c.args.self.flows.items) (string_bytes c.new-text.result) (string_bytes c.begin.new.text)) c.in-Some.is c.in-Ok.ensures.begins in
+    let begun = subst (Begins (heads_of c.args.self.flows.items) (string_bytes c.new-text.result) (string_bytes c.begin.new.text)) c.in-Some.is c.in_ok-made.ensures.begins in
     let steps = c.into_iter-step-iterator.ensures.into_iter_gives.0 in
     let all = actions_of c.args.self.steps.items in (
       begun.0,

@@ -1,13 +1,13 @@
 //! Collecting a chain, and the line of that.
 ghost use Rattle.std.specs.Prelude.{◌≡◌, ◌++◌, Ok, Err, OnOk, IfErr};
 ghost use Rattle.flow_chain_format.specs.Chains.{build_of, built_of};
-ghost use Rattle.flow_lines.specs.Lines as lines;
-ghost use Rattle.flow_lines.specs.Memory.{IsToldEnd};
+ghost use Rattle.flow_answers.specs.Lines as lines;
+ghost use Rattle.flow_answers.specs.Memory.{IsToldEnd};
 
 use crate::lines::{add_items, add_line};
 use crate::memory::ends_for_memory;
+use flow_chain_format::{Build, ScriptFault};
 use flow_cold::{ChainFault, End, ScriptChain, collect_all};
-use flow_format::{Build, ScriptFault};
 use std::alloc::{AllocError, Global};
 
 fn add_chain_fault(text: &mut String, fault: ChainFault) -> Result<(), AllocError>
@@ -23,7 +23,7 @@ fn add_chain_fault(text: &mut String, fault: ChainFault) -> Result<(), AllocErro
 }
 
 /// A line that ends with a fault of a chain.
-pub fn add_with_chain_fault(
+pub(crate) fn add_with_chain_fault(
     text: &mut String,
     before: &str,
     fault: ChainFault,
@@ -69,10 +69,10 @@ fn add_collected(
         (lines.collection_text (Ok (built_of chain))) text.old text.new) }
     ensures fault { IfErr result (λ fault. fault ≡ ScriptFault.OutOfMemory) }
 {
-    match collect_all(alloc, &mut chain) {
-        Ok(collected) => add_items_and_end(text, collected.items.as_slice(), collected.end),
-        Err(_) => Err(ScriptFault::OutOfMemory),
-    }
+    let Ok(collected) = collect_all(alloc, &mut chain) else {
+        return Err(ScriptFault::OutOfMemory);
+    };
+    add_items_and_end(text, collected.items.as_slice(), collected.end)
 }
 
 /// Tells why a chain could not be built.

@@ -1,5 +1,5 @@
--- The lines that a script writes, by the documented reply to each call.
--- Begin with `line_of`.
+-- The lines that a script writes, by what a flow, a chain or a sharing answers.
+-- Begin with `line_of`, of the documented reply to each call of a shared flow.
 use Rattle.std.specs.Prelude.{◌≡◌, ℕ, ℤ, Bool, List, [], ◌∷◌, ◌++◌, if◌then◌else◌, Result, Ok, Err, String, codes, decimal, string_bytes}
 use Rattle.std.specs.Fmt.{signed_decimal}
 use Rattle.std.specs.List.{flat_map}
@@ -89,10 +89,6 @@ collection_text (Ok chain) = list_text (items chain.run) ++ end_text (ending cha
 collection_text (Err fault) = codes "refused " ++ chain_fault_text fault
 
 -- ---- calls of a flow
-
--- the line of a step that the flow does not allow. No script that is read has one
-abbrev pub not_allowed : List ℕ
-not_allowed = codes "not allowed"
 
 -- a call of a shared flow, and its reply
 abbrev pub line_of : SharedCall ℤ → SharedReply ℤ → List ℕ

@@ -1,9 +1,9 @@
 use Rattle.std.proofs.Common.{◌≡◌, ◌++◌, ℕ, string_bytes, refl, ap, ◌∙◌}
 use Rattle.flow_format.specs.declared.script.FlowStep.{FlowStep}
 use Rattle.flow_format.specs.declared.script.FlowStep.TheVariants as step
-use Rattle.flow_lines.specs.FlowMeaning.{line_without_call}
-use Rattle.flow_lines.specs.Lines.{lined, not_allowed}
-use Rattle.flow_lines.proofs.lines.add_line_without_call.Goals as goal
+use Rattle.flow_answers.specs.Lines.{lined}
+use Rattle.flow_lines.specs.FlowMeaning.{line_without_call, not_allowed}
+use Rattle.flow_lines.proofs.flow_steps.add_line_without_call.Goals as goal
 
 other-line : (s : FlowStep) → ((place : ℕ) → s ≡ step.Poll place → ⊥) → ((place : ℕ) → s ≡ step.Next place → ⊥) → ((place : ℕ) → s ≡ step.Cancel place → ⊥)
     → ((place : ℕ) → s ≡ step.Unsubscribe place → ⊥) → not_allowed ≡ line_without_call s

@@ -1,11 +1,11 @@
 //! Which faults are want of memory. No line tells those: they end the script.
 ghost use Rattle.std.specs.Prelude.{◌≡◌, ◌↔◌, false, true};
-ghost use Rattle.flow_lines.specs.Memory.{IsToldFlowFault, IsToldChainFault, IsToldFault, IsToldEnd};
+ghost use Rattle.flow_answers.specs.Memory.{IsToldFlowFault, IsToldChainFault, IsToldFault, IsToldEnd};
 
+use flow_law::report::ShareFault;
 use flow_law::{ChainFault, End, FlowFault};
-use flow_turns::ShareFault;
 
-pub fn is_flow_memory(fault: FlowFault) -> bool
+pub(crate) fn is_flow_memory(fault: FlowFault) -> bool
     ensures { (result ≡ false) ↔ IsToldFlowFault fault }
 {
     match fault {
@@ -14,7 +14,7 @@ pub fn is_flow_memory(fault: FlowFault) -> bool
     }
 }
 
-pub fn is_chain_memory(fault: ChainFault) -> bool
+pub(crate) fn is_chain_memory(fault: ChainFault) -> bool
     ensures { (result ≡ false) ↔ IsToldChainFault fault }
 {
     match fault {
@@ -24,7 +24,7 @@ pub fn is_chain_memory(fault: ChainFault) -> bool
 }
 
 /// Whether a turn was refused, or no sharing was made, for want of memory.
-pub fn is_memory(fault: ShareFault) -> bool
+pub(crate) fn is_memory(fault: ShareFault) -> bool
     ensures { (result ≡ false) ↔ IsToldFault fault }
 {
     match fault {
@@ -35,7 +35,7 @@ pub fn is_memory(fault: ShareFault) -> bool
 }
 
 /// Whether a collection ended for want of memory.
-pub fn ends_for_memory(end: End) -> bool
+pub(crate) fn ends_for_memory(end: End) -> bool
     ensures { (result ≡ false) ↔ IsToldEnd end }
 {
     match end {

@@ -1,15 +1,15 @@
-//! Writing lines.
+//! The lines of a flow's answers.
 ghost use Rattle.std.specs.Prelude.{◌≡◌, ◌++◌, OnOk, IfErr, decimal};
 ghost use Rattle.std.specs.Fmt.{signed_decimal};
-ghost use Rattle.flow_lines.specs.FlowMeaning.{line_without_call};
-ghost use Rattle.flow_lines.specs.Lines as lines;
-ghost use Rattle.flow_lines.specs.Memory.{IsToldFlowFault};
+ghost use Rattle.flow_answers.specs.Lines as lines;
+ghost use Rattle.flow_answers.specs.Memory.{IsToldFlowFault};
 
 use crate::memory::is_flow_memory;
-use flow_format::{FlowStep, ScriptFault};
+use flow_chain_format::ScriptFault;
 use flow_law::{FlowFault, Next};
 use std::alloc::AllocError;
 
+/// A line that says just this.
 pub fn add_line(text: &mut String, line: &str) -> Result<(), AllocError>
     ensures { OnOk result (lines.AddsLine line.now text.old text.new) }
 {
@@ -27,7 +27,7 @@ fn add_more_items(text: &mut String, values: &[i64]) -> Result<(), AllocError>
 }
 
 /// A list, in a line that is not ended.
-pub fn add_items(text: &mut String, values: &[i64]) -> Result<(), AllocError>
+pub(crate) fn add_items(text: &mut String, values: &[i64]) -> Result<(), AllocError>
     ensures { OnOk result (lines.Adds (lines.list_text values.now) text.old text.new) }
 {
     let Some((first, more)) = values.split_first() else {
@@ -38,6 +38,7 @@ pub fn add_items(text: &mut String, values: &[i64]) -> Result<(), AllocError>
     text.push(']')
 }
 
+/// The line of a replay cache.
 pub fn add_list(text: &mut String, values: &[i64]) -> Result<(), AllocError>
     ensures { OnOk result (lines.AddsLine (lines.list_text values.now) text.old text.new) }
 {
@@ -45,6 +46,7 @@ pub fn add_list(text: &mut String, values: &[i64]) -> Result<(), AllocError>
     text.push('\n')
 }
 
+/// The line of an answer that is `true` or `false`.
 pub fn add_test(text: &mut String, test: bool) -> Result<(), AllocError>
     ensures { OnOk result (lines.AddsLine (lines.test_text test) text.old text.new) }
 {
@@ -55,6 +57,7 @@ pub fn add_test(text: &mut String, test: bool) -> Result<(), AllocError>
     }
 }
 
+/// The line of a poll: whether the emission still waits.
 pub fn add_wait(text: &mut String, waits: bool) -> Result<(), AllocError>
     ensures { OnOk result (lines.AddsLine (lines.wait_text waits) text.old text.new) }
 {
@@ -65,6 +68,7 @@ pub fn add_wait(text: &mut String, waits: bool) -> Result<(), AllocError>
     }
 }
 
+/// The line of what a subscriber receives.
 pub fn add_next(text: &mut String, next: Next<i64>) -> Result<(), AllocError>
     ensures { OnOk result (lines.AddsLine (lines.next_text next) text.old text.new) }
 {
@@ -75,48 +79,36 @@ pub fn add_next(text: &mut String, next: Next<i64>) -> Result<(), AllocError>
     }
 }
 
+/// The line of a state flow's value.
 pub fn add_value(text: &mut String, value: i64) -> Result<(), AllocError>
     ensures { OnOk result (lines.AddsLine (signed_decimal value) text.old text.new) }
 {
     writeln!(text, "{value}")
 }
 
+/// The line of a number of subscribers.
 pub fn add_count(text: &mut String, count: u64) -> Result<(), AllocError>
     ensures { OnOk result (lines.AddsLine (decimal count) text.old text.new) }
 {
     writeln!(text, "{count}")
 }
 
-/// The line of a step that makes no call.
-pub fn add_line_without_call(text: &mut String, step: FlowStep) -> Result<(), ScriptFault>
-    ensures line { OnOk result (lines.AddsLine (line_without_call step) text.old text.new) }
-    ensures refused { IfErr result (λ refused. refused ≡ ScriptFault.OutOfMemory) }
-{
-    match step {
-        FlowStep::Poll(_) => add_line(text, "done")?,
-        FlowStep::Next(_) => add_line(text, "gone")?,
-        FlowStep::Cancel(_) | FlowStep::Unsubscribe(_) => add_line(text, "false")?,
-        _ => add_line(text, "not allowed")?,
-    }
-    Ok(())
-}
-
-/// The rest of a line that tells a fault of a flow.
-fn add_flow_fault(text: &mut String, fault: FlowFault) -> Result<(), AllocError>
-    ensures { OnOk result (lines.AddsLine (lines.flow_fault_text fault) text.old text.new) }
+/// The number and the name of a fault of a flow.
+fn flow_fault_text(fault: FlowFault) -> &'static str
+    ensures { result.now ≡ lines.flow_fault_text fault }
 {
     match fault {
-        FlowFault::OutOfMemory => add_line(text, "1 OutOfMemory"),
-        FlowFault::TooLarge => add_line(text, "2 TooLarge"),
-        FlowFault::NeedsBuffer => add_line(text, "3 NeedsBuffer"),
-        FlowFault::Exhausted => add_line(text, "4 Exhausted"),
-        FlowFault::Unsupported => add_line(text, "5 Unsupported"),
-        FlowFault::Busy => add_line(text, "6 Busy"),
+        FlowFault::OutOfMemory => "1 OutOfMemory",
+        FlowFault::TooLarge => "2 TooLarge",
+        FlowFault::NeedsBuffer => "3 NeedsBuffer",
+        FlowFault::Exhausted => "4 Exhausted",
+        FlowFault::Unsupported => "5 Unsupported",
+        FlowFault::Busy => "6 Busy",
     }
 }
 
 /// A line that ends with a fault of a flow.
-pub fn add_with_flow_fault(
+pub(crate) fn add_with_flow_fault(
     text: &mut String,
     before: &str,
     fault: FlowFault,
@@ -124,7 +116,7 @@ pub fn add_with_flow_fault(
     ensures { OnOk result (lines.AddsLine (before.now ++ lines.flow_fault_text fault) text.old text.new) }
 {
     text.push_str(before)?;
-    add_flow_fault(text, fault)
+    add_line(text, flow_fault_text(fault))
 }
 
 /// The line of a refused call. Want of memory has none: it ends the script.
