@@ -1,7 +1,7 @@
 //! The members of a JSON object, each in the form that the format asks for.
-ghost use Rattle.std.specs.Prelude.{◌≡◌, ◌+◌, ◌<◌, ◌^◌, ◌==◌, ◌&&◌, ℕ, option_map, option_and_then, length};
+ghost use Rattle.std.specs.Prelude.{◌≡◌, ◌<◌, ◌^◌, ◌==◌, ◌&&◌, option_map};
 ghost use Rattle.std.specs.List.{list_all};
-ghost use Rattle.serde_json.specs.Find.{get, as_number, as_u64, as_i64, as_str, as_object};
+ghost use Rattle.serde_json.specs.Find.{get, as_u64, as_i64, as_str, as_object};
 ghost use Rattle.serde_json.specs.View.{view};
 ghost use Rattle.flow_chain_format.specs.Members as members;
 

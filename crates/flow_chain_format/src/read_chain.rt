@@ -41,20 +41,14 @@ fn start_of(source: Result<Source, ScriptFault>) -> Result<Build, ScriptFault>
     ensures { (m : Result (ChainRun ℤ) TheScriptFault) → Gives m (source_result source)
         → Gives (chains.start_of m) (build_result result) }
 {
-    match source {
-        Ok(source) => Ok(Ok(ScriptChain::source(source))),
-        Err(fault) => Err(fault),
-    }
+    Ok(Ok(ScriptChain::source(source?)))
 }
 
 /// The zip with a chain, unless that could not be built.
 fn zip_with(by: Joining, with: Build) -> Result<Op, ChainFault>
     ensures { operator_build result ≡ chains.zip_with by (build_of with) }
 {
-    match with {
-        Ok(with) => Ok(Op::Zip { with, by }),
-        Err(fault) => Err(fault),
-    }
+    Ok(Op::Zip { with: with?, by })
 }
 
 /// The zip with a chain that was read.
@@ -65,10 +59,7 @@ fn zipped(
     ensures { (m : Result chains.Build TheScriptFault) → Gives m (build_result with)
         → Gives (chains.zipped by m) (operator_build_result result) }
 {
-    match with {
-        Ok(with) => Ok(zip_with(by, with)),
-        Err(fault) => Err(fault),
-    }
+    Ok(zip_with(by, with?))
 }
 
 /// An operator that nothing refuses before it is put onto a chain.
@@ -76,10 +67,7 @@ fn plain(op: Result<Op, ScriptFault>) -> Result<Result<Op, ChainFault>, ScriptFa
     ensures { (m : Result chains.Operator TheScriptFault) → Gives m (operator_result op)
         → Gives (chains.plain m) (operator_build_result result) }
 {
-    match op {
-        Ok(op) => Ok(Ok(op)),
-        Err(fault) => Err(fault),
-    }
+    Ok(Ok(op?))
 }
 
 /// The chain with one more operator.
@@ -127,13 +115,9 @@ fn joined_to(
         → Gives m (build_result chain) → Gives o (operator_build_result op)
         → Gives (chains.joined_to m o) (build_result result) }
 {
-    let chain = match chain {
-        Ok(chain) => chain,
-        Err(fault) => return Err(first_fault(fault, &op)),
-    };
-    match op {
-        Ok(op) => built_on(alloc, chain, op),
-        Err(fault) => Err(fault),
+    match chain {
+        Ok(chain) => built_on(alloc, chain, op?),
+        Err(fault) => Err(first_fault(fault, &op)),
     }
 }
 

@@ -1,8 +1,7 @@
 //! Reading an operator of a chain.
 ghost use Rattle.std.specs.Prelude.{◌≡◌, Ok, Err, option_map};
 ghost use Rattle.serde_json.specs.View.{view};
-ghost use Rattle.flow_chain_format.specs.Results.{Gives};
-ghost use Rattle.flow_chain_format.specs.Results.{or_fault};
+ghost use Rattle.flow_chain_format.specs.Results.{Gives, or_fault};
 ghost use Rattle.flow_chain_format.specs.ChainFormat as chains;
 ghost use Rattle.flow_chain_format.specs.Chains.{operator_of, operator_result};
 
@@ -144,10 +143,7 @@ fn formed(at: u64, op: Option<Op>) -> Result<Op, ScriptFault>
     ensures { Gives (or_fault (ScriptFault.BadShape at) (option_map operator_of op))
         (operator_result result) }
 {
-    match op {
-        Some(op) => Ok(op),
-        None => Err(ScriptFault::BadShape(at)),
-    }
+    op.ok_or(ScriptFault::BadShape(at))
 }
 
 /// An operator that is no zip.

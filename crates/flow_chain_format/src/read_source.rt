@@ -1,8 +1,7 @@
 //! Reading the source of a chain.
-ghost use Rattle.std.specs.Prelude.{◌≡◌, Ok, Err, ℤ, List, option_map, is_some};
+ghost use Rattle.std.specs.Prelude.{◌≡◌, Ok, Err, List, is_some};
 ghost use Rattle.serde_json.specs.View.{view, items_view};
-ghost use Rattle.flow_chain_format.specs.Results.{Gives};
-ghost use Rattle.flow_chain_format.specs.Results.{result_map, or_fault};
+ghost use Rattle.flow_chain_format.specs.Results.{Gives, or_fault};
 ghost use Rattle.flow_chain_format.specs.SourceFormat as sources;
 ghost use Rattle.flow_chain_format.specs.Chains.{numbers_result, entries_result, source_result};
 
@@ -70,9 +69,7 @@ fn whole_numbers(alloc: Global, at: u64, values: &[Value]) -> Result<Vec<i64>, S
         let Some(number) = value.as_i64() else {
             return Err(ScriptFault::BadShape(at));
         };
-        if let Err(_refused) = numbers.push(number) {
-            return Err(ScriptFault::OutOfMemory);
-        }
+        numbers.push(number)?;
     }
     Ok(numbers)
 }
@@ -106,9 +103,7 @@ fn entries_of(alloc: Global, at: u64, values: &[Value]) -> Result<Vec<Entry<i64>
         let Some(entry) = entry_of(value) else {
             return Err(ScriptFault::BadShape(at));
         };
-        if let Err(_refused) = entries.push(entry) {
-            return Err(ScriptFault::OutOfMemory);
-        }
+        entries.push(entry)?;
     }
     Ok(entries)
 }

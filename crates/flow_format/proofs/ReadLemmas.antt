@@ -1,6 +1,6 @@
 -- What the reading functions find, in the terms of the definitions.
 use Rattle.std.proofs.Common.{◌≡◌, ℕ, ◌+◌, ◌<◌, ◌≤◌, true, false, nat_lt, if◌then◌else◌, List, [], ◌∷◌, ◌++◌, length, drop, get_or, Result, Ok, Err, Option, Some, sym, ap, ◌∙◌, append_assoc, refl, arith}
-use Rattle.std.specs.Prelude.{option_and_then}
+use Rattle.std.specs.Prelude.{option_and_then, option_map, codes, Bool, None}
 use Rattle.serde_json.specs.Data.{Data}
 use Rattle.serde_json.specs.View.{view, items_view}
 use Rattle.serde_json.specs.declared.value.Value.{Value}
@@ -12,7 +12,11 @@ use Rattle.std.proofs.lemmas.Bool.Decides.{nat_tests}
 use Rattle.serde_json.specs.Read.{read}
 use Rattle.flow_format.specs.Checks.{NameLists, nothing_named, checked, json_of, most_bytes, most_steps, read_script, script_of, step_of, steps_of}
 use Rattle.flow_chain_format.specs.Results.{or_fault, result_map, result_then}
-use Rattle.flow_format.specs.Heads.{NamedHead}
+use Rattle.serde_json.specs.Find.{get}
+use Rattle.flow_chain_format.specs.Members.{has_members, i64_at, u32_at, where_true}
+use Rattle.flow_format.specs.Format.{limit_at, with_limit}
+use Rattle.flow_format.specs.Heads.{NamedHead, share_parts, started_at, state_in_parts}
+use Rattle.flow_format.specs.HeadViews.{CommonParts, shared_chain_in, with_initial, with_replay}
 use Rattle.flow_chain_format.specs.declared.version.Version.{Version}
 use Rattle.flow_chain_format.proofs.ListLemmas.{items_len_is, rest_from}
 
@@ -71,12 +75,35 @@ too_long_is version flows vs long =
 
 -- ---- what is read key by key
 
--- where each of four keys is there, what is made of the four
-pub all-four : {A B C D R : Type 0} (f : A → B → C → D → Option R) (oa : Option A) (ob : Option B) (oc : Option C) (od : Option D) (a : A) (b : B) (c : C) (d : D)
-    → Some a ≡ oa → Some b ≡ ob → Some c ≡ oc → Some d ≡ od
-    → f a b c d ≡ option_and_then (λ w. option_and_then (λ x. option_and_then (λ y. option_and_then (λ z. f w x y z) od) oc) ob) oa
-all-four f oa ob oc od a b c d ea eb ec ed =
-    ap (λ o. option_and_then (λ z. f a b c z) o) ed
-    ∙ ap (λ o. option_and_then (λ y. option_and_then (λ z. f a b y z) od) o) ec
-    ∙ ap (λ o. option_and_then (λ x. option_and_then (λ y. option_and_then (λ z. f a x y z) od) oc) o) eb
-    ∙ ap (λ o. option_and_then (λ w. option_and_then (λ x. option_and_then (λ y. option_and_then (λ z. f w x y z) od) oc) ob) o) ea
+-- where each of three keys is there, what is made of the three
+pub all-three : {A B C R : Type 0} (f : A → B → C → Option R) (oa : Option A) (ob : Option B) (oc : Option C) (a : A) (b : B) (c : C) → Some a ≡ oa → Some b ≡ ob → Some c ≡ oc
+    → f a b c ≡ option_and_then (λ x. option_and_then (λ y. option_and_then (λ z. f x y z) oc) ob) oa
+all-three f oa ob oc a b c ea eb ec =
+    ap (λ o. option_and_then (λ z. f a b z) o) ec
+    ∙ ap (λ o. option_and_then (λ y. option_and_then (λ z. f a y z) oc) o) eb
+    ∙ ap (λ o. option_and_then (λ x. option_and_then (λ y. option_and_then (λ z. f x y z) oc) ob) o) ea
+
+-- of four keys the third may be read after the others
+pub third-last : {A B C D P R : Type 0} (p : A → B → D → P) (f : P → C → R) (oa : Option A) (ob : Option B) (oc : Option C) (od : Option D) (test : Bool)
+    → option_and_then (λ parts. option_map (f parts) oc) (option_and_then (λ a. option_and_then (λ b. option_and_then (λ d. where_true test (Some (p a b d))) od) ob) oa)
+    ≡ option_and_then (λ a. option_and_then (λ b. option_and_then (λ c. option_and_then (λ d. where_true test (Some (f (p a b d) c))) od) oc) ob) oa
+third-last p f None ob oc od test = refl
+third-last p f (Some a) None oc od test = refl
+third-last p f (Some a) (Some b) None None test = refl
+third-last p f (Some a) (Some b) None (Some d) true = refl
+third-last p f (Some a) (Some b) None (Some d) false = refl
+third-last p f (Some a) (Some b) (Some c) None test = refl
+third-last p f (Some a) (Some b) (Some c) (Some d) true = refl
+third-last p f (Some a) (Some b) (Some c) (Some d) false = refl
+
+pub share-parts : (version : Version) (d : Data)
+    → option_and_then (λ (shared : CommonParts). option_map (λ replay. with_replay shared replay) (u32_at (codes "replay") d)) (shared_chain_in version d) ≡ share_parts version d
+share-parts version d =
+    third-last (λ chain started limit. record { chain = chain; started = started; limit = limit }) with_replay (get (codes "chain") d) (started_at version d) (u32_at (codes "replay") d) (limit_at d)
+    (has_members (with_limit 4 d) d)
+
+pub state-in-parts : (version : Version) (d : Data)
+    → option_and_then (λ (shared : CommonParts). option_map (λ initial. with_initial shared initial) (i64_at (codes "initial") d)) (shared_chain_in version d) ≡ state_in_parts version d
+state-in-parts version d =
+    third-last (λ chain started limit. record { chain = chain; started = started; limit = limit }) with_initial (get (codes "chain") d) (started_at version d) (i64_at (codes "initial") d) (limit_at d)
+    (has_members (with_limit 4 d) d)

@@ -1,25 +1,50 @@
 -- What the reader's heads are in the definitions' terms. No public clause cites this module.
-use Rattle.std.specs.Prelude.{List, Result, Vec}
+use Rattle.std.specs.Prelude.{ℕ, ℤ, List, Option, Some, option_and_then, Result, Vec, codes}
 use Rattle.std.specs.Borrow.{Bor}
 use Rattle.std.specs.declared.alloc.Global.{Global}
-use Rattle.serde_json.specs.Data.{Items}
+use Rattle.serde_json.specs.Data.{Data, Items}
+use Rattle.serde_json.specs.Find.{get}
 use Rattle.serde_json.specs.View.{view, items_view}
 use Rattle.serde_json.specs.declared.value.Value.{Value}
+use Rattle.flow_law.specs.declared.sharing.Started.{Started}
+use Rattle.flow_chain_format.specs.declared.version.Version.{Version}
+use Rattle.flow_chain_format.specs.Members.{has_members, where_true}
 use Rattle.flow_chain_format.specs.declared.fault.ScriptFault.{ScriptFault}
 use Rattle.flow_format.specs.declared.script.NamedFlow.{NamedFlow}
 use Rattle.flow_format.specs.declared.script.ScriptFlow.{ScriptFlow}
-use Rattle.flow_format.specs.declared.read_share.ShareParts.{ShareParts}
-use Rattle.flow_format.specs.declared.read_share.StateInParts.{StateInParts}
+use Rattle.flow_format.specs.declared.read_share.SharedChain.{SharedChain}
 use Rattle.flow_chain_format.specs.Results.{result_map}
 use Rattle.flow_format.specs.Actions.{head_of_flow, named_head, heads_of}
-use Rattle.flow_format.specs.Heads.{Head, NamedHead}
-use Rattle.flow_format.specs.Heads as heads
+use Rattle.flow_format.specs.Format.{limit_at, with_limit}
+use Rattle.flow_format.specs.Heads.{Head, NamedHead, ShareParts, StateInParts, started_at}
 
-abbrev pub parts_of : ShareParts → heads.ShareParts
-parts_of parts = record { chain = view parts.chain.now; started = parts.started; replay = parts.replay; limit = parts.limit }
+-- what `ShareParts` and `StateInParts` have in common
+pub record CommonParts : Type 0 where
+  pub chain : Data
+  pub started : Started
+  pub limit : ℕ
 
-abbrev pub state_in_parts_of : StateInParts → heads.StateInParts
-state_in_parts_of parts = record { chain = view parts.chain.now; started = parts.started; initial = parts.initial; limit = parts.limit }
+-- where there is one key more
+abbrev pub shared_chain_in : Version → Data → Option CommonParts
+shared_chain_in version d =
+    option_and_then (λ chain. option_and_then (λ started. option_and_then (λ limit.
+    where_true (has_members (with_limit 4 d) d) (Some (record { chain = chain; started = started; limit = limit })))
+    (limit_at d)) (started_at version d)) (get (codes "chain") d)
+
+abbrev pub with_replay : CommonParts → ℕ → ShareParts
+with_replay shared replay = record { chain = shared.chain; started = shared.started; replay = replay; limit = shared.limit }
+
+abbrev pub with_initial : CommonParts → ℤ → StateInParts
+with_initial shared initial = record { chain = shared.chain; started = shared.started; initial = initial; limit = shared.limit }
+
+abbrev pub shared_chain_of : SharedChain → CommonParts
+shared_chain_of shared = record { chain = view shared.chain.now; started = shared.started; limit = shared.limit }
+
+abbrev pub share_parts_of : SharedChain × ℕ → ShareParts
+share_parts_of parts = with_replay (shared_chain_of parts.0) parts.1
+
+abbrev pub state_in_parts_of : SharedChain × ℤ → StateInParts
+state_in_parts_of parts = with_initial (shared_chain_of parts.0) parts.1
 
 abbrev pub flow_result : Result ScriptFlow ScriptFault → Result Head ScriptFault
 flow_result r = result_map head_of_flow r

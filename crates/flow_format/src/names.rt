@@ -1,13 +1,23 @@
 //! The names that the steps of a script introduce.
-ghost use Rattle.std.specs.Prelude.{◌≡◌, false, OnOk, IfOk, IfErr, replicate};
+ghost use Rattle.std.specs.Prelude.{◌≡◌, false, OnOk, IfOk, IfErr, map, replicate};
 ghost use Rattle.std.specs.List.{list_any};
-ghost use Rattle.flow_chain_format.specs.Results.{Gives};
+ghost use Rattle.flow_chain_format.specs.Results.{Gives, or_fault};
 ghost use Rattle.flow_format.specs.Checks as checks;
 ghost use Rattle.flow_format.specs.Names.{lists_of, row_of};
 
 use flow_chain_format::ScriptFault;
 use indexmap::IndexSet;
 use std::alloc::Global;
+
+/// The place of a name among those of its kind, where it was introduced for the flow.
+fn place_in(names: &IndexSet<&str>, at: u64, name: &str) -> Result<usize, ScriptFault>
+    ensures { Gives (or_fault (ScriptFault.UnknownName at) (checks.place_of name.now (map (λ k. k.now) names.now.keys))) result }
+{
+    match names.get_index_of(name) {
+        Some(place) => Ok(place),
+        None => Err(ScriptFault::UnknownName(at)),
+    }
+}
 
 /// The names that were introduced for one flow. No name is in both.
 #[derive(Drop)]
@@ -37,10 +47,8 @@ impl<'a> FlowNames<'a> {
         ensures added { OnOk result (lists_of self.new ≡ checks.with_emission name.now (lists_of self.old)) }
         ensures fault { IfErr result (λ fault. fault ≡ ScriptFault.OutOfMemory) }
     {
-        match self.emissions.insert(name) {
-            Ok(_) => Ok(()),
-            Err(_) => Err(ScriptFault::OutOfMemory),
-        }
+        self.emissions.insert(name)?;
+        Ok(())
     }
 
     fn add_subscriber(&mut self, name: &'a str) -> Result<(), ScriptFault>
@@ -48,10 +56,8 @@ impl<'a> FlowNames<'a> {
         ensures added { OnOk result (lists_of self.new ≡ checks.with_subscriber name.now (lists_of self.old)) }
         ensures fault { IfErr result (λ fault. fault ≡ ScriptFault.OutOfMemory) }
     {
-        match self.subscribers.insert(name) {
-            Ok(_) => Ok(()),
-            Err(_) => Err(ScriptFault::OutOfMemory),
-        }
+        self.subscribers.insert(name)?;
+        Ok(())
     }
 }
 
@@ -69,9 +75,7 @@ impl<'a> Names<'a> {
     {
         let mut flows = Vec::new(alloc);
         while flows.len() < count {
-            if let Err(_refused) = flows.push(FlowNames::new(alloc)) {
-                return Err(ScriptFault::OutOfMemory);
-            }
+            flows.push(FlowNames::new(alloc))?;
         }
         Ok(Names { flows })
     }
@@ -80,11 +84,8 @@ impl<'a> Names<'a> {
     pub fn emission(&self, flow: usize, at: u64, name: &str) -> Result<usize, ScriptFault>
         ensures { Gives (checks.emission_at flow at name.now (row_of self.now)) result }
     {
-        let Some(names) = self.flows.get(flow) else {
-            return Err(ScriptFault::UnknownName(at));
-        };
-        match names.emissions.get_index_of(name) {
-            Some(place) => Ok(place),
+        match self.flows.get(flow) {
+            Some(names) => place_in(&names.emissions, at, name),
             None => Err(ScriptFault::UnknownName(at)),
         }
     }
@@ -93,11 +94,8 @@ impl<'a> Names<'a> {
     pub fn subscriber(&self, flow: usize, at: u64, name: &str) -> Result<usize, ScriptFault>
         ensures { Gives (checks.subscriber_at flow at name.now (row_of self.now)) result }
     {
-        let Some(names) = self.flows.get(flow) else {
-            return Err(ScriptFault::UnknownName(at));
-        };
-        match names.subscribers.get_index_of(name) {
-            Some(place) => Ok(place),
+        match self.flows.get(flow) {
+            Some(names) => place_in(&names.subscribers, at, name),
             None => Err(ScriptFault::UnknownName(at)),
         }
     }

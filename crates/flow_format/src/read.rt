@@ -1,6 +1,5 @@
 //! Reading a script, and refusing it by the first fault that is found.
-ghost use Rattle.std.specs.Prelude.{◌≡◌, ◌<◌, ◌+◌, Ok, Err, length};
-ghost use Rattle.serde_json.specs.Find.{as_object};
+ghost use Rattle.std.specs.Prelude.{◌<◌, ◌+◌, Ok, Err};
 ghost use Rattle.serde_json.specs.View.{view, items_view};
 ghost use Rattle.flow_chain_format.specs.Results.{Gives};
 ghost use Rattle.flow_format.specs.Checks as checks;
@@ -29,19 +28,11 @@ fn steps_of(
         (checks.steps_of version heads 1 (checks.nothing_named heads) (items_view steps.now))
         (checks.steps_result result) }
 {
-    let mut names = match Names::new(alloc, flows.len()) {
-        Ok(names) => names,
-        Err(_) => return Err(ScriptFault::OutOfMemory),
-    };
+    let mut names = Names::new(alloc, flows.len())?;
     let mut checked = Vec::new(alloc);
     for (index, step) in steps.iter().enumerate() {
-        let step = match step_of(alloc, version, flows, &mut names, index as u64 + 1, step) {
-            Ok(step) => step,
-            Err(fault) => return Err(fault),
-        };
-        if let Err(_refused) = checked.push(step) {
-            return Err(ScriptFault::OutOfMemory);
-        }
+        let step = step_of(alloc, version, flows, &mut names, index as u64 + 1, step)?;
+        checked.push(step)?;
     }
     Ok(checked)
 }
@@ -59,10 +50,8 @@ fn checked(
     if steps.len() > MOST_STEPS {
         return Err(ScriptFault::TooLarge(0));
     }
-    match steps_of(alloc, version, flows.as_slice(), steps) {
-        Ok(steps) => Ok(Script { flows, steps }),
-        Err(fault) => Err(fault),
-    }
+    let steps = steps_of(alloc, version, flows.as_slice(), steps)?;
+    Ok(Script { flows, steps })
 }
 
 fn script_of(alloc: Global, value: &Value) -> Result<Script, ScriptFault>
@@ -74,10 +63,8 @@ fn script_of(alloc: Global, value: &Value) -> Result<Script, ScriptFault>
     let Some(version) = version_of(value) else {
         return Err(ScriptFault::BadVersion);
     };
-    match head_in(alloc, version, value) {
-        Ok((flows, steps)) => checked(alloc, version, flows, steps.as_slice()),
-        Err(fault) => Err(fault),
-    }
+    let (flows, steps) = head_in(alloc, version, value)?;
+    checked(alloc, version, flows, steps.as_slice())
 }
 
 /// The data of a JSON text.
@@ -86,13 +73,8 @@ fn json_of(alloc: Global, bytes: &[u8]) -> Result<Value, ScriptFault>
 {
     match Value::from_slice(alloc, bytes) {
         Ok(value) => Ok(value),
-        Err(error) => {
-            if error.is_memory() {
-                Err(ScriptFault::OutOfMemory)
-            } else {
-                Err(ScriptFault::NotJson)
-            }
-        }
+        Err(error) if error.is_memory() => Err(ScriptFault::OutOfMemory),
+        Err(_) => Err(ScriptFault::NotJson),
     }
 }
 
@@ -103,8 +85,6 @@ pub fn read_script(alloc: Global, bytes: &[u8]) -> Result<Script, ScriptFault>
     if bytes.len() > MOST_BYTES {
         return Err(ScriptFault::TooLarge(0));
     }
-    match json_of(alloc, bytes) {
-        Ok(value) => script_of(alloc, &value),
-        Err(fault) => Err(fault),
-    }
+    let value = json_of(alloc, bytes)?;
+    script_of(alloc, &value)
 }

@@ -1,5 +1,5 @@
 //! Reading the flows of a script of version 2, each with its name.
-ghost use Rattle.std.specs.Prelude.{◌≡◌, ◌++◌, [], ◌∷◌, Ok, Result, List};
+ghost use Rattle.std.specs.Prelude.{◌++◌, [], ◌∷◌, Ok, Result, List};
 ghost use Rattle.serde_json.specs.View.{view, members_view};
 ghost use Rattle.flow_chain_format.specs.declared.fault.ScriptFault.{ScriptFault as TheScriptFault};
 ghost use Rattle.flow_format.specs.Actions.{heads_of, named_head};
@@ -34,10 +34,8 @@ fn named_flow(alloc: Global, name: &str, flow: &Value) -> Result<NamedFlow, Scri
 fn pushed(mut flows: Vec<NamedFlow>, flow: NamedFlow) -> Result<Vec<NamedFlow>, ScriptFault>
     ensures { Gives (Ok (heads_of flows.items ++ named_head flow ∷ [])) (flows_result result) }
 {
-    match flows.push(flow) {
-        Ok(()) => Ok(flows),
-        Err(_) => Err(ScriptFault::OutOfMemory),
-    }
+    flows.push(flow)?;
+    Ok(flows)
 }
 
 /// The flows that were read, and one more. A bad form of any of them comes before a limit of any.
@@ -49,13 +47,9 @@ fn with_flow(
         → Gives m (flows_result flows) → Gives o (named_flow_result flow)
         → Gives (row.with_flow m o) (flows_result result) }
 {
-    let flows = match flows {
-        Ok(flows) => flows,
-        Err(fault) => return Err(first_fault(fault, &flow)),
-    };
-    match flow {
-        Ok(flow) => pushed(flows, flow),
-        Err(fault) => Err(fault),
+    match flows {
+        Ok(flows) => pushed(flows, flow?),
+        Err(fault) => Err(first_fault(fault, &flow)),
     }
 }
 

@@ -40,10 +40,7 @@ fn shared_of(flow: &Value) -> Option<ScriptFlow>
 fn formed(flow: Option<ScriptFlow>) -> Result<ScriptFlow, ScriptFault>
     ensures { Gives (or_fault (ScriptFault.BadShape 0) (option_map head_of_flow flow)) (flow_result result) }
 {
-    match flow {
-        Some(flow) => Ok(flow),
-        None => Err(ScriptFault::BadShape(0)),
-    }
+    flow.ok_or(ScriptFault::BadShape(0))
 }
 
 /// The flow that a head names by its kind.
@@ -89,10 +86,8 @@ fn only(alloc: Global, flow: ScriptFlow) -> Result<Vec<NamedFlow>, ScriptFault>
     ensures { Gives (Ok (heads.only (head_of_flow flow))) (flows_result result) }
 {
     let mut flows = Vec::new(alloc);
-    match flows.push(NamedFlow { name: None, flow }) {
-        Ok(()) => Ok(flows),
-        Err(_) => Err(ScriptFault::OutOfMemory),
-    }
+    flows.push(NamedFlow { name: None, flow })?;
+    Ok(flows)
 }
 
 /// A row of the only flow of a script of version 1, or of none.
@@ -101,10 +96,7 @@ fn only_named(alloc: Global, kind: &str, flow: &Value) -> Result<Vec<NamedFlow>,
 {
     match kind {
         "none" => no_flows(alloc, flow),
-        _ => match flow_named(alloc, Version::One, kind, flow) {
-            Ok(flow) => only(alloc, flow),
-            Err(fault) => Err(fault),
-        },
+        _ => only(alloc, flow_named(alloc, Version::One, kind, flow)?),
     }
 }
 
@@ -176,8 +168,6 @@ pub fn head_in(
     let Some(steps) = steps_in(value) else {
         return Err(ScriptFault::BadShape(0));
     };
-    match flows_in(alloc, version, value) {
-        Ok(flows) => Ok((flows, steps)),
-        Err(fault) => Err(fault),
-    }
+    let flows = flows_in(alloc, version, value)?;
+    Ok((flows, steps))
 }

@@ -3,7 +3,7 @@ ghost use Rattle.std.specs.Prelude.{◌≡◌, option_map};
 ghost use Rattle.serde_json.specs.View.{view};
 ghost use Rattle.flow_format.specs.Heads as heads;
 ghost use Rattle.flow_chain_format.specs.Results.{Gives};
-ghost use Rattle.flow_format.specs.HeadViews.{parts_of, state_in_parts_of, flow_result};
+ghost use Rattle.flow_format.specs.HeadViews.{shared_chain_of, shared_chain_in, share_parts_of, state_in_parts_of, flow_result};
 
 use crate::read_config::{limit_at, with_limit};
 use crate::script::ScriptFlow;
@@ -74,94 +74,80 @@ fn started_of(version: Version, value: &Value) -> Option<Started>
 fn started_at(version: Version, flow: &Value) -> Option<Started>
     ensures { result ≡ heads.started_at version (view flow.now) }
 {
-    match flow.get("started") {
-        Some(value) => started_of(version, value),
-        None => None,
-    }
+    started_of(version, flow.get("started")?)
 }
 
-/// What a shared chain is made of.
+/// What the two kinds of flow that share a chain have in common.
 #[derive(Clone, Copy)]
-struct ShareParts<'a> {
+struct SharedChain<'a> {
     chain: &'a Value,
     started: Started,
-    replay: u32,
     limit: u64,
 }
 
-fn share_parts(version: Version, flow: &Value) -> Option<ShareParts<'_>>
-    ensures { option_map parts_of result ≡ heads.share_parts version (view flow.now) }
+/// What they have in common, where there is one key more.
+fn shared_chain(version: Version, flow: &Value) -> Option<SharedChain<'_>>
+    ensures { option_map shared_chain_of result ≡ shared_chain_in version (view flow.now) }
 {
     let chain = flow.get("chain")?;
     let started = started_at(version, flow)?;
-    let replay = u32_at(flow, "replay")?;
     let limit = limit_at(flow)?;
     if !has_members(flow, with_limit(4, flow)) {
         return None;
     }
-    Some(ShareParts {
+    Some(SharedChain {
         chain,
         started,
-        replay,
         limit,
     })
+}
+
+/// A chain that is shared, and how many values are replayed.
+fn share_parts(version: Version, flow: &Value) -> Option<(SharedChain<'_>, u32)>
+    ensures { option_map share_parts_of result ≡ heads.share_parts version (view flow.now) }
+{
+    let shared = shared_chain(version, flow)?;
+    let replay = u32_at(flow, "replay")?;
+    Some((shared, replay))
 }
 
 /// A chain that is shared by a shared flow.
 pub fn share_in(alloc: Global, version: Version, flow: &Value) -> Result<ScriptFlow, ScriptFault>
     ensures { Gives (heads.share_in version (view flow.now)) (flow_result result) }
 {
-    let Some(parts) = share_parts(version, flow) else {
+    let Some((shared, replay)) = share_parts(version, flow) else {
         return Err(ScriptFault::BadShape(0));
     };
-    let chain = chain_in(alloc, version, 0, parts.chain)?;
+    let chain = chain_in(alloc, version, 0, shared.chain)?;
     Ok(ScriptFlow::Share {
         chain,
-        started: parts.started,
-        replay: parts.replay,
-        limit: parts.limit,
+        started: shared.started,
+        replay,
+        limit: shared.limit,
     })
 }
 
-/// What a chain that a state flow shares is made of.
-#[derive(Clone, Copy)]
-struct StateInParts<'a> {
-    chain: &'a Value,
-    started: Started,
-    initial: i64,
-    limit: u64,
-}
-
-fn state_in_parts(version: Version, flow: &Value) -> Option<StateInParts<'_>>
+/// A chain that is shared, and the first value.
+fn state_in_parts(version: Version, flow: &Value) -> Option<(SharedChain<'_>, i64)>
     ensures { option_map state_in_parts_of result ≡ heads.state_in_parts version (view flow.now) }
 {
-    let chain = flow.get("chain")?;
-    let started = started_at(version, flow)?;
+    let shared = shared_chain(version, flow)?;
     let initial = i64_at(flow, "initial")?;
-    let limit = limit_at(flow)?;
-    if !has_members(flow, with_limit(4, flow)) {
-        return None;
-    }
-    Some(StateInParts {
-        chain,
-        started,
-        initial,
-        limit,
-    })
+    Some((shared, initial))
 }
 
 /// A chain that is shared by a state flow.
 pub fn state_in(alloc: Global, version: Version, flow: &Value) -> Result<ScriptFlow, ScriptFault>
     ensures { Gives (heads.state_in version (view flow.now)) (flow_result result) }
 {
-    let Some(parts) = state_in_parts(version, flow) else {
+    let Some((shared, initial)) = state_in_parts(version, flow) else {
         return Err(ScriptFault::BadShape(0));
     };
-    let chain = chain_in(alloc, version, 0, parts.chain)?;
+    let chain = chain_in(alloc, version, 0, shared.chain)?;
     Ok(ScriptFlow::StateIn {
         chain,
-        started: parts.started,
-        initial: parts.initial,
-        limit: parts.limit,
+        started: shared.started,
+        initial,
+        limit: shared.limit,
     })
 }

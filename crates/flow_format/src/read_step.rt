@@ -1,5 +1,5 @@
 //! Reading a step.
-ghost use Rattle.std.specs.Prelude.{◌≡◌, Ok, Err, option_map};
+ghost use Rattle.std.specs.Prelude.{◌≡◌, Ok, Err};
 ghost use Rattle.serde_json.specs.View.{view};
 ghost use Rattle.flow_chain_format.specs.Results.{Gives};
 ghost use Rattle.flow_format.specs.Actions.{heads_of};

@@ -13,7 +13,7 @@ returns-in_default c =
 pub loop-value-preserved : goal.loop-value-preserved
 loop-value-preserved c =
     all-more entry_of c.args.values.now c.loop-value.value-index c.value-item.result c.in-Some.entry c.loop-value.entries.items c.push.new.self.items _ c.loop-value-test.true c.value-item.is
-    (sym c.in-Some.ensures) c.in_default-push.ensures.items c.loop-value.invariant
+    (sym c.in-Some.ensures) c.in_ok-push.ensures.items c.loop-value.invariant
 
 pub returns : goal.returns
 returns c = ap (or_fault (BadShape c.args.at)) (all-over entry_of c.args.values.now c.loop-value.value-index c.loop-value.entries.items _ c.loop-value-test.false c.loop-value.invariant)

@@ -17,7 +17,7 @@ loop-value-preserved c =
     let number = c.in-Some.number in
     let same : to_z w64 (of_z w64 number) ≡ number = search (rules, to_z-of_z) in
     all-more whole_number c.args.values.now c.loop-value.value-index c.value-item.result number c.loop-value.numbers.items c.push.new.self.items _ c.loop-value-test.true c.value-item.is
-    (sym c.in-Some.ensures) (c.in_default-push.ensures.items ∙ ap (λ x. c.loop-value.numbers.items ++ x ∷ []) same) c.loop-value.invariant
+    (sym c.in-Some.ensures) (c.in_ok-push.ensures.items ∙ ap (λ x. c.loop-value.numbers.items ++ x ∷ []) same) c.loop-value.invariant
 
 pub returns : goal.returns
 returns c = ap (or_fault (BadShape c.args.at)) (all-over whole_number c.args.values.now c.loop-value.value-index c.loop-value.numbers.items _ c.loop-value-test.false c.loop-value.invariant)

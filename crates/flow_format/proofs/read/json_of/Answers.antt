@@ -12,8 +12,8 @@ use Rattle.flow_format.proofs.read.json_of.Goals as goal
 pub returns-in-Ok : goal.returns-in-Ok
 returns-in-Ok c = json_is c.args.bytes.now (is_utf8-from_IsUtf8 c.args.bytes.now c.in-Ok.ensures.ok.0) ∙ ap (or_fault NotJson) c.in-Ok.ensures.ok.1
 
-pub returns-else-is_memory : goal.returns-else-is_memory
-returns-else-is_memory c =
+pub returns-in-Err-2 : goal.returns-in-Err-2
+returns-in-Err-2 c =
     let other : IsMemory c.in-Err.error → ⊥ = λ memory.
     let both : false ≡ true = subst (λ b. IsTrue b) c.if-is_memory.false (c.is_memory.ensures.1 memory) in (cc) in
     elim (is_utf8 c.args.bytes.now) as (λ t. is_utf8 c.args.bytes.now ≡ t → (if t then or_fault NotJson (read c.args.bytes.now) else Err NotJson) ≡ Err NotJson) [

@@ -3,5 +3,5 @@ use Rattle.flow_format.specs.Actions.{named_head, heads_of}
 use Rattle.flow_format.proofs.NameLemmas.{map-snoc}
 use Rattle.flow_format.proofs.read_flows.pushed.Goals as goal
 
-pub returns-in-Ok : goal.returns-in-Ok
-returns-in-Ok c = ap Ok (sym (ap heads_of c.in-Ok.ensures.items ∙ map-snoc named_head c.args.flows.items c.args.flow))
+pub returns : goal.returns
+returns c = ap Ok (sym (ap heads_of c.in_ok-push.ensures.items ∙ map-snoc named_head c.args.flows.items c.args.flow))

@@ -1,23 +1,29 @@
-use Rattle.std.proofs.Common.{◌≡◌, true, false, Some, ap, ◌∙◌}
+use Rattle.std.proofs.Common.{ap, ◌∙◌}
+use Rattle.std.specs.Prelude.{codes, option_and_then, option_map}
 use Rattle.serde_json.specs.View.{view}
-use Rattle.flow_chain_format.specs.Members.{has_members, where_true}
-use Rattle.flow_format.specs.Format.{with_limit}
-use Rattle.flow_format.specs.HeadViews.{parts_of}
-use Rattle.flow_format.proofs.ReadLemmas.{all-four}
+use Rattle.flow_chain_format.specs.Members.{u32_at}
+use Rattle.flow_format.specs.HeadViews.{CommonParts, shared_chain_of, share_parts_of, with_replay}
+use Rattle.flow_format.proofs.ReadLemmas.{share-parts}
 use Rattle.flow_format.proofs.read_share.share_parts.Goals as goal
 
-pub returns-then-not-has_members : goal.returns-then-not-has_members
-returns-then-not-has_members c =
+pub returns-in_err-shared : goal.returns-in_err-shared
+returns-in_err-shared c =
     let flow = view c.args.flow.now in
-    let more : false ≡ has_members (with_limit 4 flow) flow = c.if-not-has_members.ensures ∙ ap (λ n. has_members n flow) c.with_limit.ensures in
-    ap (λ t. where_true t (Some (parts_of (record { chain = c.in_ok-chain.chain; started = c.in_ok-started.started; replay = c.in_ok-replay.replay; limit = c.in_ok-limit.limit })))) more
-    ∙ all-four (λ chain started replay limit. where_true (has_members (with_limit 4 flow) flow) (Some (record { chain = chain; started = started; replay = replay; limit = limit }))) _ _ _ _ _ _ _ _
-    c.in_ok-chain.ensures c.in_ok-started.ensures c.in_ok-replay.ensures c.in_ok-limit.ensures
+    ap (option_map share_parts_of) c.from_residual.ensures
+    ∙ ap (λ o. option_and_then (λ (shared : CommonParts). option_map (λ replay. with_replay shared replay) (u32_at (codes "replay") flow)) o) c.in_err-shared.ensures
+    ∙ share-parts c.args.version flow
+
+pub returns-in_err-replay : goal.returns-in_err-replay
+returns-in_err-replay c =
+    let flow = view c.args.flow.now in
+    ap (option_map share_parts_of) c.from_residual-in_err-replay.ensures
+    ∙ ap (option_map (λ replay. with_replay (shared_chain_of c.in_ok-shared.shared) replay)) c.in_err-replay.ensures
+    ∙ ap (λ o. option_and_then (λ (shared : CommonParts). option_map (λ replay. with_replay shared replay) (u32_at (codes "replay") flow)) o) c.in_ok-shared.ensures
+    ∙ share-parts c.args.version flow
 
 pub returns : goal.returns
 returns c =
     let flow = view c.args.flow.now in
-    let all : true ≡ has_members (with_limit 4 flow) flow = c.if-not-has_members.ensures ∙ ap (λ n. has_members n flow) c.with_limit.ensures in
-    ap (λ t. where_true t (Some (parts_of (record { chain = c.in_ok-chain.chain; started = c.in_ok-started.started; replay = c.in_ok-replay.replay; limit = c.in_ok-limit.limit })))) all
-    ∙ all-four (λ chain started replay limit. where_true (has_members (with_limit 4 flow) flow) (Some (record { chain = chain; started = started; replay = replay; limit = limit }))) _ _ _ _ _ _ _ _
-    c.in_ok-chain.ensures c.in_ok-started.ensures c.in_ok-replay.ensures c.in_ok-limit.ensures
+    ap (option_map (λ replay. with_replay (shared_chain_of c.in_ok-shared.shared) replay)) c.in_ok-replay.ensures
+    ∙ ap (λ o. option_and_then (λ (shared : CommonParts). option_map (λ replay. with_replay shared replay) (u32_at (codes "replay") flow)) o) c.in_ok-shared.ensures
+    ∙ share-parts c.args.version flow
