@@ -1,10 +1,9 @@
 -- A subscriber's mailbox, through the history of a shared flow.
-use Rattle.std.proofs.Common.{◌≡◌, ℕ, ◌+◌, ◌-◌, ◌≤◌, ◌<◌, false, cond, List, [], ◌∷◌, ◌++◌, length, map, Some, refl, sym, ap, ◌∙◌, subst, arith, append_assoc, append-nil, length-append, length-drop}
+use Rattle.std.proofs.Common.{◌≡◌, ◌≢◌, ℕ, ◌+◌, ◌-◌, ◌≤◌, ◌<◌, false, cond, List, [], ◌∷◌, ◌++◌, length, map, Some, refl, sym, ap, ◌∙◌, subst, arith, append_assoc, append-nil, length-append, length-drop}
 use Rattle.std.specs.Prelude.{max, drop}
 use Rattle.std.proofs.lemmas.List.{map-append, length-map, length_push, drop-append-le, drop_at, drop_all, drop-drop}
 use Rattle.flow_law.specs.declared.config.Config.{Config}
-use Rattle.flow_law.specs.declared.config.Overflow.{Overflow}
-use Rattle.flow_law.specs.declared.config.Overflow.TheVariants.{Suspend, DropOldest}
+use Rattle.flow_law.specs.declared.config.Overflow.TheVariants.{DropOldest}
 use Rattle.flow_law.specs.SharedFlow.{Numbered, SharedFlowState, capacity, values, is_blocked, window, position_of, own_of}
 use Rattle.flow_law.specs.EmitRule.{append, drop_oldest, numbered}
 use Rattle.flow_law.specs.SharedStep.{admit, settle}
@@ -23,7 +22,7 @@ module _ {T : Type 0} where
   pub record Boxed (u : ℕ) (s : SharedFlowState T) (m : Mailbox T) (b : Beginning T) : Type 0 where
     pub own : (p : ℕ) → position_of u s.subscribers ≡ Some p → own_of u s.subscribers ≡ m.own
     pub rest : (p : ℕ) → position_of u s.subscribers ≡ Some p → drop p (values s) ≡ m.box
-    pub whole : s.config.overflow ≡ Suspend → 0 < capacity s → (p : ℕ) → position_of u s.subscribers ≡ Some p
+    pub whole : s.config.overflow ≢ DropOldest → 0 < capacity s → (p : ℕ) → position_of u s.subscribers ≡ Some p
         → (m.taken ++ (m.own ++ m.box) ≡ b.first ++ drop b.entry (values s)) × (b.entry ≤ length s.emitted)
     pub fresh : s.issued < u → m.taken ≡ []
 
@@ -93,7 +92,7 @@ module _ {T : Type 0} where
     rest = λ p at2. let at : position_of u s.subscribers ≡ Some p = ap (position_of u) (sym subs) ∙ at2 in
         ap (drop p) vals ∙ drop-append-le p (values s) xs (omega (arith, length_values s, stands_within u p s placed at)) ∙ ap (λ l. l ++ xs) (h.rest p at) ∙ sym (all p at);
     whole = λ o c p at2. let at : position_of u s.subscribers ≡ Some p = ap (position_of u) (sym subs) ∙ at2 in
-        let w = h.whole (ap (λ (g : Config). g.overflow) (sym conf) ∙ o) (subst (λ (g : Config). 0 < g.replay + g.extra) conf c) p at in (
+        let w = h.whole (λ oldest. o (ap (λ (g : Config). g.overflow) conf ∙ oldest)) (subst (λ (g : Config). 0 < g.replay + g.extra) conf c) p at in (
           ap (λ l. m.taken ++ (m.own ++ l)) (all p at) ∙ sym (append_third m.taken m.own m.box xs) ∙ ap (λ l. l ++ xs) w.0
               ∙ append_assoc b.first (drop b.entry (values s)) xs
               ∙ ap (λ l. b.first ++ l) (sym (drop-append-le b.entry (values s) xs (omega (arith, length_values s, w.1))) ∙ ap (drop b.entry) (sym vals)),
@@ -151,13 +150,10 @@ module _ {T : Type 0} where
         ∙ sym (drop-drop (length (m.box ++ v ∷ []) - window s) p (values (append v s)))
         ∙ ap (drop (length (m.box ++ v ∷ []) - window s)) at_p
         ∙ sym (ap (arrive (window s) m.box) (append_arrivals s v));
-    whole = λ o2. absurd (other s.config.overflow o o2);
+    whole = λ o2. absurd (o2 o);
     fresh = λ l. h.fresh (omega (arith, l));
   }
     where
-      other : (o : Overflow) → o ≡ DropOldest → o ≡ Suspend → ⊥
-      other o a b = cc
-
       sum_is : (p n k k2 n2 c q : ℕ) → p ≤ n → k ≡ n - p → n2 ≡ n + 1 → k2 ≡ k + 1 → 0 < c → max p (n2 - c) ≡ q → p + (k2 - max c 1) ≡ q
       sum_is p n k k2 n2 c q a b d e f g = omega arith
 
@@ -167,7 +163,7 @@ module _ {T : Type 0} where
   boxed_same u b s s2 m h conf emitted iss back same_own = record {
     own = λ p at. same_own ∙ h.own p (back p at);
     rest = λ p at. ap (λ l. drop p (map (λ (e : Numbered T). e.value) l)) emitted ∙ h.rest p (back p at);
-    whole = λ o c p at. let w = h.whole (ap (λ (g : Config). g.overflow) (sym conf) ∙ o) (subst (λ (g : Config). 0 < g.replay + g.extra) conf c) p (back p at) in
+    whole = λ o c p at. let w = h.whole (λ oldest. o (ap (λ (g : Config). g.overflow) conf ∙ oldest)) (subst (λ (g : Config). 0 < g.replay + g.extra) conf c) p (back p at) in
         (w.0 ∙ ap (λ l. b.first ++ drop b.entry (map (λ (e : Numbered T). e.value) l)) (sym emitted), subst (λ l. b.entry ≤ length l) (sym emitted) w.1);
     fresh = λ l. h.fresh (omega (arith, l, iss));
   }

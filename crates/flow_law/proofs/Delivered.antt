@@ -68,6 +68,6 @@ module _ {T : Type 0} where
         replies = all.1;
         own_left = all.0.own;
         rest = all.0.rest;
-        whole = λ o c p at. (all.0.whole (ap (λ (g : Config). g.overflow) same ∙ o) c p at).0;
+        whole = λ o c p at. (all.0.whole (λ oldest. o (ap (λ (g : Config). g.overflow) (sym same) ∙ oldest)) c p at).0;
         in_order = sound.rises;
       }

@@ -20,6 +20,7 @@ use Rattle.flow_law.specs.SharedStep.{settle, withdraw, advance, leave, enroll, 
 use Rattle.flow_law.specs.SharedHistory.{reply_by, answer_to, is_refused, Replies, after, gives, speaks_of, shared_flow}
 use Rattle.flow_law.proofs.Moves.{event_keeps}
 use Rattle.flow_law.proofs.NeverBusy.{never_busy}
+use Rattle.flow_law.proofs.RefusalLemmas.{subscribe_refused, next_refused}
 use Rattle.flow_law.proofs.Boxes.{admit_subscribers}
 use Rattle.flow_law.proofs.Rows.{split, position-without_other, position-with_own}
 use Rattle.flow_law.proofs.Steps.{emit_split, try_emit_split}
@@ -208,4 +209,6 @@ module _ {T : Type 0} where
     never_gone = never_gone;
     was_there = was_there;
     never_busy = never_busy;
+    subscribe_refused = λ s name fault. subscribe_refused s fault name [];
+    next_refused = λ s u fault. next_refused s fault u;
   }

@@ -11,7 +11,7 @@ use Rattle.flow_law.specs.declared.call.StateReply.{StateReply}
 use Rattle.flow_law.specs.declared.call.StateReply.TheVariants.{Done, Got, Answered, Subscribed, Received, Counted, Cached, Refused}
 use Rattle.flow_law.specs.StateFlow.{StateHistory, first_state_flow, IsLegalState}
 
-abbrev event : StateCall ℕ → StateReply ℕ → Event (Said (StateCall ℕ) (StateReply ℕ))
+abbrev pub event : StateCall ℕ → StateReply ℕ → Event (Said (StateCall ℕ) (StateReply ℕ))
 event call reply = record { name = []; what = record { call = call; reply = reply } }
 
 abbrev state_run : StateHistory ℕ

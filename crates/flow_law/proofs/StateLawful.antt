@@ -11,6 +11,7 @@ use Rattle.flow_law.specs.declared.call.StateReply.{StateReply}
 use Rattle.flow_law.specs.declared.call.StateReply.TheVariants as reply
 use Rattle.flow_law.specs.Lawful.{Lawful, IsNew}
 use Rattle.flow_law.specs.StateFlow.{StateSubscriber, StateFlowState, last_of, with_last, without_subscriber, is_exhausted, after, Receives, Replies, gives, speaks_of, state_flow}
+use Rattle.flow_law.proofs.RefusalLemmas.{state_subscribe_refused, state_next_refused}
 use Rattle.flow_law.proofs.Rows.{split}
 use Rattle.flow_law.proofs.StateSubscriberLemmas.{last-without_other}
 
@@ -128,4 +129,6 @@ module _ {T : Type 0} where
     never_gone = never_gone;
     was_there = was_there;
     never_busy = never_busy;
+    subscribe_refused = λ s name fault. state_subscribe_refused s fault name;
+    next_refused = λ s u fault. state_next_refused s fault u;
   }

@@ -39,12 +39,12 @@ same_some a b e = cc
 own_or_none : {X : Type 0} (x : X) (xs : List X) → [] ≡ x ∷ xs → ⊥
 own_or_none x xs e = cc
 
-drop_here : {X : Type 0} (p : ℕ) (xs : List X) (v : X) → slice_get xs p ≡ Some v → drop p xs ≡ v ∷ drop (p + 1) xs
+pub drop_here : {X : Type 0} (p : ℕ) (xs : List X) (v : X) → slice_get xs p ≡ Some v → drop p xs ≡ v ∷ drop (p + 1) xs
 drop_here p [] v e = absurd (none_or_some v (sym (slice_get_past [] p (omega arith)) ∙ e))
 drop_here zero (x ∷ xs) v e = ap (λ y. y ∷ xs) (same_some x v e)
 drop_here (suc p) (x ∷ xs) v e = drop_here p xs v e ∙ ap (λ n. v ∷ drop n (x ∷ xs)) (let k : suc (p + 1) ≡ suc p + 1 = omega arith in k)
 
-past_here : {X : Type 0} (p : ℕ) (xs : List X) → slice_get xs p ≡ None → length xs ≤ p
+pub past_here : {X : Type 0} (p : ℕ) (xs : List X) → slice_get xs p ≡ None → length xs ≤ p
 past_here p [] e = omega arith
 past_here zero (x ∷ xs) e = absurd (none_or_some x (sym e))
 past_here (suc p) (x ∷ xs) e = omega (arith, past_here p xs e)
@@ -115,7 +115,7 @@ module _ {T : Type 0} where
   quiet : (u : ℕ) (b : Beginning T) (s t : SharedFlowState T) (m : Mailbox T) → Boxed u t m b → values t ≡ values s → Boxed u t (with_arrivals (window s) (arrivals s t) m) b
   quiet u b s t m h e = subst (λ n. Boxed u t n b) (sym (ap (λ l. with_arrivals (window s) (drop (length s.emitted) l) m) e ∙ unfilled (window s) s m)) h
 
-  greets : (s : SharedFlowState T) → drop (entry s) (values s) ≡ found_at_entry s
+  pub greets : (s : SharedFlowState T) → drop (entry s) (values s) ≡ found_at_entry s
   greets s = split (is_offering s) (λ t. drop (cond t (length s.emitted - 1) (cache_start s)) (values s) ≡ cond t (drop (length s.emitted - 1) (values s)) (cache s)) (λ _. refl) (λ _. refl)
 
   subscribed : (u : ℕ) (b : Beginning T) (s : SharedFlowState T) (m : Mailbox T) (name : List ℕ) (first : List T) → Placed s → Boxed u s m b

@@ -1,5 +1,5 @@
 -- What a token of any kind of flow knows after one call, and what the call cannot have replied.
-use Rattle.std.proofs.Common.{◌≡◌, ℕ, Bool, true, List, [], ◌∷◌, ◌++◌, Option, Some, None, Result, Ok, Err, refl, sym, subst, ◌+◌}
+use Rattle.std.proofs.Common.{◌≡◌, ◌⊎◌, IfErr, ℕ, Bool, true, List, [], ◌∷◌, ◌++◌, Option, Some, None, Result, Ok, Err, refl, sym, subst, ◌+◌}
 use Rattle.flow_law.specs.declared.fault.FlowFault.{FlowFault}
 use Rattle.flow_law.specs.declared.fault.FlowFault.TheVariants.{OutOfMemory, TooLarge, NeedsBuffer, Exhausted, Unsupported, Busy}
 use Rattle.flow_law.specs.declared.history.Event.{Event}
@@ -61,6 +61,10 @@ module _ {T S C R : Type 0} (kind : Kind T S C R) (law : Lawful kind) where
     replies : kind.Replies (after_all kind first earlier) c r
     replies = (legal_right kind first earlier (event before.name (said c r) ∷ []) whole.legal).0
 
+    -- some state in which the flow replies so
+    pub replied_in : (s : S) × kind.Replies s c r
+    replied_in = (after_all kind first earlier, replies)
+
     still : (u : ℕ) → IsSubscription kind before u → IsGiven kind before.name (subscriber u) earlier × IsSubscribed kind u earlier
     still u old = subscription_grows kind law first before.name u before.seen earlier is_earlier (a.grows.0, refl, a.grows.2) old.0 old.1
 
@@ -97,6 +101,15 @@ module _ {T S C R : Type 0} (kind : Kind T S C R) (law : Lawful kind) where
   -- no event of a flow replies Busy
   pub busy_is_no_event : (first : S) (before after : Knowledge (Said C R)) (c : C) → AddsOne (IsHistory kind first) before c (kind.refused Busy) after → ⊥
   busy_is_no_event first before after c a = law.never_busy (after_all kind first (earlier first before after _ _ a)) c (replies first before after c (kind.refused Busy) a)
+
+  -- why a subscriber's calls are refused
+  module _ (first : S) (before after : Knowledge (Said C R)) where
+    pub next_fault : (u : ℕ) (result : Result (Next T) FlowFault) → AddsOne (IsHistory kind first) before (kind.take_next u) (replied kind kind.received result) after → IfErr result (λ fault. fault ≡ OutOfMemory)
+    next_fault u (Ok next) a = tt
+    next_fault u (Err fault) a = let there = replied_in first before after (kind.take_next u) (kind.refused fault) a in law.next_refused there.0 u fault there.1
+
+    pub subscribe_fault : (name : List ℕ) (fault : FlowFault) → AddsOne (IsHistory kind first) before (kind.subscribe name) (kind.refused fault) after → (fault ≡ OutOfMemory) ⊎ (fault ≡ Exhausted)
+    subscribe_fault name fault a = let there = replied_in first before after (kind.subscribe name) (kind.refused fault) a in law.subscribe_refused there.0 name fault there.1
 
   -- the token that is made through the caller's, after the event, is the subscription's
   pub subscription_made : (subscribe : List ℕ → C) → Subscribing kind subscribe → (first : S) (before between : Knowledge (Said C R)) (u : ℕ) → AddsOne (IsHistory kind first) before (subscribe (child_name before.name (before.made + 1))) (kind.subscribed u) between

@@ -17,20 +17,20 @@ abbrev replies_from : SharedFlowState ℕ → List (SharedCall ℕ) → List (Sh
 replies_from s [] = []
 replies_from s (c ∷ cs) = (answer_to c s).reply ∷ replies_from (answer_to c s).after cs
 
-abbrev replies : Config → List (SharedCall ℕ) → List (SharedReply ℕ)
+abbrev pub replies : Config → List (SharedCall ℕ) → List (SharedReply ℕ)
 replies config cs = replies_from (first_state config) cs
 
-abbrev played_from : SharedFlowState ℕ → List (SharedCall ℕ) → History ℕ
+abbrev pub played_from : SharedFlowState ℕ → List (SharedCall ℕ) → History ℕ
 played_from s [] = []
 played_from s (c ∷ cs) = record { name = []; what = record { call = c; reply = (answer_to c s).reply } } ∷ played_from (answer_to c s).after cs
 
-abbrev suspending : ℕ → ℕ → Config
+abbrev pub suspending : ℕ → ℕ → Config
 suspending replay extra = record { replay = replay; extra = extra; overflow = Suspend; limit = 1000 }
 
-abbrev dropping_oldest : ℕ → ℕ → Config
+abbrev pub dropping_oldest : ℕ → ℕ → Config
 dropping_oldest replay extra = record { replay = replay; extra = extra; overflow = DropOldest; limit = 1000 }
 
-abbrev dropping_latest : ℕ → ℕ → Config
+abbrev pub dropping_latest : ℕ → ℕ → Config
 dropping_latest replay extra = record { replay = replay; extra = extra; overflow = DropLatest; limit = 1000 }
 
 slow_subscriber : replies (suspending 1 1) (Subscribe [] [] ∷ TryEmit 1 ∷ TryEmit 2 ∷ TryEmit 3 ∷ Emit 3 ∷ Poll 4 ∷ TakeNext 1 ∷ Poll 4 ∷ ReplayCache ∷ TakeNext 1 ∷ TakeNext 1 ∷ TakeNext 1 ∷ [])

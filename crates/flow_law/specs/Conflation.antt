@@ -79,7 +79,10 @@ module _ {T : Type 0} where
   AgreeAll u m [] = Unit {0}
   AgreeAll u m (e ∷ es) = Agrees u m e.what.call e.what.reply × AgreeAll u (follows u m e.what.call e.what.reply) es
 
--- the shared flow's limit is so high that it is not reached
+  -- Each event of a state flow that began with this value agrees with the shared flow beside each subscriber. The shared
+  -- flow's limit is so high that it is not reached.
+  abbrev pub Conflates : T → StateHistory T → Type 0
+  Conflates first h = (u unreached : ℕ) → length h < unreached → AgreeAll u (beside unreached first) h
+
 abbrev pub LawConflated : Type 0 → Type 0
-LawConflated T = (limit : ℕ) (first : T) (h : StateHistory T) → IsLegalState (first_state_flow limit first) h → (u unreached : ℕ) → length h < unreached
-    → AgreeAll u (beside unreached first) h
+LawConflated T = (limit : ℕ) (first : T) (h : StateHistory T) → IsLegalState (first_state_flow limit first) h → Conflates first h

@@ -1,7 +1,8 @@
 -- Draining: `next` again and again, each value into a list. `Nexts` is what one `next` does, as its own contract says.
 -- Begin with `DrainsBy`: the values are what so many calls in a row gave, and the state after is theirs.
-use Rattle.std.specs.Prelude.{◌≡◌, ◌↔◌, ◌⊎◌, ℕ, ◌≤◌, List, ◌++◌, length, Result, Ok, Err}
+use Rattle.std.specs.Prelude.{◌≡◌, ◌↔◌, ◌⊎◌, ℕ, ◌≤◌, List, ◌++◌, length, Vec, Result, Ok, Err}
 use Rattle.std.specs.List.{FoldsTo}
+use Rattle.std.specs.Vec.{vec_len, vec_capacity}
 use Rattle.flow_law.specs.declared.fault.FlowFault.{FlowFault}
 use Rattle.flow_law.specs.declared.fault.FlowFault.TheVariants.{OutOfMemory}
 use Rattle.flow_law.specs.declared.outcome.Next.{Next}
@@ -43,3 +44,7 @@ module _ {X T : Type 0} (Nexts : X → Result (Next T) FlowFault → X → Type 
   -- a drain whose list has room for all
   abbrev pub TakesBy : ℕ → X → List T → Result Drained FlowFault → List T → X → Type 0
   TakesBy = Takes EndsByCall
+
+-- the list has no room for a value more
+abbrev pub IsFull : {T A : Type 0} → Vec T A → Type 0
+IsFull list = vec_capacity list ≤ vec_len list

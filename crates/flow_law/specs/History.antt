@@ -34,7 +34,7 @@ with_owner (Some o) owners = o ∷ owners
 
 -- A kind of flow: its values, the states of its documented flow of one thread, its calls and its replies.
 pub record Kind (T S C R : Type 0) : Type 1 where
-  -- a flow may begin in this state
+  -- a flow may begin in this state: it is the state before any call
   pub MayBegin : S → Type 0
   -- this reply to this call is the flow's own
   pub Replies : S → C → R → Type 0
@@ -97,7 +97,7 @@ module _ {T S C R : Type 0} (kind : Kind T S C R) where
   IsOwned owners [] = Unit {0}
   IsOwned owners (e ∷ es) = MaySpeak (kind.speaks_of e.what.call) owners e.name × IsOwned (owners_after owners e) es
 
-  -- a history that a flow may have had that began in this state
+  -- a history that a flow may have had that began in this state, its first one
   pub record IsHistory (first : S) (h : List (Event (Said C R))) : Type 0 where
     pub begins : kind.MayBegin first
     pub legal : IsLegal first h

@@ -1,7 +1,8 @@
 -- What holds of every kind of flow, and of which each kind is proved to have it. No public clause but the law of a core cites
 -- this module.
-use Rattle.std.specs.Prelude.{◌≡◌, ◌≢◌, ℕ, ◌<◌, ◌≤◌, Bool, true, List, Option, Some, None}
-use Rattle.flow_law.specs.declared.fault.FlowFault.TheVariants.{Busy}
+use Rattle.std.specs.Prelude.{◌≡◌, ◌≢◌, ◌⊎◌, ℕ, ◌<◌, ◌≤◌, Bool, true, List, Option, Some, None}
+use Rattle.flow_law.specs.declared.fault.FlowFault.{FlowFault}
+use Rattle.flow_law.specs.declared.fault.FlowFault.TheVariants.{OutOfMemory, Exhausted, Busy}
 use Rattle.flow_law.specs.declared.outcome.Next.TheVariants.{Gone}
 use Rattle.flow_law.specs.History.{Number, subscriber, emission, Owner, Kind}
 
@@ -38,3 +39,6 @@ pub record Lawful {T S C R : Type 0} (kind : Kind T S C R) : Type 0 where
   pub was_there : (s : S) (u : ℕ) (answer : Bool) → kind.HasSubscriber u s → kind.Replies s (kind.unsubscribe u) (kind.tested answer) → answer ≡ true
   -- no flow of one thread answers Busy
   pub never_busy : (s : S) (c : C) → kind.Replies s c (kind.refused Busy) → ⊥
+  -- why a subscriber's calls are refused
+  pub subscribe_refused : (s : S) (name : List ℕ) (fault : FlowFault) → kind.Replies s (kind.subscribe name) (kind.refused fault) → (fault ≡ OutOfMemory) ⊎ (fault ≡ Exhausted)
+  pub next_refused : (s : S) (u : ℕ) (fault : FlowFault) → kind.Replies s (kind.take_next u) (kind.refused fault) → fault ≡ OutOfMemory

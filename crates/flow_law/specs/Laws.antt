@@ -1,7 +1,7 @@
 -- What holds of every legal history.
-use Rattle.std.specs.Prelude.{◌≡◌, ℕ, ◌<◌, ◌≤◌, false, List, [], ◌∷◌, ◌++◌, map, drop, Some}
+use Rattle.std.specs.Prelude.{◌≡◌, ◌≢◌, ℕ, ◌<◌, ◌≤◌, false, List, [], ◌∷◌, ◌++◌, map, drop, Some}
 use Rattle.flow_law.specs.declared.config.Config.{Config}
-use Rattle.flow_law.specs.declared.config.Overflow.TheVariants.{Suspend}
+use Rattle.flow_law.specs.declared.config.Overflow.TheVariants.{DropOldest}
 use Rattle.flow_law.specs.SharedFlow.{SharedFlowState, is_blocked, capacity, values, position_of, own_of}
 use Rattle.flow_law.specs.SharedHistory.{History, IsLegal, state_after}
 use Rattle.flow_law.specs.Mailbox.{taken, own, box, delivered, received, began}
@@ -26,9 +26,11 @@ module _ {T : Type 0} where
     pub replies : taken u config h ≡ received u h
     pub own_left : (p : ℕ) → position_of u (state_after config h).subscribers ≡ Some p → own_of u (state_after config h).subscribers ≡ own u config h
     pub rest : (p : ℕ) → position_of u (state_after config h).subscribers ≡ Some p → drop p (values (state_after config h)) ≡ box u config h
-    -- its own values come first, and then nothing is skipped
-    pub whole : config.overflow ≡ Suspend → 0 < capacity (state_after config h) → (p : ℕ) → position_of u (state_after config h).subscribers ≡ Some p
-        → delivered u config h ≡ (began u config h).first ++ drop (began u config h).entry (values (state_after config h))
+    -- its own values come first; then, unless the flow drops the oldest or has no buffer, it misses no emitted value
+    pub whole : config.overflow ≢ DropOldest → 0 < capacity (state_after config h)
+        → (p : ℕ) → position_of u (state_after config h).subscribers ≡ Some p
+        → delivered u config h
+        ≡ (began u config h).first ++ drop (began u config h).entry (values (state_after config h))
     -- so each emitter's values stand in its order
     pub in_order : RisesTo 0 (numbers (state_after config h)) (state_after config h).issued
 

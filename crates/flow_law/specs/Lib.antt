@@ -6,8 +6,12 @@ pub mod Lawful
 pub mod SharedHistory
 pub mod Mailbox
 pub mod Laws
+pub mod Waiting
+pub mod Lagging
+pub mod Replaying
 pub mod StateFlow
 pub mod Conflation
+pub mod Current
 pub mod Growth
 pub mod OneHistory
 pub mod Tokens

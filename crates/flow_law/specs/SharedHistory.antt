@@ -84,10 +84,14 @@ module _ {T : Type 0} where
   speaks_of (call.Cancel e) = Some (emission e)
   speaks_of _ = None
 
+  -- a shared flow begins in the first state of a configuration of which a flow can be made
+  abbrev pub MayBegin : SharedFlowState T → Type 0
+  MayBegin s = (s ≡ first_state s.config) × (config_fault s.config ≡ None)
+
   -- shared flows are a kind of flow
   abbrev pub shared_flow : Kind T (SharedFlowState T) (SharedCall T) (SharedReply T)
   shared_flow = record {
-    MayBegin = λ s. config_fault s.config ≡ None;
+    MayBegin = MayBegin;
     Replies = Replies;
     after = after;
     gives = gives;

@@ -22,7 +22,7 @@ use Rattle.flow_law.specs.SharedStep as flow
 use Rattle.flow_law.specs.Sharing.{is_running}
 use Rattle.flow_law.specs.Steps.{After, Takes, plays}
 use Rattle.flow_law.specs.SharingCalls.{HubCall, HubAnswer, counts, puts, polls, cancels, resets, ChainAndHub, CallDoes, call_reply}
-use Rattle.flow_law.specs.TurnMeaning.{HasAccount, BetweenTurns, TurnMeans, TurnResets}
+use Rattle.flow_law.specs.TurnMeaning.{HasAccount, BetweenTurns, IsCommand, TurnMeans, TurnResets}
 use Rattle.flow_law.specs.SharingTurn.{SharingState, Turned, turn_steps}
 
 -- ---- a shared flow
@@ -128,5 +128,5 @@ pub record DocumentedTurn {T F : Type 0} (does : (c : HubCall T) → F → HubAn
   -- the account
   pub means : s.runs ≡ is_running started seen → BetweenTurns s old → (accepted : List T) → HasAccount accepted s old
       → TurnMeans does accepted s old turned.answer turned.state new
-  -- what becomes of a reset
-  pub reset : TurnResets does s old.hub turned.answer turned.state new.hub
+  -- what becomes of a reset, by the command of the observations
+  pub reset : TurnResets does (IsCommand started seen turned.seen) s old.hub turned.answer turned.state new.hub

@@ -90,10 +90,14 @@ module _ {T : Type 0} where
   speaks_of (Unsubscribe u) = Some (subscriber u)
   speaks_of _ = None
 
-  -- state flows are a kind of flow, and may begin in any state
+  -- a state flow begins in the first state of its limit and its initial value
+  abbrev pub MayBegin : StateFlowState T → Type 0
+  MayBegin s = s ≡ first_state_flow s.limit s.value
+
+  -- state flows are a kind of flow
   abbrev pub state_flow : Kind T (StateFlowState T) (StateCall T) (StateReply T)
   state_flow = record {
-    MayBegin = λ s. Unit {0};
+    MayBegin = MayBegin;
     Replies = Replies;
     after = after;
     gives = gives;

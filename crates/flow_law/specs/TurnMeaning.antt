@@ -7,12 +7,15 @@ use Rattle.flow_law.specs.declared.chain.ChainFault.TheVariants.{OutOfMemory}
 use Rattle.flow_law.specs.declared.chain.End.TheVariants.{Completed as AtEnd, Failed}
 use Rattle.flow_law.specs.declared.sharing.Command.{Command}
 use Rattle.flow_law.specs.declared.sharing.Command.TheVariants.{Start, Stop, StopAndReset, Keep}
+use Rattle.flow_law.specs.declared.sharing.Started.{Started}
+use Rattle.flow_law.specs.declared.sharing.SharingObservation.{SharingObservation}
 use Rattle.flow_law.specs.declared.report.Event.{Event}
 use Rattle.flow_law.specs.declared.report.Event.TheVariants.{Busy, Idle, Put, Queued, Waiting, Pending, Completed}
 use Rattle.flow_law.specs.declared.report.Report.{Report}
 use Rattle.flow_law.specs.declared.report.ShareFault.{ShareFault}
 use Rattle.flow_law.specs.declared.report.ShareFault.TheVariants.{Backwards, Ended, Chain, Flow}
 use Rattle.flow_law.specs.ChainRun.{ChainRun, pends, ends, items}
+use Rattle.flow_law.specs.Sharing.{newest_command}
 use Rattle.flow_law.specs.TurnAccount.{IsAccountOf}
 use Rattle.flow_law.specs.SharingCalls.{HubCall, HubAnswer, counts, puts, polls, cancels, resets, ChainAndHub}
 use Rattle.flow_law.specs.SharingTurn.{SharingState}
@@ -113,15 +116,32 @@ abbrev pub HadCommand : Command → Result Report ShareFault → Type 0
 HadCommand command (Ok report) = report.command ≡ command
 HadCommand command (Err fault) = Unit {0}
 
+-- The command of a turn: that of the observations, where the turn accepted one, and else none is given (`Keep`). `seen` was observed before
+-- the turn, and `all` after it.
+abbrev pub IsCommand : Started → List SharingObservation → List SharingObservation → Command → Type 0
+IsCommand started seen all command =
+    ((all ≡ seen) × (command ≡ Keep))
+    ⊎ ((o : SharingObservation) × (all ≡ o ∷ seen) × (command ≡ newest_command started all))
+
+-- the call is no reset, or a reset that was refused
+abbrev pub IsNoReset : {T : Type 0} → (call : HubCall T) → HubAnswer call → Type 0
+IsNoReset resets (Ok done) = ⊥
+IsNoReset call answer = Unit {0}
+
 -- `does` says what a call of the hub does
 module _ {T H : Type 0} (does : (c : HubCall T) → H → HubAnswer c → H → Type 0) where
-  -- these calls of the hub, one after the other, lead from the one to the other
+  -- these calls of the hub, one after the other, lead from the one to the other, and none of them makes a reset
   abbrev pub CallsLead : List (HubCall T) → H → H → Type 0
   CallsLead [] old new = new ≡ old
-  CallsLead (call ∷ later) old new = (answer : HubAnswer call) × ((h : H) × does call old answer h × CallsLead later h new)
+  CallsLead (call ∷ later) old new =
+      (answer : HubAnswer call) × IsNoReset call answer × ((h : H) × does call old answer h × CallsLead later h new)
 
-  -- Between the hub before a turn and the hub after it: the subscribers were counted, the emission was taken back, and then the reset was
-  -- made; whatever was called after that led to the hub after the turn.
+  -- Between the hub before a turn and the hub after it, no reset was made.
+  abbrev pub WasNotReset : H → H → Type 0
+  WasNotReset old new = (calls : List (HubCall T)) × CallsLead calls old new
+
+  -- Between the hub before a turn and the hub after it, one reset was made: the subscribers were counted, the emission was taken back, and
+  -- then the flow was reset. What was called after that led to the hub after the turn, and made no other reset.
   pub record WasReset (old new : H) : Type 0 where
     pub counted : H
     pub cancelled : H
@@ -132,11 +152,15 @@ module _ {T H : Type 0} (does : (c : HubCall T) → H → HubAnswer c → H → 
     pub resets_then : does resets cancelled (Ok tt) reset
     pub leads_on : CallsLead later reset new
 
-  -- a reset that is to be done has been made, or stays due; and where none is to be done none is due after the turn
+  -- A reset that is to be done has been made, once; or it stays due, and none has been made. Where none is to be done none has been made, and
+  -- none is due after the turn.
   abbrev pub ResetMeans : Bool → H → Result Report ShareFault → SharingState T → H → Type 0
-  ResetMeans true old answer t new = ((t.reset_due ≡ false) × WasReset old new) ⊎ ((t.reset_due ≡ true) × MayLeaveDue answer)
-  ResetMeans false old answer t new = t.reset_due ≡ false
+  ResetMeans true old answer t new =
+      ((t.reset_due ≡ false) × WasReset old new)
+      ⊎ ((t.reset_due ≡ true) × MayLeaveDue answer × WasNotReset old new)
+  ResetMeans false old answer t new = (t.reset_due ≡ false) × WasNotReset old new
 
-  -- what a turn that answers so has done about a reset, from the one hub to the other
-  abbrev pub TurnResets : SharingState T → H → Result Report ShareFault → SharingState T → H → Type 0
-  TurnResets s old answer t new = (command : Command) × HadCommand command answer × ResetMeans (resets_at command s.reset_due) old answer t new
+  -- What a turn that answers so has done about a reset, from the one hub to the other. `Is` says which command it was.
+  abbrev pub TurnResets : (Command → Type 0) → SharingState T → H → Result Report ShareFault → SharingState T → H → Type 0
+  TurnResets Is s old answer t new =
+      (command : Command) × HadCommand command answer × Is command × ResetMeans (resets_at command s.reset_due) old answer t new

@@ -69,6 +69,10 @@ impl Config {
 }
 
 impl Default for Config {
+    ghost use Rattle.flow_law.specs.declared.config.Overflow.TheVariants.{Suspend};
+
+    ghost is_default = { λ config. config ≡ record { replay = 0; extra = 0; overflow = Suspend; limit = 18446744073709551615 } };
+
     fn default() -> Self {
         Config::new()
     }

@@ -25,7 +25,10 @@ pub use config::{Config, Overflow};
 pub use fault::{FlowFault, Refused};
 pub use guarded::Guarded;
 pub use history::{Event, Knowledge, Said};
-pub use laws::{law_conflated, law_delivered, law_idle_since, law_no_idle_queue, law_turn_account};
+pub use laws::{
+    law_admitted, law_conflated, law_current, law_delivered, law_idle_since, law_lagged,
+    law_no_idle_queue, law_replay, law_turn_account,
+};
 pub use outcome::{Drained, Emit, Next};
 pub use sequence::Sequence;
 pub use sharing::{Command, NEVER, SharingObservation, Started};

@@ -1,5 +1,5 @@
 //! The values of flows.
-ghost use Rattle.std.specs.Prelude.{Bool, ◌≡◌, ◌↔◌, IsTrue, IfOk, IfErr};
+ghost use Rattle.std.specs.Prelude.{Bool, ◌≡◌, ◌↔◌, IsTrue, IfOk, IfErr, IsOk};
 
 mod boxed;
 mod compound;
@@ -24,10 +24,15 @@ pub trait FlowValue: Drop {
     /// Whether two values are the same.
     ghost is_same: { Self → Self → Bool };
 
+    /// That a copy of any value of the type is always given, since it needs no memory. A type that does not say so claims
+    /// nothing.
+    ghost IsAlwaysCopied: { Type 0 } = { ⊥ };
+
     /// The same value, or want of memory.
     fn try_copy(&self) -> Result<Self, FlowFault>
         ensures copy { IfOk result (λ copy. copy ≡ self.now) }
-        ensures memory { IfErr result (λ fault. fault ≡ FlowFault.OutOfMemory) };
+        ensures memory { IfErr result (λ fault. fault ≡ FlowFault.OutOfMemory) }
+        ensures given { IsAlwaysCopied → IsOk result };
 
     /// Whether both are the same value.
     fn same(&self, other: &Self) -> bool

@@ -1,5 +1,5 @@
 //! Values that are made of others. A copy is refused where a copy of a part is.
-ghost use Rattle.std.specs.Prelude.{◌≡◌, ◌&&◌, Bool, true, false, Ok, Some, None, nat_eq};
+ghost use Rattle.std.specs.Prelude.{◌≡◌, ◌&&◌, Bool, true, false, Ok, Some, None, nat_eq, ⊤};
 ghost use Rattle.flow_law.specs.Values.{is_same_option, is_same_pair, is_same_triple};
 
 use super::FlowValue;
@@ -9,6 +9,8 @@ impl FlowValue for () {
     ghost use Rattle.flow_law.specs.Values.{unit_exact};
 
     ghost is_same = { λ x y. true };
+
+    ghost IsAlwaysCopied = { ⊤ };
 
     fn try_copy(&self) -> Result<(), FlowFault>
         ensures given { result ≡ Ok self.now }
@@ -27,6 +29,8 @@ impl<T: FlowValue> FlowValue for Option<T> {
     ghost use Rattle.flow_law.specs.Values.{option_exact};
 
     ghost is_same = { is_same_option T.is_same };
+
+    ghost IsAlwaysCopied = { T.IsAlwaysCopied };
 
     fn try_copy(&self) -> Result<Option<T>, FlowFault> {
         match self {
@@ -51,6 +55,8 @@ impl<A: FlowValue, B: FlowValue> FlowValue for (A, B) {
 
     ghost is_same = { is_same_pair A.is_same B.is_same };
 
+    ghost IsAlwaysCopied = { A.IsAlwaysCopied × B.IsAlwaysCopied };
+
     fn try_copy(&self) -> Result<(A, B), FlowFault> {
         Ok((self.0.try_copy()?, self.1.try_copy()?))
     }
@@ -66,6 +72,8 @@ impl<A: FlowValue, B: FlowValue, C: FlowValue> FlowValue for (A, B, C) {
     ghost use Rattle.flow_law.specs.Values.{triple_exact};
 
     ghost is_same = { is_same_triple A.is_same B.is_same C.is_same };
+
+    ghost IsAlwaysCopied = { A.IsAlwaysCopied × B.IsAlwaysCopied × C.IsAlwaysCopied };
 
     fn try_copy(&self) -> Result<(A, B, C), FlowFault> {
         Ok((self.0.try_copy()?, self.1.try_copy()?, self.2.try_copy()?))

@@ -1,13 +1,15 @@
 //! Numbers and characters as values of flows. A copy of one needs no memory.
-ghost use Rattle.std.proofs.Common.{rules};
 ghost use Rattle.std.specs.Ordering.{int_eq};
-ghost use Rattle.std.specs.Prelude.{◌≡◌, Ok, nat_eq};
+ghost use Rattle.std.specs.Prelude.{◌≡◌, Ok, nat_eq, ⊤};
+ghost use Rattle.flow_law.specs.Values.{whole_exact, number_exact};
 
 use super::FlowValue;
 use crate::fault::FlowFault;
 
 impl FlowValue for i8 {
     ghost is_same = { int_eq };
+
+    ghost IsAlwaysCopied = { ⊤ };
 
     fn try_copy(&self) -> Result<i8, FlowFault>
         ensures given { result ≡ Ok self.now }
@@ -19,11 +21,13 @@ impl FlowValue for i8 {
         *self == *other
     }
 
-    ghost is_same_exact = { Prim.search rules };
+    ghost is_same_exact = { whole_exact };
 }
 
 impl FlowValue for i16 {
     ghost is_same = { int_eq };
+
+    ghost IsAlwaysCopied = { ⊤ };
 
     fn try_copy(&self) -> Result<i16, FlowFault>
         ensures given { result ≡ Ok self.now }
@@ -35,11 +39,13 @@ impl FlowValue for i16 {
         *self == *other
     }
 
-    ghost is_same_exact = { Prim.search rules };
+    ghost is_same_exact = { whole_exact };
 }
 
 impl FlowValue for i32 {
     ghost is_same = { int_eq };
+
+    ghost IsAlwaysCopied = { ⊤ };
 
     fn try_copy(&self) -> Result<i32, FlowFault>
         ensures given { result ≡ Ok self.now }
@@ -51,11 +57,13 @@ impl FlowValue for i32 {
         *self == *other
     }
 
-    ghost is_same_exact = { Prim.search rules };
+    ghost is_same_exact = { whole_exact };
 }
 
 impl FlowValue for i64 {
     ghost is_same = { int_eq };
+
+    ghost IsAlwaysCopied = { ⊤ };
 
     fn try_copy(&self) -> Result<i64, FlowFault>
         ensures given { result ≡ Ok self.now }
@@ -67,11 +75,13 @@ impl FlowValue for i64 {
         *self == *other
     }
 
-    ghost is_same_exact = { Prim.search rules };
+    ghost is_same_exact = { whole_exact };
 }
 
 impl FlowValue for i128 {
     ghost is_same = { int_eq };
+
+    ghost IsAlwaysCopied = { ⊤ };
 
     fn try_copy(&self) -> Result<i128, FlowFault>
         ensures given { result ≡ Ok self.now }
@@ -83,11 +93,13 @@ impl FlowValue for i128 {
         *self == *other
     }
 
-    ghost is_same_exact = { Prim.search rules };
+    ghost is_same_exact = { whole_exact };
 }
 
 impl FlowValue for isize {
     ghost is_same = { int_eq };
+
+    ghost IsAlwaysCopied = { ⊤ };
 
     fn try_copy(&self) -> Result<isize, FlowFault>
         ensures given { result ≡ Ok self.now }
@@ -99,11 +111,13 @@ impl FlowValue for isize {
         *self == *other
     }
 
-    ghost is_same_exact = { Prim.search rules };
+    ghost is_same_exact = { whole_exact };
 }
 
 impl FlowValue for u8 {
     ghost is_same = { nat_eq };
+
+    ghost IsAlwaysCopied = { ⊤ };
 
     fn try_copy(&self) -> Result<u8, FlowFault>
         ensures given { result ≡ Ok self.now }
@@ -115,11 +129,13 @@ impl FlowValue for u8 {
         *self == *other
     }
 
-    ghost is_same_exact = { Prim.search rules };
+    ghost is_same_exact = { number_exact };
 }
 
 impl FlowValue for u16 {
     ghost is_same = { nat_eq };
+
+    ghost IsAlwaysCopied = { ⊤ };
 
     fn try_copy(&self) -> Result<u16, FlowFault>
         ensures given { result ≡ Ok self.now }
@@ -131,11 +147,13 @@ impl FlowValue for u16 {
         *self == *other
     }
 
-    ghost is_same_exact = { Prim.search rules };
+    ghost is_same_exact = { number_exact };
 }
 
 impl FlowValue for u32 {
     ghost is_same = { nat_eq };
+
+    ghost IsAlwaysCopied = { ⊤ };
 
     fn try_copy(&self) -> Result<u32, FlowFault>
         ensures given { result ≡ Ok self.now }
@@ -147,11 +165,13 @@ impl FlowValue for u32 {
         *self == *other
     }
 
-    ghost is_same_exact = { Prim.search rules };
+    ghost is_same_exact = { number_exact };
 }
 
 impl FlowValue for u64 {
     ghost is_same = { nat_eq };
+
+    ghost IsAlwaysCopied = { ⊤ };
 
     fn try_copy(&self) -> Result<u64, FlowFault>
         ensures given { result ≡ Ok self.now }
@@ -163,11 +183,13 @@ impl FlowValue for u64 {
         *self == *other
     }
 
-    ghost is_same_exact = { Prim.search rules };
+    ghost is_same_exact = { number_exact };
 }
 
 impl FlowValue for u128 {
     ghost is_same = { nat_eq };
+
+    ghost IsAlwaysCopied = { ⊤ };
 
     fn try_copy(&self) -> Result<u128, FlowFault>
         ensures given { result ≡ Ok self.now }
@@ -179,11 +201,13 @@ impl FlowValue for u128 {
         *self == *other
     }
 
-    ghost is_same_exact = { Prim.search rules };
+    ghost is_same_exact = { number_exact };
 }
 
 impl FlowValue for usize {
     ghost is_same = { nat_eq };
+
+    ghost IsAlwaysCopied = { ⊤ };
 
     fn try_copy(&self) -> Result<usize, FlowFault>
         ensures given { result ≡ Ok self.now }
@@ -195,11 +219,13 @@ impl FlowValue for usize {
         *self == *other
     }
 
-    ghost is_same_exact = { Prim.search rules };
+    ghost is_same_exact = { number_exact };
 }
 
 impl FlowValue for char {
     ghost is_same = { nat_eq };
+
+    ghost IsAlwaysCopied = { ⊤ };
 
     fn try_copy(&self) -> Result<char, FlowFault>
         ensures given { result ≡ Ok self.now }
@@ -211,5 +237,5 @@ impl FlowValue for char {
         *self == *other
     }
 
-    ghost is_same_exact = { Prim.search rules };
+    ghost is_same_exact = { number_exact };
 }

@@ -1,13 +1,15 @@
 //! A truth value as a value of flows.
-ghost use Rattle.std.proofs.Common.{rules};
 ghost use Rattle.std.specs.Bool.{beq};
-ghost use Rattle.std.specs.Prelude.{◌≡◌, Ok};
+ghost use Rattle.std.specs.Prelude.{◌≡◌, Ok, ⊤};
+ghost use Rattle.flow_law.specs.Values.{truth_exact};
 
 use super::FlowValue;
 use crate::fault::FlowFault;
 
 impl FlowValue for bool {
     ghost is_same = { beq };
+
+    ghost IsAlwaysCopied = { ⊤ };
 
     fn try_copy(&self) -> Result<bool, FlowFault>
         ensures given { result ≡ Ok self.now }
@@ -19,5 +21,5 @@ impl FlowValue for bool {
         *self == *other
     }
 
-    ghost is_same_exact = { Prim.search rules };
+    ghost is_same_exact = { truth_exact };
 }

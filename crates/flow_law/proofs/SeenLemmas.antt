@@ -1,0 +1,45 @@
+-- The laws of flows, of a history that a flow may have had.
+use Rattle.std.proofs.Common.{ℕ, sym, subst}
+use Rattle.flow_law.specs.SharedFlow.{SharedFlowState}
+use Rattle.flow_law.specs.SharedHistory.{History, IsLegal, IsLegalFrom, shared_flow, state_after}
+use Rattle.flow_law.specs.StateFlow.{StateFlowState, StateHistory, IsLegalState, IsStateHistory}
+use Rattle.flow_law.specs.History.{IsHistory}
+use Rattle.flow_law.specs.Conflation.{Conflates}
+use Rattle.flow_law.specs.Laws.{Delivers, NoIdleQueue}
+use Rattle.flow_law.specs.Waiting.{EachWaits}
+use Rattle.flow_law.specs.Lagging.{EachLags}
+use Rattle.flow_law.specs.Replaying.{EachReplays}
+use Rattle.flow_law.specs.Current.{Converges}
+use Rattle.flow_law.proofs.Admitted.{admits}
+use Rattle.flow_law.proofs.Lagging.{lags}
+use Rattle.flow_law.proofs.ReplayLemmas.{replays}
+use Rattle.flow_law.proofs.CurrentLemmas.{currents}
+use Rattle.flow_law.proofs.Conflating.{conflates}
+use Rattle.flow_law.proofs.Delivered.{delivers}
+use Rattle.flow_law.proofs.Queue.{always_calm}
+
+module _ {T : Type 0} where
+  pub legal_of : (first : SharedFlowState T) (h : History T) → IsHistory shared_flow first h → IsLegal first.config h
+  legal_of first h is = (is.begins.1, subst (λ (s : SharedFlowState T). IsLegalFrom s h) is.begins.0 is.legal)
+
+  pub history_delivers : (first : SharedFlowState T) (h : History T) → IsHistory shared_flow first h → (u : ℕ) → Delivers u first.config h
+  history_delivers first h is u = delivers first.config h (legal_of first h is) u
+
+  pub history_calm : (first : SharedFlowState T) (h : History T) → IsHistory shared_flow first h → NoIdleQueue (state_after first.config h)
+  history_calm first h is = (always_calm first.config h).idle
+
+  pub history_conflates : (first : StateFlowState T) (h : StateHistory T) → IsStateHistory first h → Conflates first.value h
+  history_conflates first h is = λ u unreached l. conflates first.limit first.value h (subst (λ (s : StateFlowState T). IsLegalState s h) is.begins is.legal) u unreached l
+
+  pub history_admits : (first : SharedFlowState T) (h : History T) → IsHistory shared_flow first h → EachWaits first.config h
+  history_admits first h is = admits first.config h (legal_of first h is)
+
+  pub history_lags : (first : SharedFlowState T) (h : History T) → IsHistory shared_flow first h → EachLags first.config h
+  history_lags first h is = lags first.config h (legal_of first h is)
+
+  pub history_replays : (first : SharedFlowState T) (h : History T) → IsHistory shared_flow first h → EachReplays first.config h
+  history_replays first h is = replays first.config h (legal_of first h is)
+
+  pub history_converges : (first : StateFlowState T) (h : StateHistory T) → IsStateHistory first h → (u : ℕ) → Converges u first h
+  history_converges first h is u = subst (λ (s : StateFlowState T). Converges u s h) (sym is.begins)
+      (currents first.limit first.value h (subst (λ (s : StateFlowState T). IsLegalState s h) is.begins is.legal) u)

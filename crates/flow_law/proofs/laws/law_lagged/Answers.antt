@@ -1,0 +1,5 @@
+use Rattle.flow_law.proofs.Lagging.{lags}
+use Rattle.flow_law.proofs.laws.law_lagged.Goals as goal
+
+pub returns : goal.returns
+returns g c = λ config h legal. lags config h legal
