@@ -1,5 +1,7 @@
 -- What each call on `Members` makes of the fields, from what the slab's call ensures.
-use Rattle.std.proofs.Common.{inl, inr, ◌≡◌, ◌⊎◌, ℕ, ◌+◌, ◌<◌, ◌≤◌, List, [], ◌∷◌, ◌++◌, length, Some, None, is_some, refl, sym, ap, ◌∙◌, arith, subst}
+use Rattle.std.proofs.Common.{inl, inr, ◌≡◌, ◌⊎◌, ℕ, ◌+◌, ◌<◌, ◌≤◌, List, [], ◌∷◌, ◌++◌, map, length, Some, None, is_some, refl, sym, ap, ◌∙◌, arith, subst}
+use Rattle.std.proofs.Math.ListN.{get_or-map}
+use Rattle.std.proofs.Math.Seq.{map-set_same}
 use Rattle.std.proofs.lemmas.Bool.{cases_eq}
 use Rattle.std.proofs.lemmas.List.{length_push}
 use Rattle.slab.specs.Slab.{Slab, get, slab_len, with_value, Updates}
@@ -7,7 +9,7 @@ use Rattle.slab.proofs.SlabLemmas.{Updates-with_value}
 use Rattle.flow_law.specs.Laws.{RisesTo}
 use Rattle.flow_containers.specs.declared.members.Member.{Member}
 use Rattle.flow_containers.specs.declared.members.Members.TheInside.{Inside}
-use Rattle.flow_containers.specs.Members.{numbers, row_of, member_with, with_row, without_number, take_out, seek, membership_of, IsSound}
+use Rattle.flow_containers.specs.Members.{numbers, row_of, member_with, with_row, without_number, take_out, seek, number_in, number_at, EntersAt, OthersStay, membership_of, IsSound}
 use Rattle.flow_containers.proofs.SlotLemmas.{IsFree, seek_is, seek_number, free_here, free_new, distinct_put, distinct_gone, seek_put, seek_gone, slab_len-with_value}
 use Rattle.flow_containers.proofs.MemberLemmas.{length-with_row, length-take_out}
 use Rattle.flow_containers.proofs.FoundLemmas.{found_to-rises, row_absent, row_found, found_to-insert, found_to-gone, found_to-taken, found_to-replaced}
@@ -15,6 +17,10 @@ use Rattle.flow_containers.proofs.FoundLemmas.{found_to-rises, row_absent, row_f
 -- a `&mut` that is lent under one name, where what it leaves is told in two ways
 pub lent_alike : {N W V E : Type 0} (name : N) (f g : W → V) → ((w : W) → f w ≡ g w) → ◌≡◌ {A = (N × (W → V)) ⊎ E} (inl (name, f)) (inl (name, g))
 lent_alike name f g alike = λ i. inl (name, λ w. alike w i)
+
+-- the number at a key is that of the member in its slot
+at_key : {R : Type 0} (slab : Slab (Member R)) (key : ℕ) → number_at (map number_in slab.slots) key ≡ number_in (get slab key)
+at_key slab key = get_or-map number_in slab.slots key None
 
 module _ {R A : Type 0} where
   abbrev pub fields : Slab (Member R) → ℕ → Inside R A
@@ -59,6 +65,14 @@ module _ {R A : Type 0} where
     inserted =
         found_to-insert (λ n. seek n s.slab.slots) (λ n. seek n new.slots) s.last (record { number = number; row = row }) above (none_past s sound)
         (seek_put s.slab new key (record { number = number; row = row }) sound.distinct new_is_free put)
+
+    -- the new subscriber's key
+    pub entered : EntersAt number key (membership_of s).by_key (membership_of (fields new number)).by_key
+    entered = (
+      at_key s.slab key ∙ ap number_in vacant,
+      at_key new key ∙ ap number_in put.changed,
+      λ other differs. at_key new other ∙ ap number_in (put.others other differs) ∙ sym (at_key s.slab other),
+    )
 
     pub inserted_sound : slab_len new ≡ slab_len s.slab + 1 → IsSound (fields new number)
     inserted_sound longer = record {
@@ -113,10 +127,14 @@ module _ {R A : Type 0} where
               | inr differs ↦ sound.within k y (sym (written.others k differs) ∙ there)
             ]
 
+    same_keys : map number_in (with_value s.slab key (member_with row x)).slots ≡ map number_in s.slab.slots
+    same_keys = map-set_same number_in s.slab.slots key (Some (member_with row x)) None (sym (ap number_in at))
+
     -- the number as the caller has it
     pub rewritten_membership : (number : ℕ) → x.number ≡ number → membership_of (with_slab s (with_value s.slab key (member_with row x))) ≡ record (membership_of s) { members = with_row number row (membership_of s).members }
     rewritten_membership number same =
-        ap (λ (members : List (Member R)). record (membership_of s) { members = members }) (replaced ∙ ap (λ n. with_row n row (membership_of s).members) same)
+        let members = replaced ∙ ap (λ n. with_row n row (membership_of s).members) same in
+        λ i. record { members = members i; last = s.last; by_key = same_keys i }
 
   -- ---- one less
 
@@ -128,6 +146,13 @@ module _ {R A : Type 0} where
     pub taken_out : (membership_of (with_slab s new)).members ≡ take_out x.number (membership_of s).members
     taken_out =
         found_to-taken (λ n. seek n s.slab.slots) (λ n. seek n new.slots) x.number s.last (has_numbers s) (seek_gone s.slab new key x sound.distinct at gone)
+
+    pub others_stay : (number : ℕ) → x.number ≡ number → OthersStay number (membership_of s).by_key (membership_of (with_slab s new)).by_key
+    others_stay number same k other =
+        elim (cases_eq k key) [
+          | inl is ↦ absurd (other (at_key s.slab k ∙ ap (λ j. number_in (get s.slab j)) is ∙ ap number_in at ∙ ap Some same))
+          | inr differs ↦ at_key new k ∙ ap number_in (gone.others k differs) ∙ sym (at_key s.slab k)
+        ]
 
     pub removed_sound : slab_len new + 1 ≡ slab_len s.slab → IsSound (with_slab s new)
     removed_sound shorter =

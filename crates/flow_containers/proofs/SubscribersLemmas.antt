@@ -1,5 +1,5 @@
 -- What each step of `Subscribers` needs, and that its fields are sound after it.
-use Rattle.std.proofs.Common.{◌≡◌, ℕ, suc, ◌+◌, ◌-◌, ◌<◌, ◌≤◌, ◌%◌, ◌^◌, ◌==◌, max, nat_le, nat_lt, true, false, if◌then◌else◌, List, [], ◌∷◌, ◌++◌, length, map, get_or, set, Some, refl, sym, ap, subst, ◌∙◌, arith, length-append}
+use Rattle.std.proofs.Common.{◌≡◌, ℕ, suc, ◌+◌, ◌-◌, ◌<◌, ◌≤◌, ◌%◌, ◌^◌, ◌==◌, max, nat_le, nat_lt, true, false, if◌then◌else◌, List, [], ◌∷◌, ◌++◌, length, map, get_or, set, Option, Some, refl, sym, ap, subst, ◌∙◌, arith, length-append}
 use Rattle.std.specs.List.{list_any}
 use Rattle.std.specs.Option.{option_map}
 use Rattle.std.proofs.lemmas.Nat.{mod_below}
@@ -44,9 +44,9 @@ within-with_own w n number own (u ∷ us) h =
       | false ↦ (h.0, h.1, within-with_own w n number own us h.2)
     ]
 
-pub standing_same : {T : Type 0} (xs ys : List (Subscriber T)) (m n v w f g k l : ℕ) → xs ≡ ys → m ≡ n → v ≡ w → f ≡ g → k ≡ l
-    → ◌≡◌ {A = Standing T} (record { list = xs; emitted = m; window = v; floor = f; last = k }) (record { list = ys; emitted = n; window = w; floor = g; last = l })
-standing_same xs ys m n v w f g k l a b c d e = cc (a, b, c, d, e)
+pub standing_same : {T : Type 0} (xs ys : List (Subscriber T)) (m n v w f g k l : ℕ) (at : List (Option ℕ)) → xs ≡ ys → m ≡ n → v ≡ w → f ≡ g → k ≡ l
+    → ◌≡◌ {A = Standing T} (record { list = xs; emitted = m; window = v; floor = f; last = k; by_key = at }) (record { list = ys; emitted = n; window = w; floor = g; last = l; by_key = at })
+standing_same xs ys m n v w f g k l at a b c d e = cc (a, b, c, d, e)
 
 -- a row of another length list, for the window that is read off its length
 pub resized : {T A : Type 0} (row new : List ℕ) (emitted floor last : ℕ) (members : List (Member (Row T A))) → length new ≡ length row

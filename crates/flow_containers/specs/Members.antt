@@ -1,16 +1,33 @@
--- Subscribers in a slab, seen as a list in the order of their numbers. No public clause cites this module.
+-- Subscribers in a slab, seen as a list in the order of their numbers, and by key. No public clause cites this module.
 --   slots      None   Some 7   Some 2   None   Some 5      by key
 --   members      2  5  7                                     by number
+--   by_key     None   Some 7   Some 2   None   Some 5      the numbers alone
 -- Begin with `Membership`. The key facts on it are in proofs/MemberLemmas.
-use Rattle.std.specs.Prelude.{◌≡◌, ℕ, zero, suc, ◌<◌, ◌≤◌, ◌==◌, not, if◌then◌else◌, [], ◌∷◌, ◌++◌, List, map, filter, length, Option, Some, None}
+use Rattle.std.specs.Prelude.{◌≡◌, ◌≢◌, ℕ, zero, suc, ◌<◌, ◌≤◌, ◌==◌, not, if◌then◌else◌, [], ◌∷◌, ◌++◌, List, map, filter, length, Option, Some, None, slice_index_or}
+use Rattle.std.specs.Option.{option_map}
 use Rattle.slab.specs.Slab.{get, slab_len}
 use Rattle.flow_containers.specs.declared.members.Member.{Member}
 use Rattle.flow_containers.specs.declared.members.Members.TheInside.{Inside}
 
--- the subscribers in the order of their numbers, and the greatest number that any has had
+-- the subscribers in the order of their numbers, the greatest number that any has had, and whose number is at each key
 pub record Membership (R : Type 0) : Type 0 where
   pub members : List (Member R)
   pub last : ℕ
+  pub by_key : List (Option ℕ)
+
+-- the number of the subscriber at a key
+abbrev pub number_at : List (Option ℕ) → ℕ → Option ℕ
+number_at by_key key = slice_index_or by_key key None
+
+-- the new subscriber has this key, which was free; each other subscriber has the key that it had
+abbrev pub EntersAt : ℕ → ℕ → List (Option ℕ) → List (Option ℕ) → Type 0
+EntersAt number key old new =
+    (number_at old key ≡ None) × (number_at new key ≡ Some number)
+    × ((other : ℕ) → other ≢ key → number_at new other ≡ number_at old other)
+
+-- each subscriber but that of this number has the key that it had
+abbrev pub OthersStay : ℕ → List (Option ℕ) → List (Option ℕ) → Type 0
+OthersStay number old new = (key : ℕ) → number_at old key ≢ Some number → number_at new key ≡ number_at old key
 
 module _ {R : Type 0} where
   abbrev pub numbers : List (Member R) → List ℕ
@@ -55,8 +72,12 @@ module _ {R : Type 0} where
   found_to find zero = []
   found_to find (suc n) = found_to find n ++ listed (find (suc n))
 
+  -- the number of the member of a slot
+  abbrev pub number_in : Option (Member R) → Option ℕ
+  number_in = option_map (λ member. member.number)
+
   abbrev pub membership_of : {A : Type 0} → Inside R A → Membership R
-  membership_of s = record { members = found_to (λ number. seek number s.slab.slots) s.last; last = s.last }
+  membership_of s = record { members = found_to (λ number. seek number s.slab.slots) s.last; last = s.last; by_key = map number_in s.slab.slots }
 
   -- no two keys have one number, and every number is within the bound
   pub record IsSound {A : Type 0} (s : Inside R A) : Type 0 where

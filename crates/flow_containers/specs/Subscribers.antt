@@ -1,5 +1,5 @@
 -- The subscribers of a shared core as the definitions have them. No public clause cites this module.
-use Rattle.std.specs.Prelude.{ℕ, ◌+◌, ◌-◌, ◌<◌, ◌≤◌, ◌^◌, max, Bool, nat_le, List, map, length}
+use Rattle.std.specs.Prelude.{ℕ, ◌+◌, ◌-◌, ◌<◌, ◌≤◌, ◌^◌, max, Bool, nat_le, List, map, length, Option}
 use Rattle.std.specs.List.{list_any}
 use Rattle.flow_law.specs.declared.states.Subscriber.{Subscriber}
 use Rattle.flow_containers.specs.declared.members.Member.{Member}
@@ -19,6 +19,8 @@ pub record Standing (T : Type 0) : Type 0 where
   pub floor : ℕ
   -- the greatest number that a subscriber has had
   pub last : ℕ
+  -- the number of the subscriber at each key, if there is one
+  pub by_key : List (Option ℕ)
 
 -- somebody has a whole window of values still to receive
 abbrev pub is_full : {T : Type 0} → ℕ → ℕ → List (Subscriber T) → Bool
@@ -39,6 +41,7 @@ module _ {T A : Type 0} where
     window = length s.counts.row - 1;
     floor = s.floor;
     last = s.members.last;
+    by_key = s.members.by_key;
   }
 
   pub record AreSound (window : ℕ) (row : List ℕ) (emitted lowest : ℕ) (members : List (Member (Row T A))) (greatest : ℕ) : Type 0 where

@@ -2,12 +2,12 @@
 //!
 //! A subscriber is asked for by its number, with the key where it stood last as a hint: whoever is not there, because the
 //! hint came from elsewhere, is looked for through the whole slab.
-ghost use Rattle.std.specs.Prelude.{◌≡◌, ℕ, ◌+◌, ◌<◌, ◌≤◌, ◌++◌, [], ◌∷◌, length, Some, IfSome, IfNone, IsSomeAnd, MatchResult, MatchOption, is_some, option_copied};
+ghost use Rattle.std.specs.Prelude.{◌≡◌, ℕ, ◌+◌, ◌<◌, ◌≤◌, ◌++◌, [], ◌∷◌, length, Some, None, IfOk, IfSome, IfNone, IsSomeAnd, MatchResult, MatchOption, is_some, option_copied};
 ghost use Rattle.std.specs.Option.{option_copied_mut};
 ghost use Rattle.std.specs.Borrow.{sem};
 ghost use Rattle.slab.specs.Slab.{get};
 ghost use Rattle.flow_law.specs.Laws.{RisesTo};
-ghost use Rattle.flow_containers.specs.Members.{numbers, row_of, with_row, without_number, take_out};
+ghost use Rattle.flow_containers.specs.Members.{numbers, row_of, with_row, without_number, take_out, EntersAt, OthersStay};
 
 mod enroll;
 
@@ -71,6 +71,7 @@ impl<R: Drop, A: Allocator> Members<R, A> {
     pub fn new(alloc: A) -> Self
         ensures empty { result.members ≡ [] }
         ensures last { result.last ≡ 0 }
+        ensures keys { result.by_key ≡ [] }
     {
         Members {
             slab: Slab::new(alloc),
@@ -101,7 +102,8 @@ impl<R: Drop, A: Allocator> Members<R, A> {
     /// Adds a subscriber, and gives its key. A refusal for want of memory hands the row back.
     pub fn insert(&mut self, number: u64, row: R) -> Result<usize, R>
         requires { self.old.last < number }
-        ensures { MatchResult result
+        ensures key { IfOk result (λ key. EntersAt number key self.old.by_key self.new.by_key) }
+        ensures added { MatchResult result
             (λ _key. (self.new.members ≡ self.old.members ++ record { number = number; row = row } ∷ [])
             × (self.new.last ≡ number))
             (λ refused. (refused ≡ row) × (self.new ≡ self.old)) }
@@ -133,6 +135,7 @@ impl<R: Drop, A: Allocator> Members<R, A> {
     pub fn set(&mut self, number: u64, hint: usize, row: R)
         ensures members { self.new.members ≡ with_row number row self.old.members }
         ensures last { self.new.last ≡ self.old.last }
+        ensures keys { self.new.by_key ≡ self.old.by_key }
     {
         if let Some(kept) = self.get_mut(number, hint) {
             *kept = row;
@@ -145,6 +148,7 @@ impl<R: Drop, A: Allocator> Members<R, A> {
         ensures members { self.new.members ≡ without_number number self.old.members }
         ensures one { self.new.members ≡ take_out number self.old.members }
         ensures last { self.new.last ≡ self.old.last }
+        ensures others { OthersStay number self.old.by_key self.new.by_key }
     {
         let key = key_of(&self.slab, number, hint)?;
         Some(self.slab.remove(key).row)

@@ -1,8 +1,9 @@
 //! Who has subscribed, how far each one has come, and who is a whole window behind.
-ghost use Rattle.std.specs.Prelude.{◌≡◌, ◌+◌, ◌-◌, ◌<◌, ◌≤◌, ◌^◌, ◌∷◌, ◌++◌, [], Some, false, is_some, length, map, IfOk, MatchResult};
+ghost use Rattle.std.specs.Prelude.{◌≡◌, ◌+◌, ◌-◌, ◌<◌, ◌≤◌, ◌^◌, ◌∷◌, ◌++◌, [], Some, None, false, is_some, length, map, IfOk, MatchResult};
 ghost use Rattle.std.specs.Option.{option_map};
 ghost use Rattle.flow_law.specs.SharedFlow as flow;
 ghost use Rattle.flow_law.specs.Standing.{least_position};
+ghost use Rattle.flow_containers.specs.Members.{EntersAt, OthersStay};
 ghost use Rattle.flow_containers.specs.Subscribers.{is_full};
 
 mod receive;
@@ -40,7 +41,7 @@ impl<T: Drop, A: Allocator> Subscribers<T, A> {
         A: Copy,
         requires some { 0 < window }
         requires room { window + 1 < 2 ^ 64 }
-        ensures { IfOk result (λ s. s ≡ record { list = []; emitted = 0; window = window; floor = 0; last = 0 }) }
+        ensures { IfOk result (λ s. s ≡ record { list = []; emitted = 0; window = window; floor = 0; last = 0; by_key = [] }) }
     {
         let counts = PositionCounts::new(alloc, window + 1)?;
         Ok(Subscribers {
@@ -134,10 +135,12 @@ impl<T: Drop, A: Allocator> Subscribers<T, A> {
         requires later { self.old.last < number }
         requires above { self.old.floor ≤ position }
         requires within { (position ≤ self.old.emitted) × (self.old.emitted ≤ position + self.old.window) }
-        ensures { MatchResult result
+        ensures key { IfOk result (λ key. EntersAt number key self.old.by_key self.new.by_key) }
+        ensures added { MatchResult result
             (λ _key. self.new ≡ record self.old {
               list = self.old.list ++ record { number = number; own = first.items; position = position } ∷ [];
               last = number;
+              by_key = self.new.by_key;
             })
             (λ refused. (refused ≡ first) × self.new ≡ self.old) }
     {
@@ -153,7 +156,11 @@ impl<T: Drop, A: Allocator> Subscribers<T, A> {
     /// Removes a subscriber, and answers whether it was there.
     pub fn remove(&mut self, number: u64, key: usize) -> bool
         ensures there { result ≡ is_some (flow.position_of number self.old.list) }
-        ensures removed { self.new ≡ record self.old { list = flow.without number self.old.list } }
+        ensures removed { self.new ≡ record self.old {
+          list = flow.without number self.old.list;
+          by_key = self.new.by_key;
+        } }
+        ensures others { OthersStay number self.old.by_key self.new.by_key }
     {
         match self.members.remove(number, key) {
             Some(row) => {

@@ -1,5 +1,6 @@
 //! How a subscriber with its own first values is added.
-ghost use Rattle.std.specs.Prelude.{◌≡◌, ◌<◌, ◌++◌, ◌∷◌, [], MatchResult};
+ghost use Rattle.std.specs.Prelude.{◌≡◌, ◌<◌, ◌++◌, ◌∷◌, [], IfOk, MatchResult};
+ghost use Rattle.flow_containers.specs.Members.{EntersAt};
 
 use super::{Member, Members};
 use crate::own_values::OwnValues;
@@ -21,7 +22,8 @@ impl<T: Drop, A: Allocator> Members<Row<T, A>, A> {
         position: u64,
     ) -> Result<usize, Vec<T, A>>
         requires { self.old.last < number }
-        ensures { MatchResult result
+        ensures key { IfOk result (λ key. EntersAt number key self.old.by_key self.new.by_key) }
+        ensures added { MatchResult result
             (λ _key. (self.new.members ≡ self.old.members ++ record { number = number; row = record { own = first.items; position = position } } ∷ [])
             × (self.new.last ≡ number))
             (λ refused. (refused ≡ first) × (self.new ≡ self.old)) }

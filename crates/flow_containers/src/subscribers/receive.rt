@@ -1,5 +1,5 @@
 //! What a subscriber receives next. Who it is, is looked up once.
-ghost use Rattle.std.specs.Prelude.{◌≡◌, ◌-◌, ◌≤◌, length, IfSome};
+ghost use Rattle.std.specs.Prelude.{◌≡◌, ◌-◌, ◌≤◌, length, IfSome, IsOk};
 ghost use Rattle.flow_law.specs.SharedFlow as flow;
 ghost use Rattle.flow_containers.specs.Receiving.{Receives};
 
@@ -32,7 +32,8 @@ impl<T: FlowValue, A: Allocator> Subscribers<T, A> {
         requires held { length values.now.items ≤ self.old.emitted }
         requires kept { IfSome (flow.position_of number self.old.list)
             (λ position. self.old.emitted - length values.now.items ≤ position) }
-        ensures { Receives number values.now.items self.old result self.new }
+        ensures receives { Receives number values.now.items self.old result self.new }
+        ensures given { T.IsAlwaysCopied → IsOk result }
     {
         let Some(row) = self.members.get_mut(number, key) else {
             return Ok(Received::Gone);

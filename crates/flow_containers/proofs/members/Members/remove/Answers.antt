@@ -1,7 +1,7 @@
 use Rattle.std.proofs.Common.{◌≡◌, sym, ap, subst, ◌∙◌, IsSomeAnd}
-use Rattle.flow_containers.specs.Members.{Membership, membership_of, row_of, without_number, take_out}
+use Rattle.flow_containers.specs.Members.{Membership, membership_of, row_of, without_number, take_out, OthersStay}
 use Rattle.flow_containers.proofs.MemberLemmas.{without_number_absent, take_out_absent}
-use Rattle.flow_containers.proofs.MembershipLemmas.{row_at, row_none, removed, taken_out, removed_sound}
+use Rattle.flow_containers.proofs.MembershipLemmas.{with_slab, row_at, row_none, removed, taken_out, others_stay, removed_sound}
 use Rattle.flow_containers.proofs.members.Members.remove.Goals as goal
 
 pub returns-in_err-key-clause-value : goal.returns-in_err-key-clause-value
@@ -42,3 +42,9 @@ returns-clause-one g c =
     taken_out c.self.inside c.remove.new.self c.in_ok-key.key c.remove.result c.self.invariant c.remove.ensures.value c.remove.ensures.updates
     ∙ ap (λ n. take_out n (membership_of c.self.inside).members) same
     ∙ ap (λ (v : Membership _). take_out c.args.number v.members) c.self.view_is
+
+pub returns-clause-others : goal.returns-clause-others
+returns-clause-others g c =
+    let same : c.remove.result.number ≡ c.args.number = subst (λ o. IsSomeAnd o (λ member. member.number ≡ c.args.number)) c.remove.ensures.value c.in_ok-key.ensures.found in
+    subst (λ (v : Membership _). OthersStay c.args.number v.by_key (membership_of (with_slab c.self.inside c.remove.new.self)).by_key) c.self.view_is
+    (others_stay c.self.inside c.remove.new.self c.in_ok-key.key c.remove.result c.self.invariant c.remove.ensures.value c.remove.ensures.updates c.args.number same)

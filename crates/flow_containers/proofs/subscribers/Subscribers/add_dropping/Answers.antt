@@ -28,5 +28,5 @@ returns g c =
     let window : length c.add.new.self.row - 1 ≡ length s.counts.row - 1 =
     ap (λ r. length r - 1) (c.add.ensures.row ∙ c.shift.ensures.row) ∙ ap (λ k. k - 1) (length-shifted s.counts.row p) in
     let floor : p + 1 ≡ s.counts.emitted + 1 - (length s.counts.row - 1) = omega (arith, at) in
-    standing_same _ _ _ _ _ _ _ _ _ _ list emitted window floor refl
+    standing_same _ _ _ _ _ _ _ _ _ _ _ list emitted window floor refl
     ∙ ap (λ (v : Standing _). record v { emitted = v.emitted + 1; list = raise_to (v.emitted + 1 - v.window) v.list; floor = v.emitted + 1 - v.window }) c.self.view_is

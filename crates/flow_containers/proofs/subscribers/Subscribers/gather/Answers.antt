@@ -27,7 +27,7 @@ returns-then-emitted-gt0 g c =
     let window : length c.shift.new.self.row - 1 ≡ length s.counts.row - 1 =
     ap (λ r. length r - 1) c.shift.ensures.row ∙ ap (λ k. k - 1) (length-shifted s.counts.row (c.emitted-emitted.result - 1)) in
     let list : read c.emitted-emitted.result s.members.members ≡ map (stand_at s.counts.emitted) (read s.floor s.members.members) = ap (λ k. read k s.members.members) c.emitted-emitted.ensures ∙ all in
-    standing_same _ _ _ _ _ _ _ _ _ _ list c.shift.ensures.emitted window c.emitted-emitted.ensures refl
+    standing_same _ _ _ _ _ _ _ _ _ _ _ list c.shift.ensures.emitted window c.emitted-emitted.ensures refl
     ∙ ap (λ (v : Standing _). record v { list = map (stand_at v.emitted) v.list; floor = v.emitted }) c.self.view_is
 
 pub returns-else-emitted-gt0 : goal.returns-else-emitted-gt0
@@ -40,5 +40,5 @@ returns-else-emitted-gt0 g c =
     let within : AreWithin 1 s.counts.emitted us = subst (λ k. AreWithin k s.counts.emitted us) one c.self.invariant.fits.window in
     let list : us ≡ map (stand_at s.counts.emitted) us =
     sym (raise_to_first us) ∙ ap (λ k. raise_to k us) (sym none) ∙ raise_to_last s.counts.emitted us within in
-    sym c.self.view_is ∙ standing_same _ _ _ _ _ _ _ _ _ _ list refl refl floor refl
+    sym c.self.view_is ∙ standing_same _ _ _ _ _ _ _ _ _ _ _ list refl refl floor refl
     ∙ ap (λ (v : Standing _). record v { list = map (stand_at v.emitted) v.list; floor = v.emitted }) c.self.view_is

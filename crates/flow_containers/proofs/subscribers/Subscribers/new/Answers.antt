@@ -8,5 +8,5 @@ invariant_of-result g c =
 
 pub returns : goal.returns
 returns g c =
-    standing_fresh c.args.window c.in_ok-counts.counts.emitted c.new-2.result.last c.in_ok-counts.counts.row c.new-2.result.members
-    c.in_ok-counts.ensures.row c.in_ok-counts.ensures.emitted c.new-2.ensures.empty c.new-2.ensures.last
+    standing_fresh c.args.window c.in_ok-counts.counts.emitted c.new-2.result.last c.in_ok-counts.counts.row c.new-2.result.members c.new-2.result.by_key
+    c.in_ok-counts.ensures.row c.in_ok-counts.ensures.emitted c.new-2.ensures.empty c.new-2.ensures.last c.new-2.ensures.keys

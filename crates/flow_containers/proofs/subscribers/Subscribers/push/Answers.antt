@@ -18,6 +18,6 @@ invariant_of-self g c =
     let near = subst (λ (v : Standing _). v.emitted ≤ c.args.position + v.window) (sym c.self.view_is) c.requires.within.1 in
     let high = subst (λ (v : Standing _). v.floor ≤ c.args.position) (sym c.self.view_is) c.requires.above in
     let fits : c.args.number < 2 ^ 64 = omega (arith, c.ranges.number) in
-    rw (c.enter.ensures.row, c.enter.ensures.emitted, c.in-Ok.ensures.0, c.in-Ok.ensures.1)
+    rw (c.enter.ensures.row, c.enter.ensures.emitted, c.in-Ok.ensures.added.0, c.in-Ok.ensures.added.1)
     (enrolled s.counts.row s.counts.emitted s.floor s.members.last s.members.members c.self.invariant c.args.number c.args.position
     (record { own = c.args.first.items; position = c.args.position }) refl past near high above fits)

@@ -14,8 +14,8 @@ use Rattle.flow_containers.proofs.SubscribersLemmas.{found_near, leave_some, ent
 use Rattle.flow_containers.proofs.ReceivingLemmas.{found_below, position_in, putting, gone, own_left, nobody, stands_at, kept_here, takes, takes_sound, none_left, stays, stays_sound, goes, goes_sound}
 use Rattle.flow_containers.proofs.subscribers.Subscribers.receive.Goals as goal
 
-pub returns-in_default : goal.returns-in_default
-returns-in_default g c =
+pub returns-in_default-clause-receives : goal.returns-in_default-clause-receives
+returns-in_default-clause-receives g c =
     let s = c.self.inside in
     let number = c.args.number in
     let none : row_of number s.members.members ≡ None = sym c.in_default.ensures.value in
@@ -26,8 +26,8 @@ pub invariant_of-self-in-Some-pop_front : goal.invariant_of-self-in-Some-pop_fro
 invariant_of-self-in-Some-pop_front g c =
     takes_sound c.self.inside c.args.number c.in-Some.row.now (sym c.in-Some.ensures.value) c.pop_front.new.self c.self.invariant
 
-pub returns-in-Some-pop_front : goal.returns-in-Some-pop_front
-returns-in-Some-pop_front g c =
+pub returns-in-Some-pop_front-clause-receives : goal.returns-in-Some-pop_front-clause-receives
+returns-in-Some-pop_front-clause-receives g c =
     let s = c.self.inside in
     let number = c.args.number in
     let row = c.in-Some.row.now in
@@ -56,8 +56,8 @@ pub invariant_of-self-in-Err : goal.invariant_of-self-in-Err
 invariant_of-self-in-Err g c =
     stays_sound c.self.inside c.args.number c.in-Some.row.now (sym c.in-Some.ensures.value) c.pop_front.new.self c.in_default-pop_front.ensures c.self.invariant
 
-pub returns-in_default-get : goal.returns-in_default-get
-returns-in_default-get g c =
+pub returns-in_default-get-clause-receives : goal.returns-in_default-get-clause-receives
+returns-in_default-get-clause-receives g c =
     let s = c.self.inside in
     let number = c.args.number in
     let row = c.in-Some.row.now in
@@ -69,8 +69,8 @@ returns-in_default-get g c =
     subst (λ (v : Standing _). Receives number items v (Ok Empty) (standing_of (putting s number (left own row)))) c.self.view_is
     (position_in s number row, (none_left s number row found own c.in_default-pop_front.ensures, stands_at s number row found, ap (slice_get items) (sym at) ∙ sym c.in_default-get.ensures), stays s number row found own c.in_default-pop_front.ensures)
 
-pub returns-in-Err : goal.returns-in-Err
-returns-in-Err g c =
+pub returns-in-Err-clause-receives : goal.returns-in-Err-clause-receives
+returns-in-Err-clause-receives g c =
     let s = c.self.inside in
     let number = c.args.number in
     let row = c.in-Some.row.now in
@@ -141,8 +141,8 @@ invariant_of-self-in-Ok g c =
     (subst (λ r. AreSound (length r - 1) r s.counts.emitted s.floor (with_row number (record { own = own; position = next }) s.members.members) s.members.last) (sym counts)
     (goes_sound s number row found own c.in_default-pop_front.ensures c.self.invariant more next (c.move_on-row.ensures.next ∙ ap (λ p. p + 1) c.max-position.ensures)))
 
-pub returns-in-Ok : goal.returns-in-Ok
-returns-in-Ok g c =
+pub returns-in-Ok-clause-receives : goal.returns-in-Ok-clause-receives
+returns-in-Ok-clause-receives g c =
     let s = c.self.inside in
     let number = c.args.number in
     let row = c.in-Some.row.now in

@@ -63,8 +63,8 @@ returns-in-Some-clause-removed g c =
     let s = c.self.inside in
     let list = ap (read s.floor) c.remove.ensures.members ∙ without-row s.floor c.args.number s.members.members in
     let window : length c.leave.new.self.row - 1 ≡ length s.counts.row - 1 = ap (λ r. length r - 1) c.leave.ensures.row ∙ ap (λ k. k - 1) (length-set s.counts.row _ _) in
-    standing_same _ _ _ _ _ _ _ _ _ _ list c.leave.ensures.emitted window refl c.remove.ensures.last
-    ∙ ap (λ (v : Standing _). record v { list = without c.args.number v.list }) c.self.view_is
+    standing_same _ _ _ _ _ _ _ _ _ _ _ list c.leave.ensures.emitted window refl c.remove.ensures.last
+    ∙ ap (λ (v : Standing _). record v { list = without c.args.number v.list; by_key = c.remove.new.self.by_key }) c.self.view_is
 
 pub returns-in-None-clause-there : goal.returns-in-None-clause-there
 returns-in-None-clause-there g c =
@@ -77,5 +77,5 @@ pub returns-in-None-clause-removed : goal.returns-in-None-clause-removed
 returns-in-None-clause-removed g c =
     let s = c.self.inside in
     let list = ap (read s.floor) c.remove.ensures.members ∙ without-row s.floor c.args.number s.members.members in
-    standing_same _ _ _ _ _ _ _ _ _ _ list refl refl refl c.remove.ensures.last
-    ∙ ap (λ (v : Standing _). record v { list = without c.args.number v.list }) c.self.view_is
+    standing_same _ _ _ _ _ _ _ _ _ _ _ list refl refl refl c.remove.ensures.last
+    ∙ ap (λ (v : Standing _). record v { list = without c.args.number v.list; by_key = c.remove.new.self.by_key }) c.self.view_is
