@@ -1,6 +1,6 @@
 -- How the core's invariant is kept, for the fields that a private step leaves.
 -- The key facts: `sound_emitted` (a value more in the ring), `sound_trimmed`, `sound_standing` (other subscribers).
-use Rattle.std.proofs.Common.{◌≡◌, ℕ, ◌+◌, ◌-◌, ◌≤◌, ◌<◌, max, List, [], ◌∷◌, ◌++◌, length, map, arith, length-append, length-drop}
+use Rattle.std.proofs.Common.{◌≡◌, ℕ, ◌+◌, ◌-◌, ◌≤◌, ◌<◌, max, List, [], ◌∷◌, ◌++◌, length, map, Option, arith, length-append, length-drop}
 use Rattle.circular_buffer.specs.Buffer.{buffer, keep_last}
 use Rattle.flow_law.specs.declared.states.Subscriber.{Subscriber}
 use Rattle.flow_law.specs.declared.states.Numbered.{Numbered}
@@ -90,11 +90,11 @@ module _ {T A : Type 0} where
       }
 
   -- other subscribers, who ask for no earlier value, and more numbers
-  pub sound_standing : (c : Inside T A) (us : List (Subscriber T)) (last floor issued : ℕ) → IsSound c → AreWithin floor c.subscribers.emitted (window_of c.config) us
+  pub sound_standing : (c : Inside T A) (us : List (Subscriber T)) (last floor issued : ℕ) (keys : List (Option ℕ)) → IsSound c → AreWithin floor c.subscribers.emitted (window_of c.config) us
       → floor ≤ kept_start (fields_of c) → least_position (kept_start (fields_of c)) c.subscribers.list ≤ least_position (kept_start (fields_of c)) us
       → last ≤ issued → c.issued ≤ issued → issued ≤ c.config.limit → RisesTo 0 (map (λ q. q.number) c.queue) issued
-      → IsSound (record c { subscribers = record c.subscribers { list = us; last = last; floor = floor }; issued = issued })
-  sound_standing c us last floor issued sound within low later lasts more limit rising =
+      → IsSound (record c { subscribers = record c.subscribers { list = us; last = last; floor = floor; by_key = keys }; issued = issued })
+  sound_standing c us last floor issued keys sound within low later lasts more limit rising =
       let enough = sound.enough in
       let numbers = sound.numbers in
       record {
@@ -116,14 +116,14 @@ module _ {T A : Type 0} where
   pub sound_subscribers : (c : Inside T A) (us : List (Subscriber T)) (floor : ℕ) → IsSound c → AreWithin floor c.subscribers.emitted (window_of c.config) us
       → floor ≤ kept_start (fields_of c) → least_position (kept_start (fields_of c)) c.subscribers.list ≤ least_position (kept_start (fields_of c)) us
       → IsSound (record c { subscribers = record c.subscribers { list = us; floor = floor } })
-  sound_subscribers c us floor sound within low later = sound_standing c us c.subscribers.last floor c.issued sound within low later sound.last (omega arith) sound.issued sound.rising
+  sound_subscribers c us floor sound within low later = sound_standing c us c.subscribers.last floor c.issued c.subscribers.by_key sound within low later sound.last (omega arith) sound.issued sound.rising
 
   -- a number more
   pub sound_issued : (c : Inside T A) → IsSound c → (c.issued ≡ c.config.limit → ⊥) → IsSound (record c { issued = c.issued + 1 })
   sound_issued c sound left =
       let issued = sound.issued in
       let last = sound.last in
-      sound_standing c c.subscribers.list c.subscribers.last c.subscribers.floor (c.issued + 1) sound sound.within sound.floor (omega arith)
+      sound_standing c c.subscribers.list c.subscribers.last c.subscribers.floor (c.issued + 1) c.subscribers.by_key sound sound.within sound.floor (omega arith)
       (omega (arith, last)) (omega arith) (omega (arith, issued, left)) (rises_higher 0 c.issued (c.issued + 1) (map (λ q. q.number) c.queue) (omega arith) sound.rising)
 
   -- another queue, which is no longer than the numbers that were issued for it

@@ -1,6 +1,7 @@
 //! Taking all that a subscriber can receive now.
-ghost use Rattle.std.specs.Prelude.{ℕ, Result};
-ghost use Rattle.flow_law.specs.Draining.{DrainsBy};
+ghost use Rattle.std.specs.Prelude.{ℕ, Result, IsOk};
+ghost use Rattle.std.specs.Result.{OnErr};
+ghost use Rattle.flow_law.specs.Draining.{DrainsBy, IsFull};
 ghost use Rattle.flow_law.specs.declared.fault.FlowFault.{FlowFault};
 ghost use Rattle.flow_law.specs.declared.outcome.Next.{Next};
 ghost use Rattle.flow_core.specs.SubId.{number_of};
@@ -15,13 +16,14 @@ use std::alloc::Allocator;
 
 /// A flow as far as draining needs it.
 trait TakesNext {
-    type Item;
+    type Item: FlowValue;
 
     /// What one `next` of the subscriber of this number does.
     ghost nexts: { ℕ → Self → Result (Next Self.Item) FlowFault → Self → Type 0 };
 
     fn take_next(&mut self, id: SubId) -> Result<Next<Self::Item>, FlowFault>
-        ensures { nexts (number_of id) self.old result self.new };
+        ensures nexts { nexts (number_of id) self.old result self.new }
+        ensures given { Self.Item.IsAlwaysCopied → IsOk result };
 }
 
 impl<T: FlowValue, A: Allocator + Copy> TakesNext for SharedCore<T, A> {
@@ -51,8 +53,9 @@ fn take_all<S: TakesNext, B: Allocator>(
     most: usize,
     values: &mut Vec<S::Item, B>,
 ) -> Result<Drained, FlowFault>
-    ensures { DrainsBy
+    ensures drains { DrainsBy
         (S.nexts (number_of id)) most core.old values.old.items result values.new.items core.new }
+    ensures full { S.Item.IsAlwaysCopied → OnErr result (IsFull values.new) }
 {
     for _ in 0..most {
         if values.reserve(1).is_err() {
@@ -81,6 +84,7 @@ impl<T: FlowValue, A: Allocator + Copy> SharedCore<T, A> {
     ) -> Result<Drained, FlowFault>
         ensures documented { DrainsBy (shared.Nexts (number_of id)) most
             self.old values.old.items result values.new.items self.new }
+        ensures full { T.IsAlwaysCopied → OnErr result (IsFull values.new) }
     {
         take_all(self, id, most, values)
     }
@@ -97,6 +101,7 @@ impl<T: FlowValue, A: Allocator + Copy> StateCore<T, A> {
     ) -> Result<Drained, FlowFault>
         ensures documented { DrainsBy (state.Nexts (number_of id)) most
             self.old values.old.items result values.new.items self.new }
+        ensures full { T.IsAlwaysCopied → OnErr result (IsFull values.new) }
     {
         take_all(self, id, most, values)
     }

@@ -1,5 +1,5 @@
 //! What the cores of all kinds of flow have alike: the kind of flow that they are, and the calls of subscribers.
-ghost use Rattle.std.specs.Prelude.{◌≡◌, List, ℕ};
+ghost use Rattle.std.specs.Prelude.{◌≡◌, List, ℕ, IsOk};
 ghost use Rattle.flow_law.specs.declared.history.Event.{Event};
 ghost use Rattle.flow_law.specs.declared.history.Said.{Said};
 ghost use Rattle.flow_law.specs.History.{Kind, replied};
@@ -8,11 +8,11 @@ ghost use Rattle.flow_law.specs.Standing.{Documents, StandsForHistory};
 ghost use Rattle.flow_core.specs.SubId.{number_of};
 
 use crate::sub_id::SubId;
-use flow_law::{FlowFault, Guarded, Next, Said};
+use flow_law::{FlowFault, FlowValue, Guarded, Next, Said};
 
 /// A flow for one thread, of any kind.
 pub trait FlowCore: Guarded<Said = Said<Self::Call, Self::Reply>> {
-    type Item;
+    type Item: FlowValue;
     /// The states of the documented flow.
     type State;
 
@@ -34,8 +34,9 @@ pub trait FlowCore: Guarded<Said = Said<Self::Call, Self::Reply>> {
             (replied kind (λ id. kind.subscribed (number_of id)) result) self.new };
 
     fn next(&mut self, id: SubId) -> Result<Next<Self::Item>, FlowFault>
-        ensures { Documents kind stands_as self.old (kind.take_next (number_of id))
-            (replied kind kind.received result) self.new };
+        ensures documented { Documents kind stands_as self.old (kind.take_next (number_of id))
+            (replied kind kind.received result) self.new }
+        ensures given { Self.Item.IsAlwaysCopied → IsOk result };
 
     fn unsubscribe(&mut self, id: SubId) -> bool
         ensures { Documents kind stands_as self.old (kind.unsubscribe (number_of id))

@@ -1,5 +1,5 @@
 //! A shared flow for one thread.
-ghost use Rattle.std.specs.Prelude.{◌≡◌, ℕ, ◌+◌, ◌-◌, ◌<◌, ◌≤◌, max, true, false, List, [], Some, None, MatchResult, length};
+ghost use Rattle.std.specs.Prelude.{◌≡◌, ℕ, ◌+◌, ◌-◌, ◌<◌, ◌≤◌, max, true, false, List, [], Some, None, IsOk, MatchResult, length};
 ghost use Rattle.std.specs.Bool.{OnTrue, OnFalse};
 ghost use Rattle.flow_law.specs.SharedFlow as flow;
 ghost use Rattle.flow_law.specs.SharedStep as step;
@@ -245,6 +245,7 @@ impl<T: FlowValue, A: Allocator + Copy> SharedCore<T, A> {
     /// copy of the value: a later call gives that value.
     pub fn next(&mut self, id: SubId) -> Result<Next<T>, FlowFault>
         ensures documented { Conforms self.old (call.TakeNext (number_of id)) (next_reply result) self.new }
+        ensures given { T.IsAlwaysCopied → IsOk result }
     {
         match self.subscribers.receive(id.number, id.key, &self.values) {
             Ok(Received::Own(value)) => Ok(Next::Value(value)),

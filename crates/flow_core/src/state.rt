@@ -1,5 +1,5 @@
 //! A state flow for one thread.
-ghost use Rattle.std.specs.Prelude.{◌≡◌, ◌↔◌, ℕ, List, Some, Ok, Err, IsTrue, IfOk, IfErr};
+ghost use Rattle.std.specs.Prelude.{◌≡◌, ◌↔◌, ℕ, List, Some, Ok, Err, IsTrue, IsOk, IfOk, IfErr};
 ghost use Rattle.flow_law.specs.StateFlow as flow;
 ghost use Rattle.flow_law.specs.Standing.{StateConforms};
 ghost use Rattle.flow_law.specs.declared.call.StateCall.TheVariants as call;
@@ -65,6 +65,16 @@ fn has_got<T: FlowValue>(last: &Option<T>, value: &T) -> bool
     }
 }
 
+/// One copy to keep, and one to give.
+fn two_copies<T: FlowValue>(value: &T) -> Result<(T, T), FlowFault>
+    ensures copies { IfOk result (λ copies. (copies.0 ≡ value.now) × (copies.1 ≡ value.now)) }
+    ensures memory { IfErr result (λ fault. fault ≡ FlowFault.OutOfMemory) }
+    ensures given { T.IsAlwaysCopied → IsOk result }
+{
+    let kept = value.try_copy()?;
+    Ok((kept, value.try_copy()?))
+}
+
 impl<T: FlowValue, A: Allocator + Copy> StateCore<T, A> {
     /// A state flow with this value, which issues at most `limit` numbers to subscribers. It takes no memory.
     pub fn new(alloc: A, initial: T, limit: u64) -> Self
@@ -82,6 +92,7 @@ impl<T: FlowValue, A: Allocator + Copy> StateCore<T, A> {
     /// A copy of the current value. `Err` is want of memory.
     pub fn value(&self) -> Result<T, FlowFault>
         ensures documented { StateConforms self.now call.GetValue (value_reply result) self.now }
+        ensures given { T.IsAlwaysCopied → IsOk result }
     {
         match self.value.try_copy() {
             Ok(copy) => Ok(copy),
@@ -142,6 +153,7 @@ impl<T: FlowValue, A: Allocator + Copy> StateCore<T, A> {
     pub fn next(&mut self, id: SubId) -> Result<Next<T>, FlowFault>
         ensures documented { StateConforms self.old (call.TakeNext (number_of id))
             (next_reply result) self.new }
+        ensures given { T.IsAlwaysCopied → IsOk result }
     {
         let Some(last) = self.subscribers.get(id.number, id.key) else {
             return Ok(Next::Gone);
@@ -149,15 +161,12 @@ impl<T: FlowValue, A: Allocator + Copy> StateCore<T, A> {
         if has_got(last, &self.value) {
             return Ok(Next::Empty);
         }
-        match self.value.try_copy() {
+        match two_copies(&self.value) {
             Err(fault) => Err(fault),
-            Ok(last) => match self.value.try_copy() {
-                Err(fault) => Err(fault),
-                Ok(value) => {
-                    self.subscribers.set(id.number, id.key, Some(last));
-                    Ok(Next::Value(value))
-                }
-            },
+            Ok((last, value)) => {
+                self.subscribers.set(id.number, id.key, Some(last));
+                Ok(Next::Value(value))
+            }
         }
     }
 

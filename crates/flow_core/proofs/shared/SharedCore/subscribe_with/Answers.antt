@@ -41,8 +41,8 @@ invariant_of-self g c =
     let low = floor_least i.subscribers.floor i.subscribers.emitted (window_of i.config) (kept_start (fields_of i)) i.subscribers.list c.self.invariant.within c.self.invariant.floor in
     let near = within_least i.subscribers.floor i.subscribers.emitted (window_of i.config) (kept_start (fields_of i)) i.subscribers.list c.self.invariant.within (omega arith) in
     let joined = least_position-append (kept_start (fields_of i)) i.subscribers.list (record { number = number; own = c.args.first.items; position = position }) in
-    subst (λ u. IsSound (record i { subscribers = u; issued = number })) (sym c.in-Ok.ensures)
-    (sound_standing i (i.subscribers.list ++ record { number = number; own = c.args.first.items; position = position } ∷ []) number i.subscribers.floor number c.self.invariant
+    subst (λ u. IsSound (record i { subscribers = u; issued = number })) (sym c.in-Ok.ensures.added)
+    (sound_standing i (i.subscribers.list ++ record { number = number; own = c.args.first.items; position = position } ∷ []) number i.subscribers.floor number c.push.new.self.by_key c.self.invariant
     (within-snoc i.subscribers.floor i.subscribers.emitted (window_of i.config) i.subscribers.list (record { number = number; own = c.args.first.items; position = position }) c.self.invariant.within
     (omega (arith, need, c.entry-position.ensures.within, low)) (omega (arith, count, c.entry-position.ensures.within)) (omega (arith, need, c.entry-position.ensures.within, near)))
     c.self.invariant.floor (omega (arith, joined, need, c.entry-position.ensures.within)) (omega arith) (omega arith) (omega (arith, issued, c.if-self.false))
@@ -59,7 +59,7 @@ returns-in-Ok-clause-documented g c = λ name. (
       let joined = stands-enroll (fields_of i) s first c.entry-position.result within (c.entry-position.ensures.shown s (covers c.args.self.now s stands)) in (
         ap reply.Subscribed (ap (λ n. n + 1) within.issued) ∙ sym (ap (λ a. reply_by reply.Subscribed a.reply) all),
         subst (λ t. StandsFor (fields_of (record i { subscribers = c.push.new.self; issued = i.issued + 1 })) t) (sym (ap (λ a. a.after) all))
-            (subst (λ u. StandsFor (fields_of (record i { subscribers = u; issued = i.issued + 1 })) (enroll first s)) (sym c.in-Ok.ensures) joined),
+            (subst (λ u. StandsFor (fields_of (record i { subscribers = u; issued = i.issued + 1 })) (enroll first s)) (sym c.in-Ok.ensures.added) joined),
       ),
   tt,
 )
@@ -73,7 +73,7 @@ returns-then-self-clause-documented g c = λ name. (
 )
 
 pub invariant_of-self-in-Err : goal.invariant_of-self-in-Err
-invariant_of-self-in-Err g c = subst (λ u. IsSound (record c.self.inside { subscribers = u })) (sym c.in-Err.ensures.1) c.self.invariant
+invariant_of-self-in-Err g c = subst (λ u. IsSound (record c.self.inside { subscribers = u })) (sym c.in-Err.ensures.added.1) c.self.invariant
 
 pub returns-in-Err-clause-documented : goal.returns-in-Err-clause-documented
 returns-in-Err-clause-documented g c = λ name. (
@@ -83,7 +83,7 @@ returns-in-Err-clause-documented g c = λ name. (
       let within : StandsFor (fields_of i) s = subst (λ k. StandsFor k s) (sym c.self.view_is) stands in
       let all : subscribe first s ≡ answer (s.issued + 1) (enroll first s) = issued_now s _ (not_exhausted (fields_of i) s (covers (fields_of i) s within) c.if-self.false) in (
         sym (ap (λ a. not (is_refused {T = g.row.T.Denot} (reply_by reply.Subscribed a.reply))) (sym all)),
-        subst (λ u. StandsFor (fields_of (record i { subscribers = u })) s) (sym c.in-Err.ensures.1) within,
+        subst (λ u. StandsFor (fields_of (record i { subscribers = u })) s) (sym c.in-Err.ensures.added.1) within,
       ),
-  ap (λ u. fields_of (record c.self.inside { subscribers = u })) c.in-Err.ensures.1 ∙ c.self.view_is,
+  ap (λ u. fields_of (record c.self.inside { subscribers = u })) c.in-Err.ensures.added.1 ∙ c.self.view_is,
 )

@@ -1,4 +1,4 @@
-use Rattle.std.proofs.Common.{◌∙◌, sym, ap, subst}
+use Rattle.std.proofs.Common.{◌∙◌, sym, ap, subst, arith}
 use Rattle.std.specs.Prelude.{is_some}
 use Rattle.flow_law.specs.declared.call.SharedReply.TheVariants as reply
 use Rattle.flow_law.specs.SharedFlow.{position_of, without, cache_start}
@@ -8,7 +8,7 @@ use Rattle.flow_law.proofs.CoveringLemmas.{covers-subscribers, least_position-wi
 use Rattle.flow_law.proofs.HoldingLemmas.{covers}
 use Rattle.flow_core.specs.SharedCore.{window_of, fields_of, IsSound}
 use Rattle.flow_core.proofs.RingLemmas.{within-without}
-use Rattle.flow_core.proofs.SoundLemmas.{sound_subscribers}
+use Rattle.flow_core.proofs.SoundLemmas.{sound_standing}
 use Rattle.flow_core.proofs.shared.SharedCore.unsubscribe.Goals as goal
 
 pub invariant_of-self : goal.invariant_of-self
@@ -16,9 +16,9 @@ invariant_of-self g c =
     let i = c.self.inside in
     let number = c.args.id.number in
     subst (λ u. IsSound (record i { subscribers = u })) (sym c.remove-was_there.ensures.removed)
-    (sound_subscribers i (without number i.subscribers.list) i.subscribers.floor c.self.invariant
+    (sound_standing i (without number i.subscribers.list) i.subscribers.last i.subscribers.floor i.issued c.remove-was_there.new.self.by_key c.self.invariant
     (within-without i.subscribers.floor i.subscribers.emitted (window_of i.config) number i.subscribers.list c.self.invariant.within) c.self.invariant.floor
-    (least_position-without (kept_start (fields_of i)) number i.subscribers.list))
+    (least_position-without (kept_start (fields_of i)) number i.subscribers.list) c.self.invariant.last (omega arith) c.self.invariant.issued c.self.invariant.rising)
 
 pub returns : goal.returns
 returns g c = record {
