@@ -11,6 +11,6 @@ pub use flow_operators::{
     Filter, FlatMapConcat, Greater, InnerMeaning, ItemComputation, ItemMeaning, ItemTest, Less,
     ListMeaning, Map, Not, Odd, OfList, OfRange, PairComputation, PairMeaning, Plus, RunningReduce,
     Scan, Scripted, Streamed, Take, TakeWhile, Terminal, TestMeaning, Times, Transform,
-    WithMeaning, Zip, collect_all,
+    WithMeaning, Zip, collect_all, law_asks_left,
 };
 pub use script_chain::{Arithmetic, Joining, Op, ScriptChain, Source, Spread, Test};

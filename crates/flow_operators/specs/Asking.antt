@@ -5,11 +5,11 @@
 --   End            ends Completed        ends Completed
 --   Fault f        ends (Failed f)       ends Completed
 -- Want of memory may come in place of any answer. The chain is over then, too.
-use Rattle.std.specs.Prelude.{◌≡◌, ◌⊎◌}
+use Rattle.std.specs.Prelude.{◌≡◌, ◌⊎◌, ◌+◌, List, [], ◌∷◌, ◌++◌, length, Option, Some, None}
 use Rattle.flow_law.specs.declared.chain.ChainFault.TheVariants.{OutOfMemory}
 use Rattle.flow_law.specs.declared.chain.End.{End}
 use Rattle.flow_law.specs.declared.chain.End.TheVariants.{Completed, Failed}
-use Rattle.flow_law.specs.ChainRun.{ChainRun, gives, pends, ends}
+use Rattle.flow_law.specs.ChainRun.{ChainRun, gives, pends, ends, entries, asks}
 use Rattle.flow_operators.specs.declared.cold.Asked.{Asked}
 use Rattle.flow_operators.specs.declared.cold.Asked.TheVariants.{Item, Pending, End as Ended, Fault}
 
@@ -39,3 +39,19 @@ module _ {T : Type 0} where
   OnEnd Pending P = Unit {0}
   OnEnd Ended P = P Completed
   OnEnd (Fault fault) P = P (Failed fault)
+
+  -- the entry that an answer is, if it is one
+  abbrev pub entry_of : Asked T → List (Option T)
+  entry_of (Item x) = Some x ∷ []
+  entry_of Pending = None ∷ []
+  entry_of Ended = []
+  entry_of (Fault fault) = []
+
+-- How often a chain can still be asked before its end is the length of what is left of its run. An ask that is not the end takes one entry
+-- off it. At the end there is none, unless memory was wanted; and none is left after it.
+abbrev pub LawAsksLeft : Type 0 → Type 0
+LawAsksLeft T =
+    (before after : ChainRun T) (asked : Asked T) → AskGives before asked after →
+    (asks before ≡ length (entries before))
+    × ((¬ IsFinal asked) → (asks before ≡ asks after + 1) × (entries before ≡ entry_of asked ++ entries after))
+    × (IsFinal asked → (asks after ≡ 0) × ((asks before ≡ 0) ⊎ (asked ≡ Fault OutOfMemory)))

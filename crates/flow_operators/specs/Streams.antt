@@ -1,10 +1,13 @@
 -- What a chain gives as a stream: its items, then a fault as the last item. `xs` is what the stream gave so far, and `last`
 -- what it gives next.
 use Rattle.std.specs.Prelude.{◌≡◌, ◌⊎◌, List, [], ◌∷◌, Option, Some, None, Result, Ok, Err}
+use Rattle.futures.specs.declared.task.Poll.{Poll}
+use Rattle.futures.specs.declared.task.Poll.TheVariants.{Ready}
 use Rattle.flow_law.specs.declared.chain.ChainFault.{ChainFault}
 use Rattle.flow_law.specs.declared.chain.ChainFault.TheVariants.{OutOfMemory}
 use Rattle.flow_law.specs.declared.chain.End.TheVariants.{Completed, Failed}
 use Rattle.flow_law.specs.ChainRun.{ChainRun, gives, pends, ends}
+use Rattle.flow_operators.specs.declared.streamed.Streamed.{Streamed}
 
 module _ {T : Type 0} where
   -- nothing follows
@@ -28,3 +31,12 @@ module _ {T : Type 0} where
   Streams (pends r) xs last = Streams r xs last ⊎ Last (Err OutOfMemory) xs last
   Streams (ends Completed) xs last = Over xs last ⊎ Last (Err OutOfMemory) xs last
   Streams (ends (Failed fault)) xs last = Last (Err fault) xs last ⊎ Last (Err OutOfMemory) xs last
+
+-- the chain behind a stream
+abbrev pub streamed_chain : {C : Type 0} → Streamed C → C
+streamed_chain stream = stream.chain
+
+-- P of the fault, where a poll gives one as the stream's last item
+abbrev pub OnFault : {T : Type 0} → Poll (Option (Result T ChainFault)) → (ChainFault → Type 0) → Type 0
+OnFault (Ready (Some (Err fault))) P = P fault
+OnFault polled P = Unit {0}

@@ -30,6 +30,7 @@ mod chain;
 mod cold;
 mod collect;
 mod computation;
+mod laws;
 mod meaning;
 mod operators;
 mod ready;
@@ -44,6 +45,7 @@ pub use cold::{Asked, Cold};
 pub use collect::{Collected, collect_all};
 pub use computation::{ItemComputation, ItemTest, PairComputation};
 pub use flow_law::{ChainFault, End};
+pub use laws::law_asks_left;
 pub use meaning::{InnerMeaning, ItemMeaning, ListMeaning, PairMeaning, TestMeaning};
 pub use operators::{
     Distinct, DropFirst, DropWhile, Filter, FlatMapConcat, Map, RunningReduce, Scan, Take,

@@ -1,6 +1,10 @@
 //! A chain as a stream.
-ghost use Rattle.std.specs.Prelude.{◌≡◌, ◌↔◌, cond, List, Option, Result};
-ghost use Rattle.flow_operators.specs.Streams.{Streams, Over};
+ghost use Rattle.std.specs.Prelude.{◌≡◌, ◌↔◌, cond, [], List, Option, Result, IfSome, OnSome};
+ghost use Rattle.futures.specs.Poll.{IfReady, OnPending};
+ghost use Rattle.futures.specs.Runs.{After, Within};
+ghost use Rattle.futures.specs.Task.{Covers, Keeps};
+ghost use Rattle.flow_law.specs.declared.chain.End.{End};
+ghost use Rattle.flow_operators.specs.Streams.{Streams, Over, OnFault, streamed_chain};
 
 use crate::cold::{Asked, Cold};
 use flow_law::ChainFault;
@@ -38,7 +42,21 @@ impl<C: Cold> Stream for Streamed<C> {
 
     ghost yields = { λ s xs last. cond s.ended (Over xs last) (Streams (C.rest s.chain) xs last) };
 
-    fn poll_next(&mut self, cx: &mut Context<'_>) -> Poll<Option<Result<C::Item, ChainFault>>> {
+    // The trait's clauses, and: a fault is the chain's own last answer, also where it is out of memory.
+    fn poll_next(&mut self, cx: &mut Context<'_>) -> Poll<Option<Result<C::Item, ChainFault>>>
+        requires { ⟦<Streamed<C> as Stream>⟧.can_poll self.old }
+        ensures value { IfReady result (⟦<Streamed<C> as Stream>⟧.yields self.old []) }
+        ensures rest { IfReady result (λ o. IfSome o (λ x.
+            After (⟦<Streamed<C> as Stream>⟧.yields self.old) x (⟦<Streamed<C> as Stream>⟧.yields self.new))) }
+        ensures goes { IfReady result (λ o. OnSome o (⟦<Streamed<C> as Stream>⟧.can_poll self.new)) }
+        ensures again { OnPending result (⟦<Streamed<C> as Stream>⟧.can_poll self.new) }
+        ensures same { OnPending result
+            (Within (⟦<Streamed<C> as Stream>⟧.yields self.old) (⟦<Streamed<C> as Stream>⟧.yields self.new)) }
+        ensures registered { OnPending result (Covers cx.new (⟦<Streamed<C> as Stream>⟧.needs self.new)) }
+        ensures kept { Keeps cx.old cx.new }
+        ensures answered { OnFault result
+            (λ fault. C.HasAnswered (streamed_chain self.new) (End.Failed fault)) }
+    {
         if self.ended {
             return Poll::Ready(None);
         }

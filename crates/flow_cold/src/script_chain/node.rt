@@ -140,11 +140,11 @@ pub fn rewind_node(node: &mut Node)
             stage.rewind();
             rewind_node(upstream);
         }
-        Node::Zip(left, right, pairing) => {
+        Node::Zip(first, second, pairing) => {
             pairing.ended = false;
             pairing.kept = None;
-            rewind_node(left);
-            rewind_node(right);
+            rewind_node(first);
+            rewind_node(second);
         }
     }
 }
