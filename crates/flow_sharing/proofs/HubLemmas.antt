@@ -1,5 +1,5 @@
 -- What each call does to the two seats of a hub, of a shared flow and of state flows. Begin with `shared-by-seats`, `state-by-seats` and `word-by-seats`.
-use Rattle.std.proofs.Common.{◌≡◌, ◌≢◌, inl, inr, ℕ, ◌+◌, Bool, true, false, Option, Some, None, Result, Ok, Err, subst, sym, refl, ap, ◌∙◌, List, arith}
+use Rattle.std.proofs.Common.{◌≡◌, ◌≢◌, ◌⊎◌, inl, inr, ℕ, ◌+◌, Bool, true, false, Option, Some, None, Result, Ok, Err, subst, sym, refl, ap, ◌∙◌, List, arith}
 use Rattle.std.proofs.Math.Nat.{add-zero, add_assoc, add_comm}
 use Rattle.flow_law.specs.declared.fault.FlowFault.{FlowFault}
 use Rattle.flow_law.specs.declared.fault.FlowFault.TheVariants.{OutOfMemory, TooLarge, NeedsBuffer, Exhausted, Unsupported, Busy}
@@ -20,11 +20,12 @@ use Rattle.std.specs.Result.{is_ok}
 use Rattle.flow_law.specs.Tokens.{Token, IsBusy, CallsAtOnceIn}
 use Rattle.flow_shared.specs.SharedReplies.{SharedToken}
 use Rattle.flow_sharing.specs.SeatedHub.{SeatedHub, has_emission, OnlySends, CountDoes}
-use Rattle.flow_sharing.specs.SharedFlowHub.{SharedSeats, PutBy, PollBy, CancelBy, ResetBy, SharedFlowHubDoes}
-use Rattle.flow_sharing.specs.StateFlowHub.{StateSeats, nothing_waits, StateFlowHubDoes}
+use Rattle.flow_sharing.specs.SharedFlowHub.{SharedSeats, PutBy, PollBy, CancelBy, ResetBy, SharedFlowHubDoes, SharedSays}
+use Rattle.flow_sharing.specs.StateFlowHub.{StateSeats, nothing_waits, StateFlowHubDoes, StateSays}
 use Rattle.flow_sharing.specs.WordHub.{WordHubDoes}
 use Rattle.flow_sharing.specs.OverThreads.{exchanges_lost, lost_at, lost_in, HasSeenMore, Follows}
 use Rattle.flow_sharing.proofs.SeatLemmas.{seen-here, seen-busy, seen-called}
+use Rattle.flow_sharing.proofs.SendingLemmas.{Silent, SendsOne, Sends}
 use Rattle.flow_sharing.proofs.TurnBySeatsLemmas.{BySeats, lost_for, lost_by, turn-by-seats}
 use Rattle.flow_law.proofs.TurnLemmas.{turn-along}
 
@@ -133,12 +134,42 @@ shared-watches polls h k a other does = ap (λ (s : SharedSeats _). s.watching) 
 shared-watches cancels h k a other does = ap (λ (s : SharedSeats _). s.watching) does.1
 shared-watches resets h k a other does = ap (λ (s : SharedSeats _). s.watching) does.1
 
-pub shared-by-seats : (T : Type 0) → BySeats (shared_flow {T = T}) (HubStep SharedFlowHubDoes has_emission)
+module _ {T : Type 0} (first : SharedFlowState T) (h k : SharedSeats T) where
+  put-sends : (x : T) (a : Result Bool FlowFault) (emission : Option ℕ) → PutBy first x h.sending a k.sending emission → Silent SharedSays h k ⊎ SendsOne SharedSays (puts x) h k
+  put-sends x (Ok false) emission does = inr (_, refl, does.0.0.1.grows)
+  put-sends x (Ok true) emission (number, does, is) = inr (_, refl, does.0.1.grows)
+  put-sends x (Err OutOfMemory) emission does = inr (_, refl, does.0.0.1.grows)
+  put-sends x (Err TooLarge) emission does = inr (_, refl, does.0.0.1.grows)
+  put-sends x (Err NeedsBuffer) emission does = inr (_, refl, does.0.0.1.grows)
+  put-sends x (Err Exhausted) emission does = inr (_, refl, does.0.0.1.grows)
+  put-sends x (Err Unsupported) emission does = inr (_, refl, does.0.0.1.grows)
+  put-sends x (Err Busy) emission does = inl (ap (λ (t : SharedToken T). t.knows.seen) does.0)
+
+  poll-sends : (waiting : Option ℕ) (a : Result Bool FlowFault) (emission : Option ℕ) → PollBy first waiting h.sending a k.sending emission → Silent SharedSays h k ⊎ SendsOne SharedSays polls h k
+  poll-sends None a emission does = inl (ap (λ (t : SharedToken T). t.knows.seen) does.1)
+  poll-sends (Some number) (Ok waits) emission does = inr (_, (number, refl), does.0.0.1.grows)
+  poll-sends (Some number) (Err fault) emission does = inl (ap (λ (t : SharedToken T). t.knows.seen) does.1)
+
+  cancel-sends : (waiting : Option ℕ) (a : Result Bool FlowFault) (emission : Option ℕ) → CancelBy first waiting h.sending a k.sending emission → Silent SharedSays h k ⊎ SendsOne SharedSays cancels h k
+  cancel-sends None a emission does = inl (ap (λ (t : SharedToken T). t.knows.seen) does.1)
+  cancel-sends (Some number) (Ok waited) emission does = inr (_, (number, refl), does.0.0.1.grows)
+  cancel-sends (Some number) (Err fault) emission does = inl (ap (λ (t : SharedToken T). t.knows.seen) does.1)
+
+shared-sends : {T : Type 0} (c : HubCall T) (h k : SharedSeats T) (a : HubAnswer c) → SharedFlowHubDoes c h a k → Sends SharedSays c a h k
+shared-sends counts h k a does = ap (λ (s : SharedSeats _). s.sending.knows.seen) does.1
+shared-sends (puts x) h k a does = put-sends h.flow.first h k x a k.emission does.0
+shared-sends polls h k a does = poll-sends h.flow.first h k h.emission a k.emission does.0
+shared-sends cancels h k a does = cancel-sends h.flow.first h k h.emission a k.emission does.0
+shared-sends resets h k (Ok done) does = (_, refl, does.0.0.0.1.grows)
+shared-sends resets h k (Err fault) does = ap (λ (t : SharedToken _). t.knows.seen) does.0.1
+
+pub shared-by-seats : (T : Type 0) → BySeats (shared_flow {T = T}) SharedSays (HubStep SharedFlowHubDoes has_emission)
 shared-by-seats T = record {
   loses = λ c h k a told. (shared-steps c h k a told.0).0;
   counted = λ h k a told. told.0.0;
   watches = λ c h k a other told. shared-watches c h k a other told.0;
   follows = λ c h k a told. (shared-steps c h k a told.0).1;
+  sends = λ c h k a told. shared-sends c h k a told.0;
 }
 
 -- ---- a state flow
@@ -165,12 +196,23 @@ state-watches resets h k (Ok done) other does = ap (λ (s : StateSeats _ _). s.w
 state-watches resets h k (Err fault) other (inl (is, lost, only)) = ap (λ (s : StateSeats _ _). s.watching) only
 state-watches resets h k (Err fault) other (inr (is, same)) = ap (λ (s : StateSeats _ _). s.watching) same
 
-pub state-by-seats : (Id T : Type 0) → BySeats (state_flow {T = T}) (HubStep (StateFlowHubDoes {Id = Id}) nothing_waits)
+state-sends : {Id T : Type 0} (c : HubCall T) (h k : StateSeats Id T) (a : HubAnswer c) → StateFlowHubDoes c h a k → Sends StateSays c a h k
+state-sends counts h k a does = ap (λ (s : StateSeats _ _). s.sending.knows.seen) does.1
+state-sends (puts x) h k (Ok waits) (none, does, only) = inr (_, refl, does.0.1.grows)
+state-sends (puts x) h k (Err fault) (is, lost, only) = inl (ap (λ (t : Token _ _). t.knows.seen) lost)
+state-sends polls h k a (none, is) = inl (ap (λ (s : StateSeats _ _). s.sending.knows.seen) is)
+state-sends cancels h k a (none, is) = inl (ap (λ (s : StateSeats _ _). s.sending.knows.seen) is)
+state-sends resets h k (Ok done) (does, only) = (_, refl, does.0.1.grows)
+state-sends resets h k (Err fault) (inl (is, lost, only)) = ap (λ (t : Token _ _). t.knows.seen) lost
+state-sends resets h k (Err fault) (inr (is, same)) = ap (λ (s : StateSeats _ _). s.sending.knows.seen) same
+
+pub state-by-seats : (Id T : Type 0) → BySeats (state_flow {T = T}) StateSays (HubStep (StateFlowHubDoes {Id = Id}) nothing_waits)
 state-by-seats Id T = record {
   loses = λ c h k a told. (state-steps c h k a told.0).0;
   counted = λ h k a told. told.0.0;
   watches = λ c h k a other told. state-watches c h k a other told.0;
   follows = λ c h k a told. (state-steps c h k a told.0).1;
+  sends = λ c h k a told. state-sends c h k a told.0;
 }
 
 -- ---- a state flow without a lock
@@ -179,12 +221,13 @@ none-lost : {X : Type 0} (a : Result X FlowFault) → is_ok a ≡ true → lost_
 none-lost (Ok x) is = refl
 none-lost (Err fault) is = absurd (cc)
 
-pub word-by-seats : (Id T : Type 0) → BySeats (state_flow {T = T}) (HubStep (WordHubDoes {Id = Id}) nothing_waits)
+pub word-by-seats : (Id T : Type 0) → BySeats (state_flow {T = T}) StateSays (HubStep (WordHubDoes {Id = Id}) nothing_waits)
 word-by-seats Id T = record {
   loses = λ c h k a told. (state-steps c h k a told.0.1).0;
   counted = λ h k a told. told.0.1.0;
   watches = λ c h k a other told. state-watches c h k a other told.0.1;
   follows = λ c h k a told. (state-steps c h k a told.0.1).1;
+  sends = λ c h k a told. state-sends c h k a told.0.1;
 }
 
 -- an answer that lost nothing is not Busy
@@ -208,5 +251,5 @@ module _ {Id T : Type 0} (started : Started) (now : ℕ) (seen : List SharingObs
   pub word-not-busy : Takes (CallDoes (HubStep WordHubDoes nothing_waits)) (turn_steps started now seen s) old turned new → IsNotBusy turned.answer
   word-not-busy takes =
       let same : exchanges_lost new.hub ≡ exchanges_lost old.hub = (turn-along (HubStep WordHubDoes nothing_waits) (λ c f a g. Unit {0}) (λ h f. exchanges_lost h ≡ exchanges_lost old.hub) keeps-count (turn_steps started now seen s) old new tt turned refl takes).1 in
-      let lost : exchanges_lost new.hub ≡ exchanges_lost old.hub + lost_in turned.answer = (turn-by-seats state_flow _ (word-by-seats Id T) started now seen s old new turned takes).lost in
+      let lost : exchanges_lost new.hub ≡ exchanges_lost old.hub + lost_in turned.answer = (turn-by-seats state_flow StateSays _ (word-by-seats Id T) started now seen s old new turned takes).lost in
       not-busy turned.answer (omega arith)

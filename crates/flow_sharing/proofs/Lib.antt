@@ -1,3 +1,4 @@
 mod SeatLemmas
 mod TurnBySeatsLemmas
 mod HubLemmas
+mod SendingLemmas

@@ -16,12 +16,14 @@ use Rattle.flow_law.specs.Steps.{Takes}
 use Rattle.flow_law.specs.SharingCalls.{HubCall, HubAnswer, ChainAnswer, counts, puts, polls, cancels, resets, item, pending, end, AskDoes, ChainAndHub, with_hub, CallDoes}
 use Rattle.flow_law.specs.SharingTurn.{SharingState, Turned, refusal, reported, after_put, after_ask, send, after_poll, collect_while_running, after_reset, reset_if_due, after_cancel, work, begin, after_count, turn_steps}
 use Rattle.flow_law.specs.Tokens.{CallsAtOnceIn, CountsNowIn}
+use Rattle.flow_law.specs.TurnMeaning.{resets_at}
 use Rattle.flow_law.proofs.TurnLemmas.{by-if, Leads, leads-takes, leads-so, turn-along}
 use Rattle.flow_law.proofs.TurnMeaningLemmas.{turn-means}
 use Rattle.flow_law.proofs.TurnResetLemmas.{turn-resets}
 use Rattle.flow_sharing.specs.SeatedHub.{SeatedHub}
 use Rattle.flow_sharing.specs.OverThreads.{exchanges_lost, lost_in, Follows, InTurn, TurnBySeats}
 use Rattle.flow_sharing.proofs.SeatLemmas.{follows-here, follows-on}
+use Rattle.flow_sharing.proofs.SendingLemmas.{Sends, sends-means}
 
 -- how many exchanges a call of the hub loses that answers so
 abbrev pub lost_for : FlowFault → ℕ
@@ -33,12 +35,13 @@ lost_by (Ok x) = 0
 lost_by (Err fault) = lost_for fault
 
 -- What is to be shown of each call of a hub.
-pub record BySeats {Id T S C R I : Type 0} (kind : Kind T S C R) (step : (c : HubCall T) → SeatedHub Id S (Said C R) I → HubAnswer c → SeatedHub Id S (Said C R) I → Type 0) : Type 0 where
+pub record BySeats {Id T S C R I : Type 0} (kind : Kind T S C R) (Says : I → HubCall T → Said C R → Type 0) (step : (c : HubCall T) → SeatedHub Id S (Said C R) I → HubAnswer c → SeatedHub Id S (Said C R) I → Type 0) : Type 0 where
   pub loses : (c : HubCall T) (h k : SeatedHub Id S (Said C R) I) (a : HubAnswer c) → step c h a k → exchanges_lost k ≡ exchanges_lost h + lost_by a
   pub counted : (h k : SeatedHub Id S (Said C R) I) (a : Result ℕ FlowFault) → step counts h a k → CountsNowIn kind h.flow.first h.watching a k.watching
   -- the watching seat makes no other call
   pub watches : (c : HubCall T) (h k : SeatedHub Id S (Said C R) I) (a : HubAnswer c) → c ≢ counts → step c h a k → k.watching ≡ h.watching
   pub follows : (c : HubCall T) (h k : SeatedHub Id S (Said C R) I) (a : HubAnswer c) → step c h a k → Follows h k
+  pub sends : (c : HubCall T) (h k : SeatedHub Id S (Said C R) I) (a : HubAnswer c) → step c h a k → Sends Says c a h k
 
 refused-loses : (command : Command) (fault : FlowFault) → lost_for fault ≡ lost_in (reported command (refusal fault))
 refused-loses command OutOfMemory = refl
@@ -48,7 +51,7 @@ refused-loses command Exhausted = refl
 refused-loses command Unsupported = refl
 refused-loses command LockTaken = refl
 
-module _ {Id T S C R I : Type 0} (kind : Kind T S C R) (step : (c : HubCall T) → SeatedHub Id S (Said C R) I → HubAnswer c → SeatedHub Id S (Said C R) I → Type 0) (by : BySeats kind step) where
+module _ {Id T S C R I : Type 0} (kind : Kind T S C R) (Says : I → HubCall T → Said C R → Type 0) (step : (c : HubCall T) → SeatedHub Id S (Said C R) I → HubAnswer c → SeatedHub Id S (Said C R) I → Type 0) (by : BySeats kind Says step) where
   -- ---- what follows the count, which left the hub so
 
   module _ (at : SeatedHub Id S (Said C R) I) (command : Command) (seen : List SharingObservation) where
@@ -173,7 +176,7 @@ module _ {Id T S C R I : Type 0} (kind : Kind T S C R) (step : (c : HubCall T) �
     )
 
     pub turn-by-seats : (new : ChainAndHub T (SeatedHub Id S (Said C R) I)) (turned : Turned T) → Takes (CallDoes step) (turn_steps started now seen s) old turned new
-        → TurnBySeats kind step started now seen s old turned new
+        → TurnBySeats kind Says step started now seen s old turned new
     turn-by-seats new turned h =
         let both = leads-takes step Told (turn_steps started now seen s) old turned new (
         by-if (λ steps. Leads step Told steps old) s.ended _ _ (λ over. (sym (add-zero (exchanges_lost old.hub)), inl refl)) (λ going. count-tells)
@@ -181,10 +184,17 @@ module _ {Id T S C R I : Type 0} (kind : Kind T S C R) (step : (c : HubCall T) �
         let done = turn-along step (InTurn step old.hub) (λ h f. (f ≡ h) × Follows old.hub h) in-turn (turn_steps started now seen s) old new old.hub turned (refl, follows-here old.hub) h in
         let steps : Takes (CallDoes (InTurn step old.hub)) (turn_steps started now seen s) old turned new =
         subst (λ g. Takes (CallDoes (InTurn step old.hub)) (turn_steps started now seen s) old turned (with_hub new g)) done.1.0 done.2 in
+        let reset = turn-resets (InTurn step old.hub) s started now seen old new turned steps in
         record {
           lost = both.0;
           observed = both.1;
           means = λ runs between accepted held. (turn-means (InTurn step old.hub) started now seen s old new turned accepted runs between steps).0 held;
-          reset = turn-resets (InTurn step old.hub) s started now seen old new turned steps;
+          reset = reset;
+          sent = (
+            reset.0,
+            reset.1,
+            reset.2,
+            sends-means Says step by.sends old.hub (resets_at reset.0 s.reset_due) turned.state.reset_due turned.answer turned.state new.hub refl reset.3,
+          );
           follows = done.1.1;
         }

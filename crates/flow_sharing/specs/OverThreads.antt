@@ -1,27 +1,30 @@
 -- What a turn over a flow for several threads is for that flow's history. Begin with `TurnBySeats`.
-use Rattle.std.specs.Prelude.{◌≡◌, ◌⊎◌, ℕ, ◌+◌, List, ◌∷◌, ◌++◌, Result, Ok, Err}
+use Rattle.std.specs.Prelude.{◌≡◌, ◌≢◌, ◌⊎◌, ℕ, ◌+◌, Bool, true, false, List, [], ◌∷◌, ◌++◌, Result, Ok, Err}
+use Rattle.std.specs.List.{AllByRecursion}
 use Rattle.atomic_table.specs.Seated.{TableId}
 use Rattle.flow_law.specs.declared.sharing.Started.{Started}
 use Rattle.flow_law.specs.declared.sharing.SharingObservation.{SharingObservation}
+use Rattle.flow_law.specs.declared.sharing.Command.{Command}
 use Rattle.flow_law.specs.declared.history.Event.{Event as HistoryEvent}
 use Rattle.flow_law.specs.declared.history.Said.{Said}
 use Rattle.flow_law.specs.declared.report.Event.{Event}
 use Rattle.flow_law.specs.declared.report.Event.TheVariants.{Busy}
 use Rattle.flow_law.specs.declared.report.Report.{Report}
 use Rattle.flow_law.specs.declared.report.ShareFault.{ShareFault}
+use Rattle.flow_law.specs.Growth.{Grows}
 use Rattle.flow_law.specs.History.{Kind}
 use Rattle.flow_law.specs.Sharing.{is_running}
 use Rattle.flow_law.specs.SharedHistory.{shared_flow}
-use Rattle.flow_law.specs.SharingCalls.{HubCall, HubAnswer, ChainAndHub, CallDoes, HubStep}
+use Rattle.flow_law.specs.SharingCalls.{HubCall, HubAnswer, cancels, resets, ChainAndHub, CallDoes, HubStep}
 use Rattle.flow_law.specs.SharingFlows.{IsNotBusy}
 use Rattle.flow_law.specs.SharingTurn.{SharingState, Turned, turn_steps}
 use Rattle.flow_law.specs.StateFlow.{state_flow}
 use Rattle.flow_law.specs.Steps.{Takes}
 use Rattle.flow_law.specs.Tokens.{Token, CallsAtOnceIn}
-use Rattle.flow_law.specs.TurnMeaning.{HasAccount, BetweenTurns, TurnMeans, TurnResets}
+use Rattle.flow_law.specs.TurnMeaning.{HasAccount, BetweenTurns, resets_at, HadCommand, IsCommand, TurnMeans, TurnResets}
 use Rattle.flow_sharing.specs.SeatedHub.{SeatedHub, has_emission}
-use Rattle.flow_sharing.specs.SharedFlowHub.{SharedSeats, SharedFlowHubDoes}
-use Rattle.flow_sharing.specs.StateFlowHub.{StateSeats, StateFlowHubDoes, nothing_waits}
+use Rattle.flow_sharing.specs.SharedFlowHub.{SharedSeats, SharedFlowHubDoes, SharedSays}
+use Rattle.flow_sharing.specs.StateFlowHub.{StateSeats, StateFlowHubDoes, StateSays, nothing_waits}
 use Rattle.flow_sharing.specs.WordHub.{WordHubDoes}
 use Rattle.flow_word.specs.Tokens.{WordId}
 
@@ -59,10 +62,38 @@ module _ {Id S E I : Type 0} where
       → (c : HubCall T) → SeatedHub Id S E I → HubAnswer c → SeatedHub Id S E I → Type 0
   InTurn does began call old answer new = does call old answer new × Follows began old
 
+-- ---- what the sending seat adds
+
+-- A history goes on with one event of this name for each of these calls of the hub, in this order; events of others may stand before each.
+-- `Says` is the event that a call is.
+abbrev pub AddsFor : {T E : Type 0} → (HubCall T → E → Type 0) → List ℕ → List (HubCall T) → List (HistoryEvent E) → List (HistoryEvent E) → Type 0
+AddsFor Says name [] earlier later = later ≡ earlier
+AddsFor {E = E} Says name (call ∷ calls) earlier later =
+    (what : E) × Says call what × ((between : List (HistoryEvent E)) × Grows name earlier what between × AddsFor Says name calls between later)
+
+-- a turn makes a reset that was to be done, unless it leaves it due
+abbrev pub makes_reset : Bool → Bool → Bool
+makes_reset true false = true
+makes_reset asked still_due = false
+
+abbrev pub resets_if : {T : Type 0} → Bool → List (HubCall T)
+resets_if true = resets ∷ []
+resets_if false = []
+
+-- What the sending seat adds in a turn that makes a reset, or makes none: its emission is taken back first, if it takes one back; then there
+-- is the one reset; and no event after it is a reset.
+pub record SendsInTurn {Id T E : Type 0} (Says : HubCall T → E → Type 0) (is_made : Bool) (before after : Token Id E) : Type 0 where
+  pub first : List (HubCall T)
+  pub later : List (HubCall T)
+  pub cancels_first : (first ≡ []) ⊎ (first ≡ cancels ∷ [])
+  pub no_reset : AllByRecursion (λ (call : HubCall T). call ≢ resets) later
+  pub adds : AddsFor Says before.knows.name (first ++ (resets_if is_made ++ later)) before.knows.seen after.knows.seen
+
 -- ---- the turn
 
+-- `Says` is the event of the sending seat that a call of the hub is, by what a reset sets.
 -- `step` says what a call of the hub does.
-pub record TurnBySeats {Id T S C R I : Type 0} (kind : Kind T S C R) (step : (c : HubCall T) → SeatedHub Id S (Said C R) I → HubAnswer c → SeatedHub Id S (Said C R) I → Type 0)
+pub record TurnBySeats {Id T S C R I : Type 0} (kind : Kind T S C R) (Says : I → HubCall T → Said C R → Type 0) (step : (c : HubCall T) → SeatedHub Id S (Said C R) I → HubAnswer c → SeatedHub Id S (Said C R) I → Type 0)
     (started : Started) (now : ℕ) (seen : List SharingObservation) (s : SharingState T)
     (old : ChainAndHub T (SeatedHub Id S (Said C R) I)) (turned : Turned T) (new : ChainAndHub T (SeatedHub Id S (Said C R) I)) : Type 0 where
   -- one exchange was lost where the turn reports Busy, and else none
@@ -75,7 +106,10 @@ pub record TurnBySeats {Id T S C R I : Type 0} (kind : Kind T S C R) (step : (c 
   pub means : s.runs ≡ is_running started seen → BetweenTurns s old → (accepted : List T) → HasAccount accepted s old
       → TurnMeans (InTurn step old.hub) accepted s old turned.answer turned.state new
   -- A reset that was made is an event of the sending seat in this turn, after the cancel.
-  pub reset : TurnResets (InTurn step old.hub) s old.hub turned.answer turned.state new.hub
+  pub reset : TurnResets (InTurn step old.hub) (IsCommand started seen turned.seen) s old.hub turned.answer turned.state new.hub
+  -- It is the one reset among the events that the sending seat adds in this turn. In any other turn there is none.
+  pub sent : (command : Command) × HadCommand command turned.answer × IsCommand started seen turned.seen command
+      × SendsInTurn (Says old.hub.initial) (makes_reset (resets_at command s.reset_due) turned.state.reset_due) old.hub.sending new.hub.sending
   -- The hub is of the same flow, by the same two seats.
   pub follows : Follows old.hub new.hub
 
@@ -84,18 +118,18 @@ abbrev pub LawTurnOverSharedFlow : Type 0 → Type 0
 LawTurnOverSharedFlow T =
     (started : Started) (now : ℕ) (seen : List SharingObservation) (s : SharingState T) (old new : ChainAndHub T (SharedSeats T)) (turned : Turned T) →
     Takes (CallDoes (HubStep SharedFlowHubDoes has_emission)) (turn_steps started now seen s) old turned new →
-    TurnBySeats shared_flow (HubStep SharedFlowHubDoes has_emission) started now seen s old turned new
+    TurnBySeats shared_flow SharedSays (HubStep SharedFlowHubDoes has_emission) started now seen s old turned new
 
 -- A turn over a state flow for several threads.
 abbrev pub LawTurnOverStateFlow : Type 0 → Type 0
 LawTurnOverStateFlow T =
     (started : Started) (now : ℕ) (seen : List SharingObservation) (s : SharingState T) (old new : ChainAndHub T (StateSeats TableId T)) (turned : Turned T) →
     Takes (CallDoes (HubStep StateFlowHubDoes nothing_waits)) (turn_steps started now seen s) old turned new →
-    TurnBySeats state_flow (HubStep StateFlowHubDoes nothing_waits) started now seen s old turned new
+    TurnBySeats state_flow StateSays (HubStep StateFlowHubDoes nothing_waits) started now seen s old turned new
 
 -- A turn over a state flow without a lock, which is never Busy.
 abbrev pub LawTurnOverWordState : Type 0 → Type 0
 LawTurnOverWordState T =
     (started : Started) (now : ℕ) (seen : List SharingObservation) (s : SharingState T) (old new : ChainAndHub T (StateSeats WordId T)) (turned : Turned T) →
     Takes (CallDoes (HubStep WordHubDoes nothing_waits)) (turn_steps started now seen s) old turned new →
-    TurnBySeats state_flow (HubStep WordHubDoes nothing_waits) started now seen s old turned new × IsNotBusy turned.answer
+    TurnBySeats state_flow StateSays (HubStep WordHubDoes nothing_waits) started now seen s old turned new × IsNotBusy turned.answer

@@ -11,6 +11,7 @@ use Rattle.flow_law.specs.declared.outcome.Emit.TheVariants.{Done, Queued}
 use Rattle.flow_law.specs.declared.states.SharedFlowState.{SharedFlowState}
 use Rattle.flow_law.specs.SharedHistory.{shared_flow}
 use Rattle.flow_law.specs.SharingCalls.{HubCall, HubAnswer, counts, puts, polls, cancels, resets}
+use Rattle.flow_law.specs.OneHistory.{said}
 use Rattle.flow_law.specs.Tokens.{IsBusy, CallsAtOnceIn}
 use Rattle.flow_shared.specs.SharedReplies.{SharedToken}
 use Rattle.atomic_table.specs.Seated.{TableId}
@@ -67,3 +68,11 @@ SharedFlowHubDoes (puts x) old answer new = PutBy old.flow.first x old.sending a
 SharedFlowHubDoes polls old answer new = PollBy old.flow.first old.emission old.sending answer new.sending new.emission × OnlySends old new
 SharedFlowHubDoes cancels old answer new = CancelBy old.flow.first old.emission old.sending answer new.sending new.emission × OnlySends old new
 SharedFlowHubDoes resets old answer new = ResetBy old.flow.first old.sending answer new.sending new.emission × OnlySends old new
+
+-- the event of the sending seat that a call of the hub is, where it is one
+abbrev pub SharedSays : {T : Type 0} → Unit {0} → HubCall T → Said (SharedCall T) (SharedReply T) → Type 0
+SharedSays initial counts what = ⊥
+SharedSays initial (puts x) what = what.call ≡ call.Emit x
+SharedSays initial polls what = (number : ℕ) × (what.call ≡ call.Poll number)
+SharedSays initial cancels what = (number : ℕ) × (what.call ≡ call.Cancel number)
+SharedSays initial resets what = what ≡ said call.ResetReplayCache reply.Reset

@@ -10,6 +10,7 @@ use Rattle.flow_law.specs.declared.call.StateReply.TheVariants as reply
 use Rattle.flow_law.specs.declared.states.StateFlowState.{StateFlowState}
 use Rattle.flow_law.specs.SharingCalls.{HubCall, HubAnswer, counts, puts, polls, cancels, resets}
 use Rattle.flow_law.specs.StateFlow.{state_flow}
+use Rattle.flow_law.specs.OneHistory.{said}
 use Rattle.flow_law.specs.Tokens.{IsBusy, CallsAtOnceIn}
 use Rattle.flow_sharing.specs.SeatedHub.{SeatedHub, OnlySends, CountDoes}
 
@@ -45,3 +46,11 @@ module _ {Id T : Type 0} where
   StateFlowHubDoes polls old answer new = (answer ≡ Ok false) × (new ≡ old)
   StateFlowHubDoes cancels old answer new = (answer ≡ Ok false) × (new ≡ old)
   StateFlowHubDoes resets old answer new = ResetDoes old answer new
+
+-- the event of the sending seat that a call of the hub is, where it is one
+abbrev pub StateSays : {T : Type 0} → T → HubCall T → Said (StateCall T) (StateReply T) → Type 0
+StateSays initial counts what = ⊥
+StateSays initial (puts x) what = what ≡ said (call.Set x) reply.Done
+StateSays initial polls what = ⊥
+StateSays initial cancels what = ⊥
+StateSays initial resets what = what ≡ said (call.Set initial) reply.Done

@@ -10,13 +10,13 @@ use Rattle.flow_law.specs.declared.sharing.SharingObservation.{SharingObservatio
 use Rattle.flow_law.specs.declared.report.Event.{Event}
 use Rattle.flow_law.specs.declared.report.Report.{Report}
 use Rattle.flow_law.specs.declared.report.ShareFault.{ShareFault}
-use Rattle.flow_law.specs.declared.report.ShareFault.TheVariants.{Backwards, Ended, Chain}
+use Rattle.flow_law.specs.declared.report.ShareFault.TheVariants.{Backwards, Ended, Chain, Flow}
 use Rattle.flow_law.specs.ChainRun.{ChainRun}
 use Rattle.flow_law.specs.Sharing.{newest_command, last_moment}
 use Rattle.flow_law.specs.Steps.{Takes}
 use Rattle.flow_law.specs.SharingCalls.{TurnCall, TurnAnswer, ChainAnswer, ChainAndHub, to_hub, asks, counts, polls, cancels, resets}
-use Rattle.flow_law.specs.SharingTurn.{SharingState, Turned, refusal, after_ask, put, send, after_poll, collect_while_running, after_reset, reset_if_due, after_cancel, work, begin, after_count, turn_steps}
-use Rattle.flow_turns.specs.TurnClauses.{ended_after}
+use Rattle.flow_law.specs.SharingTurn.{SharingState, Turned, refusal, reported, after_ask, put, send, after_poll, collect_while_running, after_reset, reset_if_due, after_cancel, work, begin, after_count, turn_steps}
+use Rattle.flow_turns.specs.TurnClauses.{OnChainFault, ended_after}
 
 pub if-true : {X : Type 0} (P : X → Type 0) (b : Bool) (x y : X) → b ≡ true → P x → P (if b then x else y)
 if-true P true x y is p = p
@@ -58,6 +58,30 @@ fault-is-no-end fault is = cc
 
 pub goes-on : (outcome : Result Event ShareFault) (fault : FlowFault) → outcome ≡ refusal fault → Goes-on outcome
 goes-on outcome fault is = subst Goes-on (sym is) (refusal-goes-on fault)
+
+-- a refusal of the hub is no fault of the chain
+module _ (P : ChainFault → Type 0) where
+  refusal-answered : (fault : FlowFault) → OnChainFault (refusal fault) P
+  refusal-answered OutOfMemory = tt
+  refusal-answered TooLarge = tt
+  refusal-answered NeedsBuffer = tt
+  refusal-answered Exhausted = tt
+  refusal-answered Unsupported = tt
+  refusal-answered LockTaken = tt
+
+  pub refused-answered : (outcome : Result Event ShareFault) (fault : FlowFault) → outcome ≡ refusal fault → OnChainFault outcome P
+  refused-answered outcome fault is = subst (λ x. OnChainFault x P) (sym is) (refusal-answered fault)
+
+  reported-answered : (command : Command) (outcome : Result Event ShareFault) → OnChainFault outcome P → OnChainFault (reported command outcome) P
+  reported-answered command (Ok event) h = tt
+  reported-answered command (Err (Chain fault)) h = h
+  reported-answered command (Err (Flow fault)) h = tt
+  reported-answered command (Err (Backwards last)) h = tt
+  reported-answered command (Err Ended) h = tt
+
+  -- what a turn answers is what its work came to
+  pub report-answered : (command : Command) (outcome : Result Event ShareFault) (answer : Result Report ShareFault) → answer ≡ reported command outcome → OnChainFault outcome P → OnChainFault answer P
+  report-answered command outcome answer is h = subst (λ x. OnChainFault x P) (sym is) (reported-answered command outcome h)
 
 module _ {T H : Type 0} (does : (c : TurnCall T) → ChainAndHub T H → TurnAnswer c → ChainAndHub T H → Type 0) (old new : ChainAndHub T H) (r : Turned T) where
   module _ (command : Command) (seen : List SharingObservation) (s : SharingState T) where

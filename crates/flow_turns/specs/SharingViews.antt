@@ -39,6 +39,10 @@ module _ {C H T : Type 0} where
   abbrev pub has_ended : Sharing C H T → Bool
   has_ended sharing = sharing.ended
 
+  -- the cold flow that it collects
+  abbrev pub chain_of : Sharing C H T → C
+  chain_of sharing = sharing.chain
+
   -- the flow into which the sharing emits
   abbrev pub hub_of : Sharing C H T → H
   hub_of sharing = sharing.hub

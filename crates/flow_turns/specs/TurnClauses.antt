@@ -2,6 +2,7 @@
 -- What depends on the observations is said for every list of them that leads to what the sharing's policy keeps. The turn itself is
 -- `turn_steps` of flow_law.
 use Rattle.std.specs.Prelude.{◌≡◌, ℕ, Bool, true, false, List, Result, Ok, Err}
+use Rattle.flow_law.specs.declared.chain.ChainFault.{ChainFault}
 use Rattle.flow_law.specs.declared.sharing.Started.{Started}
 use Rattle.flow_law.specs.declared.sharing.Command.{Command}
 use Rattle.flow_law.specs.declared.sharing.SharingObservation.{SharingObservation}
@@ -15,7 +16,7 @@ use Rattle.flow_law.specs.Sharing.{runs_after}
 use Rattle.flow_law.specs.Steps.{Takes}
 use Rattle.flow_law.specs.SharingCalls.{HubCall, HubAnswer, to_hub, CallDoes, HubStep}
 use Rattle.flow_law.specs.SharingTurn.{SharingState, TurnSteps, reported, begin, turn_steps}
-use Rattle.flow_law.specs.TurnMeaning.{HasAccount, BetweenTurns, IsQuiet, TurnMeans, TurnResets}
+use Rattle.flow_law.specs.TurnMeaning.{HasAccount, BetweenTurns, IsQuiet, IsCommand, TurnMeans, TurnResets}
 use Rattle.flow_turns.specs.declared.sharing.Sharing.{Sharing}
 use Rattle.flow_turns.specs.SharingViews.{state_of, chain_and_hub, hub_of, HasObserved}
 
@@ -55,10 +56,19 @@ module _ {C H T : Type 0} (whole rest : C → ChainRun T) (does : (c : HubCall T
       Takes (CallDoes (HubStep does waits)) (begin all command (record (state_of old) { runs = ran })) (chain_and_hub whole rest old)
       (record { answer = reported command outcome; seen = all; state = state_of new }) (chain_and_hub whole rest new)
 
+module _ {C H T : Type 0} where
+  -- the turn's command is the one of the observations
+  abbrev pub WasCommanded : Sharing C H T → Sharing C H T → Command → Type 0
+  WasCommanded old new command =
+      (started : Started) (seen : List SharingObservation) → HasObserved started old seen →
+      (all : List SharingObservation) × HasObserved started new all × IsCommand started seen all command
+
 module _ {C H T : Type 0} (does : (c : HubCall T) → H → HubAnswer c → H → Type 0) (waits : H → Bool) where
-  -- a reset that was due, or that the command asked for, has been made in this turn or stays due
+  -- A reset that was due, or that the command asked for, has been made in this turn, once and after the cancel; or it stays due, and none
+  -- has been made. In any other turn none has been made.
   abbrev pub HandlesReset : Sharing C H T → Result Report ShareFault → Sharing C H T → Type 0
-  HandlesReset old result new = TurnResets (HubStep does waits) (state_of old) (hub_of old) result (state_of new) (hub_of new)
+  HandlesReset old result new =
+      TurnResets (HubStep does waits) (WasCommanded old new) (state_of old) (hub_of old) result (state_of new) (hub_of new)
 
 module _ {C H T : Type 0} (whole rest : C → ChainRun T) where
   -- what is true between turns is true again after the turn
@@ -73,6 +83,11 @@ module _ {C H T : Type 0} (whole rest : C → ChainRun T) where
       (started : Started) (seen : List SharingObservation) → HasObserved started old seen → IsQuiet waits (state_of old) (chain_and_hub whole rest old) →
       IsQuiet waits (state_of new) (chain_and_hub whole rest new)
       × ((command : Command) → result ≡ reported command (Ok Idle) → waits (hub_of new) ≡ false)
+
+-- P of the fault, where the answer is a fault of the chain
+abbrev pub OnChainFault : {R : Type 0} → Result R ShareFault → (ChainFault → Type 0) → Type 0
+OnChainFault (Err (Chain fault)) P = P fault
+OnChainFault result P = Unit {0}
 
 -- the sharing has ended once a turn answered a fault of the chain
 abbrev pub ended_after : {R : Type 0} → Result R ShareFault → Bool → Bool

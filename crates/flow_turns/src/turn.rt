@@ -1,12 +1,14 @@
 //! Turns of a sharing: the caller drives them, and hands in the moment. Each method here is one part of `turn_steps` of
 //! flow_law, in its order.
 ghost use Rattle.std.specs.Prelude.{◌≡◌, ◌≢◌, [], None, IfOk, MatchResult, ◌||◌, false, IsTrue, ◌↔◌, Err};
+ghost use Rattle.flow_law.specs.declared.chain.End.{End};
 ghost use Rattle.flow_law.specs.SharingCalls.{counts, polls, cancels, resets};
 ghost use Rattle.flow_law.specs.SharingTurn as steps;
 ghost use Rattle.flow_law.specs.SharingTurn.{at_rest};
 ghost use Rattle.flow_law.specs.TurnMeaning.{BetweenTurns, IsQuiet};
-ghost use Rattle.flow_turns.specs.SharingViews.{state_of, chain_and_hub, IsSound, HasObserved, has_ended};
-ghost use Rattle.flow_turns.specs.TurnClauses.{CallsHub, ComesTo, CommandComesTo, TakesTurn, MeansAnswer, HandlesReset, StaysBetween, StaysQuiet, ended_after};
+ghost use Rattle.flow_operators.specs.Asking.{AskGives, OnEnd};
+ghost use Rattle.flow_turns.specs.SharingViews.{state_of, chain_and_hub, chain_of, IsSound, HasObserved, has_ended};
+ghost use Rattle.flow_turns.specs.TurnClauses.{CallsHub, ComesTo, CommandComesTo, TakesTurn, MeansAnswer, HandlesReset, StaysBetween, StaysQuiet, OnChainFault, ended_after};
 
 use crate::answers::{refusal_of, report_of};
 use crate::hub::Hub;
@@ -15,6 +17,17 @@ use crate::sharing::Sharing;
 use flow_cold::{Asked, Cold};
 use flow_law::report::{Event, Report, ShareFault};
 use flow_law::{Command, FlowFault, Refused, Started};
+
+/// Asks the chain, once in a turn. The answer is the chain's own, also where it is out of memory.
+fn ask_chain<C: Cold>(chain: &mut C) -> Asked<C::Item>
+    requires { C.sound chain.old }
+    ensures sound { C.sound chain.new }
+    ensures whole { C.whole chain.new ≡ C.whole chain.old }
+    ensures gives { AskGives (C.rest chain.old) result (C.rest chain.new) }
+    ensures answered { OnEnd result (C.HasAnswered chain.new) }
+{
+    chain.ask()
+}
 
 impl<C: Cold, H: Hub<Item = C::Item>> Sharing<C, H> {
     /// A sharing that has not observed anything. The hub has no emission that waits.
@@ -50,6 +63,8 @@ impl<C: Cold, H: Hub<Item = C::Item>> Sharing<C, H> {
         ensures policy { self.new.policy ≡ self.old.policy }
         ensures ended { has_ended self.new ≡ ended_after result (has_ended self.old) }
         ensures not_ended { result ≢ Err ShareFault.Ended }
+        ensures answered { OnChainFault result
+            (λ fault. C.HasAnswered (chain_of self.new) (End.Failed fault)) }
         ensures steps { ComesTo C.whole C.rest H.does H.waits
             (λ command seen. steps.put command seen item) self.old result self.new }
     {
@@ -77,13 +92,15 @@ impl<C: Cold, H: Hub<Item = C::Item>> Sharing<C, H> {
         ensures policy { self.new.policy ≡ self.old.policy }
         ensures ended { has_ended self.new ≡ ended_after result (has_ended self.old) }
         ensures not_ended { result ≢ Err ShareFault.Ended }
+        ensures answered { OnChainFault result
+            (λ fault. C.HasAnswered (chain_of self.new) (End.Failed fault)) }
         ensures steps { ComesTo C.whole C.rest H.does H.waits
             (λ command seen s. steps.send command seen s.kept s) self.old result self.new }
     {
         if let Some(item) = self.kept.take() {
             return self.put(item);
         }
-        match self.chain.ask() {
+        match ask_chain(&mut self.chain) {
             Asked::Item(item) => self.put(item),
             Asked::Pending => Ok(Event::Pending),
             Asked::End => {
@@ -118,6 +135,8 @@ impl<C: Cold, H: Hub<Item = C::Item>> Sharing<C, H> {
         ensures policy { self.new.policy ≡ self.old.policy }
         ensures ended { has_ended self.new ≡ ended_after result (has_ended self.old) }
         ensures not_ended { result ≢ Err ShareFault.Ended }
+        ensures answered { OnChainFault result
+            (λ fault. C.HasAnswered (chain_of self.new) (End.Failed fault)) }
         ensures steps { ComesTo C.whole C.rest H.does H.waits
             steps.collect_while_running self.old result self.new }
     {
@@ -177,6 +196,8 @@ impl<C: Cold, H: Hub<Item = C::Item>> Sharing<C, H> {
         ensures policy { self.new.policy ≡ self.old.policy }
         ensures ended { has_ended self.new ≡ ended_after result (has_ended self.old) }
         ensures not_ended { result ≢ Err ShareFault.Ended }
+        ensures answered { OnChainFault result
+            (λ fault. C.HasAnswered (chain_of self.new) (End.Failed fault)) }
         ensures steps { ComesTo C.whole C.rest H.does H.waits steps.reset_if_due self.old result self.new }
     {
         if !self.reset_due {
@@ -202,6 +223,8 @@ impl<C: Cold, H: Hub<Item = C::Item>> Sharing<C, H> {
         ensures policy { self.new.policy ≡ self.old.policy }
         ensures ended { has_ended self.new ≡ ended_after result (has_ended self.old) }
         ensures not_ended { result ≢ Err ShareFault.Ended }
+        ensures answered { OnChainFault result
+            (λ fault. C.HasAnswered (chain_of self.new) (End.Failed fault)) }
         ensures steps { ComesTo C.whole C.rest H.does H.waits steps.work self.old result self.new }
     {
         if !self.is_work_due() {
@@ -220,6 +243,8 @@ impl<C: Cold, H: Hub<Item = C::Item>> Sharing<C, H> {
         ensures policy { self.new.policy ≡ self.old.policy }
         ensures ended { has_ended self.new ≡ ended_after result (has_ended self.old) }
         ensures not_ended { result ≢ Err ShareFault.Ended }
+        ensures answered { OnChainFault result
+            (λ fault. C.HasAnswered (chain_of self.new) (End.Failed fault)) }
         ensures steps { CommandComesTo C.whole C.rest H.does H.waits command self.old result self.new }
     {
         match command {
@@ -269,6 +294,10 @@ impl<C: Cold, H: Hub<Item = C::Item>> Sharing<C, H> {
         // The sharing has ended once a turn has answered a fault of the chain, and every later turn says so.
         ensures ended { has_ended self.new ≡ ended_after result (has_ended self.old) }
         ensures refused_after_end { IsTrue (has_ended self.old) ↔ (result ≡ Err ShareFault.Ended) }
+
+        // A fault of the chain is the chain's own last answer. So is an answer that it is out of memory.
+        ensures answered { OnChainFault result
+            (λ fault. C.HasAnswered (chain_of self.new) (End.Failed fault)) }
 
         // What the answer means for the items that the flow has accepted since the last start.
         ensures means { MeansAnswer C.whole C.rest H.does H.waits self.old result self.new }

@@ -64,3 +64,15 @@ returns-in-StopAndReset-clause-not_ended g c = c.work-in-StopAndReset.ensures.no
 
 pub returns-in-Keep-clause-not_ended : goal.returns-in-Keep-clause-not_ended
 returns-in-Keep-clause-not_ended g c = c.work-in-Keep.ensures.not_ended
+
+pub returns-in-Start-clause-answered : goal.returns-in-Start-clause-answered
+returns-in-Start-clause-answered g c = c.work.ensures.answered
+
+pub returns-in-Stop-clause-answered : goal.returns-in-Stop-clause-answered
+returns-in-Stop-clause-answered g c = c.work-in-Stop.ensures.answered
+
+pub returns-in-StopAndReset-clause-answered : goal.returns-in-StopAndReset-clause-answered
+returns-in-StopAndReset-clause-answered g c = c.work-in-StopAndReset.ensures.answered
+
+pub returns-in-Keep-clause-answered : goal.returns-in-Keep-clause-answered
+returns-in-Keep-clause-answered g c = c.work-in-Keep.ensures.answered

@@ -5,7 +5,7 @@ use Rattle.flow_law.specs.SharingCalls.{CallDoes, HubStep}
 use Rattle.flow_law.specs.SharingTurn.{SharingState, reported, send}
 use Rattle.flow_turns.specs.SharingViews.{state_of, chain_and_hub}
 use Rattle.flow_turns.specs.TurnClauses.{ended_after}
-use Rattle.flow_turns.proofs.StepLemmas.{same-end, event-is-no-end, goes-on, polls-hub}
+use Rattle.flow_turns.proofs.StepLemmas.{same-end, event-is-no-end, goes-on, polls-hub, refused-answered}
 use Rattle.flow_turns.proofs.sharing.Sharing.collect.Goals as goal
 
 pub returns-in-Err-clause-steps : goal.returns-in-Err-clause-steps
@@ -56,3 +56,9 @@ returns-clause-ended g c = c.send.ensures.ended ∙ ap (λ (s : SharingState g.r
 
 pub returns-clause-policy : goal.returns-clause-policy
 returns-clause-policy g c = c.send.ensures.policy ∙ c.in-Ok.ensures.policy
+
+pub returns-in-Err-clause-answered : goal.returns-in-Err-clause-answered
+returns-in-Err-clause-answered g c = refused-answered _ c.refusal_of.result c.in-Err.fault c.refusal_of.ensures
+
+pub returns-clause-answered : goal.returns-clause-answered
+returns-clause-answered g c = c.send.ensures.answered

@@ -1,7 +1,7 @@
 use Rattle.std.proofs.Common.{true, false, Ok, Err, refl, sym}
 use Rattle.flow_law.specs.declared.report.Event.TheVariants.{Put, Queued}
 use Rattle.flow_turns.specs.SharingViews.{chain_and_hub}
-use Rattle.flow_turns.proofs.StepLemmas.{event-is-no-end, goes-on}
+use Rattle.flow_turns.proofs.StepLemmas.{event-is-no-end, goes-on, refused-answered}
 use Rattle.flow_turns.proofs.sharing.Sharing.put.Goals as goal
 
 pub returns-then-waits-clause-steps : goal.returns-then-waits-clause-steps
@@ -39,3 +39,6 @@ returns-then-waits-clause-not_ended g c = event-is-no-end Queued
 
 pub returns-else-waits-clause-not_ended : goal.returns-else-waits-clause-not_ended
 returns-else-waits-clause-not_ended g c = event-is-no-end Put
+
+pub returns-in-Err-clause-answered : goal.returns-in-Err-clause-answered
+returns-in-Err-clause-answered g c = refused-answered _ c.refusal_of.result c.in-Err.refused.fault c.refusal_of.ensures

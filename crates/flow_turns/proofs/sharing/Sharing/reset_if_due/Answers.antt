@@ -3,7 +3,7 @@ use Rattle.flow_law.specs.Steps.{Takes}
 use Rattle.flow_law.specs.SharingCalls.{CallDoes, HubStep}
 use Rattle.flow_law.specs.SharingTurn.{SharingState, reported, collect_while_running}
 use Rattle.flow_turns.specs.SharingViews.{state_of, chain_and_hub}
-use Rattle.flow_turns.proofs.StepLemmas.{same-end, goes-on, resets-hub, resets-nothing}
+use Rattle.flow_turns.proofs.StepLemmas.{same-end, goes-on, resets-hub, resets-nothing, refused-answered}
 use Rattle.flow_turns.proofs.sharing.Sharing.reset_if_due.Goals as goal
 
 pub returns-then-not-self-clause-steps : goal.returns-then-not-self-clause-steps
@@ -37,3 +37,12 @@ returns-then-not-self-clause-not_ended g c = c.collect.ensures.not_ended
 
 pub returns-in-Ok-clause-not_ended : goal.returns-in-Ok-clause-not_ended
 returns-in-Ok-clause-not_ended g c = c.collect-in-Ok.ensures.not_ended
+
+pub returns-then-not-self-clause-answered : goal.returns-then-not-self-clause-answered
+returns-then-not-self-clause-answered g c = c.collect.ensures.answered
+
+pub returns-in-Ok-clause-answered : goal.returns-in-Ok-clause-answered
+returns-in-Ok-clause-answered g c = c.collect-in-Ok.ensures.answered
+
+pub returns-in-Err-clause-answered : goal.returns-in-Err-clause-answered
+returns-in-Err-clause-answered g c = refused-answered _ c.refusal_of.result c.in-Err.fault c.refusal_of.ensures

@@ -12,7 +12,7 @@ returns-in-Some-clause-steps g c = λ command seen.
 
 pub returns-in-Item-clause-steps : goal.returns-in-Item-clause-steps
 returns-in-Item-clause-steps g c = λ command seen.
-    asks-chain _ _ _ _ command seen (state_of c.args.self.now) (chain_and_hub g.C.Cold.whole g.C.Cold.rest (record c.args.self.now { chain = c.ask.new.self })) (item c.in-Item.item)
+    asks-chain _ _ _ _ command seen (state_of c.args.self.now) (chain_and_hub g.C.Cold.whole g.C.Cold.rest (record c.args.self.now { chain = c.ask_chain.new.chain })) (item c.in-Item.item)
     (sym c.take.ensures.value ∙ c.in_default.is)
     (c.in-Item.ensures.gives, same-parts _ _ _ _ _ c.in-Item.ensures.whole refl)
     (c.put-in-Item.ensures.steps command seen)
@@ -20,7 +20,7 @@ returns-in-Item-clause-steps g c = λ command seen.
 pub returns-in-Pending-clause-steps : goal.returns-in-Pending-clause-steps
 returns-in-Pending-clause-steps g c = λ command seen.
     let none : c.args.self.now.kept ≡ None = sym c.take.ensures.value ∙ c.in_default.is in
-    asks-chain _ _ _ _ command seen (state_of c.args.self.now) (chain_and_hub g.C.Cold.whole g.C.Cold.rest (record c.args.self.now { chain = c.ask.new.self })) pending
+    asks-chain _ _ _ _ command seen (state_of c.args.self.now) (chain_and_hub g.C.Cold.whole g.C.Cold.rest (record c.args.self.now { chain = c.ask_chain.new.chain })) pending
     none
     (c.in-Pending.ensures.gives, same-parts _ _ _ _ _ c.in-Pending.ensures.whole refl)
     (rw (c.take.ensures.after, none) refl, refl)
@@ -28,7 +28,7 @@ returns-in-Pending-clause-steps g c = λ command seen.
 pub returns-in-End-clause-steps : goal.returns-in-End-clause-steps
 returns-in-End-clause-steps g c = λ command seen.
     let none : c.args.self.now.kept ≡ None = sym c.take.ensures.value ∙ c.in_default.is in
-    asks-chain _ _ _ _ command seen (state_of c.args.self.now) (chain_and_hub g.C.Cold.whole g.C.Cold.rest (record c.args.self.now { chain = c.ask.new.self })) (end AtEnd)
+    asks-chain _ _ _ _ command seen (state_of c.args.self.now) (chain_and_hub g.C.Cold.whole g.C.Cold.rest (record c.args.self.now { chain = c.ask_chain.new.chain })) (end AtEnd)
     none
     (c.in-End.ensures.gives, same-parts _ _ _ _ _ c.in-End.ensures.whole refl)
     (rw (c.take.ensures.after, none) refl, refl)
@@ -36,7 +36,7 @@ returns-in-End-clause-steps g c = λ command seen.
 pub returns-in-Fault-clause-steps : goal.returns-in-Fault-clause-steps
 returns-in-Fault-clause-steps g c = λ command seen.
     let none : c.args.self.now.kept ≡ None = sym c.take.ensures.value ∙ c.in_default.is in
-    asks-chain _ _ _ _ command seen (state_of c.args.self.now) (chain_and_hub g.C.Cold.whole g.C.Cold.rest (record c.args.self.now { chain = c.ask.new.self })) (end (Failed c.in-Fault.fault))
+    asks-chain _ _ _ _ command seen (state_of c.args.self.now) (chain_and_hub g.C.Cold.whole g.C.Cold.rest (record c.args.self.now { chain = c.ask_chain.new.chain })) (end (Failed c.in-Fault.fault))
     none
     (c.in-Fault.ensures.gives, same-parts _ _ _ _ _ c.in-Fault.ensures.whole refl)
     (rw (c.take.ensures.after, none) refl, refl)
@@ -55,3 +55,12 @@ returns-in-End-clause-not_ended g c = event-is-no-end Completed
 
 pub returns-in-Fault-clause-not_ended : goal.returns-in-Fault-clause-not_ended
 returns-in-Fault-clause-not_ended g c = fault-is-no-end c.in-Fault.fault
+
+pub returns-in-Some-clause-answered : goal.returns-in-Some-clause-answered
+returns-in-Some-clause-answered g c = c.put.ensures.answered
+
+pub returns-in-Item-clause-answered : goal.returns-in-Item-clause-answered
+returns-in-Item-clause-answered g c = c.put-in-Item.ensures.answered
+
+pub returns-in-Fault-clause-answered : goal.returns-in-Fault-clause-answered
+returns-in-Fault-clause-answered g c = c.in-Fault.ensures.answered

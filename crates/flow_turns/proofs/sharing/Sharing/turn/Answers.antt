@@ -1,4 +1,4 @@
-use Rattle.std.proofs.Common.{◌≡◌, [], ◌∷◌, List, Result, Ok, Err, refl, sym, ap, ◌∙◌, subst}
+use Rattle.std.proofs.Common.{◌≡◌, [], ◌∷◌, List, Result, Ok, Err, inl, inr, refl, sym, ap, ◌∙◌, subst}
 use Rattle.flow_law.specs.declared.sharing.Command.{Command}
 use Rattle.flow_law.specs.declared.sharing.Command.TheVariants.{Keep}
 use Rattle.flow_law.specs.declared.sharing.SharingObservation.{SharingObservation}
@@ -11,11 +11,12 @@ use Rattle.flow_law.specs.SharingCalls.{CallDoes, HubStep}
 use Rattle.flow_law.specs.SharingTurn.{SharingState, Turned, refusal, reported, begin}
 use Rattle.flow_law.specs.TurnMeaning.{TurnResets}
 use Rattle.flow_law.proofs.TurnMeaningLemmas.{turn-means}
-use Rattle.flow_law.proofs.TurnResetLemmas.{uncounted-resets, unobserved-resets, begun-resets}
+use Rattle.flow_law.proofs.TurnResetLemmas.{uncounted-resets, uncalled-resets, unobserved-resets, begun-resets}
 use Rattle.flow_law.proofs.TurnQuietLemmas.{turn-quiet}
 use Rattle.flow_turns.specs.Policy.{HasSeen}
 use Rattle.flow_turns.specs.SharingViews.{state_of, chain_and_hub}
-use Rattle.flow_turns.proofs.StepLemmas.{if-true, same-end, counts-hub, observes-count, goes-back}
+use Rattle.flow_turns.specs.TurnClauses.{WasCommanded}
+use Rattle.flow_turns.proofs.StepLemmas.{if-true, same-end, counts-hub, observes-count, goes-back, refused-answered, report-answered}
 use Rattle.flow_turns.proofs.sharing.Sharing.turn.Goals as goal
 
 pub returns-then-self-clause-turn : goal.returns-then-self-clause-turn
@@ -88,14 +89,20 @@ returns-clause-resets g c =
     let D = HubStep g.H.Hub.does g.H.Hub.waits in
     let mid = chain_and_hub g.C.Cold.whole g.C.Cold.rest c.counted.new.self in
     let last = chain_and_hub g.C.Cold.whole g.C.Cold.rest c.begin-outcome.new.self in
+    let Is : Command → Type 0 = WasCommanded c.args.self.now c.begin-outcome.new.self in
+    let is : Is c.in-Ok-observe.command = λ started seen stands.
+    let held : HasSeen started c.counted.new.self.policy seen = rw c.counted.ensures.policy stands in
+    let told = c.in-Ok-observe.ensures.observes started seen held in
+    let o : SharingObservation = record { moment = c.args.now; count = c.in-Ok.count } in
+    (o ∷ seen, rw c.begin-outcome.ensures.policy told.2, inr (o, refl, told.1)) in
     let P : SharingState g.row.C-Item.Denot → Type 0 = λ s.
-    TurnResets D s c.args.self.now.hub (reported c.in-Ok-observe.command c.begin-outcome.result) (state_of c.begin-outcome.new.self) c.begin-outcome.new.self.hub in
+    TurnResets D Is s c.args.self.now.hub (reported c.in-Ok-observe.command c.begin-outcome.result) (state_of c.begin-outcome.new.self) c.begin-outcome.new.self.hub in
     let Q : Result Report ShareFault → Type 0 = λ answer.
-    TurnResets D (state_of c.args.self.now) c.args.self.now.hub answer (state_of c.begin-outcome.new.self) c.begin-outcome.new.self.hub in
+    TurnResets D Is (state_of c.args.self.now) c.args.self.now.hub answer (state_of c.begin-outcome.new.self) c.begin-outcome.new.self.hub in
     subst Q (sym c.report_of-2.ensures) (subst P c.in-Ok.ensures.state
-    (begun-resets D c.args.self.now.hub (state_of c.counted.new.self) [] c.in-Ok-observe.command mid last
+    (begun-resets D c.args.self.now.hub (state_of c.counted.new.self) Is [] c.in-Ok-observe.command mid last
     (record { answer = reported c.in-Ok-observe.command c.begin-outcome.result; seen = []; state = state_of c.begin-outcome.new.self })
-    (c.in-Ok.count, c.in-Ok.ensures.counts.0)
+    is (c.in-Ok.count, c.in-Ok.ensures.counts.0)
     (c.begin-outcome.ensures.steps [] c.counted.new.self.policy.running c.in-Ok-observe.ensures.runs)))
 
 pub returns-then-self-clause-means : goal.returns-then-self-clause-means
@@ -138,22 +145,38 @@ returns-in-Err-observe-clause-quiet g c = λ started seen stands quiet.
 
 pub returns-then-self-clause-resets : goal.returns-then-self-clause-resets
 returns-then-self-clause-resets g c =
-    unobserved-resets (HubStep g.H.Hub.does g.H.Hub.waits) c.args.self.now.hub (state_of c.args.self.now) (Err Ended) c.args.self.now.hub tt tt
+    uncalled-resets (HubStep g.H.Hub.does g.H.Hub.waits) c.args.self.now.hub (state_of c.args.self.now) (WasCommanded c.args.self.now c.args.self.now) (Err Ended)
+    (λ started seen stands. (seen, stands, inl (refl, refl))) tt tt
 
 pub returns-in-Err-clause-resets : goal.returns-in-Err-clause-resets
 returns-in-Err-clause-resets g c =
     let D = HubStep g.H.Hub.does g.H.Hub.waits in
+    let Is : Command → Type 0 = WasCommanded c.args.self.now c.counted.new.self in
+    let keeps : Is Keep = λ started seen stands. (seen, rw c.counted.ensures.policy stands, inl (refl, refl)) in
     let P : SharingState g.row.C-Item.Denot → Type 0 = λ s.
-    TurnResets D (state_of c.args.self.now) c.args.self.now.hub (reported Keep (refusal c.in-Err.fault)) s c.counted.new.self.hub in
+    TurnResets D Is (state_of c.args.self.now) c.args.self.now.hub (reported Keep (refusal c.in-Err.fault)) s c.counted.new.self.hub in
     let Q : Result Report ShareFault → Type 0 = λ answer.
-    TurnResets D (state_of c.args.self.now) c.args.self.now.hub answer (state_of c.counted.new.self) c.counted.new.self.hub in
+    TurnResets D Is (state_of c.args.self.now) c.args.self.now.hub answer (state_of c.counted.new.self) c.counted.new.self.hub in
     subst Q (sym (c.report_of.ensures ∙ ap (reported Keep) c.refusal_of.ensures))
-    (subst P (sym c.in-Err.ensures.state) (uncounted-resets D c.args.self.now.hub (state_of c.args.self.now) c.in-Err.fault c.counted.new.self.hub))
+    (subst P (sym c.in-Err.ensures.state)
+    (uncounted-resets D c.args.self.now.hub (state_of c.args.self.now) Is c.in-Err.fault c.counted.new.self.hub keeps c.in-Err.ensures.counts.0))
 
 pub returns-in-Err-observe-clause-resets : goal.returns-in-Err-observe-clause-resets
 returns-in-Err-observe-clause-resets g c =
     let D = HubStep g.H.Hub.does g.H.Hub.waits in
-    let same : state_of (record c.counted.new.self { policy = c.observe.new.self }) ≡ state_of c.args.self.now = rw c.in-Err-observe.ensures.unchanged c.in-Ok.ensures.state in
+    let new = record c.counted.new.self { policy = c.observe.new.self } in
+    let Is : Command → Type 0 = WasCommanded c.args.self.now new in
+    let keeps : Is Keep = λ started seen stands.
+    let held : HasSeen started c.counted.new.self.policy seen = rw c.counted.ensures.policy stands in
+    (seen, rw c.in-Err-observe.ensures.unchanged held, inl (refl, refl)) in
+    let same : state_of new ≡ state_of c.args.self.now = rw c.in-Err-observe.ensures.unchanged c.in-Ok.ensures.state in
     let P : SharingState g.row.C-Item.Denot → Type 0 = λ s.
-    TurnResets D (state_of c.args.self.now) c.args.self.now.hub (Err (Backwards c.in-Err-observe.backwards.last)) s c.counted.new.self.hub in
-    subst P (sym same) (unobserved-resets D c.args.self.now.hub (state_of c.args.self.now) (Err (Backwards c.in-Err-observe.backwards.last)) c.counted.new.self.hub tt tt)
+    TurnResets D Is (state_of c.args.self.now) c.args.self.now.hub (Err (Backwards c.in-Err-observe.backwards.last)) s c.counted.new.self.hub in
+    subst P (sym same)
+    (unobserved-resets D c.args.self.now.hub (state_of c.args.self.now) Is (Err (Backwards c.in-Err-observe.backwards.last)) c.in-Ok.count c.counted.new.self.hub keeps c.in-Ok.ensures.counts.0 tt tt)
+
+pub returns-in-Err-clause-answered : goal.returns-in-Err-clause-answered
+returns-in-Err-clause-answered g c = report-answered _ Keep c.refusal_of.result _ c.report_of.ensures (refused-answered _ c.refusal_of.result c.in-Err.fault c.refusal_of.ensures)
+
+pub returns-clause-answered : goal.returns-clause-answered
+returns-clause-answered g c = report-answered _ c.in-Ok-observe.command c.begin-outcome.result _ c.report_of-2.ensures c.begin-outcome.ensures.answered
