@@ -8,7 +8,7 @@ use lib.Seq.{set-get_or}
 use prog.Atomic.{either}
 use Rattle.std.specs.List.{AllByRecursion}
 use Rattle.atomic_table.specs.Table.{State, Me, step, keeps, takes, gives, stepped, Allows, Splits, Joins}
-use Rattle.atomic_table.proofs.Lists.{at_set, set_here, set_else, at_longer}
+use Rattle.atomic_table.proofs.Lists.{at_set, set_again, set_here, set_else, at_longer}
 use Rattle.flow_law.specs.declared.history.Event.{Event}
 use Rattle.flow_law.specs.declared.history.Knowledge.{Knowledge}
 use Rattle.flow_gate.specs.declared.view.SeatView.{SeatView}
@@ -16,7 +16,7 @@ use Rattle.flow_law.specs.Growth.{IsApartFrom, Fits, NamesOnlyMade, events_of}
 use Rattle.flow_gate.specs.View.{seat_view}
 use Rattle.flow_gate.specs.Rule.{GateHolds, KnownAt, IsHeld}
 use Rattle.flow_law.specs.Growth.{sees, loses, adds, makes, child}
-use Rattle.flow_gate.specs.Steps.{stands_from, entered, observed, left}
+use Rattle.flow_gate.specs.Steps.{stands_from, entered, observed, looked, left}
 use Rattle.flow_law.proofs.Names.{every_map, grew_refl, fits_more, fits_own, makes_fits, child_fits, child_apart, apart_child, makes_child, child_makes}
 use Rattle.flow_gate.proofs.Places.{at_only, at_two, at_none, at_inside, at_end, every_at, of_map, known_set, known_end, AllApart, apart_from}
 
@@ -134,6 +134,16 @@ module _ {S E : Type 0} (stands : S → List (Event E) → Type 0) where
     unmoved s r id v w me.1 at off off (changed_fits r.history (sees r.history) (sees_fits r.history) s.views id v v.holds at r.fits)
         (changed_apart (sees r.history) (λ _. refl) (λ u. le_refl u.made) s.views id v v.holds at r.apart),
     (r.history, x.0, x.1, all_fit s r id v at, refl),
+  )
+
+  -- a step that changes nothing
+  pub looks : (slots id : ℕ) (me : Me (Option S) (SeatView E)) → Allows Rule slots id me 0 (λ n. n) (looked stands (step slots 0 0 0 none) me)
+  looks slots id me s r _ at _ = let x = r.sound in (
+    me.0,
+    keeps,
+    tt,
+    subst Rule (λ k. record { words = sym (set-get_or s.words 0 0) k; homes = s.homes; views = sym (set_again s.views id me.0 at) k }) r,
+    (r.history, x.0, x.1, all_fit s r id me.0 at, refl),
   )
 
   pub enters : (slots id : ℕ) (t : Knowledge E) (me : Me (Option S) (SeatView E)) → me.0 ≡ seat_view (t ∷ []) false → Allows Rule slots id me 0 (λ n. either (eqb n 0) 1 n) (entered stands (step slots 0 0 1 none) me)
@@ -299,3 +309,6 @@ module _ {F S E : Type 0} (stands : F → S → List (Event E) → Type 0) (k : 
 
   pub observes_from : (me : Me (Option S) (SeatView E)) → me.0.holds ≡ false → Allows (GateHolds (stands k)) slots id me 0 (λ n. n) (observed (stands_from stands f) (step slots 0 0 0 none) me)
   observes_from me off = subst (λ (h : Option F). Allows (GateHolds (stands k)) slots id me 0 (λ n. n) (observed (stands_from stands h) (step slots 0 0 0 none) me)) (sym from) (observes (stands k) slots id me off)
+
+  pub looks_from : (me : Me (Option S) (SeatView E)) → Allows (GateHolds (stands k)) slots id me 0 (λ n. n) (looked (stands_from stands f) (step slots 0 0 0 none) me)
+  looks_from me = subst (λ (h : Option F). Allows (GateHolds (stands k)) slots id me 0 (λ n. n) (looked (stands_from stands h) (step slots 0 0 0 none) me)) (sym from) (looks (stands k) slots id me)

@@ -43,6 +43,11 @@ module _ {E : Type 0} where
     observed step before found after =
         (history : List (Event E)) × (state : S) × stands state history × AllByRecursion (Fits history) before.0.known × (after ≡ (seat_view (map (sees history) before.0.known) before.0.holds, before.1))
 
+    -- nothing has changed, and some state stands for the history so far
+    abbrev pub looked : Step (Option S) → Pass → ℕ → Pass → Type 0
+    looked step before found after =
+        (history : List (Event E)) × (state : S) × stands state history × AllByRecursion (Fits history) before.0.known × (after ≡ before)
+
   -- the state is at home, with what the seat adds
   abbrev pub left : {S : Type 0} → List E → Step (Option S) → Me (Option S) (SeatView E) → ℕ → Me (Option S) (SeatView E) → Type 0
   left added step before found after = after ≡ (seat_view (map (adds added) before.0.known) false, rest before.1)

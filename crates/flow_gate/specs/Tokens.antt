@@ -75,6 +75,10 @@ module _ {S E : Type 0} (stands : S → S → List (Event E) → Type 0) (gate :
   abbrev pub StandsAfter : Token E → S → Type 0
   StandsAfter t state = (history : List (Event E)) × stands gate.first state history × Fits history t.knows
 
+  -- some state stood for such a history
+  abbrev pub HasStood : Token E → Type 0
+  HasStood t = (state : S) × StandsAfter t state
+
 -- the state of who is inside stands for what was found followed by events of its own
 abbrev pub StandsWith : {S E : Type 0} → (S → S → List (Event E) → Type 0) → HeldState S E → List E → Type 0
 StandsWith stands held added = stands held.first held.state (held.token.knows.seen ++ events_of held.token.knows.name added)

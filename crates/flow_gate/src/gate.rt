@@ -2,10 +2,10 @@
 ghost use Rattle.std.specs.Prelude.{◌≡◌, ◌≤◌, [], Some, IfOk, IfErr, IfSome};
 ghost use Rattle.flow_law.specs.Growth.{loses, makes, child};
 ghost use Rattle.flow_law.specs.Tokens.{Begins, knowing};
-ghost use Rattle.flow_gate.specs.Tokens.{Finds, FindsAtOnce, MeetsAtGate, StandsForSome, StandsAfter};
+ghost use Rattle.flow_gate.specs.Tokens.{Finds, FindsAtOnce, MeetsAtGate, StandsForSome, StandsAfter, HasStood};
 
 use crate::held::Held;
-use crate::steps::{Enter, GateRule, Make, Meet, Observe, Part, StartsFrom};
+use crate::steps::{Enter, GateRule, Look, Make, Meet, Observe, Part, StartsFrom};
 use crate::token::Seat;
 use crate::view::SeatView;
 use atomic_table::{Refused, Table};
@@ -155,6 +155,27 @@ impl<S: Guarded + Drop, A: Allocator + Copy> Gate<S, A> {
         ensures { MeetsAtGate S.stands self.now one other result.0 result.1 }
     {
         self.meet_at::<Brand>(one, other)
+    }
+
+    fn look_at<B: StartsFrom<S>>(&self, seat: &mut Seat<S, A>)
+        requires gate { seat.old.table_id ≡ self.now.table_id }
+        requires first { B.first ≡ Some self.now.first }
+        ensures unchanged { seat.new ≡ seat.old }
+        ensures stood { HasStood S.stands self.now seat.new }
+    {
+        self.table.shared.load::<Look<B>>(&mut seat.seat, 0);
+    }
+
+    /// Proves that what the seat has seen begins a history for which some state stood. It changes nothing and does not
+    /// wait.
+    ///
+    /// Call it if the gate was lent and the caller knows nothing else of what its seat has seen.
+    pub fn look(&self, seat: &mut Seat<S, A>)
+        requires { seat.old.table_id ≡ self.now.table_id }
+        ensures unchanged { seat.new ≡ seat.old }
+        ensures stood { HasStood S.stands self.now seat.new }
+    {
+        self.look_at::<Brand>(seat)
     }
 
     /// The state, or `None` where it is out because somebody who entered never left.

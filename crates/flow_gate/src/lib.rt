@@ -9,6 +9,7 @@
 //! - `enter` waits until it is inside. `try_enter` hands the seat back where another is inside.
 //! - `Held::state` lends the state, and `Held::leave` puts it back. `Held` has no `Drop`: who entered must leave.
 //! - `meet` makes what two seats have seen one history.
+//! - `look` changes nothing, and tells what holds of all that a seat has seen.
 //! - `close` gives the state back.
 //!
 //! Nothing is said of progress: not that a waiting `enter` wins, nor in which order.

@@ -3,7 +3,7 @@ ghost use Rattle.std.specs.Prelude.{List, [], ◌++◌, map, false, Option, None
 ghost use Rattle.flow_law.specs.Growth.{makes, child};
 ghost use Rattle.flow_gate.specs.View.{first_view, seat_view};
 ghost use Rattle.flow_gate.specs.Rule.{GateHolds};
-ghost use Rattle.flow_gate.specs.Steps.{boxed, stands_from, entered, observed, left, first_of, others_of};
+ghost use Rattle.flow_gate.specs.Steps.{boxed, stands_from, entered, observed, looked, left, first_of, others_of};
 
 use crate::view::SeatView;
 use atomic_table::{Join, Play, Split, TableRule};
@@ -58,6 +58,16 @@ pub(crate) struct Observe<B> {
 impl<S: Guarded, A: Allocator, B: StartsFrom<S>> Play<Option<Box<S, A>>, SeatView<S::Said>>
     for Observe<B> {
     ghost then = { observed (stands_from (boxed S.stands) B.first) };
+}
+
+/// A load that changes nothing, by which a seat learns that what it has seen begins a history.
+pub(crate) struct Look<B> {
+    starts: PhantomData<B>,
+}
+
+impl<S: Guarded, A: Allocator, B: StartsFrom<S>> Play<Option<Box<S, A>>, SeatView<S::Said>>
+    for Look<B> {
+    ghost then = { looked (stands_from (boxed S.stands) B.first) };
 }
 
 /// The store of free.

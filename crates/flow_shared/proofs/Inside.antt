@@ -9,8 +9,9 @@ use Rattle.flow_law.specs.OneHistory.{AddsOne, said}
 use Rattle.flow_law.specs.Standing.{Documents, StandsForHistory}
 use Rattle.flow_law.specs.Tokens.{knowing, origin, subscription_name, CallsIn, CallsAtOnceIn}
 use Rattle.flow_law.proofs.Names.{fits_own}
+use Rattle.flow_law.proofs.Owners.{history_left}
 use Rattle.flow_law.proofs.TokenLemmas.{stands_next, may_grows}
-use Rattle.flow_gate.specs.Tokens.{Token, Origin, HeldState, Finds}
+use Rattle.flow_gate.specs.Tokens.{Token, Origin, HeldState, Finds, HasStood}
 use Rattle.flow_shared.specs.Calls.{SaysIn}
 
 -- K are the cores; `start` is the state that a new one stands for, and `stands` says for which histories one stands
@@ -29,6 +30,11 @@ module _ {K T S C R : Type 0} (kind : Kind T S C R) (start : K → S) (StandsAs 
 
     pub has_said : (after : Token (Said C R)) → after ≡ knowing held.token (adds (said c' r ∷ []) held.token.knows) → SaysIn kind (start held.first) held c r after
     has_said after is = (is ∙ ap (λ (d : C). knowing held.token (adds (said d r ∷ []) held.token.knows)) named, both.0)
+
+  -- some core stood for a history that begins with what the token has seen: so that is a history, too
+  pub has_seen : (flow : Origin S) (gate : Origin K) (t : Token (Said C R)) → origin gate.table_id (start gate.first) ≡ flow → HasStood stands gate t → IsHistory kind flow.first t.knows.seen
+  has_seen flow gate t is stood = let of_gate = stood.1 in let grown = of_gate.2.0 in
+      history_left kind flow.first t.knows.seen grown.0 (subst (λ (z : S × List (Event (Said C R))). IsHistory kind z.0 z.1) (λ i. ((is i).first, grown.1 i)) (so gate.first stood.0 of_gate.0 of_gate.1).0)
 
   -- who enters, and what it then says
   module _ (law : Lawful kind) (flow : Origin S) (gate : Origin K) (before : Token (Said C R)) (held : HeldState K (Said C R)) (is : origin gate.table_id (start gate.first) ≡ flow) (f : Finds stands gate before held) where

@@ -4,7 +4,7 @@ use Rattle.atomic_table.specs.Seated.{TableId}
 use Rattle.futures.specs.declared.task.Poll.{Poll as Polled}
 use Rattle.futures.specs.declared.task.Poll.TheVariants.{Ready, Pending}
 use Rattle.flow_law.specs.declared.fault.FlowFault.{FlowFault}
-use Rattle.flow_law.specs.declared.fault.FlowFault.TheVariants.{OutOfMemory, Exhausted, Busy}
+use Rattle.flow_law.specs.declared.fault.FlowFault.TheVariants.{Busy}
 use Rattle.flow_law.specs.declared.outcome.Emit.TheVariants.{Done, Queued}
 use Rattle.flow_law.specs.declared.call.SharedCall.{SharedCall}
 use Rattle.flow_law.specs.declared.call.SharedCall.TheVariants as call
@@ -18,11 +18,7 @@ use Rattle.flow_shared.specs.declared.emit_future.EmitStage.TheVariants.{Fresh, 
 use Rattle.flow_shared.specs.declared.emit_future.Sent.{Sent}
 use Rattle.flow_shared.specs.declared.emit_future.Sent.TheVariants as sent
 use Rattle.flow_shared.specs.EmitCounts.{emitted}
-use Rattle.flow_shared.specs.SharedReplies.{SharedToken, Calls, CallsAtOnce}
-
--- why an `emit` is refused
-abbrev pub IsEmitFault : FlowFault → Type 0
-IsEmitFault fault = (fault ≡ OutOfMemory) ⊎ (fault ≡ Exhausted)
+use Rattle.flow_shared.specs.SharedReplies.{SharedToken, Calls, CallsAtOnce, IsEmitFault}
 
 -- an emit future: its flow, and how far it is
 pub record Emitting (T A : Type 0) : Type 0 where

@@ -1,7 +1,7 @@
 -- What the calls of a shared flow for several threads answer. `flow` is the flow: which one, and its configuration.
-use Rattle.std.specs.Prelude.{◌≡◌, ⊤, ℕ, Bool, true, false, Result, Ok, Err}
+use Rattle.std.specs.Prelude.{◌≡◌, ◌⊎◌, ⊤, ℕ, Bool, true, false, Result, Ok, Err}
 use Rattle.flow_law.specs.declared.fault.FlowFault.{FlowFault}
-use Rattle.flow_law.specs.declared.fault.FlowFault.TheVariants.{Busy}
+use Rattle.flow_law.specs.declared.fault.FlowFault.TheVariants.{OutOfMemory, Exhausted, Busy}
 use Rattle.flow_law.specs.declared.history.Knowledge.{Knowledge}
 use Rattle.flow_law.specs.declared.history.Said.{Said}
 use Rattle.flow_law.specs.declared.fault.Refused.{Refused}
@@ -35,6 +35,10 @@ module _ {T : Type 0} (flow : Origin (SharedFlowState T)) where
   abbrev pub CallsAtOnce : SharedToken T → SharedCall T → SharedReply T → SharedToken T → Type 0
   CallsAtOnce = flows.CallsAtOnce shared_flow flow
 
+-- why an `emit` is refused
+abbrev pub IsEmitFault : FlowFault → Type 0
+IsEmitFault fault = (fault ≡ OutOfMemory) ⊎ (fault ≡ Exhausted)
+
 -- ---- answers that hand a token over
 
 module _ {T A : Type 0} where
@@ -49,6 +53,11 @@ module _ {T A : Type 0} where
   emitted_token (emitted.Done t) = t
   emitted_token (emitted.Queued e) = e.token
   emitted_token (emitted.Refused t v fault) = t
+
+  -- where the value was refused, it was for one of those
+  abbrev pub EmitRefusedIfDue : Emitted T A → Type 0
+  EmitRefusedIfDue (emitted.Refused t v fault) = IsEmitFault fault
+  EmitRefusedIfDue _ = ⊤
 
   abbrev pub HandsBack : T → Emitted T A → Type 0
   HandsBack value (emitted.Refused t v fault) = v ≡ value

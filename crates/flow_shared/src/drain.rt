@@ -1,7 +1,8 @@
 //! Taking all that a subscriber of a flow for several threads can receive now.
-ghost use Rattle.std.specs.Prelude.{◌≡◌, ◌≢◌, ◌+◌, ◌≤◌, Ok};
+ghost use Rattle.std.specs.Prelude.{◌≡◌, ◌≢◌, ◌+◌, ◌≤◌, Ok, IsOk};
+ghost use Rattle.std.specs.Result.{OnErr};
 ghost use Rattle.std.specs.Vec.{vec_len, vec_capacity};
-ghost use Rattle.flow_law.specs.Draining.{DrainsBy, TakesBy};
+ghost use Rattle.flow_law.specs.Draining.{DrainsBy, TakesBy, IsFull};
 ghost use Rattle.flow_law.specs.Growth.{NamesOnlyMade};
 ghost use Rattle.flow_law.specs.History.{IsSubscription};
 ghost use Rattle.flow_law.specs.Tokens.{numbered};
@@ -28,8 +29,9 @@ fn take_values<S: FlowCore, B: Allocator>(
     values: &mut Vec<S::Item, B>,
 ) -> Result<Drained, FlowFault>
     requires { vec_len values.old + most ≤ vec_capacity values.old }
-    ensures { TakesBy (CoreNexts S.kind (number_of id) S.stands_as) most
+    ensures takes { TakesBy (CoreNexts S.kind (number_of id) S.stands_as) most
         core.old values.old.items result values.new.items core.new }
+    ensures given { S.Item.IsAlwaysCopied → IsOk result }
 {
     for _ in 0..most {
         match core.next(id)? {
@@ -53,8 +55,9 @@ fn take_inside<S: FlowCore, A: Allocator + Copy, B: Allocator>(
     requires names { NamesOnlyMade held.token.knows.name held.token.knows.made held.token.knows.seen }
     requires some { most ≢ 0 }
     requires room { vec_len values.old + most ≤ vec_capacity values.old }
-    ensures { TakesInside S.kind (number_of id) S.stands_as most
+    ensures takes { TakesInside S.kind (number_of id) S.stands_as most
         held.entry values.old.items result.1 values.new.items result.0 }
+    ensures given { S.Item.IsAlwaysCopied → IsOk result.1 }
 {
     let mut held = held;
     let before = Snapshot::of(values);
@@ -82,6 +85,7 @@ impl<S: FlowCore + Drop, A: Allocator + Copy> Flow<S, A> {
             result values.new.items (numbered seat.new (number_of id)) }
         ensures subscribed { IsSubscription S.kind seat.new.knows (number_of id) }
         ensures flow { seat.new.table_id ≡ seat.old.table_id }
+        ensures given { S.Item.IsAlwaysCopied → IsOk result }
     {
         let own = seat.seat.take().unwrap();
         let held = self.gate.enter(rt, own);
@@ -106,6 +110,7 @@ impl<S: FlowCore + Drop, A: Allocator + Copy> Flow<S, A> {
             result values.new.items (numbered seat.new (number_of id)) }
         ensures subscribed { IsSubscription S.kind seat.new.knows (number_of id) }
         ensures flow { seat.new.table_id ≡ seat.old.table_id }
+        ensures full { S.Item.IsAlwaysCopied → OnErr result (IsFull values.new) }
     {
         let mut left = most;
         while left > 0 {
@@ -142,6 +147,8 @@ impl<S: FlowCore + Drop, A: Allocator + Copy> Flow<S, A> {
         ensures flow { subscription.new.token.table_id ≡ subscription.old.token.table_id }
         ensures number { subscription.new.number ≡ subscription.old.number }
         ensures live { result ≢ Ok Gone }
+        // Where copies are always given it ends before its time only with a list that is full and cannot grow.
+        ensures full { S.Item.IsAlwaysCopied → OnErr result (IsFull values.new) }
     {
         let id = subscription.id;
         self.drain_by(rt, &mut subscription.seat, id, most, values)

@@ -1,6 +1,6 @@
 //! A flow of any kind for several threads.
 ghost use Rattle.std.specs.Prelude.{◌≡◌, IfOk, IfErr, IfSome};
-ghost use Rattle.flow_law.specs.History.{MayCall};
+ghost use Rattle.flow_law.specs.History.{MayCall, IsHistory};
 ghost use Rattle.flow_law.specs.Growth.{makes, child};
 ghost use Rattle.flow_law.specs.Tokens.{subscription_name, knowing, IsBusy};
 ghost use Rattle.flow_shared.specs.Calls.{Calls, CallsAtOnce, ClosesAs, Meets};
@@ -126,6 +126,16 @@ impl<S: FlowCore + Drop, A: Allocator + Copy> Flow<S, A> {
         FlowSeat {
             seat: Some(self.gate.seat(inside)),
         }
+    }
+
+    /// Proves that what the seat has seen is a history of the flow. It calls nothing and does not wait.
+    pub(crate) fn look(&self, seat: &mut FlowSeat<S, A>)
+        requires { seat.old.table_id ≡ self.now.table_id }
+        ensures unchanged { seat.new ≡ seat.old }
+        ensures history { IsHistory S.kind self.now.first seat.new.knows.seen }
+    {
+        let inside = seat.seat.as_mut().unwrap();
+        self.gate.look(inside);
     }
 
     /// Ends the flow, and gives its core: what all calls so far led to, for one thread. `None` only where somebody who

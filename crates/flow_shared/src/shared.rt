@@ -1,7 +1,8 @@
 //! A shared flow for several threads.
-ghost use Rattle.std.specs.Prelude.{◌≡◌, None, MatchResult};
+ghost use Rattle.std.specs.Prelude.{◌≡◌, None, IfErr, MatchResult};
 ghost use Rattle.flow_law.specs.Tokens.{Begins};
 ghost use Rattle.flow_law.specs.SharedFlow.{NoFlow, config_fault, first_state};
+ghost use Rattle.flow_law.specs.declared.fault.FlowFault.TheVariants.{OutOfMemory};
 ghost use Rattle.flow_law.specs.declared.call.SharedCall.TheVariants as call;
 ghost use Rattle.flow_law.specs.declared.call.SharedReply.TheVariants as reply;
 ghost use Rattle.flow_core.specs.SharedCore.{cache_reply};
@@ -18,6 +19,7 @@ use std::sync::Wait;
 mod calls;
 mod emission;
 mod now;
+mod seen;
 mod subscribe;
 
 use calls::{ReplayCache, ResetReplayCache};
@@ -56,7 +58,8 @@ impl<T: FlowValue, A: Allocator + Copy> Flow<SharedCore<T, A>, A> {
         seat: &mut Seat<T, A>,
     ) -> Result<Vec<T, A>, FlowFault>
         requires { seat.old.table_id ≡ self.now.table_id }
-        ensures { Calls self.now seat.old call.ReplayCache (cache_reply result) seat.new }
+        ensures called { Calls self.now seat.old call.ReplayCache (cache_reply result) seat.new }
+        ensures refused { IfErr result (λ fault. fault ≡ OutOfMemory) }
     {
         self.call(rt, seat, ReplayCache)
     }

@@ -2,7 +2,7 @@
 ghost use Rattle.std.specs.Prelude.{◌≡◌, Err, IfOk, IfErr};
 ghost use Rattle.flow_law.specs.Tokens.{Begins};
 ghost use Rattle.flow_law.specs.StateFlow.{first_state_flow};
-ghost use Rattle.flow_law.specs.declared.fault.FlowFault.TheVariants.{Unsupported};
+ghost use Rattle.flow_law.specs.declared.fault.FlowFault.TheVariants.{OutOfMemory, Unsupported};
 ghost use Rattle.flow_law.specs.declared.call.StateCall.TheVariants as call;
 ghost use Rattle.flow_core.specs.StateCore.{cache_reply, reset_reply};
 ghost use Rattle.flow_shared.specs.StateReplies.{StateCalls};
@@ -16,6 +16,7 @@ use std::alloc::{Allocator, Global};
 use std::sync::Wait;
 
 mod calls;
+mod seen;
 mod value;
 
 use calls::{ReplayCache, ResetReplayCache};
@@ -61,7 +62,8 @@ impl<T: FlowValue, A: Allocator + Copy> Flow<StateCore<T, A>, A> {
         seat: &mut StateSeat<T, A>,
     ) -> Result<Vec<T, A>, FlowFault>
         requires { seat.old.table_id ≡ self.now.table_id }
-        ensures { StateCalls self.now seat.old call.ReplayCache (cache_reply result) seat.new }
+        ensures called { StateCalls self.now seat.old call.ReplayCache (cache_reply result) seat.new }
+        ensures refused { IfErr result (λ fault. fault ≡ OutOfMemory) }
     {
         self.call(rt, seat, ReplayCache)
     }

@@ -1,6 +1,7 @@
 //! The calls of subscribers, of any kind of flow for several threads.
-ghost use Rattle.std.specs.Prelude.{◌≡◌, ◌≢◌, ℕ, true, Ok, ⊤};
+ghost use Rattle.std.specs.Prelude.{◌≡◌, ◌≢◌, ◌⊎◌, ℕ, true, Ok, IsOk, IfErr, ⊤};
 ghost use Rattle.flow_law.specs.History.{replied};
+ghost use Rattle.flow_law.specs.declared.fault.FlowFault.TheVariants.{OutOfMemory, Exhausted};
 ghost use Rattle.flow_law.specs.declared.outcome.Next.TheVariants.{Gone};
 ghost use Rattle.flow_core.specs.SubId.{number_of};
 ghost use Rattle.flow_shared.specs.Calls.{Nexts, Unsubscribes, Counts, Meets, Subscribes, NextsNow, CountsNow};
@@ -42,7 +43,7 @@ impl<S: FlowCore> CoreCall<S> for TakeNext {
 
     ghost reply = { λ answer. replied S.kind S.kind.received answer };
 
-    ghost also = { λ c answer. ⊤ };
+    ghost also = { λ c answer. S.Item.IsAlwaysCopied → IsOk answer };
 
     fn run(self, core: &mut S) -> Result<Next<S::Item>, FlowFault> {
         core.next(self.id)
@@ -98,7 +99,8 @@ impl<S: FlowCore + Drop, A: Allocator + Copy> Flow<S, A> {
         seat: &mut FlowSeat<S, A>,
     ) -> Result<FlowSubscription<S, A>, FlowFault>
         requires { seat.old.table_id ≡ self.now.table_id }
-        ensures { Subscribes S.kind self.now S.kind.subscribe seat.old result seat.new }
+        ensures subscribed { Subscribes S.kind self.now S.kind.subscribe seat.old result seat.new }
+        ensures refused { IfErr result (λ fault. (fault ≡ OutOfMemory) ⊎ (fault ≡ Exhausted)) }
     {
         let id = self.call(rt, seat, Subscribe)?;
         let made = self.seat(seat);
@@ -119,6 +121,8 @@ impl<S: FlowCore + Drop, A: Allocator + Copy> Flow<S, A> {
         ensures called { Nexts S.kind self.now subscription.old result subscription.new }
         ensures number { subscription.new.number ≡ subscription.old.number }
         ensures live { result ≢ Ok Gone }
+        ensures refused { IfErr result (λ fault. fault ≡ OutOfMemory) }
+        ensures given { S.Item.IsAlwaysCopied → IsOk result }
     {
         let id = subscription.id;
         self.call(rt, &mut subscription.seat, TakeNext { id })
@@ -130,7 +134,8 @@ impl<S: FlowCore + Drop, A: Allocator + Copy> Flow<S, A> {
         subscription: &mut FlowSubscription<S, A>,
     ) -> Result<Next<S::Item>, FlowFault>
         requires { subscription.old.token.table_id ≡ self.now.table_id }
-        ensures { NextsNow S.kind self.now subscription.old result subscription.new }
+        ensures called { NextsNow S.kind self.now subscription.old result subscription.new }
+        ensures given { S.Item.IsAlwaysCopied → IfErr result (λ fault. fault ≡ FlowFault.Busy) }
     {
         let id = subscription.id;
         match self.call_now(&mut subscription.seat, TakeNext { id }) {

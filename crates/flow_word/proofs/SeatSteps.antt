@@ -16,8 +16,8 @@ use Rattle.flow_word.specs.declared.view.Known.{Known}
 use Rattle.flow_word.specs.declared.view.Start.{Start}
 use Rattle.flow_word.specs.View.{begun, only, with_knows, first_view, first_of, others_of}
 use Rattle.flow_word.specs.Rule.{IsFine, WordHolds}
-use Rattle.flow_word.specs.Steps.{observes}
-use Rattle.flow_word.proofs.Keeps.{started, fits_at}
+use Rattle.flow_word.specs.Steps.{observes, looks}
+use Rattle.flow_word.proofs.Keeps.{started, fits_at, still}
 
 module _ (T : Type 0) (packs : ℕ → Type 0) (value_of : ℕ → T) (start : Start) where
   abbrev V : Type 0
@@ -48,7 +48,7 @@ module _ (T : Type 0) (packs : ℕ → Type 0) (value_of : ℕ → T) (start : S
   pub opens : packs start.word → start.limit < 4294967296 → Rule (opening (start.word ∷ 0 ∷ []) [] (first_view start))
   opens packed fits = record {
     history = [];
-    is_history = record { begins = tt; legal = tt; owned = tt };
+    is_history = record { begins = refl; legal = tt; owned = tt };
     word = start.word;
     packed = packed;
     value = refl;
@@ -104,6 +104,16 @@ module _ (T : Type 0) (packs : ℕ → Type 0) (value_of : ℕ → T) (start : S
 
       second : IsFine start r.history y
       second = r.seats.fine id 1 y (me.0, at, subst (λ (l : V). get_elem? l 1 ≡ some y) (sym is) refl)
+
+  -- a step that changes nothing
+  pub looking : (slots id : ℕ) (me : Me Unit V) → me.0 ≡ only me.0 ∷ [] → Allows Rule slots id me 0 (λ n. n) (looks value_of (step slots 0 0 0 none) me)
+  looking slots id me is s r n at small = (
+    me.0,
+    keeps,
+    tt,
+    still T packs value_of start s r 0 id me.0 at,
+    (r.history, subst (λ (z : Start). IsStateHistory (begun value_of z) r.history) (sym (started T packs value_of start s r id me.0 is at)) r.is_history, fits_at T packs value_of start s r id me.0 is at, refl),
+  )
 
   -- two tokens part
   pub parts : (id : ℕ) (v : V) (x y : Known T) → v ≡ x ∷ y ∷ [] → Splits Rule id v (first_of v) (others_of v)

@@ -70,6 +70,10 @@ module _ {T : Type 0} (value_of : ℕ → T) where
   observes step before found after =
       (history : StateHistory T) × IsStateHistory (begun value_of (only before.0).start) history × AllByRecursion (λ x. Fits history x.knows) before.0 × (after ≡ (map (with_knows (sees history)) before.0, before.1))
 
+  -- nothing has changed, and some history of the flow fits what the token knows
+  abbrev pub looks : Step Unit → Me Unit (List (Known T)) → ℕ → Me Unit (List (Known T)) → Type 0
+  looks step before found after = (history : StateHistory T) × IsStateHistory (begun value_of (only before.0).start) history × Fits history (only before.0).knows × (after ≡ before)
+
 module _ {T : Type 0} (packs : ℕ → Type 0) (value_of : ℕ → T) where
   abbrev pub reads : Step Unit → Me Unit (List (Known T)) → ℕ → Me Unit (List (Known T)) → Type 0
   reads step before found after = packs found × Makes value_of before GetValue (Got (value_of found)) after

@@ -27,6 +27,7 @@ mod calls;
 mod meeting;
 mod plays;
 mod rule;
+mod seen;
 mod subscriber;
 mod token;
 mod update;

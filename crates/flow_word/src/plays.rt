@@ -2,7 +2,7 @@
 ghost use Rattle.std.specs.Prelude.{[], ◌++◌, map};
 ghost use Rattle.flow_law.specs.Growth.{makes, child};
 ghost use Rattle.flow_word.specs.View.{with_knows, first_of, others_of};
-ghost use Rattle.flow_word.specs.Steps.{reads, sets, exchanges, counts_live, receives, leaves, finds_room, enters, observes};
+ghost use Rattle.flow_word.specs.Steps.{reads, sets, exchanges, counts_live, receives, leaves, finds_room, enters, observes, looks};
 
 use crate::view::Known;
 use atomic_table::{Join, Play, Split};
@@ -96,6 +96,13 @@ pub(crate) struct Observe;
 
 impl<T: Packed> Play<(), Sequence<Known<T>>> for Observe {
     ghost then = { observes T.value_of };
+}
+
+/// A load that changes nothing, by which a token learns that what it has seen begins a history.
+pub(crate) struct Look;
+
+impl<T: Packed> Play<(), Sequence<Known<T>>> for Look {
+    ghost then = { looks T.value_of };
 }
 
 /// They part again.

@@ -1,9 +1,10 @@
 //! Emissions into a shared flow for several threads.
 ghost use Rattle.std.specs.Prelude.{◌≡◌, IfErr};
+ghost use Rattle.flow_law.specs.declared.fault.FlowFault.TheVariants.{Exhausted};
 ghost use Rattle.flow_law.specs.declared.call.SharedCall.TheVariants as call;
 ghost use Rattle.flow_law.specs.declared.call.SharedReply.TheVariants as reply;
 ghost use Rattle.flow_core.specs.SharedCore.{try_emit_reply, emit_reply};
-ghost use Rattle.flow_shared.specs.SharedReplies.{Calls, Emits, Polls, HandsBack, emitted_reply, emitted_token, IsGivenIfQueued};
+ghost use Rattle.flow_shared.specs.SharedReplies.{Calls, Emits, Polls, HandsBack, EmitRefusedIfDue, emitted_reply, emitted_token, IsGivenIfQueued};
 
 use super::Seat;
 use super::calls::{Cancel, Emit as EmitCall, Poll, TryEmit};
@@ -47,6 +48,7 @@ impl<T: FlowValue, A: Allocator + Copy> Flow<SharedCore<T, A>, A> {
     ) -> Result<bool, Refused<T>>
         requires { seat.old.table_id ≡ self.now.table_id }
         ensures called { Calls self.now seat.old (call.TryEmit value) (try_emit_reply result) seat.new }
+        ensures refused { IfErr result (λ refused. refused.fault ≡ Exhausted) }
         ensures handed_back { IfErr result (λ refused. refused.value ≡ value) }
     {
         self.call(rt, seat, TryEmit { value })
@@ -58,7 +60,8 @@ impl<T: FlowValue, A: Allocator + Copy> Flow<SharedCore<T, A>, A> {
     /// for how long the emission waits, and `cancel` ends the wait.
     pub fn emit<R: Wait>(&self, rt: &R, seat: Seat<T, A>, value: T) -> Emitted<T, A>
         requires { seat.table_id ≡ self.now.table_id }
-        ensures { Emits self.now seat value result }
+        ensures emits { Emits self.now seat value result }
+        ensures refused { EmitRefusedIfDue result }
     {
         let FlowSeat { seat } = seat;
         let (own, answer) = self.call_by(rt, seat.unwrap(), EmitCall { value });

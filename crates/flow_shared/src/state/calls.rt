@@ -1,5 +1,5 @@
 //! The calls that state flows alone have.
-ghost use Rattle.std.specs.Prelude.{◌≡◌, Err, ⊤};
+ghost use Rattle.std.specs.Prelude.{◌≡◌, Err, IsOk, ⊤};
 ghost use Rattle.flow_law.specs.declared.fault.FlowFault.TheVariants.{Unsupported};
 ghost use Rattle.flow_law.specs.declared.call.StateCall.TheVariants as call;
 ghost use Rattle.flow_law.specs.declared.call.StateReply.TheVariants as reply;
@@ -20,7 +20,7 @@ impl<T: FlowValue, A: Allocator + Copy> CoreCall<StateCore<T, A>> for GetValue {
 
     ghost reply = { λ answer. value_reply answer };
 
-    ghost also = { λ c answer. ⊤ };
+    ghost also = { λ c answer. T.IsAlwaysCopied → IsOk answer };
 
     fn run(self, core: &mut StateCore<T, A>) -> Result<T, FlowFault> {
         core.value()

@@ -1,5 +1,6 @@
 //! The current value of a state flow for several threads.
-ghost use Rattle.std.specs.Prelude.{◌≡◌};
+ghost use Rattle.std.specs.Prelude.{◌≡◌, IfErr, IsOk};
+ghost use Rattle.flow_law.specs.declared.fault.FlowFault.TheVariants.{OutOfMemory};
 ghost use Rattle.flow_law.specs.declared.call.StateCall.TheVariants as call;
 ghost use Rattle.flow_law.specs.declared.call.StateReply.TheVariants as reply;
 ghost use Rattle.flow_core.specs.StateCore.{value_reply};
@@ -20,7 +21,9 @@ impl<T: FlowValue, A: Allocator + Copy> Flow<StateCore<T, A>, A> {
     /// set what depends on the value that was read, `compare_and_set`.
     pub fn value<R: Wait>(&self, rt: &R, seat: &mut StateSeat<T, A>) -> Result<T, FlowFault>
         requires { seat.old.table_id ≡ self.now.table_id }
-        ensures { StateCalls self.now seat.old call.GetValue (value_reply result) seat.new }
+        ensures called { StateCalls self.now seat.old call.GetValue (value_reply result) seat.new }
+        ensures refused { IfErr result (λ fault. fault ≡ OutOfMemory) }
+        ensures given { T.IsAlwaysCopied → IsOk result }
     {
         self.call(rt, seat, GetValue)
     }

@@ -47,7 +47,7 @@ returns-in_default g c =
     let drained = ends_with (NextsOf g.S.FlowCore.kind c.args.self.now) c.args.most c.loop-left.left c.min-room.result (numbered c.args.seat.now n) (numbered c.loop-left.seat n) (numbered c.take.new.seat n)
     c.args.values.now.items c.loop-left.values.items c.reserve.new.self.items c.take.new.values.items c.loop-left.invariant.taken c.loop-left.invariant.within (omega (arith, c.min-room.ensures))
     c.reserve.ensures.items c.take.result c.take.ensures.drained (Ok c.in_ok-ended.ended) c.in_ok-ended.was (λ e. c.in_default.not-Most (cc e)) in
-    record { drained = drained; subscribed = c.take.ensures.subscribed; flow = c.take.ensures.flow ∙ c.loop-left.invariant.flow ∙ sym c.requires.flow }
+    record { drained = drained; subscribed = c.take.ensures.subscribed; flow = c.take.ensures.flow ∙ c.loop-left.invariant.flow ∙ sym c.requires.flow; full = λ _. tt }
 
 pub returns-in_err-ended-clause-drained : goal.returns-in_err-ended-clause-drained
 returns-in_err-ended-clause-drained g c =

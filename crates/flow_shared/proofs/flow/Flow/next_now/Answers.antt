@@ -16,8 +16,8 @@ invariant_of-subscription g c =
       | in-Err w ↦ subst (λ t. IsSubscription g.S.FlowCore.kind t.knows n) (sym w.in-Err.ensures.busy.0) c.subscription.invariant
     ]
 
-pub returns : goal.returns
-returns g c =
+pub returns-clause-called : goal.returns-clause-called
+returns-clause-called g c =
     let n = number_of c.subscription.inside.id in
     let old = numbered c.subscription.inside.seat n in
     let new = numbered c.call_now.new.seat n in

@@ -23,7 +23,7 @@ returns-clause-drained g c =
     subst (λ t. DrainsBy (NextsOf g.S.FlowCore.kind c.args.self.now) c.args.most (numbered t n) c.args.values.now.items c.take_inside-own.result.1 c.take_inside-own.new.values.items (numbered c.take_inside-own.result.0 n)) is
     (drains_by g.S.FlowCore.kind g.S.FlowCore.first g.S.FlowCore.stands_as g.S.Guarded.stands g.met.S.FlowCore.stands_so g.met.S.FlowCore.stands_then g.met.S.FlowCore.lawful n
     c.args.self.now _ c.unwrap-own.result c.enter-held.result c.self.view_is c.enter-held.ensures.found subscribed c.enter-held.ensures.lost c.args.most (omega (arith, c.requires.some))
-    c.args.values.now.items c.take_inside-own.new.values.items c.take_inside-own.result.1 c.take_inside-own.result.0 c.take_inside-own.ensures)
+    c.args.values.now.items c.take_inside-own.new.values.items c.take_inside-own.result.1 c.take_inside-own.result.0 c.take_inside-own.ensures.takes)
 
 pub returns-clause-subscribed : goal.returns-clause-subscribed
 returns-clause-subscribed g c =
@@ -32,4 +32,4 @@ returns-clause-subscribed g c =
     let subscribed = subst (λ t. IsSubscription g.S.FlowCore.kind t.knows n) (sym is) c.requires.subscribed in
     subscribed_after g.S.FlowCore.kind g.S.FlowCore.first g.S.FlowCore.stands_as g.S.Guarded.stands g.met.S.FlowCore.stands_so g.met.S.FlowCore.stands_then g.met.S.FlowCore.lawful n
     c.args.self.now _ c.unwrap-own.result c.enter-held.result c.self.view_is c.enter-held.ensures.found subscribed c.enter-held.ensures.lost c.args.most (omega (arith, c.requires.some))
-    c.args.values.now.items c.take_inside-own.new.values.items c.take_inside-own.result.1 c.take_inside-own.result.0 c.take_inside-own.ensures
+    c.args.values.now.items c.take_inside-own.new.values.items c.take_inside-own.result.1 c.take_inside-own.result.0 c.take_inside-own.ensures.takes

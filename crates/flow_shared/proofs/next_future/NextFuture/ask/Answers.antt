@@ -9,7 +9,7 @@ use Rattle.flow_shared.proofs.next_future.NextFuture.ask.Goals as goal
 pub returns-in-Some-clause-polls : goal.returns-in-Some-clause-polls
 returns-in-Some-clause-polls g c =
     let new = c.next_now-answer.new.subscription in
-    let called = subst (λ flow. NextsNow shared_flow flow c.args.subscription c.next_now-answer.result new) (ap (λ f. f.flow) c.self.view_is) c.next_now-answer.ensures in
+    let called = subst (λ flow. NextsNow shared_flow flow c.args.subscription c.next_now-answer.result new) (ap (λ f. f.flow) c.self.view_is) c.next_now-answer.ensures.called in
     let polled = subst (λ given. PollsBy c.args.self.now.flow given c.args.subscription new) (sym c.given_by.ensures ∙ c.in-Some.is)
     (polls_by c.args.self.now.flow c.next_now-answer.result c.args.subscription new called) in
     subst (λ after. NextPolls c.args.self.now.flow (Some c.args.subscription) (Ready (new, c.in-Some.given)) after) (sym c.requires.0) polled
@@ -17,6 +17,6 @@ returns-in-Some-clause-polls g c =
 pub returns-in-None-clause-polls : goal.returns-in-None-clause-polls
 returns-in-None-clause-polls g c =
     let new = c.next_now-answer.new.subscription in
-    let called = subst (λ flow. NextsNow shared_flow flow c.args.subscription c.next_now-answer.result new) (ap (λ f. f.flow) c.self.view_is) c.next_now-answer.ensures in
+    let called = subst (λ flow. NextsNow shared_flow flow c.args.subscription c.next_now-answer.result new) (ap (λ f. f.flow) c.self.view_is) c.next_now-answer.ensures.called in
     subst (λ given. PollsBy c.args.self.now.flow given c.args.subscription new) (sym c.given_by.ensures ∙ c.in-None.is)
     (polls_by c.args.self.now.flow c.next_now-answer.result c.args.subscription new called)

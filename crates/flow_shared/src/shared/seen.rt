@@ -1,0 +1,40 @@
+//! What holds of all that a token of a shared flow has seen.
+ghost use Rattle.std.specs.Prelude.{◌≡◌, ℕ};
+ghost use Rattle.flow_law.specs.History.{IsHistory};
+ghost use Rattle.flow_law.specs.Laws.{Delivers, NoIdleQueue};
+ghost use Rattle.flow_law.specs.SharedHistory.{shared_flow, state_after};
+
+use super::{Seat, Subscription};
+use crate::flow::Flow;
+use flow_core::SharedCore;
+use flow_law::FlowValue;
+use std::alloc::Allocator;
+
+impl<T: FlowValue, A: Allocator + Copy> Flow<SharedCore<T, A>, A> {
+    /// Proves the laws of shared flows for what the seat has seen, no matter who made the flow. It makes no call of the
+    /// flow, changes nothing and does not wait.
+    ///
+    /// Call it on a lent flow, to conclude what a subscriber received, or that no value waits in the queue.
+    pub fn seen(&self, seat: &mut Seat<T, A>)
+        requires { seat.old.table_id ≡ self.now.table_id }
+        ensures unchanged { seat.new ≡ seat.old }
+        // It is a history of the flow, from its first state on.
+        ensures history { IsHistory shared_flow self.now.first seat.new.knows.seen }
+        ensures delivered { (u : ℕ) → Delivers u self.now.first.config seat.new.knows.seen }
+        ensures no_idle_queue { NoIdleQueue (state_after self.now.first.config seat.new.knows.seen) }
+    {
+        self.look(seat);
+    }
+
+    /// Proves the laws of shared flows for what the subscription has seen, as `seen` does.
+    pub fn seen_by_subscription(&self, subscription: &mut Subscription<T, A>)
+        requires { subscription.old.token.table_id ≡ self.now.table_id }
+        ensures unchanged { subscription.new ≡ subscription.old }
+        ensures history { IsHistory shared_flow self.now.first subscription.new.token.knows.seen }
+        ensures delivered { (u : ℕ) → Delivers u self.now.first.config subscription.new.token.knows.seen }
+        ensures no_idle_queue { NoIdleQueue
+            (state_after self.now.first.config subscription.new.token.knows.seen) }
+    {
+        self.look(&mut subscription.seat);
+    }
+}
