@@ -68,7 +68,7 @@ fn exchange<R: Wait + RandomSource + AllocGlobal>(
 }
 
 impl SharedCaller<'_> {
-    /// So many rounds.
+    /// So many rounds, in each of which it reads a value.
     pub fn exchange_all<R: Wait + RandomSource + AllocGlobal>(
         &mut self,
         rt: &R,
@@ -77,6 +77,9 @@ impl SharedCaller<'_> {
     ) -> Option<Found> {
         let subscription = self.flow.subscribe(rt, &mut self.seat).ok()?;
         let seat = self.flow.seat(&mut self.seat);
-        exchange(rt, self.flow, seat, subscription, number, rounds)
+        let mut found = exchange(rt, self.flow, seat, subscription, number, rounds)?;
+        let has_read_each = found.read == u64::from(rounds);
+        found.check(has_read_each);
+        Some(found)
     }
 }

@@ -1,9 +1,10 @@
 //! What a thread found.
 
-/// How often something was wrong, and how much it has added to each state flow.
+/// How often something was wrong, how many values it has read of a shared flow, and how much it has added to each state flow.
 #[derive(Clone, Copy)]
 pub struct Found {
     pub wrong: u64,
+    pub read: u64,
     /// To the one without a lock.
     pub added: u64,
     /// To the one behind a gate.
@@ -12,6 +13,7 @@ pub struct Found {
 
 pub const NOTHING: Found = Found {
     wrong: 0,
+    read: 0,
     added: 0,
     added_gated: 0,
 };
@@ -28,6 +30,7 @@ impl Found {
     pub fn plus(self, other: Found) -> Found {
         Found {
             wrong: self.wrong.saturating_add(other.wrong),
+            read: self.read.saturating_add(other.read),
             added: self.added.saturating_add(other.added),
             added_gated: self.added_gated.saturating_add(other.added_gated),
         }

@@ -38,6 +38,7 @@ impl Order {
             None => false,
         };
         self.found.check(is_next);
+        self.found.read = self.found.read.saturating_add(1);
     }
 }
 

@@ -14,6 +14,9 @@ use std::thread::yield_now;
 /// How many calls of `next` a subscription makes.
 const CALLS: u32 = 64;
 
+/// How many further subscriptions a reader without a value makes at most.
+const LATE: u32 = 20_000;
+
 /// Calls `next` in either way, as the dice say, and leaves. A live subscription is never gone. `None` for want of memory.
 fn read<R: Wait>(
     rt: &R,
@@ -43,13 +46,20 @@ fn read<R: Wait>(
 }
 
 impl SharedCaller<'_> {
-    /// So many calls, by one subscription after another.
+    /// Makes so many calls, by one subscription after another, and further ones until it has read a value: the flow replays
+    /// what was emitted. `None` if it is out of memory.
     pub fn read_all<R: Wait>(&mut self, rt: &R, dice: &mut Pcg32, rounds: u32) -> Option<Found> {
         let mut found = NOTHING;
-        for _ in 0..rounds / CALLS {
+        let usual = rounds / CALLS;
+        for number in 0..usual.saturating_add(LATE) {
+            if number >= usual && found.read > 0 {
+                break;
+            }
             let subscription = self.flow.subscribe(rt, &mut self.seat).ok()?;
             found = found.plus(read(rt, self.flow, subscription, dice)?);
         }
+        let has_read = found.read > 0;
+        found.check(has_read);
         Some(found)
     }
 }

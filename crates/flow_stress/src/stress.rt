@@ -7,6 +7,7 @@ use crate::state_caller::StateCaller;
 use crate::word_caller::WordCaller;
 use flow_law::{Config, Overflow};
 use flow_shared::{SharedFlow, StateFlow};
+use flow_testing::Start;
 use flow_word::WordState;
 use rand_pcg::Pcg32;
 use std::alloc::{AllocGlobal, Global};
@@ -32,7 +33,8 @@ impl<'a> Caller<'a> {
         self.state.check(rt, found)
     }
 
-    /// Does the calls of each other caller in a thread of its own, and looks at the flows then.
+    /// Does the calls of each other caller in a thread of its own, and looks at the flows then. All threads begin at the same
+    /// time. `None` if one could not be made, or if memory ran out.
     fn run_all<R: Threads + Wait + RandomSource + AllocGlobal + Sync>(
         &mut self,
         rt: &R,
@@ -41,12 +43,19 @@ impl<'a> Caller<'a> {
     ) -> Option<Found> {
         let mut others = self.others(alloc, size)?;
         let threads = others.len().max(1);
+        let start = Start::new(u64::from(size.threads));
         for_each_mut(
             rt,
             &mut others,
             threads,
-            &|_, caller| { caller.run(rt, size.rounds) },
+            &|_, caller| {
+                start.wait();
+                caller.run(rt, size.rounds)
+            },
         );
+        if !start.is_kept() {
+            return None;
+        }
         let mut all = sum(&others)?;
         self.check(rt, &mut all)?;
         Some(all)

@@ -1,7 +1,7 @@
 //! A value of which one copy is refused.
 ghost use Rattle.std.specs.Prelude.{◌≡◌};
 ghost use Rattle.std.specs.Ordering.{int_eq};
-ghost use Rattle.std.proofs.Common.{rules};
+ghost use Rattle.flow_law.specs.Values.{whole_exact};
 
 use flow_law::{FlowFault, FlowValue};
 use std::cell::Cell;
@@ -64,5 +64,5 @@ impl FlowValue for CopyLimited<'_> {
         self.number == other.number
     }
 
-    ghost is_same_exact = { Prim.search rules };
+    ghost is_same_exact = { whole_exact };
 }
