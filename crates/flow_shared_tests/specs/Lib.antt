@@ -1,1 +1,2 @@
+pub mod LentFlows
 pub mod ReadingBack

@@ -13,6 +13,8 @@ mod compare;
 #[cfg(test)]
 mod examples;
 #[cfg(test)]
+mod lent;
+#[cfg(test)]
 mod playing;
 #[cfg(test)]
 mod reading;

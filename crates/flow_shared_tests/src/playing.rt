@@ -1,12 +1,15 @@
 //! Worked examples are played with the first allocation refused, with the second one, and so on, until a run has none that is.
-//! A step that is refused is taken again. Whatever is refused, the answers are those of the documentation.
+//! A step that is refused is taken again. Whatever is refused, the answers are those of the documentation; and where memory
+//! refuses nothing no step is refused.
 
+mod on_cores;
 mod on_flows;
 mod on_shared_flows;
 mod on_state_flows;
 mod runs;
 mod tokens;
 
+pub use on_cores::subscriber_step;
 pub use on_flows::{FlowPlayer, Played, take_all};
-pub use runs::{MANY, play, refuse_each};
+pub use runs::{Callers, MANY, play, refuse_each};
 pub use tokens::{Reader, Waiting, token};

@@ -4,6 +4,7 @@
 
 mod awaiting;
 mod chains;
+mod copies;
 mod flows;
 mod gates;
 mod sharings;

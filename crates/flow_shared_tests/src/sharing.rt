@@ -5,6 +5,7 @@
 
 mod expiry;
 mod hubs;
+mod on_cores;
 mod playing;
 mod refusal_steps;
 mod refusals;

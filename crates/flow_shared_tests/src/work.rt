@@ -1,5 +1,8 @@
 //! What several threads do at once.
+use crate::compare::compare;
+use flow_testing::Start;
 use std::alloc::AllocGlobal;
+use std::process::Abort;
 use std::random::RandomSource;
 use std::sync::Wait;
 use std::thread::{Threads, for_each_mut};
@@ -9,11 +12,21 @@ pub trait Work {
     fn run<R: Wait + RandomSource + AllocGlobal>(&mut self, rt: &R);
 }
 
-/// Each does its work on a thread of its own, all at once.
-pub fn run_all<R: Threads + Wait + RandomSource + AllocGlobal + Sync, W: Work + Send>(
+/// Does the work of each on a thread of its own; all threads begin at the same time. The last one is the current thread.
+pub fn run_all<R: Threads + Wait + RandomSource + AllocGlobal + Abort + Sync, W: Work + Send>(
     rt: &R,
     workers: &mut [W],
 ) {
     let threads = workers.len().max(1);
-    for_each_mut(rt, workers, threads, &|_, worker| worker.run(rt));
+    let start = Start::new(workers.len() as u64);
+    for_each_mut(
+        rt,
+        workers,
+        threads,
+        &|_, worker| {
+            start.wait();
+            worker.run(rt)
+        },
+    );
+    compare(rt, 99, start.is_kept(), true);
 }

@@ -11,8 +11,10 @@ use std::thread::Threads;
 
 mod crowd;
 mod explained;
+mod limits;
 mod streams;
 mod texts;
+mod vectors;
 
 /// What a run of the program takes, and a test that fails.
 pub trait Host: Abort + Threads + Wait + Sync + AllocGlobal {}

@@ -7,4 +7,6 @@ mod one_caller;
 #[cfg(test)]
 mod packs;
 #[cfg(test)]
+mod signals;
+#[cfg(test)]
 mod threads;

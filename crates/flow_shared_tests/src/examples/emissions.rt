@@ -109,6 +109,7 @@ pub const EXAMPLES: &[Example] = &[
             TryEmit(7, Ok(false)),
             Emit(7, WAITS),
             Next(0, &Value(7)),
+            Poll(0, WAITS),
             Cancel(0, Ok(true)),
             Next(1, &Empty),
         ],

@@ -108,7 +108,7 @@ fn an_emission_is_pending_until_each_subscriber_has_it(rt: HostRuntime) {
     compare(&rt, 4, cancelled(&rt, emit), None);
 }
 
-/// One that is cancelled before a poll was never made.
+/// It is pending at each poll until it is cancelled. One that is cancelled before a poll was never made.
 #[test]
 fn a_cancelled_emission_is_not_received(rt: HostRuntime) {
     let (flow, mut seat, first, second) = unbuffered(&rt, rt.alloc());
@@ -116,6 +116,7 @@ fn a_cancelled_emission_is_not_received(rt: HostRuntime) {
     let other = flow.seat(&mut seat);
     let mut emit = EmitFuture::new(&flow, seat, 7);
     pends_and_is_received(&rt, &task, &mut emit, &flow, first);
+    pends(&rt, &task, &mut emit);
     compare(&rt, 3, cancelled(&rt, emit), Some(true));
     let never_made = EmitFuture::new(&flow, other, 7);
     compare(&rt, 4, cancelled(&rt, never_made), Some(true));

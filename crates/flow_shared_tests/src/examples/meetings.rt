@@ -100,8 +100,17 @@ const MEETINGS: &[Meeting] = &[
     },
 ];
 
-/// How often two calls race.
-const TIMES: u32 = 100;
+/// How often threads meet.
+const TIMES: u32 = 20;
+
+/// How often two calls race at least,
+const LEAST_RACES: u32 = 100;
+
+/// and at most, until each of them came first.
+const MOST_RACES: u32 = 10_000;
+
+/// How often a delayed thread yields.
+const PAUSE: u32 = 20;
 
 const RACES: &[Meeting] = &[
     // An emission that waits for room is cancelled while the subscriber makes room. It is received by nobody, or by all.
@@ -129,39 +138,66 @@ const RACES: &[Meeting] = &[
     },
 ];
 
-/// The thread has done what it was to do; only a cancel may come too late. Its subscriber comes back. Whether it was done.
-fn has_ended<'a>(
-    rt: &impl Abort,
-    player: &mut FlowPlayer<'a, i64, SharedCore<i64>>,
-    worker: &mut Worker<'a>,
-) -> bool {
-    let is_done = worker.is_done;
-    compare(rt, 100, is_done || matches!(worker.role, Cancel), true);
-    if let Some(place) = player.readers.get_mut(0) {
-        if place.is_none() {
-            *place = worker.reader.take();
-        }
-    }
-    is_done
+/// The outcome of a round of threads.
+#[derive(Clone, Copy)]
+struct Outcome {
+    /// Whether no cancel came too late.
+    all_done: bool,
+    /// Whether each reader received the first of the values that it may receive.
+    all_first: bool,
 }
 
-/// These threads run at once. Whether no cancel came too late.
+impl Outcome {
+    /// Adds the outcome of one thread, and takes its subscriber back. Only a cancel may come too late.
+    fn with<'a>(
+        self,
+        rt: &impl Abort,
+        player: &mut FlowPlayer<'a, i64, SharedCore<i64>>,
+        worker: &mut Worker<'a>,
+    ) -> Outcome {
+        let (is_done, is_first) = (worker.is_done, worker.is_first);
+        compare(rt, 100, is_done || matches!(worker.role, Cancel), true);
+        if let Some(place) = player.readers.get_mut(0) {
+            if place.is_none() {
+                *place = worker.reader.take();
+            }
+        }
+        Outcome {
+            all_done: self.all_done && is_done,
+            all_first: self.all_first && is_first,
+        }
+    }
+}
+
+/// Delays the first thread in every second of four runs, and the second thread in every fourth.
+fn pause_of(run: u32, place: usize) -> u32 {
+    match (run % 4, place) {
+        (1, 0) | (3, 1) => PAUSE,
+        _ => 0,
+    }
+}
+
+/// These threads run at once.
 fn run_round<'a, R: Threads + Wait + Abort + RandomSource + AllocGlobal + Sync>(
     rt: &R,
     alloc: Global,
     player: &mut FlowPlayer<'a, i64, SharedCore<i64>>,
     roles: &[Role],
-) -> bool {
+    run: u32,
+    before: Outcome,
+) -> Outcome {
     let mut workers = Vec::new(alloc);
-    for role in roles {
-        workers.push(player.worker(rt, *role)).expect(rt, "memory");
+    for (place, role) in roles.iter().enumerate() {
+        let mut worker = player.worker(rt, *role);
+        worker.pause = pause_of(run, place);
+        workers.push(worker).expect(rt, "memory");
     }
     run_all(rt, workers.as_mut_slice());
-    let mut all_done = true;
+    let mut outcome = before;
     for worker in &mut workers {
-        all_done &= has_ended(rt, player, worker);
+        outcome = outcome.with(rt, player, worker);
     }
-    all_done
+    outcome
 }
 
 /// What follows, where no cancel came too late, and where one did.
@@ -179,15 +215,19 @@ fn meet<R: Threads + Wait + Abort + RandomSource + AllocGlobal + Sync>(
     alloc: Global,
     player: &mut FlowPlayer<'_, i64, SharedCore<i64>>,
     meeting: &Meeting,
-) {
-    let mut refused = Vec::new(alloc);
-    take_all(rt, player, 0, meeting.before, &mut refused);
-    let mut all_done = true;
+    run: u32,
+) -> Outcome {
+    take_all(rt, player, 0, meeting.before);
+    let mut outcome = Outcome {
+        all_done: true,
+        all_first: true,
+    };
     for roles in meeting.rounds {
-        all_done &= run_round(rt, alloc, player, *roles);
+        outcome = run_round(rt, alloc, player, *roles, run, outcome);
     }
-    let then = steps_then(rt, meeting, all_done);
-    take_all(rt, player, 200, then, &mut refused);
+    let then = steps_then(rt, meeting, outcome.all_done);
+    take_all(rt, player, 200, then);
+    outcome
 }
 
 /// A core has so many subscribers, one of these caches, and no other value.
@@ -207,26 +247,55 @@ fn hold<R: Threads + Wait + Abort + RandomSource + AllocGlobal + Sync>(
     rt: &R,
     alloc: Global,
     meeting: &Meeting,
-) {
+    run: u32,
+) -> Outcome {
     let (flow, mut seat) = SharedFlow::new(alloc, meeting.config).expect(rt, "a flow");
     let own = flow.seat(&mut seat);
     let mut player = FlowPlayer::new(alloc, alloc, &flow, own);
-    meet(rt, alloc, &mut player, meeting);
+    let outcome = meet(rt, alloc, &mut player, meeting, run);
     drop(player);
     match flow.close(seat) {
         Some(core) => is_left(rt, core, meeting),
         None => panic!(rt; "somebody is inside"),
     }
+    outcome
+}
+
+/// Races two calls until each of them came first.
+fn race<R: Threads + Wait + Abort + RandomSource + AllocGlobal + Sync>(
+    rt: &R,
+    alloc: Global,
+    meeting: &Meeting,
+) {
+    let mut came_first = 0u32;
+    for run in 0..MOST_RACES {
+        let Outcome {
+            all_done,
+            all_first,
+        } = hold(rt, alloc, meeting, run);
+        if all_done && all_first {
+            came_first = came_first.saturating_add(1);
+        }
+        let has_both = came_first > 0 && came_first <= run;
+        if has_both && run >= LEAST_RACES {
+            return;
+        }
+    }
+    panic!(rt; "one call came first {came_first} times of {MOST_RACES}");
 }
 
 #[test]
 fn threads_meet_at_shared_flows(rt: HostRuntime) {
-    for meeting in MEETINGS {
-        hold(&rt, rt.alloc(), meeting);
-    }
     for _ in 0..TIMES {
-        for race in RACES {
-            hold(&rt, rt.alloc(), race);
+        for meeting in MEETINGS {
+            hold(&rt, rt.alloc(), meeting, 0);
         }
+    }
+}
+
+#[test]
+fn each_of_two_calls_comes_first(rt: HostRuntime) {
+    for meeting in RACES {
+        race(&rt, rt.alloc(), meeting);
     }
 }

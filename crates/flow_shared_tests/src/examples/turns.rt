@@ -5,7 +5,7 @@ use crate::compare::compare;
 use crate::steps::UNBUFFERED;
 use crate::work::{Work, run_all};
 use flow_law::Config;
-use flow_shared::{Seat, SharedFlow};
+use flow_shared::{Seat, SharedFlow, StateFlow};
 use std::alloc::AllocGlobal;
 use std::process::Abort;
 use std::random::RandomSource;
@@ -70,4 +70,12 @@ fn a_seat_goes_to_two_threads_in_turn(rt: HostRuntime) {
     compare(&rt, 2, cache.as_slice() == [1, 2].as_slice(), true);
     compare(&rt, 3, core.subscription_count(), 0);
     compare(&rt, 4, core.held(), 2);
+}
+
+/// A state flow that had no call closes with its initial value.
+#[test]
+fn a_closed_state_flow_has_its_initial_value(rt: HostRuntime) {
+    let (flow, seat) = StateFlow::new(rt.alloc(), 5, u64::MAX).expect(&rt, "a flow");
+    let core = flow.close(seat).expect(&rt, "nobody is inside");
+    compare(&rt, 0, core.value(), Ok(5));
 }

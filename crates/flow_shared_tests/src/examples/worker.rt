@@ -43,8 +43,12 @@ pub struct Worker<'a> {
     pub role: Role,
     pub reader: Option<Reader<'a, SharedCore<i64>>>,
     pub emission: Option<Waiting<'a, i64>>,
+    /// How often it yields to other threads before it begins.
+    pub pause: u32,
     /// Whether it did what it was to do.
     pub is_done: bool,
+    /// Whether it received the first of the values that it may receive. A worker that does not read always has.
+    pub is_first: bool,
     ghost of_flow: { seat.table_id ≡ flow.now.table_id },
 }
 
@@ -67,7 +71,9 @@ impl<'a> FlowPlayer<'a, i64, SharedCore<i64>> {
             role,
             reader,
             emission,
+            pause: 0,
             is_done: false,
+            is_first: false,
         }
     }
 }
@@ -110,12 +116,21 @@ fn is_emitted<R: Wait>(rt: &R, emission: Option<Waiting<'_, i64>>) -> bool {
 
 impl<'a> Work for Worker<'a> {
     fn run<R: Wait + RandomSource + AllocGlobal>(&mut self, rt: &R) {
+        for _ in 0..self.pause {
+            yield_now();
+        }
+        self.is_first = true;
         self.is_done = match (self.role, self.reader.take()) {
             (Role::Read(wanted), Some(reader)) => {
                 let mut reader = reader;
                 let received = reader.flow.next(rt, &mut reader.subscription);
                 self.reader = Some(reader);
-                matches!(received, Ok(next) if wanted.contains(&next))
+                let (is_first, is_wanted) = match received {
+                    Ok(next) => (wanted.first() == Some(&next), wanted.contains(&next)),
+                    Err(_fault) => (false, false),
+                };
+                self.is_first = is_first;
+                is_wanted
             }
             (Role::Leave, Some(reader)) => {
                 reader.leave(rt);

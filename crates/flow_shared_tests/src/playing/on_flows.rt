@@ -104,9 +104,21 @@ impl<'a, T: Numbered<Memory = A>, S: FlowCore<Item = T> + Drop, A: Allocator + C
     }
 }
 
-/// Takes the steps, and those that are refused again, whose places are told. A wrong answer is told by the place of its step,
-/// from this one on.
+/// Takes the steps, and expects that none is refused. A failure names the place of its step; the first step has this place.
 pub fn take_all<R: Wait + Abort, T: Numbered, S: Played<T, A>, A: Allocator + Copy>(
+    rt: &R,
+    player: &mut FlowPlayer<'_, T, S, A>,
+    first: usize,
+    steps: &[Step],
+) {
+    for (index, step) in steps.iter().enumerate() {
+        let place = first.saturating_add(index);
+        compare(rt, place, S::take(player, rt, place, *step), Ok(()));
+    }
+}
+
+/// Takes the steps. Takes a refused step again, and adds its place to `refused`.
+pub fn take_again<R: Wait + Abort, T: Numbered, S: Played<T, A>, A: Allocator + Copy>(
     rt: &R,
     player: &mut FlowPlayer<'_, T, S, A>,
     first: usize,

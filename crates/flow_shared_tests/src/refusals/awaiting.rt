@@ -3,8 +3,8 @@ ghost use Rattle.std.specs.Prelude.{◌≡◌};
 
 use crate::compare::compare;
 use crate::refusals::flows::SMALL;
-use crate::values::{Numbered, by_number};
-use flow_law::{Boxed, FlowFault, Next};
+use crate::values::Numbered;
+use flow_law::{Boxed, FlowFault};
 use flow_shared::{EmitFuture, Emitted, NextFuture, Seat, Sent, SharedFlow, Subscription};
 use flow_testing::Refusing;
 use futures::task::Poll;
@@ -13,7 +13,8 @@ use std::alloc::{Allocator, Global};
 use std::process::Abort;
 use std::sync::Wait;
 
-/// The emission is refused, at once and by a future, and the seat and the value come back. Then it waits.
+/// The emission is refused, at once and by a future, and the seat and the value come back. Then it waits: a future asks for memory
+/// once.
 fn emits<R: Wait + Abort, T: Numbered<Memory = A>, A: Allocator + Copy>(
     rt: &R,
     task: &MockTask,
@@ -37,10 +38,14 @@ fn emits<R: Wait + Abort, T: Numbered<Memory = A>, A: Allocator + Copy>(
     };
     compare(rt, 1, fault, FlowFault::OutOfMemory);
     compare(rt, 2, value.number(), 3);
-    assert!(rt; matches!(flow.emit(rt, seat, value), Emitted::Queued(_)));
+    refusing.refuse(2);
+    let mut emit = EmitFuture::new(flow, seat, value);
+    compare(rt, 5, task.poll(&mut emit).is_pending(), true);
+    compare(rt, 6, refusing.is_waiting(), true);
 }
 
-/// The subscriber is refused the first value, at once and by a future, and its subscription comes back. Then it receives it.
+/// The subscriber is refused the first value, at once and by a future, and its subscription comes back. Then it receives it: a
+/// future asks for memory once.
 fn receives<R: Wait + Abort, T: Numbered<Memory = A>, A: Allocator + Copy>(
     rt: &R,
     task: &MockTask,
@@ -56,14 +61,20 @@ fn receives<R: Wait + Abort, T: Numbered<Memory = A>, A: Allocator + Copy>(
     compare(rt, 3, refused.err(), Some(FlowFault::OutOfMemory));
     refusing.refuse(1);
     let mut next = NextFuture::new(flow, subscription);
-    let Poll::Ready((mut subscription, refused)) = task.poll(&mut next) else {
+    let Poll::Ready((subscription, refused)) = task.poll(&mut next) else {
         panic!(rt; "it is refused")
     };
     compare(rt, 3, refused.err(), Some(FlowFault::OutOfMemory));
-    match flow.next(rt, &mut subscription) {
-        Ok(next) => compare(rt, 4, by_number(next), Next::Value(1)),
-        Err(fault) => panic!(rt; "{fault}"),
+    refusing.refuse(2);
+    let mut next = NextFuture::new(flow, subscription);
+    let Poll::Ready((_subscription, received)) = task.poll(&mut next) else {
+        panic!(rt; "it is received")
+    };
+    match received {
+        Ok(value) => compare(rt, 4, value.number(), 1),
+        Err(_fault) => panic!(rt; "it is received"),
     }
+    compare(rt, 7, refusing.is_waiting(), true);
 }
 
 /// A subscriber has not read 1 and 2. A third value waits, and the subscriber receives the first one. Both are refused twice.

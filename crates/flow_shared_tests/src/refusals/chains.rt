@@ -1,29 +1,40 @@
 //! A chain that is collected into a list, which is refused memory.
 use crate::compare::compare;
 use crate::playing::MANY;
-use flow_cold::{ChainFault, OfRange, collect_all};
+use flow_cold::{ChainFault, End, OfRange, collect_all};
 use flow_testing::Refusing;
 use std::alloc::{Allocator, Global};
 use std::process::Abort;
 
+/// A collection gives all items where none of its allocations is refused.
+fn gives_all<A: Allocator + Copy>(rt: &impl Abort, memory: A, chain: &mut OfRange) {
+    match collect_all(memory, chain) {
+        Ok(got) => {
+            compare(rt, 0, got.items.as_slice(), [1, 2, 3, 4, 5, 6].as_slice());
+            compare(rt, 1, got.end, End::Completed);
+        }
+        Err(fault) => panic!(rt; "{fault}"),
+    }
+}
+
 /// Each growth of the list is refused in turn, until none is. After a refusal a collection gives all.
 fn refuse_each<A: Allocator + Copy>(rt: &impl Abort, memory: A, refusing: &Refusing<Global>) {
     let mut chain = OfRange::new(1, 6);
-    let mut is_refused = false;
+    let mut refusals = 0u64;
     for number in 1..MANY {
         refusing.refuse(number);
-        match collect_all(memory, &mut chain) {
-            Ok(got) => compare(rt, 0, got.items.as_slice(), [1, 2, 3, 4, 5, 6].as_slice()),
-            Err(fault) => {
-                compare(rt, 1, fault, ChainFault::OutOfMemory);
-                is_refused = true;
-            }
-        }
+        let refused = collect_all(memory, &mut chain).err();
         if refusing.is_waiting() {
+            compare(rt, 2, refused, None);
             break;
         }
+        compare(rt, 3, refused, Some(ChainFault::OutOfMemory));
+        refusals = refusals.saturating_add(1);
+        gives_all(rt, memory, &mut chain);
     }
-    assert!(rt; refusing.is_waiting() && is_refused);
+    compare(rt, 4, refusing.is_waiting() && refusals > 0, true);
+    refusing.refuse(0);
+    gives_all(rt, memory, &mut chain);
 }
 
 #[test]

@@ -1,7 +1,7 @@
 //! Worked examples of flows, each with the places of the steps that take memory: each of them is refused in some run, and no
 //! other step is.
 use crate::compare::compare;
-use crate::playing::refuse_each;
+use crate::playing::{Callers, refuse_each};
 use crate::steps::Kind::{Shared, State};
 use crate::steps::Step::{
     Cache, Count, Current, Emit, Next, Set, Subscribe, SubscribeWith, TryEmit,
@@ -10,6 +10,9 @@ use crate::steps::{DONE, Example, TAKEN, WAITS};
 use flow_law::Config;
 use flow_law::Next::{Empty, Value};
 use flow_law::Overflow::{DropOldest, Suspend};
+use std::alloc::Global;
+use std::process::Abort;
+use std::sync::Wait;
 
 /// A flow that keeps one value for new subscribers, and one more.
 pub const SMALL: Config = Config {
@@ -120,13 +123,18 @@ pub const EXAMPLES: &[(Example, &[usize])] = &[
 ];
 
 /// Each step at one of these places was refused in some run, and no other one was.
-#[test]
-fn each_growth_of_a_flow_is_refused(rt: HostRuntime) {
+fn refuse_all(rt: &(impl Wait + Abort), alloc: Global, callers: Callers) {
     for (example, places) in EXAMPLES {
-        let refused = refuse_each(&rt, rt.alloc(), 0, example);
+        let refused = refuse_each(rt, alloc, callers, 0, example);
         for place in 0..example.steps.len() {
             let is_refused = refused.contains(&place);
-            compare(&rt, place, is_refused, places.contains(&place));
+            compare(rt, place, is_refused, places.contains(&place));
         }
     }
+}
+
+#[test]
+fn each_growth_of_a_flow_is_refused(rt: HostRuntime) {
+    refuse_all(&rt, rt.alloc(), Callers::OneThread);
+    refuse_all(&rt, rt.alloc(), Callers::SeveralThreads);
 }

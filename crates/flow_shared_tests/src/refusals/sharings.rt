@@ -1,13 +1,14 @@
 //! A sharing that is refused memory. A subscriber that reads nothing has 64 values buffered, and the next one waits, for
 //! which the flow takes memory.
 use crate::compare::compare;
+use crate::playing::MANY;
 use crate::sharing::Chain::SixtySix;
 use crate::sharing::Step::{Refused, Turn, Turns};
 use crate::sharing::turn;
 use flow_cold::Scripted;
 use flow_law::Command::{Keep, Start};
 use flow_law::report::Event::{Put, Queued, Waiting};
-use flow_law::report::ShareFault::Flow;
+use flow_law::report::ShareFault::{self, Flow};
 use flow_law::{FlowFault, Next, Started};
 use flow_sharing::{CoreHub, Sharing, share_in};
 use flow_testing::Refusing;
@@ -16,22 +17,36 @@ use std::process::Abort;
 
 const OUT_OF_MEMORY: FlowFault = FlowFault::OutOfMemory;
 
-/// The first allocation is refused, and then that of the item that waits, which is put in the next turn.
+/// Why a new sharing is refused, if it is.
+fn refusal<A: Allocator + Copy>(rt: &impl Abort, alloc: Global, memory: A) -> Option<ShareFault> {
+    let chain = SixtySix.make(rt, alloc);
+    share_in(memory, chain, Started::Eagerly, 0, u64::MAX).err()
+}
+
+/// Each allocation of a new sharing is refused in turn, until none is; and then that of the item that waits, which is put in the
+/// next turn.
 fn share<A: Allocator + Copy>(
     rt: &impl Abort,
     alloc: Global,
     memory: A,
     refusing: &Refusing<Global>,
 ) {
-    refusing.refuse(1);
+    let mut refusals = 0u64;
+    for number in 1..MANY {
+        refusing.refuse(number);
+        let refused = refusal(rt, alloc, memory);
+        if refusing.is_waiting() {
+            compare(rt, 0, refused, None);
+            break;
+        }
+        compare(rt, 7, refused, Some(Flow(OUT_OF_MEMORY)));
+        refusals = refusals.saturating_add(1);
+    }
+    compare(rt, 8, refusing.is_waiting() && refusals > 0, true);
+    refusing.refuse(0);
     let chain = SixtySix.make(rt, alloc);
-    let refused = share_in(memory, chain, Started::Eagerly, 0, u64::MAX);
-    compare(rt, 0, refused.err(), Some(Flow(OUT_OF_MEMORY)));
-    let chain = SixtySix.make(rt, alloc);
-    let Ok(mut sharing) = share_in(memory, chain, Started::Eagerly, 0, u64::MAX) else {
-        panic!(rt; "a sharing")
-    };
-    put_again(rt, &mut sharing, refusing);
+    let shared = share_in(memory, chain, Started::Eagerly, 0, u64::MAX);
+    put_again(rt, &mut shared.expect(rt, "a sharing"), refusing);
 }
 
 fn put_again<A: Allocator + Copy>(

@@ -2,7 +2,7 @@
 use crate::sharing::playing::FlowKind::{Shared, State};
 use crate::sharing::playing::{Chain, Example};
 use crate::sharing::sharing_steps::Step::{Flow, Turn};
-use crate::steps::Step::{Cache, Next, Subscribe, Unsubscribe};
+use crate::steps::Step::{Cache, Current, Next, Subscribe, Unsubscribe};
 use flow_law::Command::{Keep, Start, Stop, StopAndReset};
 use flow_law::Next::{Empty, Value};
 use flow_law::Started;
@@ -50,10 +50,11 @@ pub const EXAMPLES: &[Example] = &[
             Turn(0, Keep, Put),
             Flow(Unsubscribe(0)),
             Turn(10, Keep, Put),
+            Turn(109, Keep, Put),
             Turn(110, Stop, Idle),
             Flow(Subscribe),
             Turn(300, Start, Put),
-            Flow(Cache(&[30, 10])),
+            Flow(Cache(&[40, 10])),
         ],
     },
     // A state flow goes back to its initial value, here 0, as soon as its last subscriber has gone.
@@ -67,7 +68,7 @@ pub const EXAMPLES: &[Example] = &[
             Flow(Next(0, &Value(3))),
             Flow(Unsubscribe(0)),
             Turn(1, StopAndReset, Idle),
-            Flow(Cache(&[0])),
+            Flow(Current(0)),
         ],
     },
 ];

@@ -1,4 +1,4 @@
-//! Worked examples of `shareIn` and `stateIn`, over flows for several threads. Those over flows for one thread are scripts.
+//! Worked examples of `shareIn` and `stateIn`, over flows for several threads.
 ghost use Rattle.std.specs.Prelude.{◌≡◌, false};
 
 use crate::compare::compare;

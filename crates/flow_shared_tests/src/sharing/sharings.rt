@@ -1,9 +1,9 @@
 //! Worked examples of `shareIn` and `stateIn`.
-use crate::sharing::expiry;
 use crate::sharing::playing::FlowKind::{Shared, State};
 use crate::sharing::playing::{Chain, Example, play};
 use crate::sharing::sharing_steps::Step::{Count, Flow, Refused, Turn, Turns};
-use crate::steps::Step::{Cache, Next, Subscribe, Unsubscribe};
+use crate::sharing::{expiry, on_cores};
+use crate::steps::Step::{Cache, Current, Next, Subscribe, Unsubscribe};
 use flow_law::Command::{Keep, Start, Stop};
 use flow_law::Next::{Empty, Value};
 use flow_law::report::Event::{Completed, Idle, Pending, Put, Queued, Waiting};
@@ -111,7 +111,7 @@ const EXAMPLES: &[Example] = &[
         flow: State,
         steps: &[
             Turn(0, Start, Put),
-            Flow(Cache(&[3])),
+            Flow(Current(3)),
             Flow(Subscribe),
             Flow(Next(0, &Value(3))),
             Turn(1, Keep, Put),
@@ -124,9 +124,11 @@ const EXAMPLES: &[Example] = &[
     },
 ];
 
+/// Over flows for several threads, and over flows for one thread, whose places begin at 20000.
 #[test]
 fn sharings_are_as_documented(rt: HostRuntime) {
     for (first, examples) in [(0, EXAMPLES), (10_000, expiry::EXAMPLES)] {
         play(&rt, rt.alloc(), first, examples);
+        on_cores::play(&rt, rt.alloc(), 20_000 + first, examples);
     }
 }

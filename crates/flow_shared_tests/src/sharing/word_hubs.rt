@@ -33,3 +33,23 @@ fn a_chain_is_shared_into_a_word_state(rt: HostRuntime) {
     turn(&rt, &mut sharing, 9, Turn(5, StopAndReset, Idle));
     compare(&rt, 10, flow.value(&mut seat), 0);
 }
+
+/// As `stateIn`, from the first turn on: a subscriber gets the most recent item, and no item that is the same as the last.
+#[test]
+fn a_chain_is_shared_into_a_word_state_eagerly(rt: HostRuntime) {
+    let made = WordState::new(rt.alloc(), 0i64, u32::MAX);
+    let (flow, mut seat) = made.expect(&rt, "a flow");
+    let hub = WordHub::new(&flow, &mut seat, 0);
+    let chain = Chain::List(&[3, 3, 4]).make(&rt, rt.alloc());
+    let mut sharing = Sharing::new(chain, Started::Eagerly, hub);
+    turn(&rt, &mut sharing, 0, Turn(0, Start, Put));
+    compare(&rt, 1, flow.value(&mut seat), 3);
+    let mut reader = flow.subscribe(&rt, &mut seat).expect(&rt, "a subscription");
+    compare(&rt, 2, flow.next(&mut reader), Next::Value(3));
+    turn(&rt, &mut sharing, 3, Turn(1, Keep, Put));
+    compare(&rt, 4, flow.next(&mut reader), Next::Empty);
+    turn(&rt, &mut sharing, 5, Turn(2, Keep, Put));
+    compare(&rt, 6, flow.next(&mut reader), Next::Value(4));
+    turn(&rt, &mut sharing, 7, Turn(3, Keep, Completed));
+    turn(&rt, &mut sharing, 8, Turn(4, Keep, Completed));
+}

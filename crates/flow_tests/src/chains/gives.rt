@@ -23,7 +23,8 @@ pub fn gives<C: Cold<Item = i64>>(
     gives_once(rt, alloc, place, &mut chain, items, end);
 }
 
-fn gives_once<C: Cold<Item = i64>>(
+/// Collects the chain, and compares its items and its end.
+pub fn gives_once<C: Cold<Item = i64>>(
     rt: &impl Abort,
     alloc: Global,
     place: usize,

@@ -42,14 +42,14 @@ impl TestMeaning<i64> for IsAboveOne {
 }
 
 #[derive(Drop)]
-struct Twice;
+pub struct Twice;
 
 impl ListMeaning<i64, i64> for Twice {
     ghost images = { λ _. twice };
 }
 
 #[derive(Drop)]
-struct TwiceRun;
+pub struct TwiceRun;
 
 impl InnerMeaning<i64, i64> for TwiceRun {
     ghost inner = { λ _. twice_run };
@@ -107,7 +107,8 @@ fn a_pair_is_constructed(rt: HostRuntime) {
     gives(&rt, rt.alloc(), 0, zipped, &[11, 13], End::Completed);
 }
 
-fn listed(alloc: Global, x: i64) -> Result<Vec<i64>, ChainFault>
+/// A list of the item twice.
+pub fn listed(alloc: Global, x: i64) -> Result<Vec<i64>, ChainFault>
     ensures { GivesTwice x result }
 {
     let mut items = Vec::new(alloc);
@@ -120,7 +121,8 @@ fn listed(alloc: Global, x: i64) -> Result<Vec<i64>, ChainFault>
     Ok(items)
 }
 
-fn opened(alloc: Global, x: i64) -> Result<Scripted<i64>, ChainFault>
+/// A chain of the item twice.
+pub fn opened(alloc: Global, x: i64) -> Result<Scripted<i64>, ChainFault>
     ensures { OpensTwice x result }
 {
     let mut entries = Vec::new(alloc);

@@ -3,8 +3,9 @@
 use crate::chains::gives::{gives, list, script};
 use crate::chains::script_examples::{EXAMPLES, Example, GREATEST, REFUSED, Stage, Start};
 use crate::compare::compare;
-use flow_cold::{Arithmetic, ChainFault, OfRange, Op, ScriptChain, Source, Spread};
-use std::alloc::Global;
+use flow_cold::{Arithmetic, ChainFault, OfRange, Op, ScriptChain, Source, Spread, collect_all};
+use flow_testing::Refusing;
+use std::alloc::{Allocator, Global};
 use std::process::Abort;
 
 fn begun(rt: &impl Abort, alloc: Global, start: &Start) -> ScriptChain {
@@ -57,11 +58,39 @@ fn built(
     Ok(chain)
 }
 
+/// Each growth of a collection's list is refused in turn, until none is. After a refusal a collection gives all.
+fn gives_after_refusals<A: Allocator + Copy>(
+    rt: &impl Abort,
+    memory: A,
+    refusing: &Refusing<Global>,
+    place: usize,
+    chain: &mut ScriptChain,
+    example: &Example,
+) {
+    for number in 1..20 {
+        refusing.refuse(number);
+        let refused = collect_all(memory, chain).err();
+        if refusing.is_waiting() {
+            compare(rt, place, refused, None);
+            break;
+        }
+        compare(rt, place, refused, Some(ChainFault::OutOfMemory));
+        let got = collect_all(memory, chain).expect(rt, "memory");
+        compare(rt, place, got.items.as_slice(), example.items);
+        compare(rt, place, got.end, example.end);
+    }
+    compare(rt, place, refusing.is_waiting(), true);
+}
+
 /// Builds the chain of the example at this place, and collects it.
 fn show(rt: &impl Abort, alloc: Global, place: usize, example: &Example) {
-    let built = built(rt, alloc, &example.start, example.stages);
-    let chain = built.expect(rt, "operators");
+    let made = built(rt, alloc, &example.start, example.stages);
+    let chain = made.expect(rt, "operators");
     gives(rt, alloc, place, chain, example.items, example.end);
+    let made = built(rt, alloc, &example.start, example.stages);
+    let mut chain = made.expect(rt, "operators");
+    let refusing = Refusing::new(alloc);
+    gives_after_refusals(rt, &refusing, &refusing, place, &mut chain, example);
 }
 
 #[test]

@@ -56,7 +56,7 @@ pub const MANY: &[Example] = &[
         },
         calls: &[
             Subscribe(1),
-            Each(Repeated::TryEmit, 0, 9_999),
+            Each(Repeated::Emit, 0, 9_999),
             Held(2),
             Each(Repeated::Receive(0), 9_998, 9_999),
         ],

@@ -38,6 +38,7 @@ fn a_part_or_a_spoilt_script_is_no_json(rt: HostRuntime) {
 type Sized = (&'static str, &'static [(usize, u8)], &'static str, u8);
 
 const SIZES: &[Sized] = &[
+    ("", &[(1, 255)], NOT_JSON, 2),
     ("", &[(127, b'['), (127, b']')], BAD_HEAD, 2),
     ("", &[(128, b'['), (128, b']')], NOT_JSON, 2),
     (SCRIPT, &[(1_048_576 - SCRIPT.len(), b' ')], LINES, 0),

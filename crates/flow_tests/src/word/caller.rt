@@ -1,17 +1,18 @@
 //! What a caller of a word state does in a thread of its own.
 ghost use Rattle.std.specs.Prelude.{◌≡◌};
 
+use crate::word::signals::Signals;
 use flow_word::{WordSeat, WordState};
 use std::sync::Wait;
-use std::sync::atomic::{AtomicBool, Ordering};
 
-/// A caller with a seat of a flow, what it is to do, and the value that it read then.
+/// A caller with a seat of a flow, what it is to do, the value that it read then, and how many subscriptions it had.
 #[derive(Drop)]
 pub struct Caller<'a> {
     pub flow: &'a WordState<i64>,
     pub seat: WordSeat<i64>,
     pub task: Task,
     pub value: i64,
+    pub subscribed: u32,
     ghost of_flow: { seat.table_id ≡ flow.now.table_id },
 }
 
@@ -20,9 +21,9 @@ pub struct Caller<'a> {
 pub enum Task {
     Read,
     Set(i64),
-    /// Sets a value, and then the flag.
-    SetAndTell(i64),
-    /// Adds 1. On the value 0 it waits until the flag is set.
+    /// Sets a value while the function of an update waits.
+    SetMeanwhile(i64),
+    /// Adds 1. The function waits at its first call until a set was answered.
     AddSlowly,
     /// Adds 1 so many times, and subscribes and unsubscribes after each.
     CountUp(u32),
@@ -36,21 +37,24 @@ impl<'a> Caller<'a> {
             seat: self.flow.seat(&mut self.seat),
             task,
             value: 0,
+            subscribed: 0,
         }
     }
 
     /// Does the task, and reads.
-    pub fn run<R: Wait>(&mut self, rt: &R, flag: &AtomicBool) {
+    pub fn run<R: Wait>(&mut self, rt: &R, signals: &Signals) {
         match self.task {
             Task::Read => {}
             Task::Set(value) => self.flow.set(&mut self.seat, value),
-            Task::SetAndTell(value) => {
-                self.flow.set(&mut self.seat, value);
-                flag.store(true, Ordering::SeqCst);
+            Task::SetMeanwhile(value) => {
+                if signals.function_is_called() {
+                    self.flow.set(&mut self.seat, value);
+                    signals.tell_answer();
+                }
             }
             Task::AddSlowly => {
                 self.flow
-                    .update(rt, &mut self.seat, |value| one_more_slowly(value, flag));
+                    .update(rt, &mut self.seat, |value| signals.one_more_slowly(value));
             }
             Task::CountUp(times) => self.count_up(rt, times),
         }
@@ -61,6 +65,7 @@ impl<'a> Caller<'a> {
         for _ in 0..times {
             self.flow.update(rt, &mut self.seat, one_more);
             if let Ok(subscription) = self.flow.subscribe(rt, &mut self.seat) {
+                self.subscribed = self.subscribed.wrapping_add(1);
                 let _seat = self.flow.unsubscribe(subscription);
             }
         }
@@ -69,15 +74,4 @@ impl<'a> Caller<'a> {
 
 pub fn one_more(value: i64) -> i64 {
     value.wrapping_add(1)
-}
-
-/// Waits for the flag where the value is 0, but not for ever.
-fn one_more_slowly(value: i64, flag: &AtomicBool) -> i64 {
-    let polls = if value == 0 { 100_000_000_u32 } else { 0 };
-    for _ in 0..polls {
-        if flag.load(Ordering::SeqCst) {
-            break;
-        }
-    }
-    one_more(value)
 }

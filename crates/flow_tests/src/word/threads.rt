@@ -1,22 +1,35 @@
 //! Several threads on one flow.
 use crate::compare::compare;
 use crate::word::caller::{Caller, Task};
+use crate::word::signals::Signals;
+use flow_law::FlowFault;
+use flow_testing::Start;
 use flow_word::WordState;
 use std::alloc::Global;
 use std::process::Abort;
 use std::sync::Wait;
-use std::sync::atomic::AtomicBool;
 use std::thread::{Threads, for_each_mut};
 
-/// Each of these tasks is done in a thread of its own, on a flow with the value 0. What the first caller read, and what the
-/// flow has at the end. Nobody subscribes to it then.
-fn run<R: Abort + Threads + Wait + Sync>(rt: &R, alloc: Global, tasks: [Task; 4]) -> (i64, i64) {
-    let (flow, seat) = WordState::new(alloc, 0, 4_000).expect(rt, "a flow");
+/// How many numbers the flow issues.
+const NUMBERS: u32 = 4_000;
+
+/// What the first caller read, what the flow has at the end, and how many subscriptions all callers had.
+type Outcome = (i64, i64, u32);
+
+/// Does each of these tasks in a thread of its own, on a flow with the value 0; all threads begin at the same time.
+fn run<R: Abort + Threads + Wait + Sync>(
+    rt: &R,
+    alloc: Global,
+    tasks: [Task; 4],
+    signals: &Signals,
+) -> Outcome {
+    let (flow, seat) = WordState::new(alloc, 0, NUMBERS).expect(rt, "a flow");
     let mut maker = Caller {
         flow: &flow,
         seat,
         task: Task::Read,
         value: 0,
+        subscribed: 0,
     };
     let [first, second, third, fourth] = tasks;
     let mut callers = [
@@ -25,24 +38,67 @@ fn run<R: Abort + Threads + Wait + Sync>(rt: &R, alloc: Global, tasks: [Task; 4]
         maker.another(third),
         maker.another(fourth),
     ];
-    let flag = AtomicBool::new(false);
-    for_each_mut(rt, &mut callers, 4, &|_, caller| caller.run(rt, &flag));
-    maker.run(rt, &flag);
-    let count = maker.flow.subscription_count(&mut maker.seat);
-    compare(rt, 0, count, 0);
-    (callers[0].value, maker.value)
+    let start = Start::new(4);
+    for_each_mut(
+        rt,
+        &mut callers,
+        4,
+        &|_, caller| {
+            start.wait();
+            caller.run(rt, signals)
+        },
+    );
+    compare(rt, 100, start.is_kept(), true);
+    let mut subscribed = 0u32;
+    for caller in &callers {
+        subscribed = subscribed.saturating_add(caller.subscribed);
+    }
+    is_left(rt, &mut maker, subscribed);
+    (callers[0].value, maker.value, subscribed)
 }
 
-/// A value that was set is read, or a later one. A set does not wait for an update. Four threads count.
+/// Reads the value. The flow has no subscriber, and refuses another one if all numbers are issued.
+fn is_left<R: Abort + Wait>(rt: &R, maker: &mut Caller<'_>, subscribed: u32) {
+    maker.value = maker.flow.value(&mut maker.seat);
+    let count = maker.flow.subscription_count(&mut maker.seat);
+    compare(rt, 101, count, 0);
+    let refused = maker.flow.subscribe(rt, &mut maker.seat).err();
+    let wanted = if subscribed == NUMBERS {
+        Some(FlowFault::Exhausted)
+    } else {
+        None
+    };
+    compare(rt, 102, refused, wanted);
+}
+
 #[test]
-fn threads_share_a_value(rt: HostRuntime) {
+fn a_thread_reads_what_it_set_or_what_another_set(rt: HostRuntime) {
     let set = [Task::Set(9), Task::Set(4), Task::Read, Task::Read];
-    let (read, _) = run(&rt, rt.alloc(), set);
+    let (read, value, _) = run(&rt, rt.alloc(), set, &Signals::new());
     compare(&rt, 0, read == 9 || read == 4, true);
-    let slow = [Task::AddSlowly, Task::SetAndTell(5), Task::Read, Task::Read];
-    let (_, value) = run(&rt, rt.alloc(), slow);
+    compare(&rt, 1, value == 9 || value == 4, true);
+}
+
+/// The function of the update gets 0, the set is answered while the function waits, and the update takes the value that was set.
+#[test]
+fn a_set_does_not_wait_for_an_update(rt: HostRuntime) {
+    let signals = Signals::new();
+    let slow = [
+        Task::AddSlowly,
+        Task::SetMeanwhile(5),
+        Task::Read,
+        Task::Read,
+    ];
+    let (_, value, _) = run(&rt, rt.alloc(), slow, &signals);
+    compare(&rt, 0, signals.seen(), (true, true));
     compare(&rt, 1, value, 6);
+}
+
+/// Each thread adds 1 and has a subscription a thousand times, and none is refused.
+#[test]
+fn four_threads_count(rt: HostRuntime) {
     let count = [Task::CountUp(1_000); 4];
-    let (_, value) = run(&rt, rt.alloc(), count);
-    compare(&rt, 2, value, 4_000);
+    let (_, value, subscribed) = run(&rt, rt.alloc(), count, &Signals::new());
+    compare(&rt, 0, value, 4_000);
+    compare(&rt, 1, subscribed, 4_000);
 }

@@ -1,0 +1,26 @@
+-- What a caller to whom a flow was lent concludes by the laws of flows.
+use Rattle.std.specs.Prelude.{◌≡◌, ◌≢◌, ℕ, ◌<◌, List, [], ◌∷◌, ◌++◌, length, drop}
+use Rattle.flow_law.specs.declared.config.Config.{Config}
+use Rattle.flow_law.specs.declared.config.Overflow.TheVariants.{DropOldest}
+use Rattle.flow_law.specs.SharedFlow.{capacity, values, cache}
+use Rattle.flow_law.specs.SharedHistory.{History, state_after}
+use Rattle.flow_law.specs.Mailbox.{delivered, received, began}
+use Rattle.flow_law.specs.StateFlow.{StateHistory}
+use Rattle.flow_law.specs.Conflation.{Beside, beside, follows}
+
+module _ {T : Type 0} where
+  -- The subscriber has received all that was delivered to it. Of a flow that has a buffer and does not drop the oldest, those
+  -- are its own first values and then each value that was emitted since it came.
+  pub record HasAll (u : ℕ) (config : Config) (h : History T) : Type 0 where
+    pub delivered : received u h ≡ delivered u config h
+    pub emitted : config.overflow ≢ DropOldest → 0 < capacity (state_after config h)
+        → received u h ≡ (began u config h).first ++ drop (began u config h).entry (values (state_after config h))
+
+  -- the shared flow beside a state flow, after a history of it
+  abbrev pub beside_after : ℕ → Beside T → StateHistory T → Beside T
+  beside_after u m [] = m
+  beside_after u m (e ∷ es) = beside_after u (follows u m e.what.call e.what.reply) es
+
+  -- a shared flow that keeps the newest value, and into which all was emitted that was set, has this value in its cache
+  abbrev pub IsNewest : T → StateHistory T → T → Type 0
+  IsNewest first h v = (u unreached : ℕ) → length h < unreached → cache (beside_after u (beside unreached first) h).shared ≡ v ∷ []

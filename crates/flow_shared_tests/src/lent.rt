@@ -1,0 +1,54 @@
+//! Callers to whom a flow was lent: they know nothing of who made it and of what other threads do, and rely on its laws.
+ghost use Rattle.std.specs.Prelude.{◌≡◌, Ok};
+ghost use Rattle.flow_law.specs.declared.outcome.Next.TheVariants.{Empty};
+ghost use Rattle.flow_law.specs.Laws.{NoIdleQueue};
+ghost use Rattle.flow_law.specs.SharedHistory.{state_after};
+ghost use Rattle.flow_shared_tests.specs.LentFlows.{HasAll, IsNewest};
+
+use flow_law::{FlowFault, FlowValue, Next, Packed, Refused};
+use flow_shared::{Seat, SharedFlow, Subscription};
+use flow_word::{WordSeat, WordState};
+use std::sync::Wait;
+
+/// Emits a value if it need not wait: no value waits in the queue then, unless the flow is blocked.
+pub fn emit_one<R: Wait, T: FlowValue>(
+    rt: &R,
+    flow: &SharedFlow<T>,
+    seat: &mut Seat<T>,
+    value: T,
+) -> Result<bool, Refused<T>>
+    requires { seat.old.table_id ≡ flow.now.table_id }
+    ensures table { seat.new.table_id ≡ flow.now.table_id }
+    ensures queue { NoIdleQueue (state_after flow.now.first.config seat.new.knows.seen) }
+{
+    let taken = flow.try_emit(rt, seat, value);
+    flow.seen(seat);
+    taken
+}
+
+/// Receives the next value: where there is none, the subscriber has received all that was delivered to it.
+pub fn next_or_all<R: Wait, T: FlowValue>(
+    rt: &R,
+    flow: &SharedFlow<T>,
+    subscription: &mut Subscription<T>,
+) -> Result<Next<T>, FlowFault>
+    requires { subscription.old.token.table_id ≡ flow.now.table_id }
+    ensures table { subscription.new.token.table_id ≡ flow.now.table_id }
+    ensures all { result ≡ Ok Empty
+        → HasAll subscription.new.number flow.now.first.config subscription.new.token.knows.seen }
+{
+    let next = flow.next(rt, subscription);
+    flow.seen_by_subscription(subscription);
+    next
+}
+
+/// Reads the current value: it is the newest of those that were set in what the seat has seen.
+pub fn read_newest<T: Packed>(flow: &WordState<T>, seat: &mut WordSeat<T>) -> T
+    requires { seat.old.table_id ≡ flow.now.table_id }
+    ensures table { seat.new.table_id ≡ flow.now.table_id }
+    ensures newest { IsNewest flow.now.first.value seat.new.knows.seen result }
+{
+    let value = flow.value(seat);
+    flow.seen(seat);
+    value
+}

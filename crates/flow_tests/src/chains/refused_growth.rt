@@ -1,0 +1,117 @@
+//! Chains that want memory: those whose closures take it, and those that are built at run time. After a refusal a collection
+//! gives all.
+ghost use Rattle.std.specs.Prelude.{◌≡◌};
+ghost use Rattle.flow_tests.specs.Meanings.{GivesTwice, OpensTwice};
+
+use crate::chains::gives::gives_once;
+use crate::chains::operators::{Twice, TwiceRun, listed, opened};
+use crate::compare::compare;
+use flow_cold::{
+    Arithmetic, ChainFault, Cold, Collected, End, FlatMapConcat, OfRange, Op, ScriptChain,
+    Scripted, Source, Transform, collect_all,
+};
+use std::alloc::Global;
+use std::cell::Cell;
+use std::process::Abort;
+
+/// Whether this call is refused: that which takes `calls` from 1 to 0. With 0 none is.
+fn refuses(calls: &Cell<u64>) -> bool {
+    let left = calls.get();
+    calls.set(left.saturating_sub(1));
+    left == 1
+}
+
+fn listed_unless(alloc: Global, calls: &Cell<u64>, x: i64) -> Result<Vec<i64>, ChainFault>
+    ensures { GivesTwice x result }
+{
+    if refuses(calls) {
+        return Err(ChainFault::OutOfMemory);
+    }
+    listed(alloc, x)
+}
+
+fn opened_unless(alloc: Global, calls: &Cell<u64>, x: i64) -> Result<Scripted<i64>, ChainFault>
+    ensures { OpensTwice x result }
+{
+    if refuses(calls) {
+        return Err(ChainFault::OutOfMemory);
+    }
+    opened(alloc, x)
+}
+
+/// Each of 1, 2 and 3 twice.
+const ALL: &[i64] = &[1, 1, 2, 2, 3, 3];
+
+/// A call of the chain's closure is refused: that is the chain's end after these items. The next collection gives all.
+fn refused_at<C: Cold<Item = i64>>(
+    rt: &impl Abort,
+    alloc: Global,
+    calls: &Cell<u64>,
+    chain: &mut C,
+    call: u64,
+    items: &[i64],
+)
+    requires { C.sound chain.old }
+    ensures { C.sound chain.new }
+{
+    calls.set(call);
+    let end = End::Failed(ChainFault::OutOfMemory);
+    gives_once(rt, alloc, 0, chain, items, end);
+    gives_once(rt, alloc, 1, chain, ALL, End::Completed);
+}
+
+/// Each of the three calls of the chain's closure is refused in turn.
+fn refused_at_each<C: Cold<Item = i64>>(rt: &impl Abort, alloc: Global, calls: &Cell<u64>, chain: C)
+    requires { C.sound chain }
+{
+    let mut chain = chain;
+    refused_at(rt, alloc, calls, &mut chain, 1, &[]);
+    refused_at(rt, alloc, calls, &mut chain, 2, &[1, 1]);
+    refused_at(rt, alloc, calls, &mut chain, 3, &[1, 1, 2, 2]);
+}
+
+#[test]
+fn a_refused_list_ends_a_chain(rt: HostRuntime) {
+    let alloc = rt.alloc();
+    let calls = Cell::new(0);
+    let twice = |x: i64| listed_unless(alloc, &calls, x);
+    let made = Transform::new(OfRange::new(1, 3), Twice, &twice);
+    refused_at_each(&rt, alloc, &calls, made);
+}
+
+#[test]
+fn a_refused_inner_chain_ends_a_chain(rt: HostRuntime) {
+    let alloc = rt.alloc();
+    let calls = Cell::new(0);
+    let twice = |x: i64| opened_unless(alloc, &calls, x);
+    let made = FlatMapConcat::new(OfRange::new(1, 3), TwiceRun, &twice);
+    refused_at_each(&rt, alloc, &calls, made);
+}
+
+/// A chain that is built at run time, collected: the first three sums of 1, 2 ...
+fn collected(alloc: Global) -> Result<Collected<i64>, ChainFault> {
+    let range = ScriptChain::source(Source::Range(OfRange::new(1, 5)));
+    let scanned = range.then(
+        alloc,
+        Op::Scan {
+            from: 0,
+            by: Arithmetic::Add,
+        },
+    )?;
+    let mut chain = scanned.then(alloc, Op::Take(3))?;
+    collect_all(alloc, &mut chain)
+}
+
+/// Where memory is refused it is built and collected once more. `rt try --test --fail-alloc N` refuses the allocation N.
+#[test]
+fn a_refused_chain_is_built_again(rt: HostRuntime) {
+    let got = match collected(rt.alloc()) {
+        Ok(got) => got,
+        Err(fault) => {
+            compare(&rt, 0, fault, ChainFault::OutOfMemory);
+            collected(rt.alloc()).expect(&rt, "memory")
+        }
+    };
+    compare(&rt, 1, got.items.as_slice(), [0, 1, 3].as_slice());
+    compare(&rt, 2, got.end, End::Completed);
+}
