@@ -2,6 +2,7 @@
 ghost use Rattle.std.specs.Prelude.{◌≡◌, ◌-◌, ◌<◌, ◌==◌, ◌∷◌, ◌++◌, [], length, map, filter, not, MatchOption, MatchResult};
 ghost use Rattle.std.specs.List.{list_any};
 ghost use Rattle.flow_law.specs.Laws.{RisesTo};
+ghost use Rattle.flow_law.specs.Sleeping.{first_of};
 ghost use Rattle.flow_containers.specs.Queue.{numbered_of, IsPlace};
 
 use std::alloc::{AllocError, Allocator};
@@ -27,6 +28,7 @@ impl<T: Drop, A: Allocator> Model for Queue<T, A> {
 
     ghost Value = { List (Numbered T) };
 
+    ghost use Rattle.flow_law.specs.Sleeping.{first_of};
     ghost use Rattle.flow_containers.specs.Queue.{queue_of, Rises};
 
     ghost view = { queue_of };
@@ -73,6 +75,16 @@ impl<T: Drop, A: Allocator> Queue<T, A> {
         ensures { result ≡ list_any (λ q. q.number == number) self.now }
     {
         self.place_of(number).is_some()
+    }
+
+    /// Returns the number of the first value.
+    pub fn first(&self) -> Option<u64>
+        ensures { result ≡ first_of self.now }
+    {
+        match self.items.front() {
+            Some(queued) => Some(queued.number),
+            None => None,
+        }
     }
 
     /// Adds a value, whose number is above those in the queue. A refusal hands it back.

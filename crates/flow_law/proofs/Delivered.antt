@@ -23,7 +23,7 @@ usable_from Suspend c e f = absurd (cc)
 usable_from DropLatest c e f = absurd (cc)
 usable_from DropOldest c e f = grind (arith, nat_tests, e)
 
-usable : (config : Config) → config_fault config ≡ None → config.overflow ≡ DropOldest → 0 < config.replay + config.extra
+pub usable : (config : Config) → config_fault config ≡ None → config.overflow ≡ DropOldest → 0 < config.replay + config.extra
 usable config = cond_both (nat_lt largest_capacity (config.replay + config.extra)) (Some TooLarge) _ (λ o. o ≡ None → config.overflow ≡ DropOldest → 0 < config.replay + config.extra)
     (λ _ e. absurd (cc))
     (λ _. cond_both ((config.replay + config.extra == 0) && not (needs_no_buffer config.overflow)) (Some NeedsBuffer) None (λ o. o ≡ None → config.overflow ≡ DropOldest → 0 < config.replay + config.extra)

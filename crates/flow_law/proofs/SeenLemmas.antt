@@ -1,15 +1,22 @@
 -- The laws of flows, of a history that a flow may have had.
 use Rattle.std.proofs.Common.{ℕ, sym, subst}
-use Rattle.flow_law.specs.SharedFlow.{SharedFlowState}
-use Rattle.flow_law.specs.SharedHistory.{History, IsLegal, IsLegalFrom, shared_flow, state_after}
-use Rattle.flow_law.specs.StateFlow.{StateFlowState, StateHistory, IsLegalState, IsStateHistory}
-use Rattle.flow_law.specs.History.{IsHistory}
+use Rattle.std.specs.Prelude.{IsSome}
+use Rattle.flow_law.specs.declared.call.SharedCall.{SharedCall}
+use Rattle.flow_law.specs.declared.call.SharedReply.{SharedReply}
+use Rattle.flow_law.specs.declared.call.StateCall.{StateCall}
+use Rattle.flow_law.specs.declared.call.StateReply.{StateReply}
+use Rattle.flow_law.specs.declared.history.Knowledge.{Knowledge}
+use Rattle.flow_law.specs.declared.history.Said.{Said}
+use Rattle.flow_law.specs.SharedFlow.{SharedFlowState, position_of}
+use Rattle.flow_law.specs.SharedHistory.{History, IsLegal, IsLegalFrom, after_all, shared_flow, state_after}
+use Rattle.flow_law.specs.StateFlow.{StateFlowState, StateHistory, IsLegalState, IsStateHistory, state_after_all, state_flow}
+use Rattle.flow_law.specs.History.{IsHistory, IsSubscription}
 use Rattle.flow_law.specs.Conflation.{Conflates}
 use Rattle.flow_law.specs.Laws.{Delivers, NoIdleQueue}
 use Rattle.flow_law.specs.Waiting.{EachWaits}
 use Rattle.flow_law.specs.Lagging.{EachLags}
 use Rattle.flow_law.specs.Replaying.{EachReplays}
-use Rattle.flow_law.specs.Current.{Converges}
+use Rattle.flow_law.specs.Current.{Converges, IsThere}
 use Rattle.flow_law.proofs.Admitted.{admits}
 use Rattle.flow_law.proofs.Lagging.{lags}
 use Rattle.flow_law.proofs.ReplayLemmas.{replays}
@@ -43,3 +50,12 @@ module _ {T : Type 0} where
   pub history_converges : (first : StateFlowState T) (h : StateHistory T) → IsStateHistory first h → (u : ℕ) → Converges u first h
   history_converges first h is u = subst (λ (s : StateFlowState T). Converges u s h) (sym is.begins)
       (currents first.limit first.value h (subst (λ (s : StateFlowState T). IsLegalState s h) is.begins is.legal) u)
+
+  -- a subscription is there after all that its token has seen
+  pub shared_has : (first : SharedFlowState T) (k : Knowledge (Said (SharedCall T) (SharedReply T))) (u : ℕ) → IsHistory shared_flow first k.seen → IsSubscription shared_flow k u
+      → IsSome (position_of u (state_after first.config k.seen).subscribers)
+  shared_has first k u is subscription = subst (λ (s : SharedFlowState T). IsSome (position_of u (after_all s k.seen).subscribers)) is.begins.0 (subscription.1 first is.legal)
+
+  pub state_has : (first : StateFlowState T) (k : Knowledge (Said (StateCall T) (StateReply T))) (u : ℕ) → IsStateHistory first k.seen → IsSubscription state_flow k u
+      → IsThere u (state_after_all first k.seen)
+  state_has first k u is subscription = subscription.1 first is.legal

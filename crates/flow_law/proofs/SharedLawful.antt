@@ -161,7 +161,7 @@ module _ {T : Type 0} where
   answer_has u s call.ResetReplayCache other h = h
   answer_has u s call.SubscriptionCount other h = h
 
-  event_has : (u : ℕ) (s : SharedFlowState T) (c : SharedCall T) (r : SharedReply T) → c ≢ call.Unsubscribe u → Has u s → Has u (after s c r)
+  pub event_has : (u : ℕ) (s : SharedFlowState T) (c : SharedCall T) (r : SharedReply T) → c ≢ call.Unsubscribe u → Has u s → Has u (after s c r)
   event_has u s c r other h = cond_both (is_refused r) s (answer_to c s).after (Has u) (λ _. h) (λ _. answer_has u s c other h)
 
   -- ---- what a subscriber is told

@@ -29,6 +29,9 @@ pub mod Values
 pub mod Packs
 pub mod Seats
 pub mod Updates
+pub mod HandleFaults
+pub mod Handles
+pub mod Sleeping
 pub mod ChainRun
 pub mod OperatorRuns
 pub mod Chain

@@ -1,11 +1,12 @@
 -- An update of a state flow by a function of its value (`update`, `getAndUpdate`, `updateAndGet`): rounds of two events, a read
 -- of the value and an exchange of it for what the function answers to it. All rounds but the last are lost. Begin with `Updates`.
-use Rattle.std.specs.Prelude.{Bool, true, false}
+use Rattle.std.specs.Prelude.{◌⊎◌, Bool, true, false, Result, Ok, Err}
+use Rattle.flow_law.specs.declared.fault.FlowFault.TheVariants as fault
 use Rattle.flow_law.specs.declared.history.Said.{Said}
 use Rattle.flow_law.specs.declared.call.StateCall.{StateCall}
 use Rattle.flow_law.specs.declared.call.StateCall.TheVariants.{GetValue, CompareAndSet}
 use Rattle.flow_law.specs.declared.call.StateReply.{StateReply}
-use Rattle.flow_law.specs.declared.call.StateReply.TheVariants.{Got, Answered}
+use Rattle.flow_law.specs.declared.call.StateReply.TheVariants.{Got, Answered, Refused}
 use Rattle.flow_law.specs.declared.states.StateFlowState.{StateFlowState}
 use Rattle.flow_law.specs.StateFlow.{state_flow}
 use Rattle.flow_law.specs.Tokens.{Token, CallsIn}
@@ -32,3 +33,27 @@ module _ {Id T : Type 0} (first : StateFlowState T) (Gives : T → T → Type 0)
     pub between : StateToken Id T
     pub lost : LosesRounds before between
     pub won : IsRound true between x y after
+
+-- `Gives x r`: the function may answer r to x, or refuse
+module _ {T E : Type 0} (Gives : T → Result T E → Type 0) where
+  -- the function answered y
+  abbrev pub Accepts : T → T → Type 0
+  Accepts x y = Gives x (Ok y)
+
+  abbrev pub Refuses : T → Type 0
+  Refuses x = (e : E) × Gives x (Err e)
+
+  -- or it answered a value of which there was no copy to keep
+  abbrev pub RefusesOrKeepsNone : T → Type 0
+  RefusesOrKeepsNone x = Refuses x ⊎ ((y : T) × Accepts x y)
+
+module _ {Id T : Type 0} (first : StateFlowState T) where
+  -- a read that was refused for want of memory, or of a value x at which the update stops
+  abbrev pub ReadsInVain : (T → Type 0) → StateToken Id T → StateToken Id T → Type 0
+  ReadsInVain Stops before after = CallsIn state_flow first before GetValue (Refused fault.OutOfMemory) after ⊎ ((x : T) × CallsIn state_flow first before GetValue (Got x) after × Stops x)
+
+  -- the token lost some rounds, and then read in vain: nothing was set
+  pub record StopsAt (Gives : T → T → Type 0) (Stops : T → Type 0) (before after : StateToken Id T) : Type 0 where
+    pub between : StateToken Id T
+    pub lost : LosesRounds first Gives before between
+    pub stopped : ReadsInVain Stops between after

@@ -8,6 +8,7 @@
 mod call;
 mod chain;
 mod config;
+mod errors;
 mod fault;
 mod guarded;
 mod history;
@@ -22,6 +23,9 @@ mod value;
 pub use call::{SharedCall, SharedReply, StateCall, StateReply};
 pub use chain::{ChainFault, End};
 pub use config::{Config, Overflow};
+pub use errors::{
+    Busy, EmitNowError, Exhausted, NumberError, OutOfMemory, Rejected, TryNextError, Unsupported,
+};
 pub use fault::{FlowFault, Refused};
 pub use guarded::Guarded;
 pub use history::{Event, Knowledge, Said};
