@@ -4,6 +4,7 @@ ghost use Rattle.flow_law.specs.declared.history.Event.{Event};
 ghost use Rattle.flow_law.specs.declared.history.Said.{Said};
 ghost use Rattle.flow_law.specs.History.{Kind, replied};
 ghost use Rattle.flow_law.specs.Lawful.{Lawful};
+ghost use Rattle.flow_law.specs.Sleeping.{Sleeping};
 ghost use Rattle.flow_law.specs.Standing.{Documents, StandsForHistory};
 ghost use Rattle.flow_core.specs.SubId.{number_of};
 
@@ -44,6 +45,17 @@ pub trait FlowCore: Guarded<Said = Said<Self::Call, Self::Reply>> {
 
     fn subscription_count(&self) -> u64
         ensures { Documents kind stands_as self.now kind.count (kind.counted result) self.now };
+
+    /// When a caller that sleeps has nothing still.
+    ghost sleeping: { Sleeping kind };
+
+    /// Counts the values that subscribers could see so far.
+    fn mark(&self) -> u64
+        ensures { (s : Self.State) → stands_as self.now s → result ≡ sleeping.mark s };
+
+    /// Returns the number of the first emission that waits.
+    fn first_waiting(&self) -> Option<u64>
+        ensures { (s : Self.State) → stands_as self.now s → result ≡ sleeping.first_waiting s };
 
     /// What holds of its kind.
     ghost lawful: { Lawful kind };

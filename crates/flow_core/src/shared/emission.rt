@@ -4,7 +4,9 @@ ghost use Rattle.std.specs.Bool.{OnTrue};
 ghost use Rattle.flow_law.specs.SharedFlow as flow;
 ghost use Rattle.flow_law.specs.EmitRule as rule;
 ghost use Rattle.flow_law.specs.SharedStep as step;
-ghost use Rattle.flow_law.specs.Standing.{Conforms};
+ghost use Rattle.flow_law.specs.Standing.{StandsFor, Conforms};
+ghost use Rattle.flow_law.specs.Sleeping.{first_waiting};
+ghost use Rattle.flow_law.specs.declared.states.SharedFlowState.{SharedFlowState};
 ghost use Rattle.flow_law.specs.declared.call.SharedCall.TheVariants as call;
 ghost use Rattle.flow_law.specs.declared.call.SharedReply.TheVariants as reply;
 ghost use Rattle.flow_core.specs.SharedCore.{try_emit_reply, emit_reply, case_of, kept_full, pushed, dropped, MayAppend, Shows, Leads, Keeps, Reaches, IsExhausted, RefusedFor};
@@ -186,6 +188,17 @@ impl<T: FlowValue, A: Allocator + Copy> SharedCore<T, A> {
         ensures documented { Conforms self.now (call.Poll number) (reply.Tested result) self.now }
     {
         self.queue.contains(number) || self.is_offered_as(number)
+    }
+
+    /// Returns the number of the first emission that waits: of the value that is offered, or of the first in the queue.
+    pub fn first_waiting(&self) -> Option<u64>
+        ensures first { (s : SharedFlowState T) → StandsFor self.now s → result ≡ first_waiting s }
+    {
+        if self.is_offering() {
+            Some(self.newest)
+        } else {
+            self.queue.first()
+        }
     }
 
     /// Ends the wait of an emission, and answers whether it waited.

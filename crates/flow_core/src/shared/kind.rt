@@ -3,6 +3,7 @@ ghost use Rattle.flow_law.specs.SharedFlow.{first_state};
 ghost use Rattle.flow_law.specs.SharedHistory.{shared_flow};
 ghost use Rattle.flow_law.specs.Standing.{StandsFor, StandsForHistory};
 ghost use Rattle.flow_law.proofs.SharedLawful.{shared_lawful};
+ghost use Rattle.flow_law.proofs.SharedSleeping.{shared_sleeping};
 
 use crate::kind::FlowCore;
 use crate::shared::SharedCore;
@@ -48,6 +49,16 @@ impl<T: FlowValue, A: Allocator + Copy> FlowCore for SharedCore<T, A> {
 
     fn subscription_count(&self) -> u64 {
         SharedCore::subscription_count(self)
+    }
+
+    ghost sleeping = { shared_sleeping };
+
+    fn mark(&self) -> u64 {
+        SharedCore::emission_count(self)
+    }
+
+    fn first_waiting(&self) -> Option<u64> {
+        SharedCore::first_waiting(self)
     }
 
     ghost lawful = { shared_lawful };

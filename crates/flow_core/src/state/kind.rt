@@ -3,6 +3,7 @@ ghost use Rattle.std.specs.Prelude.{◌≡◌};
 ghost use Rattle.flow_law.specs.StateFlow.{state_flow};
 ghost use Rattle.flow_law.specs.Standing.{StandsForHistory};
 ghost use Rattle.flow_law.proofs.StateLawful.{state_lawful};
+ghost use Rattle.flow_law.proofs.StateSleeping.{state_sleeping};
 
 use crate::kind::FlowCore;
 use crate::state::StateCore;
@@ -45,6 +46,18 @@ impl<T: FlowValue, A: Allocator + Copy> FlowCore for StateCore<T, A> {
 
     fn subscription_count(&self) -> u64 {
         StateCore::subscription_count(self)
+    }
+
+    ghost sleeping = { state_sleeping };
+
+    /// A state flow has one value at any time.
+    fn mark(&self) -> u64 {
+        0
+    }
+
+    /// No emission into a state flow waits.
+    fn first_waiting(&self) -> Option<u64> {
+        None
     }
 
     ghost lawful = { state_lawful };
