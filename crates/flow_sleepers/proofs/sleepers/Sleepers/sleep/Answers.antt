@@ -1,0 +1,12 @@
+use Rattle.std.proofs.Common.{sym, ap, subst}
+use Rattle.std.proofs.Math.Seq.{map-set_same}
+use Rattle.flow_sleepers.specs.declared.sleepers.Sleeper.{Sleeper}
+use Rattle.flow_sleepers.specs.Sleepers.{Adds, numbers_of}
+use Rattle.flow_sleepers.proofs.sleepers.Sleepers.sleep.Goals as goal
+
+pub returns-clause-adds : goal.returns-clause-adds
+returns-clause-adds g c =
+    let left : Sleeper = record { number = c.index_mut-sleeper.result.now.number; waker = c.register.new.slot } in
+    let same = map-set_same (λ (s : Sleeper). s.number) c.place_in.new.list.items c.in-Some.place left c.index_mut-sleeper.result.now (ap (λ (s : Sleeper). s.number) c.index_mut-sleeper.ensures.value) in
+    subst (λ old. Adds c.args.number old (numbers_of (Rattle.std.specs.Vec.with_item c.place_in.new.list c.in-Some.place left).items)) c.self.view_is
+    (subst (Adds c.args.number (numbers_of c.self.inside.list.items)) (sym same) c.place_in.ensures.adds)

@@ -1,0 +1,10 @@
+-- The list as contracts see it: the numbers of the tasks that sleep.
+use Rattle.std.specs.Prelude.{◌≡◌, ◌⊎◌, ℕ, List, map, insert}
+use Rattle.flow_sleepers.specs.declared.sleepers.Sleeper.{Sleeper}
+
+abbrev pub numbers_of : List Sleeper → List ℕ
+numbers_of list = map (λ s. s.number) list
+
+-- the number is in the list already, or no waker was kept, or it comes to the others
+abbrev pub Adds : ℕ → List ℕ → List ℕ → Type 0
+Adds number old new = (new ≡ old) ⊎ ((place : ℕ) × (new ≡ insert old place number))
