@@ -5,4 +5,7 @@ pub mod EmitCountLemmas
 pub mod EmitRuns
 pub mod NextRuns
 pub mod Refusals
+pub mod Rounds
+pub mod DrainEnds
 pub mod Yields
+pub mod Attending

@@ -1,7 +1,7 @@
 -- Why a flow for several threads refuses a call.
-use Rattle.std.proofs.Common.{◌≡◌, ℕ, Result, Ok, Err, IfErr, Bool, Vec, sym, subst}
+use Rattle.std.proofs.Common.{◌≡◌, ◌⊎◌, inl, inr, refl, ℕ, List, Result, Ok, Err, IfErr, Bool, Vec, sym, subst}
 use Rattle.flow_law.specs.declared.fault.FlowFault.{FlowFault}
-use Rattle.flow_law.specs.declared.fault.FlowFault.TheVariants.{OutOfMemory, Exhausted}
+use Rattle.flow_law.specs.declared.fault.FlowFault.TheVariants.{OutOfMemory, TooLarge, NeedsBuffer, Exhausted, Unsupported, Busy}
 use Rattle.flow_law.specs.declared.fault.Refused.{Refused}
 use Rattle.flow_law.specs.declared.call.SharedCall.TheVariants as call
 use Rattle.flow_law.specs.declared.call.SharedReply.{SharedReply}
@@ -9,16 +9,21 @@ use Rattle.flow_law.specs.declared.call.SharedReply.TheVariants as reply
 use Rattle.flow_law.specs.declared.call.StateCall.TheVariants as state_call
 use Rattle.flow_law.specs.declared.states.SharedFlowState.{SharedFlowState}
 use Rattle.flow_law.specs.declared.states.StateFlowState.{StateFlowState}
+use Rattle.flow_law.specs.declared.history.Said.{Said}
+use Rattle.flow_law.specs.History.{Kind}
+use Rattle.flow_law.specs.Lawful.{Lawful}
+use Rattle.flow_law.specs.Tokens.{CallsAtOnceIn}
 use Rattle.flow_law.specs.SharedHistory.{shared_flow}
 use Rattle.flow_law.specs.StateFlow.{state_flow}
-use Rattle.flow_law.proofs.RefusalLemmas.{emit_refused, try_emit_refused, cache_refused, next_refused, value_refused, state_cache_refused}
+use Rattle.flow_law.proofs.RefusalLemmas.{emit_refused, try_emit_refused, cache_refused, next_refused, subscribe_refused, value_refused, state_cache_refused}
 use Rattle.flow_law.proofs.SharedLawful.{shared_lawful}
 use Rattle.flow_law.proofs.StateLawful.{state_lawful}
-use Rattle.flow_law.proofs.TokenLemmas.{replied_in}
+use Rattle.flow_law.proofs.TokenLemmas.{replied_in, next_fault as next_fault_of}
 use Rattle.flow_core.specs.SharedCore.{try_emit_reply, cache_reply}
 use Rattle.flow_core.specs.StateCore as state
 use Rattle.flow_gate.specs.Tokens.{Origin}
-use Rattle.flow_shared.specs.SharedReplies.{SharedToken, Calls, IsEmitFault, EmitRefusedIfDue, emitted_reply}
+use Rattle.flow_shared.specs.SharedReplies.{SharedToken, Calls, EmitsNow, IsEmitFault, EmitRefusedIfDue, emitted_reply}
+use Rattle.flow_shared.specs.Calls.{NumberedToken, NextsNow}
 use Rattle.flow_shared.specs.StateReplies.{StateToken, StateCalls}
 use Rattle.flow_shared.specs.declared.answers.Emitted.{Emitted}
 use Rattle.flow_shared.specs.declared.answers.Emitted.TheVariants as emitted
@@ -52,3 +57,30 @@ module _ {T : Type 0} (flow : Origin (StateFlowState T)) (t u : StateToken T) wh
   pub state_cache_fault : {A : Type 0} (result : Result (Vec T A) FlowFault) → StateCalls flow t state_call.ReplayCache (state.cache_reply result) u → IfErr result (λ fault. fault ≡ OutOfMemory)
   state_cache_fault (Ok values) called = tt
   state_cache_fault (Err fault) called = let there = replied_in state_flow state_lawful flow.first t.knows u.knows state_call.ReplayCache _ called.1 in state_cache_refused there.0 fault there.1
+
+module _ {T : Type 0} (flow : Origin (SharedFlowState T)) (t u : SharedToken T) where
+  pub subscribe_fault : (name : List ℕ) (first : List T) (fault : FlowFault) → Calls flow t (call.Subscribe name first) (reply.Refused fault) u → IsEmitFault fault
+  subscribe_fault name first fault called = let there = replied_in shared_flow shared_lawful flow.first t.knows u.knows (call.Subscribe name first) (reply.Refused fault) called.1 in subscribe_refused there.0 fault name first there.1
+
+module _ {T : Type 0} (A : Type 0) (flow : Origin (SharedFlowState T)) where
+  -- an emission that does not wait is refused as `emit` is, or is Busy
+  pub emit_now_fault : (t u : SharedToken T) (v w : T) (fault : FlowFault) → EmitsNow {A = A} flow t v (emitted.Refused u w fault) → IsEmitFault fault ⊎ (fault ≡ Busy)
+  emit_now_fault t u v w OutOfMemory h = inl (emit_fault flow t u v OutOfMemory h.1.0)
+  emit_now_fault t u v w TooLarge h = inl (emit_fault flow t u v TooLarge h.1.0)
+  emit_now_fault t u v w NeedsBuffer h = inl (emit_fault flow t u v NeedsBuffer h.1.0)
+  emit_now_fault t u v w Exhausted h = inl (emit_fault flow t u v Exhausted h.1.0)
+  emit_now_fault t u v w Unsupported h = inl (emit_fault flow t u v Unsupported h.1.0)
+  emit_now_fault t u v w Busy h = inr refl
+
+module _ {T S C R : Type 0} (kind : Kind T S C R) (law : Lawful kind) (flow : Origin S) (s u : NumberedToken (Said C R)) where
+  given_fault : (fault : FlowFault) → CallsAtOnceIn kind flow.first s.token (kind.take_next s.number) (kind.refused fault) u.token → (fault ≡ OutOfMemory) ⊎ (fault ≡ Busy)
+  given_fault fault called = inl (next_fault_of kind law flow.first s.token.knows u.token.knows s.number (Err fault) called.0.1)
+
+  -- a `next` that does not wait is refused for want of memory, or is Busy
+  pub next_now_fault : (fault : FlowFault) → NextsNow kind flow s (Err fault) u → (fault ≡ OutOfMemory) ⊎ (fault ≡ Busy)
+  next_now_fault OutOfMemory h = given_fault OutOfMemory h.1
+  next_now_fault TooLarge h = given_fault TooLarge h.1
+  next_now_fault NeedsBuffer h = given_fault NeedsBuffer h.1
+  next_now_fault Exhausted h = given_fault Exhausted h.1
+  next_now_fault Unsupported h = given_fault Unsupported h.1
+  next_now_fault Busy h = inr refl

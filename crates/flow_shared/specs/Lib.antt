@@ -1,4 +1,5 @@
 pub mod Tokens
+pub mod Attended
 pub mod Calls
 pub mod Drains
 pub mod SharedReplies
@@ -7,3 +8,5 @@ pub mod EmitCounts
 pub mod Futures
 pub mod EmitFutures
 pub mod NextFutures
+pub mod BoundEmissions
+pub mod BoundReplies

@@ -96,6 +96,15 @@ module _ {T A : Type 0} where
     PollsNow e (polled_now.Waiting f) = (f.number ≡ e.number) × CallsAtOnce flow e.token (call.Poll e.number) (reply.Tested true) f.token
     PollsNow e (polled_now.Busy f) = (f.number ≡ e.number) × IsBusy e.token f.token
 
+  -- the emission is not done
+  abbrev pub EmitIsWait : Emitted T A → Type 0
+  EmitIsWait (emitted.Done t) = ⊥
+  EmitIsWait _ = ⊤
+
+  abbrev pub PollIsWait : PolledNow T A → Type 0
+  PollIsWait (polled_now.Done t) = ⊥
+  PollIsWait _ = ⊤
+
 module _ {T : Type 0} (flow : Origin (SharedFlowState T)) where
   abbrev pub ResetsNow : SharedToken T → Result (Unit {0}) FlowFault → SharedToken T → Type 0
   ResetsNow before (Ok none) after = CallsAtOnce flow before call.ResetReplayCache reply.Reset after

@@ -7,6 +7,7 @@ ghost use Rattle.flow_law.specs.SharedHistory.{shared_flow};
 ghost use Rattle.flow_law.specs.Tokens.{numbered};
 ghost use Rattle.flow_shared.specs.Calls.{NumberedToken};
 
+use crate::attended::Attended;
 use crate::token::FlowSeat;
 use flow_core::SharedCore;
 use flow_law::{FlowFault, FlowValue};
@@ -18,7 +19,7 @@ use std::marker::Model;
 /// An emission that is dropped stays queued or offered, and its seat is lost. To end its wait, `cancel` it.
 #[derive(Drop)]
 pub struct Emission<T: FlowValue, A: Allocator + Copy = Global> {
-    pub(crate) seat: flow_gate::Seat<SharedCore<T, A>, A>,
+    pub(crate) seat: flow_gate::Seat<Attended<SharedCore<T, A>, A>, A>,
     pub(crate) number: u64,
 }
 

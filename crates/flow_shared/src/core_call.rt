@@ -2,11 +2,18 @@
 ghost use Rattle.std.specs.Prelude.{◌≡◌, ℕ, List};
 ghost use Rattle.flow_law.specs.History.{MayCall};
 ghost use Rattle.flow_law.specs.Standing.{Documents};
-ghost use Rattle.flow_law.specs.Tokens.{subscription_name};
+ghost use Rattle.flow_shared.specs.Attended.{AttendedAs, attended_stands};
+ghost use Rattle.futures.specs.Task.{IsArmed, Keeps};
+ghost use Rattle.flow_law.specs.Growth.{adds};
+ghost use Rattle.flow_gate.specs.Tokens.{StandsWith};
+ghost use Rattle.flow_law.specs.Tokens.{subscription_name, knowing};
 ghost use Rattle.flow_shared.specs.Calls.{SaysIn};
 
+use crate::attended::Attended;
 use flow_core::FlowCore;
-use flow_gate::{Held, Seat};
+use flow_gate::{Adds, Held, Seat};
+use flow_law::Said;
+use futures::task::Context;
 use std::alloc::Allocator;
 use std::marker::Brand;
 use std::snapshot::Snapshot;
@@ -28,22 +35,85 @@ pub(crate) trait CoreCall<S: FlowCore> {
         ensures documented { (name : List ℕ)
             → Documents S.kind S.stands_as core.old (call self name) (reply result) core.new }
         ensures also { also self result };
+
+    /// Returns the number of the subscriber that the call ends.
+    fn ends(&self) -> Option<u64>
+        ensures { (name : List ℕ) → result ≡ S.sleeping.ends (call self.now name) };
+
+    /// Returns the number of the emission whose wait the call ends.
+    fn cancels(&self) -> Option<u64>
+        ensures { (name : List ℕ) → result ≡ S.sleeping.cancels (call self.now name) };
+
+    /// Returns whether the call set the value that all subscribers see.
+    fn is_set(answer: &Self::Answer) -> bool
+        ensures { (c : Self) (name : List ℕ) → result ≡ S.sleeping.is_set (call c name) (reply answer.now) };
+}
+
+/// Leaves the gate, and then wakes those who have something.
+pub(crate) fn leave_and_wake<S: FlowCore, A: Allocator + Copy, W: Adds<Said<S::Call, S::Reply>>, X>(
+    held: Held<'_, Attended<S, A>, A>,
+    evidence: &X,
+) -> Seat<Attended<S, A>, A>
+    requires { StandsWith (attended_stands S.sleeping S.first S.stands_as) held W.adds }
+    ensures { result ≡ knowing held.entry.token (adds W.adds held.entry.token.knows) }
+{
+    let mut held = held;
+    let woken = held.state().take_woken();
+    let seat = held.leave::<W, X>(evidence);
+    drop(woken);
+    seat
+}
+
+/// A call whose caller sleeps if it is told to wait.
+pub(crate) trait SleepingCall<S: FlowCore, A: Allocator + Copy>: CoreCall<S> {
+    /// The answer tells the caller to wait.
+    ghost is_wait: { Self.Answer → Type 0 };
+
+    /// Makes the call. If the answer is to wait, the task that is polled sleeps, or it asks to be polled again.
+    fn run_or_sleep(self, state: &mut Attended<S, A>, cx: &mut Context<'_>) -> Self::Answer
+        ensures documented { (name : List ℕ) → Documents S.kind (AttendedAs S.sleeping S.stands_as)
+            state.old (Self.call self name) (Self.reply result) state.new }
+        ensures also { Self.also self result }
+        ensures armed { is_wait result → IsArmed cx.new }
+        ensures kept { Keeps cx.old cx.new };
+}
+
+/// As `call_core`, for a caller that sleeps if it is told to wait.
+pub(crate) fn call_core_or_sleep<S: FlowCore, A: Allocator + Copy, C: SleepingCall<S, A>>(
+    held: Held<'_, Attended<S, A>, A>,
+    call: C,
+    cx: &mut Context<'_>,
+) -> (Seat<Attended<S, A>, A>, C::Answer)
+    requires stood { attended_stands S.sleeping S.first S.stands_as held.first held.state held.token.knows.seen }
+    requires may { MayCall S.kind (C.call call (subscription_name held.token.knows))
+        held.token.knows.name held.token.knows.seen }
+    ensures said { SaysIn S.kind (S.first held.entry.first.core) held.entry
+        (C.call call (subscription_name held.entry.token.knows)) (C.reply result.1) result.0 }
+    ensures also { C.also call result.1 }
+    ensures armed { C.is_wait result.1 → IsArmed cx.new }
+    ensures kept { Keeps cx.old cx.new }
+{
+    let mut held = held;
+    let named = Snapshot::of(&call);
+    let answer = call.run_or_sleep(held.state(), cx);
+    let seat = leave_and_wake::<S, A, Brand, _>(held, &(named, &answer));
+    (seat, answer)
 }
 
 pub(crate) fn call_core<S: FlowCore, A: Allocator + Copy, C: CoreCall<S>>(
-    held: Held<'_, S, A>,
+    held: Held<'_, Attended<S, A>, A>,
     call: C,
-) -> (Seat<S, A>, C::Answer)
-    requires stood { S.stands held.first held.state held.token.knows.seen }
+) -> (Seat<Attended<S, A>, A>, C::Answer)
+    requires stood { attended_stands S.sleeping S.first S.stands_as held.first held.state held.token.knows.seen }
     requires may { MayCall S.kind (C.call call (subscription_name held.token.knows))
         held.token.knows.name held.token.knows.seen }
-    ensures said { SaysIn S.kind (S.first held.entry.first) held.entry
+    ensures said { SaysIn S.kind (S.first held.entry.first.core) held.entry
         (C.call call (subscription_name held.entry.token.knows)) (C.reply result.1) result.0 }
     ensures also { C.also call result.1 }
 {
     let mut held = held;
     let named = Snapshot::of(&call);
-    let answer = call.run(held.state());
-    let seat = held.leave::<Brand, _>(&(named, &answer));
+    let answer = held.state().call(call);
+    let seat = leave_and_wake::<S, A, Brand, _>(held, &(named, &answer));
     (seat, answer)
 }

@@ -8,10 +8,14 @@ ghost use Rattle.flow_law.specs.History.{IsSubscription};
 ghost use Rattle.flow_law.specs.Tokens.{numbered};
 ghost use Rattle.flow_law.specs.declared.outcome.Drained.TheVariants.{Gone};
 ghost use Rattle.flow_core.specs.SubId.{number_of};
+ghost use Rattle.flow_shared.specs.Attended.{AttendedAs, attended_stands};
 ghost use Rattle.flow_shared.specs.Calls.{NextsOf};
 ghost use Rattle.flow_shared.specs.Drains.{CoreNexts, TakesInside};
 
+use crate::attended::Attended;
+use crate::core_call::leave_and_wake;
 use crate::flow::Flow;
+use crate::subscriber::TakeNext;
 use crate::token::{FlowSeat, FlowSubscription};
 use flow_core::{FlowCore, SubId};
 use flow_gate::{Held, Seat};
@@ -22,19 +26,19 @@ use std::snapshot::Snapshot;
 use std::sync::Wait;
 
 /// `next` of a core again and again, each value into a list that has room for all.
-fn take_values<S: FlowCore, B: Allocator>(
-    core: &mut S,
+fn take_values<S: FlowCore, A: Allocator + Copy, B: Allocator>(
+    state: &mut Attended<S, A>,
     id: SubId,
     most: usize,
     values: &mut Vec<S::Item, B>,
 ) -> Result<Drained, FlowFault>
     requires { vec_len values.old + most ≤ vec_capacity values.old }
-    ensures takes { TakesBy (CoreNexts S.kind (number_of id) S.stands_as) most
-        core.old values.old.items result values.new.items core.new }
+    ensures takes { TakesBy (CoreNexts S.kind (number_of id) (AttendedAs S.sleeping S.stands_as)) most
+        state.old values.old.items result values.new.items state.new }
     ensures given { S.Item.IsAlwaysCopied → IsOk result }
 {
     for _ in 0..most {
-        match core.next(id)? {
+        match state.call(TakeNext { id })? {
             Next::Value(value) => values.push_reserved(value),
             Next::Empty => return Ok(Drained::Empty),
             Next::Gone => return Ok(Drained::Gone),
@@ -45,24 +49,24 @@ fn take_values<S: FlowCore, B: Allocator>(
 
 /// The same of the core inside a gate, and leaving with the events that name the calls.
 fn take_inside<S: FlowCore, A: Allocator + Copy, B: Allocator>(
-    held: Held<'_, S, A>,
+    held: Held<'_, Attended<S, A>, A>,
     id: SubId,
     most: usize,
     values: &mut Vec<S::Item, B>,
-) -> (Seat<S, A>, Result<Drained, FlowFault>)
-    requires stood { S.stands held.first held.state held.token.knows.seen }
+) -> (Seat<Attended<S, A>, A>, Result<Drained, FlowFault>)
+    requires stood { attended_stands S.sleeping S.first S.stands_as held.first held.state held.token.knows.seen }
     requires subscribed { IsSubscription S.kind held.token.knows (number_of id) }
     requires names { NamesOnlyMade held.token.knows.name held.token.knows.made held.token.knows.seen }
     requires some { most ≢ 0 }
     requires room { vec_len values.old + most ≤ vec_capacity values.old }
-    ensures takes { TakesInside S.kind (number_of id) S.stands_as most
+    ensures takes { TakesInside S.kind (number_of id) (AttendedAs S.sleeping S.stands_as) most
         held.entry values.old.items result.1 values.new.items result.0 }
     ensures given { S.Item.IsAlwaysCopied → IsOk result.1 }
 {
     let mut held = held;
     let before = Snapshot::of(values);
     let ended = take_values(held.state(), id, most, values);
-    let seat = held.leave::<Brand, _>(&(id, before, &*values, &ended));
+    let seat = leave_and_wake::<S, A, Brand, _>(held, &(id, before, &*values, &ended));
     (seat, ended)
 }
 

@@ -1,21 +1,24 @@
 //! A flow of any kind for several threads.
-ghost use Rattle.std.specs.Prelude.{◌≡◌, IfOk, IfErr, IfSome};
+ghost use Rattle.std.specs.Prelude.{◌≡◌, IfOk, IfErr, IfSome, MatchResult};
+ghost use Rattle.futures.specs.Task.{IsArmed, Keeps};
 ghost use Rattle.flow_law.specs.History.{MayCall, IsHistory};
 ghost use Rattle.flow_law.specs.Growth.{makes, child};
 ghost use Rattle.flow_law.specs.Tokens.{subscription_name, knowing, IsBusy};
 ghost use Rattle.flow_shared.specs.Calls.{Calls, CallsAtOnce, ClosesAs, Meets};
 
-use crate::core_call::{CoreCall, call_core};
+use crate::attended::Attended;
+use crate::core_call::{CoreCall, SleepingCall, call_core, call_core_or_sleep};
 use crate::token::{FlowSeat, FlowSubscription};
 use flow_core::FlowCore;
 use flow_gate::Gate;
+use futures::task::{Context, Poll};
 use std::alloc::{Allocator, Global};
 use std::marker::Model;
 use std::sync::Wait;
 
 /// A flow for callers on several threads.
 pub struct Flow<S: FlowCore, A: Allocator + Copy = Global> {
-    pub(crate) gate: Gate<S, A>,
+    pub(crate) gate: Gate<Attended<S, A>, A>,
 }
 
 // Not derived: each crate that drops a flow would prove anew how its gate is dropped.
@@ -31,16 +34,16 @@ impl<S: FlowCore, A: Allocator + Copy> Model for Flow<S, A> {
 
     ghost Value = { Origin S.State };
 
-    ghost view = { λ f. origin f.gate.table_id (S.first f.gate.first) };
+    ghost view = { λ f. origin f.gate.table_id (S.first f.gate.first.core) };
 }
 
 impl<S: FlowCore + Drop, A: Allocator + Copy> Flow<S, A> {
     pub(crate) fn call_by<R: Wait, C: CoreCall<S>>(
         &self,
         rt: &R,
-        seat: flow_gate::Seat<S, A>,
+        seat: flow_gate::Seat<Attended<S, A>, A>,
         call: C,
-    ) -> (flow_gate::Seat<S, A>, C::Answer)
+    ) -> (flow_gate::Seat<Attended<S, A>, A>, C::Answer)
         requires flow { seat.table_id ≡ self.now.table_id }
         requires may { MayCall S.kind (C.call call (subscription_name seat.knows))
             seat.knows.name seat.knows.seen }
@@ -54,9 +57,12 @@ impl<S: FlowCore + Drop, A: Allocator + Copy> Flow<S, A> {
 
     pub(crate) fn call_by_now<C: CoreCall<S>>(
         &self,
-        seat: flow_gate::Seat<S, A>,
+        seat: flow_gate::Seat<Attended<S, A>, A>,
         call: C,
-    ) -> Result<(flow_gate::Seat<S, A>, C::Answer), (flow_gate::Seat<S, A>, C)>
+    ) -> Result<
+        (flow_gate::Seat<Attended<S, A>, A>, C::Answer),
+        (flow_gate::Seat<Attended<S, A>, A>, C),
+    >
         requires flow { seat.table_id ≡ self.now.table_id }
         requires may { MayCall S.kind (C.call call (subscription_name seat.knows))
             seat.knows.name seat.knows.seen }
@@ -67,6 +73,35 @@ impl<S: FlowCore + Drop, A: Allocator + Copy> Flow<S, A> {
         match self.gate.try_enter(seat) {
             Ok(held) => Ok(call_core(held, call)),
             Err(back) => Err((back, call)),
+        }
+    }
+
+    /// As `call_by_now`, for a caller that sleeps if it is told to wait. If another caller is inside, the task that is
+    /// polled asks to be polled again.
+    pub(crate) fn call_by_or_sleep<C: SleepingCall<S, A>>(
+        &self,
+        seat: flow_gate::Seat<Attended<S, A>, A>,
+        call: C,
+        cx: &mut Context<'_>,
+    ) -> Result<
+        (flow_gate::Seat<Attended<S, A>, A>, C::Answer),
+        (flow_gate::Seat<Attended<S, A>, A>, C),
+    >
+        requires flow { seat.table_id ≡ self.now.table_id }
+        requires may { MayCall S.kind (C.call call (subscription_name seat.knows))
+            seat.knows.name seat.knows.seen }
+        ensures called { IfOk result (λ done. CallsAtOnce S.kind self.now seat
+            (C.call call (subscription_name seat.knows)) (C.reply done.1) done.0 × C.also call done.1) }
+        ensures busy { IfErr result (λ back. IsBusy seat back.0 × (back.1 ≡ call)) }
+        ensures armed { MatchResult result (λ done. C.is_wait done.1 → IsArmed cx.new) (λ back. IsArmed cx.new) }
+        ensures kept { Keeps cx.old cx.new }
+    {
+        match self.gate.try_enter(seat) {
+            Ok(held) => Ok(call_core_or_sleep(held, call, cx)),
+            Err(back) => {
+                let _again: Poll<()> = cx.yield_now();
+                Err((back, call))
+            }
         }
     }
 
@@ -112,6 +147,31 @@ impl<S: FlowCore + Drop, A: Allocator + Copy> Flow<S, A> {
         answer
     }
 
+    /// As `call_now`, for a caller that sleeps if it is told to wait, and asks to be polled again if another is inside.
+    pub(crate) fn call_or_sleep<C: SleepingCall<S, A>>(
+        &self,
+        seat: &mut FlowSeat<S, A>,
+        call: C,
+        cx: &mut Context<'_>,
+    ) -> Result<C::Answer, C>
+        requires flow { seat.old.table_id ≡ self.now.table_id }
+        requires may { MayCall S.kind (C.call call (subscription_name seat.old.knows))
+            seat.old.knows.name seat.old.knows.seen }
+        ensures called { IfOk result (λ answer. CallsAtOnce S.kind self.now seat.old
+            (C.call call (subscription_name seat.old.knows)) (C.reply answer) seat.new × C.also call answer) }
+        ensures busy { IfErr result (λ back. IsBusy seat.old seat.new × (back ≡ call)) }
+        ensures armed { MatchResult result (λ answer. C.is_wait answer → IsArmed cx.new) (λ back. IsArmed cx.new) }
+        ensures kept { Keeps cx.old cx.new }
+    {
+        let own = seat.seat.take().unwrap();
+        let (own, answer) = match self.call_by_or_sleep(own, call, cx) {
+            Ok((own, answer)) => (own, Ok(answer)),
+            Err((own, call)) => (own, Err(call)),
+        };
+        seat.seat = Some(own);
+        answer
+    }
+
     /// Makes a seat through another. Call it for each thread that is to call the flow, before the thread starts, or for
     /// one more emission that may wait.
     ///
@@ -150,6 +210,9 @@ impl<S: FlowCore + Drop, A: Allocator + Copy> Flow<S, A> {
     {
         let own = seat.seat.unwrap();
         let Self { gate } = self;
-        gate.close_with(own)
+        match gate.close_with(own) {
+            Some(state) => Some(state.into_core()),
+            None => None,
+        }
     }
 }

@@ -24,11 +24,15 @@
 #![tactic(auto)]
 
 mod answers;
+mod attended;
 mod core_call;
 mod drain;
 mod emit_future;
 mod flow;
+mod handles;
 mod next_future;
+mod receive_future;
+mod send_future;
 mod shared;
 mod state;
 mod subscriber;
@@ -37,7 +41,13 @@ mod token;
 pub use answers::{Emission, Emitted, Polled, PolledNow};
 pub use emit_future::{EmitFuture, EmitStage, Sent};
 pub use flow::Flow;
+pub use handles::{
+    BoundEmission, DrainEnd, EmitAnswer, Emitter, FlowCaller, FlowReader, PollAnswer, Reader,
+    Setter, StateReader,
+};
 pub use next_future::{NextFuture, Received};
+pub use receive_future::ReceiveFuture;
+pub use send_future::SendFuture;
 pub use shared::{Seat, SharedFlow, Subscription};
 pub use state::{StateFlow, StateSeat, StateSubscription};
 pub use token::{FlowSeat, FlowSubscription};

@@ -40,7 +40,9 @@ impl<'a, T: FlowValue, A: Allocator + Copy> Model for NextFuture<'a, T, A> {
 }
 
 /// What a call of the flow gives a future to answer: nothing where it is to ask again.
-fn given_by<T: FlowValue>(answer: Result<Next<T>, FlowFault>) -> Option<Result<T, FlowFault>>
+pub(crate) fn given_by<T: FlowValue>(
+    answer: Result<Next<T>, FlowFault>,
+) -> Option<Result<T, FlowFault>>
     ensures { result ≡ given_by answer }
 {
     match answer {

@@ -8,6 +8,7 @@ ghost use Rattle.flow_law.specs.declared.call.SharedReply.TheVariants as reply;
 ghost use Rattle.flow_core.specs.SharedCore.{cache_reply};
 ghost use Rattle.flow_shared.specs.SharedReplies.{Calls, ResetsNow};
 
+use crate::attended::Attended;
 use crate::flow::Flow;
 use crate::token::{FlowSeat, FlowSubscription};
 use flow_core::SharedCore;
@@ -16,6 +17,7 @@ use flow_law::{Config, FlowFault, FlowValue};
 use std::alloc::{Allocator, Global};
 use std::sync::Wait;
 
+mod asleep;
 mod calls;
 mod emission;
 mod now;
@@ -45,7 +47,7 @@ impl<T: FlowValue, A: Allocator + Copy> Flow<SharedCore<T, A>, A> {
             (NoFlow config) }
     {
         let core = SharedCore::new(alloc, config)?;
-        match Gate::new(alloc, core) {
+        match Gate::new(alloc, Attended::new(alloc, core)) {
             Ok((gate, seat)) => Ok((Flow { gate }, FlowSeat { seat: Some(seat) })),
             Err(_failed) => Err(FlowFault::OutOfMemory),
         }

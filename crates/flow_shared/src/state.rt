@@ -7,6 +7,7 @@ ghost use Rattle.flow_law.specs.declared.call.StateCall.TheVariants as call;
 ghost use Rattle.flow_core.specs.StateCore.{cache_reply, reset_reply};
 ghost use Rattle.flow_shared.specs.StateReplies.{StateCalls};
 
+use crate::attended::Attended;
 use crate::flow::Flow;
 use crate::token::{FlowSeat, FlowSubscription};
 use flow_core::StateCore;
@@ -46,7 +47,7 @@ impl<T: FlowValue, A: Allocator + Copy> Flow<StateCore<T, A>, A> {
         ensures memory { IfErr result (λ fault. fault ≡ FlowFault.OutOfMemory) }
     {
         let core = StateCore::new(alloc, initial, limit);
-        match Gate::new(alloc, core) {
+        match Gate::new(alloc, Attended::new(alloc, core)) {
             Ok((gate, seat)) => Ok((Flow { gate }, FlowSeat { seat: Some(seat) })),
             Err(_failed) => Err(FlowFault::OutOfMemory),
         }

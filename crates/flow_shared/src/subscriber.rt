@@ -3,14 +3,18 @@ ghost use Rattle.std.specs.Prelude.{◌≡◌, ◌≢◌, ◌⊎◌, ℕ, true, 
 ghost use Rattle.flow_law.specs.History.{replied};
 ghost use Rattle.flow_law.specs.declared.fault.FlowFault.TheVariants.{OutOfMemory, Exhausted};
 ghost use Rattle.flow_law.specs.declared.outcome.Next.TheVariants.{Gone};
+ghost use Rattle.futures.specs.Task.{IsArmed, Keeps};
 ghost use Rattle.flow_core.specs.SubId.{number_of};
+ghost use Rattle.flow_shared.specs.Attended.{IsWait};
 ghost use Rattle.flow_shared.specs.Calls.{Nexts, Unsubscribes, Counts, Meets, Subscribes, NextsNow, CountsNow};
 
-use crate::core_call::CoreCall;
+use crate::attended::Attended;
+use crate::core_call::{CoreCall, SleepingCall};
 use crate::flow::Flow;
 use crate::token::{FlowSeat, FlowSubscription};
 use flow_core::{FlowCore, SubId};
 use flow_law::{FlowFault, Next};
+use futures::task::Context;
 use std::alloc::Allocator;
 use std::sync::Wait;
 
@@ -29,11 +33,23 @@ impl<S: FlowCore> CoreCall<S> for Subscribe {
     fn run(self, core: &mut S) -> Result<SubId, FlowFault> {
         core.subscribe()
     }
+
+    fn ends(&self) -> Option<u64> {
+        None
+    }
+
+    fn cancels(&self) -> Option<u64> {
+        None
+    }
+
+    fn is_set(_answer: &Result<SubId, FlowFault>) -> bool {
+        false
+    }
 }
 
 #[derive(Drop)]
-struct TakeNext {
-    id: SubId,
+pub(crate) struct TakeNext {
+    pub(crate) id: SubId,
 }
 
 impl<S: FlowCore> CoreCall<S> for TakeNext {
@@ -47,6 +63,30 @@ impl<S: FlowCore> CoreCall<S> for TakeNext {
 
     fn run(self, core: &mut S) -> Result<Next<S::Item>, FlowFault> {
         core.next(self.id)
+    }
+
+    fn ends(&self) -> Option<u64> {
+        None
+    }
+
+    fn cancels(&self) -> Option<u64> {
+        None
+    }
+
+    fn is_set(_answer: &Result<Next<S::Item>, FlowFault>) -> bool {
+        false
+    }
+}
+
+impl<S: FlowCore, A: Allocator + Copy> SleepingCall<S, A> for TakeNext {
+    ghost is_wait = { λ answer. IsWait answer };
+
+    fn run_or_sleep(
+        self,
+        state: &mut Attended<S, A>,
+        cx: &mut Context<'_>,
+    ) -> Result<Next<S::Item>, FlowFault> {
+        state.next_or_sleep(cx, self.id)
     }
 }
 
@@ -67,6 +107,18 @@ impl<S: FlowCore> CoreCall<S> for Unsubscribe {
     fn run(self, core: &mut S) -> bool {
         core.unsubscribe(self.id)
     }
+
+    fn ends(&self) -> Option<u64> {
+        Some(self.id.number())
+    }
+
+    fn cancels(&self) -> Option<u64> {
+        None
+    }
+
+    fn is_set(_answer: &bool) -> bool {
+        false
+    }
 }
 
 #[derive(Drop)]
@@ -83,6 +135,18 @@ impl<S: FlowCore> CoreCall<S> for Count {
 
     fn run(self, core: &mut S) -> u64 {
         core.subscription_count()
+    }
+
+    fn ends(&self) -> Option<u64> {
+        None
+    }
+
+    fn cancels(&self) -> Option<u64> {
+        None
+    }
+
+    fn is_set(_answer: &u64) -> bool {
+        false
     }
 }
 
@@ -139,6 +203,25 @@ impl<S: FlowCore + Drop, A: Allocator + Copy> Flow<S, A> {
     {
         let id = subscription.id;
         match self.call_now(&mut subscription.seat, TakeNext { id }) {
+            Ok(answer) => answer,
+            Err(_call) => Err(FlowFault::Busy),
+        }
+    }
+
+    /// As `next_now`, for a caller that sleeps where it receives nothing. If another caller is inside, the task that is
+    /// polled asks to be polled again.
+    pub(crate) fn next_or_sleep(
+        &self,
+        subscription: &mut FlowSubscription<S, A>,
+        cx: &mut Context<'_>,
+    ) -> Result<Next<S::Item>, FlowFault>
+        requires { subscription.old.token.table_id ≡ self.now.table_id }
+        ensures called { NextsNow S.kind self.now subscription.old result subscription.new }
+        ensures armed { IsWait result → IsArmed cx.new }
+        ensures kept { Keeps cx.old cx.new }
+    {
+        let id = subscription.id;
+        match self.call_or_sleep(&mut subscription.seat, TakeNext { id }, cx) {
             Ok(answer) => answer,
             Err(_call) => Err(FlowFault::Busy),
         }

@@ -8,8 +8,8 @@ ghost use Rattle.flow_shared.specs.Calls.{NumberedToken};
 ghost use Rattle.flow_shared.specs.Tokens.{seat_in};
 ghost use Rattle.flow_core.specs.SubId.{number_of};
 
+use crate::attended::Attended;
 use flow_core::{FlowCore, SubId};
-use flow_law::Guarded;
 use std::alloc::{Allocator, Global};
 use std::marker::Model;
 
@@ -17,13 +17,13 @@ use std::marker::Model;
 ///
 /// A seat that is dropped is lost; the flow goes on without it.
 #[derive(Drop)]
-pub struct FlowSeat<S: Guarded, A: Allocator = Global> {
+pub struct FlowSeat<S: FlowCore, A: Allocator + Copy = Global> {
     /// It is there but in the middle of a call.
-    pub(crate) seat: Option<flow_gate::Seat<S, A>>,
+    pub(crate) seat: Option<flow_gate::Seat<Attended<S, A>, A>>,
 }
 
-impl<S: Guarded, A: Allocator> Model for FlowSeat<S, A> {
-    ghost Value = { Token S.Said };
+impl<S: FlowCore, A: Allocator + Copy> Model for FlowSeat<S, A> {
+    ghost Value = { Token (Said S.Call S.Reply) };
 
     ghost view = { λ s. seat_in s.seat };
 

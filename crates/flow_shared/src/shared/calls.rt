@@ -27,6 +27,18 @@ impl<T: FlowValue, A: Allocator + Copy> CoreCall<SharedCore<T, A>> for TryEmit<T
         let TryEmit { value } = self;
         core.try_emit(value)
     }
+
+    fn ends(&self) -> Option<u64> {
+        None
+    }
+
+    fn cancels(&self) -> Option<u64> {
+        None
+    }
+
+    fn is_set(_answer: &Result<bool, Refused<T>>) -> bool {
+        false
+    }
 }
 
 #[derive(Drop)]
@@ -47,6 +59,18 @@ impl<T: FlowValue, A: Allocator + Copy> CoreCall<SharedCore<T, A>> for Emit<T> {
         let Emit { value } = self;
         core.emit(value)
     }
+
+    fn ends(&self) -> Option<u64> {
+        None
+    }
+
+    fn cancels(&self) -> Option<u64> {
+        None
+    }
+
+    fn is_set(_answer: &Result<Emission, Refused<T>>) -> bool {
+        false
+    }
 }
 
 #[derive(Drop)]
@@ -65,6 +89,18 @@ impl<T: FlowValue, A: Allocator + Copy> CoreCall<SharedCore<T, A>> for Poll {
 
     fn run(self, core: &mut SharedCore<T, A>) -> bool {
         core.poll(self.number)
+    }
+
+    fn ends(&self) -> Option<u64> {
+        None
+    }
+
+    fn cancels(&self) -> Option<u64> {
+        None
+    }
+
+    fn is_set(_answer: &bool) -> bool {
+        false
     }
 }
 
@@ -85,6 +121,18 @@ impl<T: FlowValue, A: Allocator + Copy> CoreCall<SharedCore<T, A>> for Cancel {
     fn run(self, core: &mut SharedCore<T, A>) -> bool {
         core.cancel(self.number)
     }
+
+    fn ends(&self) -> Option<u64> {
+        None
+    }
+
+    fn cancels(&self) -> Option<u64> {
+        Some(self.number)
+    }
+
+    fn is_set(_answer: &bool) -> bool {
+        false
+    }
 }
 
 #[derive(Drop)]
@@ -102,6 +150,18 @@ impl<T: FlowValue, A: Allocator + Copy> CoreCall<SharedCore<T, A>> for ReplayCac
     fn run(self, core: &mut SharedCore<T, A>) -> Result<Vec<T, A>, FlowFault> {
         core.replay_cache()
     }
+
+    fn ends(&self) -> Option<u64> {
+        None
+    }
+
+    fn cancels(&self) -> Option<u64> {
+        None
+    }
+
+    fn is_set(_answer: &Result<Vec<T, A>, FlowFault>) -> bool {
+        false
+    }
 }
 
 #[derive(Drop)]
@@ -118,5 +178,17 @@ impl<T: FlowValue, A: Allocator + Copy> CoreCall<SharedCore<T, A>> for ResetRepl
 
     fn run(self, core: &mut SharedCore<T, A>) {
         core.reset_replay_cache()
+    }
+
+    fn ends(&self) -> Option<u64> {
+        None
+    }
+
+    fn cancels(&self) -> Option<u64> {
+        None
+    }
+
+    fn is_set(_answer: &()) -> bool {
+        false
     }
 }

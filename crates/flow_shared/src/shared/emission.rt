@@ -9,6 +9,7 @@ ghost use Rattle.flow_shared.specs.SharedReplies.{Calls, Emits, Polls, HandsBack
 use super::Seat;
 use super::calls::{Cancel, Emit as EmitCall, Poll, TryEmit};
 use crate::answers::{Emission, Emitted, Polled};
+use crate::attended::Attended;
 use crate::flow::Flow;
 use crate::token::FlowSeat;
 use flow_core::SharedCore;
@@ -18,7 +19,7 @@ use std::sync::Wait;
 
 /// The answer to an emission, with the token that its caller has then.
 pub(super) fn answered<T: FlowValue, A: Allocator + Copy>(
-    seat: flow_gate::Seat<SharedCore<T, A>, A>,
+    seat: flow_gate::Seat<Attended<SharedCore<T, A>, A>, A>,
     answer: Result<Emit, Refused<T>>,
 ) -> Emitted<T, A>
     requires { IsGivenIfQueued seat.knows answer }

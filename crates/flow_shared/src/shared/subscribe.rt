@@ -1,6 +1,7 @@
 //! Subscribers of a shared flow for several threads that get values of their own first.
-ghost use Rattle.std.specs.Prelude.{◌≡◌, IfErr};
+ghost use Rattle.std.specs.Prelude.{◌≡◌, ◌⊎◌, IfErr};
 ghost use Rattle.flow_law.specs.History.{fault_alone};
+ghost use Rattle.flow_law.specs.declared.fault.FlowFault.TheVariants.{OutOfMemory, Exhausted};
 ghost use Rattle.flow_law.specs.SharedHistory.{shared_flow};
 ghost use Rattle.flow_law.specs.declared.call.SharedCall.TheVariants as call;
 ghost use Rattle.flow_core.specs.SharedCore.{subscribe_reply};
@@ -33,6 +34,18 @@ impl<T: FlowValue, A: Allocator + Copy> CoreCall<SharedCore<T, A>> for Subscribe
         let SubscribeWith { first } = self;
         core.subscribe_with(first)
     }
+
+    fn ends(&self) -> Option<u64> {
+        None
+    }
+
+    fn cancels(&self) -> Option<u64> {
+        None
+    }
+
+    fn is_set(_answer: &Result<SubId, Refused<Vec<T, A>>>) -> bool {
+        false
+    }
 }
 
 impl<T: FlowValue, A: Allocator + Copy> Flow<SharedCore<T, A>, A> {
@@ -50,6 +63,7 @@ impl<T: FlowValue, A: Allocator + Copy> Flow<SharedCore<T, A>, A> {
         ensures subscribed { Subscribes shared_flow self.now
             (λ name. call.Subscribe name first.items) seat.old (fault_alone result) seat.new }
         ensures handed_back { IfErr result (λ refused. refused.value ≡ first) }
+        ensures refused { IfErr result (λ refused. (refused.fault ≡ OutOfMemory) ⊎ (refused.fault ≡ Exhausted)) }
     {
         let id = self.call(rt, seat, SubscribeWith { first })?;
         let made = self.seat(seat);

@@ -25,6 +25,18 @@ impl<T: FlowValue, A: Allocator + Copy> CoreCall<StateCore<T, A>> for GetValue {
     fn run(self, core: &mut StateCore<T, A>) -> Result<T, FlowFault> {
         core.value()
     }
+
+    fn ends(&self) -> Option<u64> {
+        None
+    }
+
+    fn cancels(&self) -> Option<u64> {
+        None
+    }
+
+    fn is_set(_answer: &Result<T, FlowFault>) -> bool {
+        false
+    }
 }
 
 #[derive(Drop)]
@@ -45,6 +57,18 @@ impl<T: FlowValue, A: Allocator + Copy> CoreCall<StateCore<T, A>> for Set<T> {
         let Set { value } = self;
         core.set(value)
     }
+
+    fn ends(&self) -> Option<u64> {
+        None
+    }
+
+    fn cancels(&self) -> Option<u64> {
+        None
+    }
+
+    fn is_set(_answer: &()) -> bool {
+        true
+    }
 }
 
 #[derive(Drop)]
@@ -64,6 +88,18 @@ impl<T: FlowValue, A: Allocator + Copy> CoreCall<StateCore<T, A>> for TryEmit<T>
     fn run(self, core: &mut StateCore<T, A>) -> bool {
         let TryEmit { value } = self;
         core.try_emit(value)
+    }
+
+    fn ends(&self) -> Option<u64> {
+        None
+    }
+
+    fn cancels(&self) -> Option<u64> {
+        None
+    }
+
+    fn is_set(_answer: &bool) -> bool {
+        true
     }
 }
 
@@ -86,6 +122,18 @@ impl<'a, T: FlowValue, A: Allocator + Copy> CoreCall<StateCore<T, A>> for Compar
         let CompareAndSet { expect, update } = self;
         core.compare_and_set(expect, update)
     }
+
+    fn ends(&self) -> Option<u64> {
+        None
+    }
+
+    fn cancels(&self) -> Option<u64> {
+        None
+    }
+
+    fn is_set(answer: &bool) -> bool {
+        *answer
+    }
 }
 
 #[derive(Drop)]
@@ -103,6 +151,18 @@ impl<T: FlowValue, A: Allocator + Copy> CoreCall<StateCore<T, A>> for ReplayCach
     fn run(self, core: &mut StateCore<T, A>) -> Result<Vec<T, A>, FlowFault> {
         core.replay_cache()
     }
+
+    fn ends(&self) -> Option<u64> {
+        None
+    }
+
+    fn cancels(&self) -> Option<u64> {
+        None
+    }
+
+    fn is_set(_answer: &Result<Vec<T, A>, FlowFault>) -> bool {
+        false
+    }
 }
 
 #[derive(Drop)]
@@ -119,5 +179,17 @@ impl<T: FlowValue, A: Allocator + Copy> CoreCall<StateCore<T, A>> for ResetRepla
 
     fn run(self, core: &mut StateCore<T, A>) -> Result<(), FlowFault> {
         core.reset_replay_cache()
+    }
+
+    fn ends(&self) -> Option<u64> {
+        None
+    }
+
+    fn cancels(&self) -> Option<u64> {
+        None
+    }
+
+    fn is_set(_answer: &Result<(), FlowFault>) -> bool {
+        false
     }
 }

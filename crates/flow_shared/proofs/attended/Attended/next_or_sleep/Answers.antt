@@ -1,0 +1,38 @@
+use Rattle.std.proofs.Common.{[], subst, Ok}
+use Rattle.flow_law.specs.declared.outcome.Next.TheVariants.{Empty}
+use Rattle.flow_law.specs.History.{replied}
+use Rattle.flow_law.specs.Sleeping.{FindsNothing}
+use Rattle.flow_law.specs.Standing.{Documents}
+use Rattle.flow_core.specs.SubId.{number_of}
+use Rattle.flow_sleepers.specs.Sleepers.{Adds}
+use Rattle.flow_shared.specs.Attended.{AttendedAs}
+use Rattle.flow_shared.proofs.Attending.{joins}
+use Rattle.flow_shared.proofs.attended.Attended.next_or_sleep.Goals as goal
+
+pub returns-in-Err-clause-documented : goal.returns-in-Err-clause-documented
+returns-in-Err-clause-documented g c = c.in-Err.ensures.documented []
+
+pub returns-in-Value-clause-documented : goal.returns-in-Value-clause-documented
+returns-in-Value-clause-documented g c =
+    let kind = g.S.FlowCore.kind in
+    subst (λ next. Documents kind (AttendedAs g.S.FlowCore.sleeping g.S.FlowCore.stands_as) c.args.self.now (kind.take_next (number_of c.args.id)) (replied kind kind.received (Ok next)) c.call.new.self) c.in-Value.is (c.in-Ok.ensures.documented [])
+
+pub returns-in-Empty-clause-documented : goal.returns-in-Empty-clause-documented
+returns-in-Empty-clause-documented g c = λ s at.
+    let kind = g.S.FlowCore.kind in
+    let u = number_of c.args.id in
+    let told = subst (λ next. Documents kind (AttendedAs g.S.FlowCore.sleeping g.S.FlowCore.stands_as) c.args.self.now (kind.take_next u) (replied kind kind.received (Ok next)) c.call.new.self) c.in-Empty.is (c.in-Ok.ensures.documented []) s at in
+    let adds = subst (λ n. Adds n c.call.new.self.readers c.sleep-asleep.new.self) c.number.ensures c.sleep-asleep.ensures.adds in (
+      told.0,
+      record {
+        core = told.1.core;
+        sound = told.1.sound;
+        emitters = told.1.emitters;
+        readers = joins (λ n. FindsNothing kind n (kind.after s (kind.take_next u) (kind.received Empty))) u c.call.new.self.readers c.sleep-asleep.new.self adds (g.S.FlowCore.sleeping.found u s told.0) told.1.readers;
+      },
+    )
+
+pub returns-in-Gone-clause-documented : goal.returns-in-Gone-clause-documented
+returns-in-Gone-clause-documented g c =
+    let kind = g.S.FlowCore.kind in
+    subst (λ next. Documents kind (AttendedAs g.S.FlowCore.sleeping g.S.FlowCore.stands_as) c.args.self.now (kind.take_next (number_of c.args.id)) (replied kind kind.received (Ok next)) c.call.new.self) c.in-Gone.is (c.in-Ok.ensures.documented [])

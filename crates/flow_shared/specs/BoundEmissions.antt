@@ -1,0 +1,14 @@
+-- An emission that waits, beside the flow that it is in.
+use Rattle.flow_law.specs.declared.history.Said.{Said}
+use Rattle.flow_law.specs.declared.call.SharedCall.{SharedCall}
+use Rattle.flow_law.specs.declared.call.SharedReply.{SharedReply}
+use Rattle.flow_law.specs.declared.states.SharedFlowState.{SharedFlowState}
+use Rattle.flow_gate.specs.Tokens.{Origin}
+use Rattle.flow_shared.specs.Calls.{NumberedToken}
+
+pub record EmissionOf (T : Type 0) : Type 0 where
+  pub flow : Origin (SharedFlowState T)
+  pub emission : NumberedToken (Said (SharedCall T) (SharedReply T))
+
+abbrev pub queued_by : {T : Type 0} → Origin (SharedFlowState T) → NumberedToken (Said (SharedCall T) (SharedReply T)) → EmissionOf T
+queued_by flow emission = record { flow = flow; emission = emission }

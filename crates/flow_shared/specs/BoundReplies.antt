@@ -1,0 +1,80 @@
+-- What the answers of a handle stand for among those of the flow's own calls: the same answer with tokens in place of handles.
+use Rattle.std.specs.Prelude.{Bool, Result, Ok, Err}
+use Rattle.atomic_table.specs.Seated.{TableId}
+use Rattle.flow_law.specs.declared.fault.FlowFault.{FlowFault}
+use Rattle.flow_law.specs.declared.history.Said.{Said}
+use Rattle.flow_law.specs.declared.outcome.Drained.{Drained}
+use Rattle.flow_law.specs.declared.outcome.Drained.TheVariants as drained
+use Rattle.flow_law.specs.declared.call.SharedCall.{SharedCall}
+use Rattle.flow_law.specs.declared.call.SharedReply.{SharedReply}
+use Rattle.flow_law.specs.declared.states.SharedFlowState.{SharedFlowState}
+use Rattle.flow_law.specs.Handles.{CallerOf}
+use Rattle.flow_gate.specs.Tokens.{Origin}
+use Rattle.flow_shared.specs.Calls.{NumberedToken}
+use Rattle.flow_shared.specs.SharedReplies.{SharedToken}
+use Rattle.flow_shared.specs.BoundEmissions.{EmissionOf}
+use Rattle.flow_shared.specs.declared.answers.Emitted.{Emitted}
+use Rattle.flow_shared.specs.declared.answers.Emitted.TheVariants as emitted
+use Rattle.flow_shared.specs.declared.answers.Polled.{Polled}
+use Rattle.flow_shared.specs.declared.answers.Polled.TheVariants as polled
+use Rattle.flow_shared.specs.declared.answers.PolledNow.{PolledNow}
+use Rattle.flow_shared.specs.declared.answers.PolledNow.TheVariants as polled_now
+use Rattle.flow_shared.specs.declared.handles.emission.EmitAnswer.{EmitAnswer}
+use Rattle.flow_shared.specs.declared.handles.emission.EmitAnswer.TheVariants as emit_answer
+use Rattle.flow_shared.specs.declared.handles.emission.PollAnswer.{PollAnswer}
+use Rattle.flow_shared.specs.declared.handles.emission.PollAnswer.TheVariants as poll_answer
+use Rattle.flow_shared.specs.declared.handles.reader.DrainEnd.{DrainEnd}
+use Rattle.flow_shared.specs.declared.handles.reader.DrainEnd.TheVariants as drain_end
+
+-- a drain through a reader
+abbrev pub drained_by : Result DrainEnd FlowFault → Result Drained FlowFault
+drained_by (Ok drain_end.Most) = Ok drained.Most
+drained_by (Ok drain_end.Empty) = Ok drained.Empty
+drained_by (Err fault) = Err fault
+
+module _ {T A : Type 0} where
+  -- ---- an emission through an emitter, whose error has this fault
+
+  abbrev pub emitted_by : {E : Type 0} → (E → FlowFault) → EmitAnswer T E A → Emitted T A
+  emitted_by fault_of (emit_answer.Done c) = emitted.Done c.token
+  emitted_by fault_of (emit_answer.Queued e) = emitted.Queued e.emission
+  emitted_by fault_of (emit_answer.Refused c r) = emitted.Refused c.token r.value (fault_of r.error)
+
+  -- the flow of the handle that the answer has
+  abbrev pub emitted_flow : {E : Type 0} → EmitAnswer T E A → Origin (SharedFlowState T)
+  emitted_flow (emit_answer.Done c) = c.flow
+  emitted_flow (emit_answer.Queued e) = e.flow
+  emitted_flow (emit_answer.Refused c r) = c.flow
+
+  -- ---- a poll
+
+  abbrev pub polled_by : PollAnswer T A → Polled T A
+  polled_by (poll_answer.Done c) = polled.Done c.token
+  polled_by (poll_answer.Waiting e) = polled.Waiting e.emission
+
+  abbrev pub polled_flow : PollAnswer T A → Origin (SharedFlowState T)
+  polled_flow (poll_answer.Done c) = c.flow
+  polled_flow (poll_answer.Waiting e) = e.flow
+
+  abbrev pub polled_now_by : Result (PollAnswer T A) (EmissionOf T) → PolledNow T A
+  polled_now_by (Ok (poll_answer.Done c)) = polled_now.Done c.token
+  polled_now_by (Ok (poll_answer.Waiting e)) = polled_now.Waiting e.emission
+  polled_now_by (Err e) = polled_now.Busy e.emission
+
+  abbrev pub polled_now_flow : Result (PollAnswer T A) (EmissionOf T) → Origin (SharedFlowState T)
+  polled_now_flow (Ok p) = polled_flow p
+  polled_now_flow (Err e) = e.flow
+
+-- ---- a cancel
+
+abbrev pub SharedCaller : Type 0 → Type 0
+SharedCaller T = CallerOf TableId (SharedFlowState T) (Said (SharedCall T) (SharedReply T))
+
+module _ {T : Type 0} where
+  abbrev pub cancelled_by : Result (SharedCaller T × Bool) (EmissionOf T) → Result (SharedToken T × Bool) (NumberedToken (Said (SharedCall T) (SharedReply T)))
+  cancelled_by (Ok ended) = Ok (ended.0.token, ended.1)
+  cancelled_by (Err e) = Err e.emission
+
+  abbrev pub cancelled_flow : Result (SharedCaller T × Bool) (EmissionOf T) → Origin (SharedFlowState T)
+  cancelled_flow (Ok ended) = ended.0.flow
+  cancelled_flow (Err e) = e.flow

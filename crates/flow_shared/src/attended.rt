@@ -1,0 +1,215 @@
+//! What the gate of a flow guards: the core, and the tasks that sleep until the core has something for them.
+ghost use Rattle.std.specs.Prelude.{◌≡◌, ℕ, List, [], IsOk};
+ghost use Rattle.std.specs.Bool.{OnTrue};
+ghost use Rattle.flow_law.specs.History.{replied};
+ghost use Rattle.flow_law.specs.Standing.{Documents};
+ghost use Rattle.futures.specs.Task.{IsArmed, Keeps};
+ghost use Rattle.flow_core.specs.SubId.{number_of};
+ghost use Rattle.flow_shared.specs.Attended.{AttendedAs, attended_stands, Rests, Lasts, without, IsWait};
+
+use crate::core_call::CoreCall;
+use crate::subscriber::TakeNext;
+use flow_core::{FlowCore, SubId};
+use flow_law::{FlowFault, Guarded, Next, Said};
+use flow_sleepers::{Sleepers, Woken};
+use futures::task::{Context, Poll};
+use std::alloc::{Allocator, Global};
+
+/// A core, and the tasks that sleep: readers, under their subscribers' numbers, and emitters, under the numbers of their
+/// emissions. Who sleeps has nothing yet: a call that gives readers something or ends an emission takes those out, and they
+/// are woken.
+pub struct Attended<S: FlowCore, A: Allocator + Copy = Global> {
+    pub(crate) core: S,
+    readers: Sleepers<A>,
+    pub(crate) emitters: Sleepers<A>,
+    woken: Woken<A>,
+    done: Woken<A>,
+}
+
+// Not derived, as that of `Flow`.
+impl<S: FlowCore + Drop, A: Allocator + Copy> Drop for Attended<S, A> {
+    fn drop(self) {
+        let Self {
+            core: _,
+            readers: _,
+            emitters: _,
+            woken: _,
+            done: _,
+        } = self;
+    }
+}
+
+impl<S: FlowCore, A: Allocator + Copy> Guarded for Attended<S, A> {
+    type Said = Said<S::Call, S::Reply>;
+
+    ghost stands = { attended_stands S.sleeping S.first S.stands_as };
+}
+
+/// Wakes the sleeper of this number, if there is a number.
+fn wake<A: Allocator + Copy>(sleepers: &mut Sleepers<A>, number: Option<u64>)
+    ensures { sleepers.new ≡ without number sleepers.old }
+{
+    if let Some(number) = number {
+        sleepers.wake(number);
+    }
+}
+
+fn is_same(one: Option<u64>, other: Option<u64>) -> bool
+    ensures { OnTrue result (one ≡ other) }
+{
+    match (one, other) {
+        (Some(one), Some(other)) => one == other,
+        (None, None) => true,
+        _ => false,
+    }
+}
+
+impl<S: FlowCore, A: Allocator + Copy> Attended<S, A> {
+    /// Returns the core with nobody asleep.
+    pub(crate) fn new(alloc: A, core: S) -> Self
+        ensures core { result.core ≡ core }
+        ensures alone { (result.readers ≡ []) × (result.emitters ≡ []) }
+    {
+        Attended {
+            core,
+            readers: Sleepers::new(alloc),
+            emitters: Sleepers::new(alloc),
+            woken: Woken::new(alloc),
+            done: Woken::new(alloc),
+        }
+    }
+
+    /// Returns the core. Who sleeps is woken.
+    pub(crate) fn into_core(self) -> S
+        ensures { result ≡ self.core }
+    {
+        let Attended {
+            core,
+            readers: _,
+            emitters: _,
+            woken: _,
+            done: _,
+        } = self;
+        core
+    }
+
+    /// Wakes the subscriber of this number, and the owner of the emission of that one, if they sleep.
+    fn wake_ended(&mut self, ended: Option<u64>, cancelled: Option<u64>)
+        ensures core { self.new.core ≡ self.old.core }
+        ensures readers { self.new.readers ≡ without ended self.old.readers }
+        ensures emitters { self.new.emitters ≡ without cancelled self.old.emitters }
+    {
+        wake(&mut self.readers, ended);
+        wake(&mut self.emitters, cancelled);
+    }
+
+    /// Takes all readers out, to be woken.
+    fn wake_readers(&mut self)
+        ensures core { self.new.core ≡ self.old.core }
+        ensures readers { self.new.readers ≡ [] }
+        ensures emitters { self.new.emitters ≡ self.old.emitters }
+    {
+        if !self.readers.is_empty() {
+            self.woken = self.readers.take_all();
+        }
+    }
+
+    /// Takes all readers out if they have something now: if the value was set, or if the core's mark is not this one.
+    fn wake_readers_if_due(&mut self, is_set: bool, mark: u64)
+        ensures core { self.new.core ≡ self.old.core }
+        ensures readers { Rests S.sleeping S.stands_as self.old.core is_set mark self.old.readers self.new.readers }
+        ensures emitters { self.new.emitters ≡ self.old.emitters }
+    {
+        if is_set || self.core.mark() != mark {
+            self.wake_readers();
+        }
+    }
+
+    /// Wakes the emitters whose emissions have ended, where this was the first emission that waited.
+    fn wake_emitters_if_due(&mut self, first: Option<u64>)
+        ensures core { self.new.core ≡ self.old.core }
+        ensures readers { self.new.readers ≡ self.old.readers }
+        ensures emitters { Lasts S.sleeping S.stands_as self.old.core first self.old.emitters self.new.emitters }
+    {
+        if self.emitters.is_empty() {
+            return;
+        }
+        let now = self.core.first_waiting();
+        if is_same(now, first) {
+            return;
+        }
+        match now {
+            Some(number) => self.emitters.wake_below(number),
+            None => self.done = self.emitters.take_all(),
+        }
+    }
+
+    /// Returns whether nobody sleeps.
+    fn is_alone(&self) -> bool
+        ensures { OnTrue result ((self.now.readers ≡ []) × (self.now.emitters ≡ [])) }
+    {
+        self.readers.is_empty() && self.emitters.is_empty()
+    }
+
+    /// Makes a call of the core, and takes out those who have something after it.
+    pub(crate) fn call<C: CoreCall<S>>(&mut self, call: C) -> C::Answer
+        ensures documented { (name : List ℕ) → Documents S.kind (AttendedAs S.sleeping S.stands_as)
+            self.old (C.call call name) (C.reply result) self.new }
+        ensures also { C.also call result }
+    {
+        if self.is_alone() {
+            return call.run(&mut self.core);
+        }
+        self.wake_ended(call.ends(), call.cancels());
+        let mark = self.core.mark();
+        let first = self.core.first_waiting();
+        let answer = call.run(&mut self.core);
+        self.wake_readers_if_due(C::is_set(&answer), mark);
+        self.wake_emitters_if_due(first);
+        answer
+    }
+
+    /// Calls `next` of the core. If there is nothing to receive, the task that asks sleeps.
+    pub(crate) fn next_or_sleep(
+        &mut self,
+        cx: &mut Context<'_>,
+        id: SubId,
+    ) -> Result<Next<S::Item>, FlowFault>
+        ensures documented { Documents S.kind (AttendedAs S.sleeping S.stands_as)
+            self.old (S.kind.take_next (number_of id)) (replied S.kind S.kind.received result) self.new }
+        ensures given { S.Item.IsAlwaysCopied → IsOk result }
+        ensures armed { IsWait result → IsArmed cx.new }
+        ensures kept { Keeps cx.old cx.new }
+    {
+        let next = match self.call(TakeNext { id }) {
+            Ok(next) => next,
+            Err(fault) => {
+                let _again: Poll<()> = cx.yield_now();
+                return Err(fault);
+            }
+        };
+        match next {
+            Next::Value(value) => Ok(Next::Value(value)),
+            Next::Empty => {
+                let _asleep: Poll<()> = self.readers.sleep(cx, id.number());
+                Ok(Next::Empty)
+            }
+            Next::Gone => {
+                let _again: Poll<()> = cx.yield_now();
+                Ok(Next::Gone)
+            }
+        }
+    }
+
+    /// Takes those out who are to be woken, if there are any.
+    pub(crate) fn take_woken(&mut self) -> Option<(Woken<A>, Woken<A>)>
+        ensures core { self.new.core ≡ self.old.core }
+        ensures readers { self.new.readers ≡ self.old.readers }
+        ensures emitters { self.new.emitters ≡ self.old.emitters }
+    {
+        if self.woken.is_empty() && self.done.is_empty() {
+            return None;
+        }
+        Some((self.woken.take(), self.done.take()))
+    }
+}

@@ -1,0 +1,20 @@
+//! Handles: a token beside the flow that it is of, so that no call has to be shown that they belong together.
+//!
+//! # Names
+//! The plain name is the flow's own call: it takes `rt`, and waits while another caller is inside the flow. A name that
+//! begins with `try_` is the same call without `rt`: it answers at once, and may be Busy. One name is the documentation's:
+//! `try_emit` takes `rt` and never waits for room. The emission that waits for nobody at all is `emit_now`.
+mod caller;
+mod emission;
+mod emitter;
+mod errors;
+mod reader;
+mod reader_laws;
+mod setter;
+mod updates;
+
+pub use caller::FlowCaller;
+pub use emission::{BoundEmission, EmitAnswer, PollAnswer};
+pub use emitter::Emitter;
+pub use reader::{DrainEnd, FlowReader, Reader, StateReader};
+pub use setter::Setter;

@@ -1,0 +1,126 @@
+//! A seat that is bound to its flow.
+ghost use Rattle.std.specs.Prelude.{◌≡◌};
+ghost use Rattle.flow_law.specs.Growth.{makes, child};
+ghost use Rattle.flow_law.specs.HandleFaults.{answer_by, busy_fault, number_fault};
+ghost use Rattle.flow_law.specs.Handles.{called_by, SubscribesBound};
+ghost use Rattle.flow_law.specs.Tokens.{knowing};
+ghost use Rattle.flow_shared.specs.Calls.{Counts, CountsNow, Meets};
+
+use super::errors::number_error;
+use super::reader::FlowReader;
+use crate::flow::Flow;
+use crate::token::FlowSeat;
+use flow_core::FlowCore;
+use flow_law::{Busy, NumberError};
+use std::alloc::{Allocator, Global};
+use std::marker::Model;
+use std::sync::Wait;
+
+/// A seat, and the flow that it is of: an `Emitter` of a shared flow, a `Setter` of a state flow. Contracts see both.
+///
+/// Dropping it drops its seat: no caller has that name any more, and the flow is not changed.
+#[derive(Drop)]
+pub struct FlowCaller<'a, S: FlowCore, A: Allocator + Copy = Global> {
+    pub(crate) flow: &'a Flow<S, A>,
+    pub(crate) seat: FlowSeat<S, A>,
+}
+
+impl<'a, S: FlowCore, A: Allocator + Copy> Model for FlowCaller<'a, S, A> {
+    ghost use Rattle.std.specs.Prelude.{◌≡◌};
+    ghost use Rattle.atomic_table.specs.Seated.{TableId};
+    ghost use Rattle.flow_law.specs.declared.history.Said.{Said};
+    ghost use Rattle.flow_law.specs.Handles.{CallerOf, called_by};
+
+    ghost Value = { CallerOf TableId S.State (Said S.Call S.Reply) };
+
+    ghost view = { λ c. called_by c.flow.now c.seat };
+
+    ghost invariant = { λ c. c.seat.table_id ≡ c.flow.now.table_id };
+}
+
+impl<'a, S: FlowCore + Drop, A: Allocator + Copy> FlowCaller<'a, S, A> {
+    pub(crate) fn new(flow: &'a Flow<S, A>, seat: FlowSeat<S, A>) -> FlowCaller<'a, S, A>
+        requires { seat.table_id ≡ flow.now.table_id }
+        ensures { result ≡ called_by flow.now seat }
+    {
+        FlowCaller { flow, seat }
+    }
+
+    /// Makes one more caller through this one. Call it for each thread, before the thread starts.
+    pub fn another(&mut self) -> FlowCaller<'a, S, A>
+        ensures flow { (self.new.flow ≡ self.old.flow) × (result.flow ≡ self.old.flow) }
+        ensures maker { self.new.token ≡ knowing self.old.token (makes self.old.token.knows) }
+        ensures made { result.token ≡ knowing self.old.token (child self.old.token.knows) }
+    {
+        let made = self.flow.seat(&mut self.seat);
+        FlowCaller::new(self.flow, made)
+    }
+
+    /// Subscribes. The reader gets the replay cache of a shared flow first, or the value that is offered, and the current
+    /// value of a state flow.
+    ///
+    /// A subscriber that does not read blocks the emitters of a shared flow or loses values, depending on the strategy,
+    /// until `unsubscribe`.
+    pub fn subscribe<R: Wait>(&mut self, rt: &R) -> Result<FlowReader<'a, S, A>, NumberError>
+        ensures flow { self.new.flow ≡ self.old.flow }
+        ensures subscribed { SubscribesBound S.kind S.kind.subscribe self.old
+            (answer_by number_fault result) self.new.token }
+    {
+        match self.flow.subscribe(rt, &mut self.seat) {
+            Ok(subscription) => Ok(FlowReader::new(self.flow, subscription)),
+            Err(fault) => Err(number_error(fault)),
+        }
+    }
+
+    /// Counts the subscribers. A dropped subscription is counted: only `unsubscribe` ends one.
+    pub fn subscription_count<R: Wait>(&mut self, rt: &R) -> u64
+        ensures flow { self.new.flow ≡ self.old.flow }
+        ensures counted { Counts S.kind self.old.flow self.old.token result self.new.token }
+    {
+        self.flow.subscription_count(rt, &mut self.seat)
+    }
+
+    /// Counts the subscribers if no other caller holds the flow; otherwise returns `Busy`.
+    pub fn try_subscription_count(&mut self) -> Result<u64, Busy>
+        ensures flow { self.new.flow ≡ self.old.flow }
+        ensures counted { CountsNow S.kind self.old.flow self.old.token
+            (answer_by busy_fault result) self.new.token }
+    {
+        match self.flow.count_now(&mut self.seat) {
+            Ok(count) => Ok(count),
+            Err(_busy) => Err(Busy),
+        }
+    }
+
+    /// Joins what two callers of one flow have seen: afterwards both have seen one history, with all calls so far.
+    ///
+    /// Call it when one caller relies on what another did, for example after a thread has ended and returned its handle.
+    pub fn meet(&mut self, other: &mut FlowCaller<'_, S, A>)
+        requires { other.old.flow.table_id ≡ self.old.flow.table_id }
+        ensures flow { (self.new.flow ≡ self.old.flow) × (other.new.flow ≡ other.old.flow) }
+        ensures met { Meets S.kind self.old.flow self.old.token other.old.token self.new.token other.new.token }
+    {
+        self.flow.meet(&mut self.seat, &mut other.seat);
+    }
+
+    /// Joins what a caller and a reader of one flow have seen, as `meet` does.
+    pub fn meet_reader(&mut self, reader: &mut FlowReader<'_, S, A>)
+        requires { reader.old.flow.table_id ≡ self.old.flow.table_id }
+        ensures flow { (self.new.flow ≡ self.old.flow) × (reader.new.flow ≡ reader.old.flow) }
+        ensures met { Meets S.kind self.old.flow reader.old.subscription.token self.old.token
+            reader.new.subscription.token self.new.token }
+        ensures number { reader.new.subscription.number ≡ reader.old.subscription.number }
+    {
+        self.flow
+            .meet_subscription(&mut reader.subscription, &mut self.seat);
+    }
+
+    /// Gives the seat back, for the flow's own calls.
+    pub fn into_seat(self) -> FlowSeat<S, A>
+        ensures token { result ≡ self.entry.token }
+        ensures flow { result.table_id ≡ self.entry.flow.table_id }
+    {
+        let FlowCaller { flow: _, seat } = self;
+        seat
+    }
+}

@@ -1,0 +1,139 @@
+//! An emission that waits, bound to its flow.
+ghost use Rattle.std.specs.Prelude.{◌≡◌};
+ghost use Rattle.flow_law.specs.declared.call.SharedCall.TheVariants as call;
+ghost use Rattle.flow_law.specs.declared.call.SharedReply.TheVariants as reply;
+ghost use Rattle.flow_shared.specs.SharedReplies.{Calls, Polls, PollsNow, CancelsNow};
+ghost use Rattle.flow_shared.specs.BoundEmissions.{queued_by};
+ghost use Rattle.flow_shared.specs.BoundReplies.{polled_by, polled_flow, polled_now_by, polled_now_flow, cancelled_by, cancelled_flow};
+
+use super::caller::FlowCaller;
+use super::emitter::Emitter;
+use crate::answers::{Emission, Polled, PolledNow};
+use crate::flow::Flow;
+use crate::shared::SharedFlow;
+use flow_core::SharedCore;
+use flow_law::{FlowValue, Rejected};
+use std::alloc::{Allocator, Global};
+use std::marker::Model;
+use std::sync::Wait;
+
+/// A suspended emission, and the flow that it is in. It has its emitter's seat.
+///
+/// Dropping it leaves its value queued or offered, and drops its seat. Call `cancel` to end its wait.
+#[derive(Drop)]
+pub struct BoundEmission<'a, T: FlowValue, A: Allocator + Copy = Global> {
+    flow: &'a SharedFlow<T, A>,
+    emission: Emission<T, A>,
+}
+
+impl<'a, T: FlowValue, A: Allocator + Copy> Model for BoundEmission<'a, T, A> {
+    ghost use Rattle.std.specs.Prelude.{◌≡◌};
+    ghost use Rattle.flow_shared.specs.BoundEmissions.{EmissionOf, queued_by};
+
+    ghost Value = { EmissionOf T };
+
+    ghost view = { λ e. queued_by e.flow.now e.emission };
+
+    ghost invariant = { λ e. e.emission.token.table_id ≡ e.flow.now.table_id };
+}
+
+/// What `emit` and `emit_now` of an emitter answer.
+#[derive(Drop)]
+pub enum EmitAnswer<'a, T: FlowValue, E, A: Allocator + Copy = Global> {
+    Done(Emitter<'a, T, A>),
+    /// The emitter has to wait for room.
+    Queued(BoundEmission<'a, T, A>),
+    /// Nothing was emitted.
+    Refused(Emitter<'a, T, A>, Rejected<T, E>),
+}
+
+/// What `poll` of an emission answers.
+#[derive(Drop)]
+pub enum PollAnswer<'a, T: FlowValue, A: Allocator + Copy = Global> {
+    Done(Emitter<'a, T, A>),
+    Waiting(BoundEmission<'a, T, A>),
+}
+
+impl<T: FlowValue, A: Allocator + Copy> Flow<SharedCore<T, A>, A> {
+    /// Binds an emission to its flow.
+    pub fn emission(&self, emission: Emission<T, A>) -> BoundEmission<'_, T, A>
+        requires { emission.token.table_id ≡ self.now.table_id }
+        ensures { result ≡ queued_by self.now emission }
+    {
+        BoundEmission::new(self, emission)
+    }
+}
+
+impl<'a, T: FlowValue, A: Allocator + Copy> BoundEmission<'a, T, A> {
+    pub(crate) fn new(
+        flow: &'a SharedFlow<T, A>,
+        emission: Emission<T, A>,
+    ) -> BoundEmission<'a, T, A>
+        requires { emission.token.table_id ≡ flow.now.table_id }
+        ensures { result ≡ queued_by flow.now emission }
+    {
+        BoundEmission { flow, emission }
+    }
+
+    /// Returns whether the emission still waits. If it does not, its value was emitted and received, and the answer has its
+    /// emitter.
+    pub fn poll<R: Wait>(self, rt: &R) -> PollAnswer<'a, T, A>
+        ensures flow { polled_flow result ≡ self.entry.flow }
+        ensures polls { Polls self.entry.flow self.entry.emission (polled_by result) }
+    {
+        let BoundEmission { flow, emission } = self;
+        match flow.poll_emit(rt, emission) {
+            Polled::Done(seat) => PollAnswer::Done(FlowCaller::new(flow, seat)),
+            Polled::Waiting(emission) => PollAnswer::Waiting(BoundEmission::new(flow, emission)),
+        }
+    }
+
+    /// Polls the emission if no other caller holds the flow; otherwise returns the emission.
+    pub fn try_poll(self) -> Result<PollAnswer<'a, T, A>, BoundEmission<'a, T, A>>
+        ensures flow { polled_now_flow result ≡ self.entry.flow }
+        ensures polls { PollsNow self.entry.flow self.entry.emission (polled_now_by result) }
+    {
+        let BoundEmission { flow, emission } = self;
+        match flow.poll_now(emission) {
+            PolledNow::Done(seat) => Ok(PollAnswer::Done(FlowCaller::new(flow, seat))),
+            PolledNow::Waiting(emission) => {
+                Ok(PollAnswer::Waiting(BoundEmission::new(flow, emission)))
+            }
+            PolledNow::Busy(emission) => Err(BoundEmission::new(flow, emission)),
+        }
+    }
+
+    /// Ends the wait of the emission, and returns its emitter and whether it waited.
+    ///
+    /// A queued value is lost. An offered value is withdrawn from the subscribers that have not received it.
+    pub fn cancel<R: Wait>(self, rt: &R) -> (Emitter<'a, T, A>, bool)
+        ensures flow { result.0.flow ≡ self.entry.flow }
+        ensures cancelled { Calls self.entry.flow self.entry.emission.token
+            (call.Cancel self.entry.emission.number) (reply.Tested result.1) result.0.token }
+    {
+        let BoundEmission { flow, emission } = self;
+        let (seat, was_waiting) = flow.cancel(rt, emission);
+        (FlowCaller::new(flow, seat), was_waiting)
+    }
+
+    /// Ends the wait if no other caller holds the flow; otherwise returns the emission.
+    pub fn try_cancel(self) -> Result<(Emitter<'a, T, A>, bool), BoundEmission<'a, T, A>>
+        ensures flow { cancelled_flow result ≡ self.entry.flow }
+        ensures cancelled { CancelsNow self.entry.flow self.entry.emission (cancelled_by result) }
+    {
+        let BoundEmission { flow, emission } = self;
+        match flow.cancel_now(emission) {
+            Ok((seat, was_waiting)) => Ok((FlowCaller::new(flow, seat), was_waiting)),
+            Err(back) => Err(BoundEmission::new(flow, back)),
+        }
+    }
+
+    /// Gives the emission back, for the flow's own calls.
+    pub fn into_emission(self) -> Emission<T, A>
+        ensures emission { result ≡ self.entry.emission }
+        ensures flow { result.token.table_id ≡ self.entry.flow.table_id }
+    {
+        let BoundEmission { flow: _, emission } = self;
+        emission
+    }
+}

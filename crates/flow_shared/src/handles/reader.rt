@@ -1,0 +1,183 @@
+//! A subscription that is bound to its flow.
+ghost use Rattle.std.specs.Prelude.{◌≡◌, IsOk, IfErr};
+ghost use Rattle.std.specs.Result.{OnErr};
+ghost use Rattle.flow_law.specs.declared.errors.TryNextError.TheVariants as try_next;
+ghost use Rattle.flow_law.specs.Draining.{DrainsBy, IsFull};
+ghost use Rattle.flow_law.specs.Growth.{makes, child};
+ghost use Rattle.flow_law.specs.HandleFaults.{answer_by, memory_fault, try_next_fault};
+ghost use Rattle.flow_law.specs.Handles.{read_by, next_in};
+ghost use Rattle.flow_law.specs.Tokens.{knowing};
+ghost use Rattle.flow_shared.specs.Calls.{NextsOf, NextsNow, Unsubscribes};
+ghost use Rattle.flow_shared.specs.BoundReplies.{drained_by};
+
+use super::caller::FlowCaller;
+use super::errors::{drain_end, try_next_error};
+use crate::flow::Flow;
+use crate::token::FlowSubscription;
+use flow_core::{FlowCore, SharedCore, StateCore};
+use flow_law::{Next, OutOfMemory, TryNextError};
+use std::alloc::{Allocator, Global};
+use std::marker::Model;
+use std::sync::Wait;
+
+/// A subscription, and the flow that it is to. Contracts see both.
+///
+/// Dropping it leaves the subscription in the flow, where it is still counted. Call `unsubscribe` to end it.
+#[derive(Drop)]
+pub struct FlowReader<'a, S: FlowCore, A: Allocator + Copy = Global> {
+    pub(crate) flow: &'a Flow<S, A>,
+    pub(crate) subscription: FlowSubscription<S, A>,
+}
+
+/// A subscription to a shared flow.
+pub type Reader<'a, T, A = Global> = FlowReader<'a, SharedCore<T, A>, A>;
+
+/// A subscription to a state flow.
+pub type StateReader<'a, T, A = Global> = FlowReader<'a, StateCore<T, A>, A>;
+
+/// How a `drain` of a reader ended.
+#[derive(Clone, Copy, Debug, PartialEq, Eq)]
+pub enum DrainEnd {
+    /// As many values were taken as the call asked for. The flow may have more.
+    Most,
+    /// The subscriber has received all values.
+    Empty,
+}
+
+impl<'a, S: FlowCore, A: Allocator + Copy> Model for FlowReader<'a, S, A> {
+    ghost use Rattle.std.specs.Prelude.{◌≡◌};
+    ghost use Rattle.atomic_table.specs.Seated.{TableId};
+    ghost use Rattle.flow_law.specs.declared.history.Said.{Said};
+    ghost use Rattle.flow_law.specs.Handles.{ReaderOf, read_by};
+
+    ghost Value = { ReaderOf TableId S.State (Said S.Call S.Reply) };
+
+    ghost view = { λ r. read_by r.flow.now r.subscription };
+
+    ghost invariant = { λ r. r.subscription.token.table_id ≡ r.flow.now.table_id };
+}
+
+impl<S: FlowCore + Drop, A: Allocator + Copy> Flow<S, A> {
+    /// Binds a subscription to its flow.
+    pub fn reader(&self, subscription: FlowSubscription<S, A>) -> FlowReader<'_, S, A>
+        requires { subscription.token.table_id ≡ self.now.table_id }
+        ensures { result ≡ read_by self.now subscription }
+    {
+        FlowReader::new(self, subscription)
+    }
+}
+
+impl<'a, S: FlowCore + Drop, A: Allocator + Copy> FlowReader<'a, S, A> {
+    pub(crate) fn new(
+        flow: &'a Flow<S, A>,
+        subscription: FlowSubscription<S, A>,
+    ) -> FlowReader<'a, S, A>
+        requires { subscription.token.table_id ≡ flow.now.table_id }
+        ensures { result ≡ read_by flow.now subscription }
+    {
+        FlowReader { flow, subscription }
+    }
+
+    /// Takes the next value, or returns `None` if the subscriber has received all values.
+    ///
+    /// # Errors
+    /// `OutOfMemory` if the value could not be copied: a later call returns it.
+    ///
+    /// In a shared flow it makes room, so queued values may be emitted. A slow subscriber of a state flow skips values and
+    /// gets the most recent one.
+    pub fn next<R: Wait>(&mut self, rt: &R) -> Result<Option<S::Item>, OutOfMemory>
+        ensures flow { self.new.flow ≡ self.old.flow }
+        ensures called { NextsOf S.kind self.old.flow self.old.subscription
+            (next_in (answer_by memory_fault result)) self.new.subscription }
+        ensures given { S.Item.IsAlwaysCopied → IsOk result }
+    {
+        match self.flow.next(rt, &mut self.subscription) {
+            Ok(Next::Value(value)) => Ok(Some(value)),
+            Ok(_) => Ok(None),
+            Err(_fault) => Err(OutOfMemory),
+        }
+    }
+
+    /// Takes the next value if no other caller holds the flow; otherwise returns `Busy`.
+    pub fn try_next(&mut self) -> Result<Option<S::Item>, TryNextError>
+        ensures flow { self.new.flow ≡ self.old.flow }
+        ensures called { NextsNow S.kind self.old.flow self.old.subscription
+            (next_in (answer_by try_next_fault result)) self.new.subscription }
+        ensures given { S.Item.IsAlwaysCopied → IfErr result (λ error. error ≡ try_next.Busy) }
+    {
+        match self.flow.next_now(&mut self.subscription) {
+            Ok(Next::Value(value)) => Ok(Some(value)),
+            Ok(_) => Ok(None),
+            Err(fault) => Err(try_next_error(fault)),
+        }
+    }
+
+    /// Appends what the subscriber can receive now to the list, at most `most` values.
+    ///
+    /// # Errors
+    /// `OutOfMemory` if the list has no room or a value could not be copied. That value is still in the flow, the values
+    /// before it are in the list, and a later call continues.
+    pub fn drain<R: Wait, B: Allocator>(
+        &mut self,
+        rt: &R,
+        most: usize,
+        values: &mut Vec<S::Item, B>,
+    ) -> Result<DrainEnd, OutOfMemory>
+        ensures flow { self.new.flow ≡ self.old.flow }
+        ensures drained { DrainsBy (NextsOf S.kind self.old.flow) most self.old.subscription values.old.items
+            (drained_by (answer_by memory_fault result)) values.new.items self.new.subscription }
+        ensures number { self.new.subscription.number ≡ self.old.subscription.number }
+        ensures full { S.Item.IsAlwaysCopied → OnErr result (IsFull values.new) }
+    {
+        let ended = self.flow.drain(rt, &mut self.subscription, most, values);
+        drain_end(ended)
+    }
+
+    /// Makes a caller of the same flow through the seat of this subscription.
+    pub fn another(&mut self) -> FlowCaller<'a, S, A>
+        ensures flow { (self.new.flow ≡ self.old.flow) × (result.flow ≡ self.old.flow) }
+        ensures maker { self.new.subscription.token
+            ≡ knowing self.old.subscription.token (makes self.old.subscription.token.knows) }
+        ensures number { self.new.subscription.number ≡ self.old.subscription.number }
+        ensures made { result.token ≡ knowing self.old.subscription.token
+            (child self.old.subscription.token.knows) }
+    {
+        let made = self.flow.seat_by(&mut self.subscription);
+        FlowCaller::new(self.flow, made)
+    }
+
+    /// Ends the subscription, and returns a caller with its seat. Emitters that waited only for it stop waiting.
+    pub fn unsubscribe<R: Wait>(self, rt: &R) -> FlowCaller<'a, S, A>
+        ensures flow { result.flow ≡ self.entry.flow }
+        ensures left { Unsubscribes S.kind self.entry.flow self.entry.subscription result.token }
+    {
+        let FlowReader { flow, subscription } = self;
+        let seat = flow.unsubscribe(rt, subscription);
+        FlowCaller::new(flow, seat)
+    }
+
+    /// Gives the subscription back, for the flow's own calls.
+    pub fn into_subscription(self) -> FlowSubscription<S, A>
+        ensures subscription { result ≡ self.entry.subscription }
+        ensures flow { result.token.table_id ≡ self.entry.flow.table_id }
+    {
+        let FlowReader {
+            flow: _,
+            subscription,
+        } = self;
+        subscription
+    }
+}
+
+impl<S: FlowCore + Drop, A: Allocator + Copy> Flow<S, A> {
+    /// Makes a seat through a subscription's.
+    fn seat_by(&self, subscription: &mut FlowSubscription<S, A>) -> crate::token::FlowSeat<S, A>
+        requires { subscription.old.token.table_id ≡ self.now.table_id }
+        ensures maker { subscription.new.token
+            ≡ knowing subscription.old.token (makes subscription.old.token.knows) }
+        ensures number { subscription.new.number ≡ subscription.old.number }
+        ensures made { result ≡ knowing subscription.old.token (child subscription.old.token.knows) }
+    {
+        self.seat(&mut subscription.seat)
+    }
+}

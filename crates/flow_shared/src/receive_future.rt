@@ -1,0 +1,128 @@
+//! The next value of a subscription to a shared flow, as a future that is woken.
+ghost use Rattle.std.specs.Prelude.{◌≡◌, ⊤, Some, None};
+ghost use Rattle.futures.specs.Task.{IsArmed, Covers, Keeps};
+ghost use Rattle.futures.specs.Poll.{IfReady, OnPending};
+ghost use Rattle.flow_shared.specs.Futures.{OneEach};
+ghost use Rattle.flow_shared.specs.NextFutures.{Receiving, receiving, IsTo, NextPolls, Says, held, token_after, IsRefusedIfDue, GivesReceived};
+
+use crate::next_future::{Received, given_by};
+use crate::shared::{SharedFlow, Subscription};
+use flow_law::FlowValue;
+use futures::Future;
+use futures::task::{Context, Poll};
+use std::alloc::{Allocator, Global};
+use std::marker::Model;
+
+/// Waits for what a subscriber receives next, as a `NextFuture`, and is woken when there is something.
+///
+/// A poll makes one call of the flow that does not wait. If there is nothing to receive it leaves the task's waker inside
+/// the flow; the call that gives subscribers something takes it out and wakes the task, once it has left the flow. If
+/// another caller is inside the flow, or no waker can be kept for want of memory, the task asks to be polled again.
+/// After Ready a poll is pending and calls nothing.
+///
+/// # Dropping
+/// A future that is dropped loses no value, but leaves its subscription in the flow, and perhaps a waker: its task may be
+/// woken once more. To walk away, call `into_subscription`.
+#[derive(Drop)]
+pub struct ReceiveFuture<'a, T: FlowValue, A: Allocator + Copy = Global> {
+    flow: &'a SharedFlow<T, A>,
+    subscription: Option<Subscription<T, A>>,
+}
+
+impl<'a, T: FlowValue, A: Allocator + Copy> Model for ReceiveFuture<'a, T, A> {
+    ghost Value = { Receiving T };
+
+    ghost view = { λ f. receiving f.flow.now f.subscription };
+
+    ghost invariant = { λ f. IsTo f.flow.now.table_id f.subscription };
+}
+
+impl<'a, T: FlowValue, A: Allocator + Copy> ReceiveFuture<'a, T, A> {
+    /// Returns a future that waits for the subscription's next value. Nothing is received before it is polled.
+    pub fn new(
+        flow: &'a SharedFlow<T, A>,
+        subscription: Subscription<T, A>,
+    ) -> ReceiveFuture<'a, T, A>
+        requires { subscription.token.table_id ≡ flow.now.table_id }
+        ensures { result ≡ receiving flow.now (Some subscription) }
+    {
+        ReceiveFuture {
+            flow,
+            subscription: Some(subscription),
+        }
+    }
+
+    /// Ends the future, and returns the subscription. None after Ready, where the answer had it.
+    pub fn into_subscription(self) -> Option<Subscription<T, A>>
+        ensures { result ≡ self.entry.subscription }
+    {
+        let ReceiveFuture {
+            flow: _,
+            subscription,
+        } = self;
+        subscription
+    }
+
+    /// One call of the flow.
+    fn ask(
+        &mut self,
+        subscription: Subscription<T, A>,
+        cx: &mut Context<'_>,
+    ) -> Poll<Received<T, A>>
+        requires { (self.old.subscription ≡ None)
+            × (subscription.token.table_id ≡ self.old.flow.table_id) }
+        ensures flow { self.new.flow ≡ self.old.flow }
+        ensures polls { NextPolls self.old.flow (Some subscription) result self.new.subscription }
+        ensures at { IfReady result (λ r. r.0.token.table_id ≡ self.old.flow.table_id) }
+        ensures armed { OnPending result (IsArmed cx.new) }
+        ensures kept { Keeps cx.old cx.new }
+    {
+        let mut subscription = subscription;
+        let answer = self.flow.next_or_sleep(&mut subscription, cx);
+        match given_by(answer) {
+            Some(given) => Poll::Ready((subscription, given)),
+            None => {
+                self.subscription = Some(subscription);
+                Poll::Pending
+            }
+        }
+    }
+
+    /// One poll, but for what it says of itself.
+    fn advance(&mut self, cx: &mut Context<'_>) -> Poll<Received<T, A>>
+        ensures flow { self.new.flow ≡ self.old.flow }
+        ensures polls { NextPolls self.old.flow self.old.subscription result self.new.subscription }
+        ensures at { IfReady result (λ r. r.0.token.table_id ≡ self.old.flow.table_id) }
+        ensures armed { OnPending result (IsArmed cx.new) }
+        ensures kept { Keeps cx.old cx.new }
+    {
+        match self.subscription.take() {
+            Some(subscription) => self.ask(subscription, cx),
+            None => cx.yield_now(),
+        }
+    }
+}
+
+impl<'a, T: FlowValue, A: Allocator + Copy> Future for ReceiveFuture<'a, T, A> {
+    type Output = Received<T, A>;
+
+    ghost gives = { λ f received. GivesReceived f received };
+
+    fn poll(&mut self, cx: &mut Context<'_>) -> Poll<Received<T, A>>
+        ensures flow { self.new.flow ≡ self.old.flow }
+        ensures polls { NextPolls self.old.flow self.old.subscription result self.new.subscription }
+        ensures one { OneEach Says self.old.flow (held self.old.subscription) result (token_after result self.new.subscription) }
+        ensures refused { IfReady result IsRefusedIfDue }
+        // The trait's own clauses. A pending poll has left its waker, or asked to be polled again (`registered`).
+        ensures value { IfReady result (GivesReceived self.old) }
+        ensures again { OnPending result ⊤ }
+        ensures same { OnPending result ((x : _) → GivesReceived self.new x → GivesReceived self.old x) }
+        ensures registered { OnPending result (Covers cx.new (λ _. ⊥)) }
+        ensures kept { Keeps cx.old cx.new }
+    {
+        match self.advance(cx) {
+            Poll::Ready(received) => Poll::Ready(received),
+            Poll::Pending => Poll::Pending,
+        }
+    }
+}

@@ -1,0 +1,151 @@
+//! A value on its way into a shared flow, as a future that is woken.
+ghost use Rattle.std.specs.Prelude.{◌≡◌, ⊤};
+ghost use Rattle.futures.specs.Task.{IsArmed, Covers, Keeps};
+ghost use Rattle.futures.specs.Poll.{IfReady, OnPending};
+ghost use Rattle.flow_shared.specs.declared.emit_future.EmitStage.TheVariants.{Fresh, Waiting, Ended};
+ghost use Rattle.flow_shared.specs.Futures.{OneEach};
+ghost use Rattle.flow_shared.specs.EmitFutures.{Emitting, emitting, HoldsOf, EmitPolls, Says, held, token_after, KeepsCount, IsRefusedIfDue, sent_token, GivesSent, Cancels};
+
+use crate::answers::{Emission, Emitted, PolledNow};
+use crate::emit_future::{EmitStage, Sent};
+use crate::shared::{Seat, SharedFlow};
+use flow_law::{FlowFault, FlowValue};
+use futures::Future;
+use futures::task::{Context, Poll};
+use std::alloc::{Allocator, Global};
+use std::marker::Model;
+use std::mem;
+use std::sync::Wait;
+
+/// Emits a value once, as an `EmitFuture`, and is woken when its emission ends.
+///
+/// A poll makes one call of the flow that does not wait: `emit`, and later `poll` of the emission. If the emission waits
+/// it leaves the task's waker inside the flow; the call that ends the emission takes it out and wakes the task. If another
+/// caller is inside the flow, or no waker can be kept for want of memory, the task asks to be polled again. After Ready
+/// a poll is pending and calls nothing.
+///
+/// # Dropping
+/// A future that is dropped while it waits leaves its value queued or offered, and its seat is lost. To walk away, call
+/// `cancel`.
+#[derive(Drop)]
+pub struct SendFuture<'a, T: FlowValue, A: Allocator + Copy = Global> {
+    flow: &'a SharedFlow<T, A>,
+    stage: EmitStage<T, A>,
+}
+
+impl<'a, T: FlowValue, A: Allocator + Copy> Model for SendFuture<'a, T, A> {
+    ghost Value = { Emitting T A };
+
+    ghost view = { λ f. emitting f.flow.now f.stage };
+
+    ghost invariant = { λ f. HoldsOf f.flow.now.table_id f.stage };
+}
+
+impl<'a, T: FlowValue, A: Allocator + Copy> SendFuture<'a, T, A> {
+    /// A future that is to emit this value through this seat. Nothing is emitted before it is polled.
+    pub fn new(flow: &'a SharedFlow<T, A>, seat: Seat<T, A>, value: T) -> SendFuture<'a, T, A>
+        requires { seat.table_id ≡ flow.now.table_id }
+        ensures { result ≡ emitting flow.now (Fresh seat value) }
+    {
+        SendFuture {
+            flow,
+            stage: EmitStage::Fresh(seat, value),
+        }
+    }
+
+    /// Ends the future, and answers its seat and whether the value was still on its way. It was, too, where no poll
+    /// came before, or busy ones alone. None after Ready: the answer had the seat.
+    ///
+    /// A queued value is lost. An offered one is no more for those who have not received it.
+    pub fn cancel<R: Wait>(self, rt: &R) -> Option<(Seat<T, A>, bool)>
+        ensures { Cancels self.entry result }
+    {
+        let SendFuture { flow, stage } = self;
+        match stage {
+            EmitStage::Fresh(seat, _value) => Some((seat, true)),
+            EmitStage::Waiting(emission) => Some(flow.cancel(rt, emission)),
+            EmitStage::Ended => None,
+        }
+    }
+
+    /// The first poll that is not busy: the value is emitted.
+    fn emit(&mut self, seat: Seat<T, A>, value: T, cx: &mut Context<'_>) -> Poll<Sent<T, A>>
+        requires { (self.old.stage ≡ Ended) × (seat.table_id ≡ self.old.flow.table_id) }
+        ensures flow { self.new.flow ≡ self.old.flow }
+        ensures polls { EmitPolls self.old.flow (Fresh seat value) result self.new.stage }
+        ensures at { IfReady result (λ s. (sent_token s).table_id ≡ self.old.flow.table_id) }
+        ensures armed { OnPending result (IsArmed cx.new) }
+        ensures kept { Keeps cx.old cx.new }
+    {
+        match self.flow.emit_or_sleep(seat, value, cx) {
+            Emitted::Done(seat) => Poll::Ready(Sent::Done(seat)),
+            Emitted::Queued(emission) => {
+                self.stage = EmitStage::Waiting(emission);
+                Poll::Pending
+            }
+            Emitted::Refused(seat, value, FlowFault::Busy) => {
+                self.stage = EmitStage::Fresh(seat, value);
+                Poll::Pending
+            }
+            Emitted::Refused(seat, value, fault) => Poll::Ready(Sent::Refused(seat, value, fault)),
+        }
+    }
+
+    /// Whether the emission still waits.
+    fn ask(&mut self, emission: Emission<T, A>, cx: &mut Context<'_>) -> Poll<Sent<T, A>>
+        requires { (self.old.stage ≡ Ended) × (emission.token.table_id ≡ self.old.flow.table_id) }
+        ensures flow { self.new.flow ≡ self.old.flow }
+        ensures polls { EmitPolls self.old.flow (Waiting emission) result self.new.stage }
+        ensures at { IfReady result (λ s. (sent_token s).table_id ≡ self.old.flow.table_id) }
+        ensures armed { OnPending result (IsArmed cx.new) }
+        ensures kept { Keeps cx.old cx.new }
+    {
+        match self.flow.poll_or_sleep(emission, cx) {
+            PolledNow::Done(seat) => Poll::Ready(Sent::Done(seat)),
+            PolledNow::Waiting(left) | PolledNow::Busy(left) => {
+                self.stage = EmitStage::Waiting(left);
+                Poll::Pending
+            }
+        }
+    }
+
+    /// One poll, but for what it asks of the task.
+    fn advance(&mut self, cx: &mut Context<'_>) -> Poll<Sent<T, A>>
+        ensures flow { self.new.flow ≡ self.old.flow }
+        ensures polls { EmitPolls self.old.flow self.old.stage result self.new.stage }
+        ensures at { IfReady result (λ s. (sent_token s).table_id ≡ self.old.flow.table_id) }
+        ensures armed { OnPending result (IsArmed cx.new) }
+        ensures kept { Keeps cx.old cx.new }
+    {
+        match mem::replace(&mut self.stage, EmitStage::Ended) {
+            EmitStage::Fresh(seat, value) => self.emit(seat, value, cx),
+            EmitStage::Waiting(emission) => self.ask(emission, cx),
+            EmitStage::Ended => cx.yield_now(),
+        }
+    }
+}
+
+impl<'a, T: FlowValue, A: Allocator + Copy> Future for SendFuture<'a, T, A> {
+    type Output = Sent<T, A>;
+
+    ghost gives = { λ f sent. GivesSent f sent };
+
+    fn poll(&mut self, cx: &mut Context<'_>) -> Poll<Sent<T, A>>
+        ensures flow { self.new.flow ≡ self.old.flow }
+        ensures polls { EmitPolls self.old.flow self.old.stage result self.new.stage }
+        ensures one { OneEach Says self.old.flow (held self.old.stage) result (token_after result self.new.stage) }
+        ensures count { KeepsCount self.old.stage result self.new.stage }
+        ensures refused { IfReady result IsRefusedIfDue }
+        // The trait's own clauses. A pending poll has left its waker, or asked to be polled again (`registered`).
+        ensures value { IfReady result (GivesSent self.old) }
+        ensures again { OnPending result ⊤ }
+        ensures same { OnPending result ((x : _) → GivesSent self.new x → GivesSent self.old x) }
+        ensures registered { OnPending result (Covers cx.new (λ _. ⊥)) }
+        ensures kept { Keeps cx.old cx.new }
+    {
+        match self.advance(cx) {
+            Poll::Ready(sent) => Poll::Ready(sent),
+            Poll::Pending => Poll::Pending,
+        }
+    }
+}

@@ -1,0 +1,159 @@
+//! Emissions whose owners sleep while they wait.
+ghost use Rattle.std.specs.Prelude.{◌≡◌, ℕ, List, true, IfErr};
+ghost use Rattle.flow_law.specs.declared.call.SharedCall.TheVariants as call;
+ghost use Rattle.flow_law.specs.declared.call.SharedReply.TheVariants as reply;
+ghost use Rattle.flow_law.specs.SharedHistory.{shared_flow};
+ghost use Rattle.flow_law.specs.Standing.{Documents, StandsFor};
+ghost use Rattle.flow_law.proofs.SharedSleeping.{shared_sleeping};
+ghost use Rattle.futures.specs.Task.{IsArmed, Keeps};
+ghost use Rattle.flow_core.specs.SharedCore.{emit_reply};
+ghost use Rattle.flow_shared.specs.SharedReplies.{EmitsNow, PollsNow, EmitIsWait, PollIsWait};
+ghost use Rattle.flow_shared.specs.Attended.{AttendedAs, AddsWaiting, IsUndone};
+
+use super::Seat;
+use super::calls::{Emit as EmitCall, Poll as PollCall};
+use super::emission::answered;
+use crate::answers::{Emission, Emitted, PolledNow};
+use crate::attended::Attended;
+use crate::core_call::SleepingCall;
+use crate::flow::Flow;
+use crate::token::FlowSeat;
+use flow_core::SharedCore;
+use flow_law::{Emit, FlowFault, FlowValue, Refused};
+use futures::task::{Context, Poll};
+use std::alloc::Allocator;
+
+impl<T: FlowValue, A: Allocator + Copy> Attended<SharedCore<T, A>, A> {
+    /// Leaves the waker of the task that is polled, if the emission of this number waits.
+    fn sleep_while_waiting(&mut self, cx: &mut Context<'_>, number: u64)
+        ensures core { self.new.core ≡ self.old.core }
+        ensures readers { self.new.readers ≡ self.old.readers }
+        ensures emitters { AddsWaiting shared_sleeping StandsFor self.old.core number self.old.emitters self.new.emitters }
+        ensures armed { IsArmed cx.new }
+        ensures kept { Keeps cx.old cx.new }
+    {
+        if self.core.poll(number) {
+            let _asleep: Poll<()> = self.emitters.sleep(cx, number);
+        } else {
+            let _again: Poll<()> = cx.yield_now();
+        }
+    }
+
+    /// Emits a value. If the emitter is to wait, the task that is polled sleeps.
+    pub(crate) fn emit_or_sleep(
+        &mut self,
+        cx: &mut Context<'_>,
+        value: T,
+    ) -> Result<Emit, Refused<T>>
+        ensures documented { Documents shared_flow (AttendedAs shared_sleeping StandsFor)
+            self.old (call.Emit value) (emit_reply result) self.new }
+        ensures handed_back { IfErr result (λ refused. refused.value ≡ value) }
+        ensures armed { IsUndone result → IsArmed cx.new }
+        ensures kept { Keeps cx.old cx.new }
+    {
+        let emission = match self.call(EmitCall { value }) {
+            Ok(emission) => emission,
+            Err(refused) => {
+                let _again: Poll<()> = cx.yield_now();
+                return Err(refused);
+            }
+        };
+        match emission {
+            Emit::Done => Ok(Emit::Done),
+            Emit::Queued(number) => {
+                self.sleep_while_waiting(cx, number);
+                Ok(Emit::Queued(number))
+            }
+        }
+    }
+
+    /// Returns whether the emission still waits. If it does, the task that is polled sleeps.
+    pub(crate) fn poll_or_sleep(&mut self, cx: &mut Context<'_>, number: u64) -> bool
+        ensures documented { Documents shared_flow (AttendedAs shared_sleeping StandsFor)
+            self.old (call.Poll number) (reply.Tested result) self.new }
+        ensures armed { (result ≡ true) → IsArmed cx.new }
+        ensures kept { Keeps cx.old cx.new }
+    {
+        if self.call(PollCall { number }) {
+            self.sleep_while_waiting(cx, number);
+            true
+        } else {
+            false
+        }
+    }
+}
+
+impl<T: FlowValue, A: Allocator + Copy> SleepingCall<SharedCore<T, A>, A> for EmitCall<T> {
+    ghost is_wait = { λ answer. IsUndone answer };
+
+    fn run_or_sleep(
+        self,
+        state: &mut Attended<SharedCore<T, A>, A>,
+        cx: &mut Context<'_>,
+    ) -> Result<Emit, Refused<T>> {
+        let EmitCall { value } = self;
+        state.emit_or_sleep(cx, value)
+    }
+}
+
+impl<T: FlowValue, A: Allocator + Copy> SleepingCall<SharedCore<T, A>, A> for PollCall {
+    ghost is_wait = { λ waits. waits ≡ true };
+
+    fn run_or_sleep(self, state: &mut Attended<SharedCore<T, A>, A>, cx: &mut Context<'_>) -> bool {
+        state.poll_or_sleep(cx, self.number)
+    }
+}
+
+impl<T: FlowValue, A: Allocator + Copy> Flow<SharedCore<T, A>, A> {
+    /// As `emit_now`, for a caller that sleeps while its emission waits. If another caller is inside, the task that is
+    /// polled asks to be polled again.
+    pub(crate) fn emit_or_sleep(
+        &self,
+        seat: Seat<T, A>,
+        value: T,
+        cx: &mut Context<'_>,
+    ) -> Emitted<T, A>
+        requires { seat.table_id ≡ self.now.table_id }
+        ensures emits { EmitsNow self.now seat value result }
+        ensures armed { EmitIsWait result → IsArmed cx.new }
+        ensures kept { Keeps cx.old cx.new }
+    {
+        let FlowSeat { seat } = seat;
+        match self.call_by_or_sleep(seat.unwrap(), EmitCall { value }, cx) {
+            Ok(done) => {
+                let (own, answer) = done;
+                answered(own, answer)
+            }
+            Err(refused) => {
+                let (back, call) = refused;
+                let EmitCall { value } = call;
+                Emitted::Refused(FlowSeat { seat: Some(back) }, value, FlowFault::Busy)
+            }
+        }
+    }
+
+    /// As `poll_now`, for a caller that sleeps while its emission waits. If another caller is inside, the task that is
+    /// polled asks to be polled again.
+    pub(crate) fn poll_or_sleep(
+        &self,
+        emission: Emission<T, A>,
+        cx: &mut Context<'_>,
+    ) -> PolledNow<T, A>
+        requires { emission.token.table_id ≡ self.now.table_id }
+        ensures polls { PollsNow self.now emission result }
+        ensures armed { PollIsWait result → IsArmed cx.new }
+        ensures kept { Keeps cx.old cx.new }
+    {
+        let Emission { seat, number } = emission;
+        match self.call_by_or_sleep(seat, PollCall { number }, cx) {
+            Ok((seat, waits)) => {
+                if waits {
+                    PolledNow::Waiting(Emission { seat, number })
+                } else {
+                    PolledNow::Done(FlowSeat { seat: Some(seat) })
+                }
+            }
+            Err((seat, _call)) => PolledNow::Busy(Emission { seat, number }),
+        }
+    }
+}
