@@ -24,6 +24,7 @@
 #![tactic(auto)]
 
 mod calls;
+mod handles;
 mod meeting;
 mod plays;
 mod rule;
@@ -33,6 +34,7 @@ mod token;
 mod update;
 mod view;
 
+pub use handles::{WordReader, WordSetter};
 pub use rule::WordRule;
 pub use token::{WordSeat, WordState, WordSubscription};
 pub use view::{Known, LastGot, Start};

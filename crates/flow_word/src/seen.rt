@@ -1,8 +1,10 @@
 //! What holds of all that a token has seen.
-ghost use Rattle.std.specs.Prelude.{◌≡◌};
+ghost use Rattle.std.specs.Prelude.{◌≡◌, ℕ};
 ghost use Rattle.flow_law.specs.Conflation.{Conflates};
-ghost use Rattle.flow_law.specs.StateFlow.{IsStateHistory};
+ghost use Rattle.flow_law.specs.Current.{Converges, IsThere};
+ghost use Rattle.flow_law.specs.StateFlow.{IsStateHistory, state_after_all};
 ghost use Rattle.flow_word.specs.Tokens.{token_of, IsIdle};
+ghost use Rattle.flow_word.specs.View.{begun};
 
 use crate::plays::Look;
 use crate::token::{WordSeat, WordState, WordSubscription};
@@ -15,31 +17,37 @@ impl<T: Packed> WordState<T> {
         requires flow { (token_of seat.old).table_id ≡ self.now.table_id }
         requires idle { IsIdle seat.old }
         ensures same { (seat.new.me ≡ seat.old.me) × (seat.new.table_id ≡ seat.old.table_id) }
+        ensures began { begun T.value_of (token_of seat.old).table_id.start ≡ self.now.first }
         ensures history { IsStateHistory self.now.first (token_of seat.new).knows.seen }
     {
         self.table.shared.load::<Look>(seat, 0);
     }
 
-    /// Proves the law of state flows for what the seat has seen, no matter who made the flow. It makes
+    /// Proves the laws of state flows for what the seat has seen, no matter who made the flow. It makes
     /// no call of the flow and changes nothing.
     ///
-    /// Call it on a lent flow, to conclude what a subscriber received.
+    /// Call it on a lent flow, to conclude what a subscriber received, or that it comes to the current value.
     pub fn seen(&self, seat: &mut WordSeat<T>)
         requires { seat.old.table_id ≡ self.now.table_id }
         ensures unchanged { seat.new ≡ seat.old }
         // It is a history of the flow, from its first state on.
         ensures history { IsStateHistory self.now.first seat.new.knows.seen }
         ensures conflated { Conflates self.now.first.value seat.new.knows.seen }
+        ensures current { (u : ℕ) → Converges u self.now.first seat.new.knows.seen }
     {
         self.look(&mut seat.seat);
     }
 
-    /// Proves the law of state flows for what the subscription has seen, as `seen` does.
+    /// Proves the laws of state flows for what the subscription has seen, as `seen` does.
     pub fn seen_by_subscription(&self, subscription: &mut WordSubscription<T>)
         requires { subscription.old.token.table_id ≡ self.now.table_id }
         ensures unchanged { subscription.new ≡ subscription.old }
         ensures history { IsStateHistory self.now.first subscription.new.token.knows.seen }
         ensures conflated { Conflates self.now.first.value subscription.new.token.knows.seen }
+        ensures current { (u : ℕ) → Converges u self.now.first subscription.new.token.knows.seen }
+        // Its subscriber is there.
+        ensures subscribed { IsThere subscription.new.number
+            (state_after_all self.now.first subscription.new.token.knows.seen) }
     {
         self.look(&mut subscription.seat);
     }

@@ -11,6 +11,11 @@ use Rattle.flow_word.proofs.token.WordState.look.Goals as goal
 pub load-requires : goal.load-requires
 load-requires g c = (search rules, search rules, looking _ _ _ _ _ _ _ (ap (λ m. m.0) c.requires.idle))
 
+pub returns-clause-began : goal.returns-clause-began
+returns-clause-began g c =
+    let value_of = g.T.Packed.value_of in
+    ap (λ z. begun value_of z.start) c.requires.flow ∙ (ap (λ z. begun value_of z.table_id.start) (sym c.self.view_is) ∙ ap (λ z. z.first) c.self.view_is)
+
 pub returns-clause-history : goal.returns-clause-history
 returns-clause-history g c =
     let value_of = g.T.Packed.value_of in let told = c.load.ensures.2 in let grown = told.2.0 in let seen = (only c.args.seat.now.me.0).knows.seen in

@@ -1,0 +1,7 @@
+//! Handles: a token beside the word state that it is of, so that no call has to be shown that they belong together.
+mod reader;
+mod setter;
+mod updates;
+
+pub use reader::WordReader;
+pub use setter::WordSetter;

@@ -1,0 +1,108 @@
+//! A subscription that is bound to its word state.
+ghost use Rattle.std.specs.Prelude.{◌≡◌, ℕ, Ok};
+ghost use Rattle.flow_law.specs.Conflation.{Conflates};
+ghost use Rattle.flow_law.specs.Current.{Converges, IsThere};
+ghost use Rattle.flow_law.specs.Handles.{read_by, next_of};
+ghost use Rattle.flow_law.specs.StateFlow.{IsStateHistory, state_after_all, state_flow};
+ghost use Rattle.flow_law.specs.Tokens.{NextsIn, UnsubscribesIn};
+
+use super::setter::WordSetter;
+use crate::token::{WordState, WordSubscription};
+use flow_law::{Next, Packed};
+use std::marker::Model;
+
+/// A subscription, and the word state that it is to. Contracts see both.
+///
+/// Dropping it leaves the subscription in the flow, where it is still counted. Call `unsubscribe` to end it.
+#[derive(Drop)]
+pub struct WordReader<'a, T: Packed> {
+    pub(crate) flow: &'a WordState<T>,
+    pub(crate) subscription: WordSubscription<T>,
+}
+
+impl<'a, T: Packed> Model for WordReader<'a, T> {
+    ghost use Rattle.std.specs.Prelude.{◌≡◌};
+    ghost use Rattle.flow_law.specs.declared.history.Said.{Said};
+    ghost use Rattle.flow_law.specs.declared.call.StateCall.{StateCall};
+    ghost use Rattle.flow_law.specs.declared.call.StateReply.{StateReply};
+    ghost use Rattle.flow_law.specs.declared.states.StateFlowState.{StateFlowState};
+    ghost use Rattle.flow_law.specs.Handles.{ReaderOf, read_by};
+    ghost use Rattle.flow_word.specs.Tokens.{WordId};
+
+    ghost Value = { ReaderOf WordId (StateFlowState T) (Said (StateCall T) (StateReply T)) };
+
+    ghost view = { λ r. read_by r.flow.now r.subscription };
+
+    ghost invariant = { λ r. r.subscription.token.table_id ≡ r.flow.now.table_id };
+}
+
+impl<T: Packed> WordState<T> {
+    /// Binds a subscription to its flow.
+    pub fn reader(&self, subscription: WordSubscription<T>) -> WordReader<'_, T>
+        requires { subscription.token.table_id ≡ self.now.table_id }
+        ensures { result ≡ read_by self.now subscription }
+    {
+        WordReader::new(self, subscription)
+    }
+}
+
+impl<'a, T: Packed> WordReader<'a, T> {
+    pub(crate) fn new(
+        flow: &'a WordState<T>,
+        subscription: WordSubscription<T>,
+    ) -> WordReader<'a, T>
+        requires { subscription.token.table_id ≡ flow.now.table_id }
+        ensures { result ≡ read_by flow.now subscription }
+    {
+        WordReader { flow, subscription }
+    }
+
+    /// Takes the current value, or returns `None` if the subscriber got that value last.
+    ///
+    /// A slow subscriber skips values and gets the most recent one.
+    pub fn next(&mut self) -> Option<T>
+        ensures flow { self.new.flow ≡ self.old.flow }
+        ensures called { NextsIn state_flow self.old.flow.first self.old.subscription
+            (Ok (next_of result)) self.new.subscription }
+        ensures number { self.new.subscription.number ≡ self.old.subscription.number }
+    {
+        match self.flow.next(&mut self.subscription) {
+            Next::Value(value) => Some(value),
+            Next::Empty | Next::Gone => None,
+        }
+    }
+
+    /// Ends the subscription, and returns a setter with its seat.
+    pub fn unsubscribe(self) -> WordSetter<'a, T>
+        ensures flow { result.flow ≡ self.entry.flow }
+        ensures left { UnsubscribesIn state_flow self.entry.flow.first self.entry.subscription result.token }
+    {
+        let WordReader { flow, subscription } = self;
+        let seat = flow.unsubscribe(subscription);
+        WordSetter::new(flow, seat)
+    }
+
+    /// Proves the laws of state flows for what the subscription has seen. It makes no call of the flow and changes nothing.
+    pub fn seen(&mut self)
+        ensures unchanged { self.new ≡ self.old }
+        ensures history { IsStateHistory self.new.flow.first self.new.subscription.token.knows.seen }
+        ensures conflated { Conflates self.new.flow.first.value self.new.subscription.token.knows.seen }
+        ensures current { (u : ℕ) → Converges u self.new.flow.first self.new.subscription.token.knows.seen }
+        ensures subscribed { IsThere self.new.subscription.number
+            (state_after_all self.new.flow.first self.new.subscription.token.knows.seen) }
+    {
+        self.flow.seen_by_subscription(&mut self.subscription);
+    }
+
+    /// Gives the subscription back, for the flow's own calls.
+    pub fn into_subscription(self) -> WordSubscription<T>
+        ensures subscription { result ≡ self.entry.subscription }
+        ensures flow { result.token.table_id ≡ self.entry.flow.table_id }
+    {
+        let WordReader {
+            flow: _,
+            subscription,
+        } = self;
+        subscription
+    }
+}

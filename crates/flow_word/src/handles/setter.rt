@@ -1,0 +1,167 @@
+//! A seat that is bound to its word state.
+ghost use Rattle.std.specs.Prelude.{◌≡◌, ℕ};
+ghost use Rattle.flow_law.specs.Conflation.{Conflates};
+ghost use Rattle.flow_law.specs.Current.{Converges};
+ghost use Rattle.flow_law.specs.Growth.{makes, child};
+ghost use Rattle.flow_law.specs.HandleFaults.{answer_by, limit_fault};
+ghost use Rattle.flow_law.specs.Handles.{called_by, SubscribesBound};
+ghost use Rattle.flow_law.specs.StateFlow.{IsStateHistory, state_flow};
+ghost use Rattle.flow_law.specs.Tokens.{CallsAtOnceIn, MeetsIn, knowing};
+ghost use Rattle.flow_law.specs.declared.call.StateCall.TheVariants as call;
+ghost use Rattle.flow_law.specs.declared.call.StateReply.TheVariants as reply;
+
+use super::reader::WordReader;
+use crate::token::{WordSeat, WordState};
+use flow_law::{Exhausted, Packed};
+use std::marker::Model;
+use std::sync::Wait;
+
+/// A seat, and the word state that it is of. Contracts see both.
+///
+/// Dropping it drops its seat: no caller has that name any more, and the flow is not changed.
+#[derive(Drop)]
+pub struct WordSetter<'a, T: Packed> {
+    pub(crate) flow: &'a WordState<T>,
+    pub(crate) seat: WordSeat<T>,
+}
+
+impl<'a, T: Packed> Model for WordSetter<'a, T> {
+    ghost use Rattle.std.specs.Prelude.{◌≡◌};
+    ghost use Rattle.flow_law.specs.declared.history.Said.{Said};
+    ghost use Rattle.flow_law.specs.declared.call.StateCall.{StateCall};
+    ghost use Rattle.flow_law.specs.declared.call.StateReply.{StateReply};
+    ghost use Rattle.flow_law.specs.declared.states.StateFlowState.{StateFlowState};
+    ghost use Rattle.flow_law.specs.Handles.{CallerOf, called_by};
+    ghost use Rattle.flow_word.specs.Tokens.{WordId};
+
+    ghost Value = { CallerOf WordId (StateFlowState T) (Said (StateCall T) (StateReply T)) };
+
+    ghost view = { λ c. called_by c.flow.now c.seat };
+
+    ghost invariant = { λ c. c.seat.table_id ≡ c.flow.now.table_id };
+}
+
+impl<T: Packed> WordState<T> {
+    /// Binds a seat to its flow.
+    pub fn setter(&self, seat: WordSeat<T>) -> WordSetter<'_, T>
+        requires { seat.table_id ≡ self.now.table_id }
+        ensures { result ≡ called_by self.now seat }
+    {
+        WordSetter::new(self, seat)
+    }
+}
+
+impl<'a, T: Packed> WordSetter<'a, T> {
+    pub(crate) fn new(flow: &'a WordState<T>, seat: WordSeat<T>) -> WordSetter<'a, T>
+        requires { seat.table_id ≡ flow.now.table_id }
+        ensures { result ≡ called_by flow.now seat }
+    {
+        WordSetter { flow, seat }
+    }
+
+    /// Makes one more caller through this one. Call it for each thread, before the thread starts.
+    pub fn another(&mut self) -> WordSetter<'a, T>
+        ensures flow { (self.new.flow ≡ self.old.flow) × (result.flow ≡ self.old.flow) }
+        ensures maker { self.new.token ≡ knowing self.old.token (makes self.old.token.knows) }
+        ensures made { result.token ≡ knowing self.old.token (child self.old.token.knows) }
+    {
+        let made = self.flow.seat(&mut self.seat);
+        WordSetter::new(self.flow, made)
+    }
+
+    /// Subscribes. The reader gets the current value first.
+    ///
+    /// If another caller subscribes or unsubscribes at the same moment, it yields to other threads and tries again.
+    pub fn subscribe<R: Wait>(&mut self, rt: &R) -> Result<WordReader<'a, T>, Exhausted>
+        ensures flow { self.new.flow ≡ self.old.flow }
+        ensures subscribed { SubscribesBound state_flow call.Subscribe self.old
+            (answer_by limit_fault result) self.new.token }
+    {
+        match self.flow.subscribe(rt, &mut self.seat) {
+            Ok(subscription) => Ok(WordReader::new(self.flow, subscription)),
+            Err(_fault) => Err(Exhausted),
+        }
+    }
+
+    /// Returns the current value.
+    ///
+    /// Another caller may set the value right after. Call `update` or `compare_and_set` to set a value that depends on the
+    /// current one.
+    pub fn value(&mut self) -> T
+        ensures flow { self.new.flow ≡ self.old.flow }
+        ensures called { CallsAtOnceIn state_flow self.old.flow.first self.old.token call.GetValue
+            (reply.Got result) self.new.token }
+    {
+        self.flow.value(&mut self.seat)
+    }
+
+    /// Sets the current value. Setting a value that is equal to the current one does nothing: no subscriber gets it again.
+    pub fn set(&mut self, value: T)
+        ensures flow { self.new.flow ≡ self.old.flow }
+        ensures called { CallsAtOnceIn state_flow self.old.flow.first self.old.token (call.Set value)
+            reply.Done self.new.token }
+    {
+        self.flow.set(&mut self.seat, value);
+    }
+
+    /// Sets the value to `update` if it is equal to `expect`, and returns whether it was. Both happen in one event.
+    ///
+    /// At `false` another caller was faster, so read the value and try again, which is what `update` does.
+    pub fn compare_and_set(&mut self, expect: T, update: T) -> bool
+        ensures flow { self.new.flow ≡ self.old.flow }
+        ensures called { CallsAtOnceIn state_flow self.old.flow.first self.old.token
+            (call.CompareAndSet expect update) (reply.Answered result) self.new.token }
+    {
+        self.flow.compare_and_set(&mut self.seat, expect, update)
+    }
+
+    /// Counts the subscribers. A dropped subscription is counted: only `unsubscribe` ends one.
+    pub fn subscription_count(&mut self) -> u64
+        ensures flow { self.new.flow ≡ self.old.flow }
+        ensures counted { CallsAtOnceIn state_flow self.old.flow.first self.old.token call.SubscriptionCount
+            (reply.Counted result) self.new.token }
+    {
+        self.flow.subscription_count(&mut self.seat)
+    }
+
+    /// Joins what two callers of one flow have seen: afterwards both have seen one history, with all calls so far.
+    pub fn meet(&mut self, other: &mut WordSetter<'_, T>)
+        requires { other.old.flow.table_id ≡ self.old.flow.table_id }
+        ensures flow { (self.new.flow ≡ self.old.flow) × (other.new.flow ≡ other.old.flow) }
+        ensures met { MeetsIn state_flow self.old.flow.first self.old.token other.old.token
+            self.new.token other.new.token }
+    {
+        self.flow.meet(&mut self.seat, &mut other.seat);
+    }
+
+    /// Joins what a caller and a reader of one flow have seen, as `meet` does.
+    pub fn meet_reader(&mut self, reader: &mut WordReader<'_, T>)
+        requires { reader.old.flow.table_id ≡ self.old.flow.table_id }
+        ensures flow { (self.new.flow ≡ self.old.flow) × (reader.new.flow ≡ reader.old.flow) }
+        ensures met { MeetsIn state_flow self.old.flow.first reader.old.subscription.token self.old.token
+            reader.new.subscription.token self.new.token }
+        ensures number { reader.new.subscription.number ≡ reader.old.subscription.number }
+    {
+        self.flow
+            .meet_subscription(&mut reader.subscription, &mut self.seat);
+    }
+
+    /// Proves the laws of state flows for what the caller has seen. It makes no call of the flow and changes nothing.
+    pub fn seen(&mut self)
+        ensures unchanged { self.new ≡ self.old }
+        ensures history { IsStateHistory self.new.flow.first self.new.token.knows.seen }
+        ensures conflated { Conflates self.new.flow.first.value self.new.token.knows.seen }
+        ensures current { (u : ℕ) → Converges u self.new.flow.first self.new.token.knows.seen }
+    {
+        self.flow.seen(&mut self.seat);
+    }
+
+    /// Gives the seat back, for the flow's own calls.
+    pub fn into_seat(self) -> WordSeat<T>
+        ensures token { result ≡ self.entry.token }
+        ensures flow { result.table_id ≡ self.entry.flow.table_id }
+    {
+        let WordSetter { flow: _, seat } = self;
+        seat
+    }
+}
