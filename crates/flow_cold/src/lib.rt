@@ -7,10 +7,8 @@
 mod script_chain;
 
 pub use flow_operators::{
-    Asked, Chain, ChainFault, Cold, Collected, Distinct, DropFirst, DropWhile, End, Entry, Even,
-    Filter, FlatMapConcat, Greater, InnerMeaning, ItemComputation, ItemMeaning, ItemTest, Less,
-    ListMeaning, Map, Not, Odd, OfList, OfRange, PairComputation, PairMeaning, Plus, RunningReduce,
-    Scan, Scripted, Streamed, Take, TakeWhile, Terminal, TestMeaning, Times, Transform,
-    WithMeaning, Zip, collect_all, law_asks_left,
+    Asked, Chain, ChainFault, Cold, Collected, Distinct, DropFirst, DropWhile, End, Entry, Filter,
+    FlatMapConcat, Map, MapValue, OfList, OfRange, RunningReduce, Scan, Scripted, Streamed, Take,
+    TakeWhile, Terminal, Transform, Zip, collect_all, law_asks_left,
 };
 pub use script_chain::{Arithmetic, Joining, Op, ScriptChain, Source, Spread, Test};

@@ -1,3 +1,4 @@
 pub mod AskLemmas
+pub mod BoundLemmas
 pub mod StreamLemmas
 pub mod TerminalLemmas

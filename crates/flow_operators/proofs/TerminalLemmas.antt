@@ -1,39 +1,73 @@
--- How a chain's last answer ends a count, and how a call at an item begins the visits.
-use Rattle.std.proofs.Common.{◌≡◌, ◌⊎◌, ◌<◌, ◌^◌, ◌+◌, ℕ, List, [], ◌∷◌, length, Result, Ok, Err, inl, inr, refl, rules}
+-- Where a chain stands after its next item, what tests tell by the first item that is found, and how a call at an item begins the visits.
+use Rattle.std.proofs.Common.{◌≡◌, ◌⊎◌, Bool, true, false, cond, ◌||◌, ◌&&◌, not, List, [], ◌∷◌, ◌++◌, Option, Some, None, Result, Ok, Err, inl, inr, refl, sym, ap, ◌∙◌}
+use Rattle.std.specs.Prelude.{filter}
+use Rattle.std.specs.List.{list_all, list_any}
+use Rattle.std.proofs.lemmas.List.{append_assoc}
 use Rattle.flow_law.specs.declared.chain.ChainFault.{ChainFault}
 use Rattle.flow_law.specs.declared.chain.ChainFault.TheVariants.{OutOfMemory}
 use Rattle.flow_law.specs.declared.chain.End.{End}
-use Rattle.flow_law.specs.declared.chain.End.TheVariants.{Failed}
-use Rattle.flow_law.specs.ChainRun.{ChainRun, gives, ends, items, ending}
-use Rattle.flow_operators.specs.Closures.{Follows}
-use Rattle.flow_operators.specs.Terminal.{Visits, at_ending, counted}
+use Rattle.flow_law.specs.declared.chain.End.TheVariants.{Completed, Failed}
+use Rattle.flow_law.specs.ChainRun.{ChainRun, items, ending}
+use Rattle.flow_operators.specs.Collecting.{Reaches, StandsAfter, StandsAfterItem}
+use Rattle.flow_operators.specs.Terminal.{GivesItem, Visits, all_of, any_of, first_of}
 
--- n items were counted, and rest is left
-pub counted_ends : {T : Type 0} (whole rest : ChainRun T) (n : ℕ) (e : End) → n < 2 ^ 64
-    → length (items whole) ≡ n + length (items rest) → ending whole ≡ ending rest → rest ≡ ends e
-    → counted (items whole) (ending whole) ≡ at_ending n e
-counted_ends whole rest n e fits count end is =
-    let counts = rw is at count in
-    let ended = rw is at end in
-    rw (counts, ended) (search rules)
+module _ {T : Type 0} where
+  pub after-item : (x : T) (whole before after : ChainRun T) → Reaches whole before → GivesItem before (Ok (Some x)) after → StandsAfter x whole after
+  after-item x whole before after stands gives = (stands.0, stands.1 ∙ ap (λ ys. stands.0 ++ ys) gives.0, stands.2 ∙ gives.1)
 
-pub counted_fault : {T : Type 0} (whole rest : ChainRun T) (n : ℕ) (fault : ChainFault) → n < 2 ^ 64
-    → length (items whole) ≡ n + length (items rest) → ending whole ≡ ending rest
-    → (rest ≡ ends (Failed fault)) ⊎ (fault ≡ OutOfMemory)
-    → Follows (counted (items whole) (ending whole)) (Err fault)
-counted_fault whole rest n fault fits count end (inl is) = inl (counted_ends whole rest n (Failed fault) fits count end is)
-counted_fault whole rest n fault fits count end (inr is) = inr is
+  pub after-some-item : (x : T) (whole before after : ChainRun T) → Reaches whole before → GivesItem before (Ok (Some x)) after → StandsAfterItem whole after
+  after-some-item x whole before after stands gives = (stands.0, x, stands.1 ∙ ap (λ ys. stands.0 ++ ys) gives.0, stands.2 ∙ gives.1)
+
+  pub reaches-next : (x : T) (whole before after : ChainRun T) → Reaches whole before → GivesItem before (Ok (Some x)) after → Reaches whole after
+  reaches-next x whole before after stands gives =
+      (stands.0 ++ x ∷ [], stands.1 ∙ ap (λ ys. stands.0 ++ ys) gives.0 ∙ sym (append_assoc stands.0 (x ∷ []) (items after)), stands.2 ∙ gives.1)
+
+module _ {T : Type 0} where
+  -- a chain that was started anew stands at its start
+  pub reaches-start : (whole rest : ChainRun T) → rest ≡ whole → Reaches whole rest
+  reaches-start whole rest is = ([], sym (ap items is), sym (ap ending is))
+
+  pub stands-further : (whole before after : ChainRun T) → Reaches whole before → StandsAfterItem before after → StandsAfterItem whole after
+  stands-further whole before after (xs, same, ends_so) (ys, x, next, ends_then) =
+      (xs ++ ys, x, same ∙ ap (λ zs. xs ++ zs) next ∙ sym (append_assoc xs ys (x ∷ items after)), ends_so ∙ ends_then)
+
+-- what is told by the item that was found
+abbrev pub told : {A : Type 0} → Bool → Result (Option A) ChainFault → Result Bool ChainFault
+told found (Ok (Some x)) = Ok found
+told found (Ok None) = Ok (not found)
+told found (Err fault) = Err fault
+
+module _ {A : Type 0} (test : A → Bool) where
+  any-step : (x : A) (xs : List A) (e : End) (b : Bool) → any_of test xs e ≡ told true (first_of (filter test xs) e)
+      → cond (b || list_any test xs) (Ok true) (any_of test [] e) ≡ told true (first_of (cond b (x ∷ filter test xs) (filter test xs)) e)
+  any-step x xs e true h = refl
+  any-step x xs e false h = h
+
+  pub any-told : (xs : List A) (e : End) → any_of test xs e ≡ told true (first_of (filter test xs) e)
+  any-told [] Completed = refl
+  any-told [] (Failed fault) = refl
+  any-told (x ∷ xs) e = any-step x xs e (test x) (any-told xs e)
+
+  all-step : (x : A) (xs : List A) (e : End) (b : Bool) → all_of test xs e ≡ told false (first_of (filter (λ y. not (test y)) xs) e)
+      → cond (b && list_all test xs) (all_of test [] e) (Ok false) ≡ told false (first_of (cond (not b) (x ∷ filter (λ y. not (test y)) xs) (filter (λ y. not (test y)) xs)) e)
+  all-step x xs e true h = h
+  all-step x xs e false h = refl
+
+  pub all-told : (xs : List A) (e : End) → all_of test xs e ≡ told false (first_of (filter (λ y. not (test y)) xs) e)
+  all-told [] Completed = refl
+  all-told [] (Failed fault) = refl
+  all-told (x ∷ xs) e = all-step x xs e (test x) (all-told xs e)
 
 module _ {A F : Type 0} (step : F → A → Result (Unit {0}) ChainFault → F → Type 0) where
   visits_memory : (f : F) (xs : List A) (e : End) → Visits step f xs e (Err OutOfMemory)
   visits_memory f [] e = inr refl
   visits_memory f (x ∷ xs) e = inl refl
 
-  pub visits_fault : (f : F) (r : ChainRun A) (fault : ChainFault) → (r ≡ ends (Failed fault)) ⊎ (fault ≡ OutOfMemory)
+  pub visits_fault : (f : F) (r : ChainRun A) (fault : ChainFault) → ((items r ≡ []) × (ending r ≡ Failed fault)) ⊎ (fault ≡ OutOfMemory)
       → Visits step f (items r) (ending r) (Err fault)
-  visits_fault f r fault (inl e) = rw e (inl refl)
+  visits_fault f r fault (inl e) = rw (e.0, e.1) (inl refl)
   visits_fault f r fault (inr e) = rw e (visits_memory f (items r) (ending r))
 
-  pub visits_item : (f g : F) (x : A) (before after : ChainRun A) → before ≡ gives x after → step f x (Ok tt) g
+  pub visits_item : (f g : F) (x : A) (before after : ChainRun A) → GivesItem before (Ok (Some x)) after → step f x (Ok tt) g
       → (result : Result (Unit {0}) ChainFault) → Visits step g (items after) (ending after) result → Visits step f (items before) (ending before) result
-  visits_item f g x before after is called result h = rw is (inr (inl (g, called, h)))
+  visits_item f g x before after gives called result h = rw (gives.0, gives.1) (inr (inl (g, called, h)))

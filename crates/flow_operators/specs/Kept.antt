@@ -1,5 +1,5 @@
 -- What an operator has left of its run, by what it keeps beside its upstream, which has left r.
-use Rattle.std.specs.Prelude.{Bool, true, false, cond, Option, Some, None, Result, List, [], reverse}
+use Rattle.std.specs.Prelude.{ℕ, Bool, true, false, cond, Option, Some, None, Result, List, [], reverse}
 use Rattle.flow_law.specs.declared.chain.ChainFault.{ChainFault}
 use Rattle.flow_law.specs.declared.chain.End.TheVariants.{Completed}
 use Rattle.flow_law.specs.ChainRun.{ChainRun, gives, ends}
@@ -36,3 +36,8 @@ images_left view None = []
 abbrev pub inner_left : {A S : Type 0} → (S → ChainRun A) → Option S → ChainRun A
 inner_left view (Some inner) = view inner
 inner_left view None = ends Completed
+
+-- how often the open inner chain can be asked
+abbrev pub most_inner : {S : Type 0} → (S → ℕ) → Option S → ℕ
+most_inner most (Some inner) = most inner
+most_inner most None = 0

@@ -1,5 +1,5 @@
 -- What `zip` has left, by its two sides and the left item that it keeps; L and R are the chains' types, A and B their items.
-use Rattle.std.specs.Prelude.{◌≡◌, Bool, false, Option, Result, Ok, Err}
+use Rattle.std.specs.Prelude.{◌≡◌, ◌+◌, ℕ, Bool, false, Option, Result, Ok, Err}
 use Rattle.flow_law.specs.declared.chain.ChainFault.{ChainFault}
 use Rattle.flow_law.specs.ChainRun.{ChainRun, gives}
 use Rattle.flow_law.specs.OperatorRuns.{zip_run}
@@ -21,6 +21,10 @@ module _ {L R A : Type 0} where
 
   abbrev pub is_over : Pairs L R A → Bool
   is_over p = p.left.ended
+
+  -- how often both sides can be asked
+  abbrev pub most_pairs : (L → ℕ) → (R → ℕ) → Pairs L R A → ℕ
+  most_pairs left right p = left p.left.chain + right p.right
 
   -- what the left side has left, the kept item first
   abbrev pub left_side : (L → ChainRun A) → Pairs L R A → ChainRun A

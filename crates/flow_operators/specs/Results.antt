@@ -1,5 +1,5 @@
 -- What `scan` has left, by its upstream, its initial value and its last result.
-use Rattle.std.specs.Prelude.{◌≡◌, ◌⊎◌, Bool, true, false, Option, Some, Result, Ok, Err}
+use Rattle.std.specs.Prelude.{◌≡◌, ◌⊎◌, ◌+◌, ℕ, Bool, true, false, Option, Some, Result, Ok, Err}
 use Rattle.flow_law.specs.declared.chain.ChainFault.{ChainFault}
 use Rattle.flow_law.specs.declared.chain.ChainFault.TheVariants.{OutOfMemory}
 use Rattle.flow_law.specs.ChainRun.{ChainRun, gives}
@@ -9,6 +9,11 @@ use Rattle.flow_operators.specs.declared.operators.results.Results.{Results}
 use Rattle.flow_operators.specs.Asking.{AskGives}
 use Rattle.flow_operators.specs.Behind.{Leaves, after_scan}
 use Rattle.flow_operators.specs.Kept.{unless_ended, has_begun, scan_rest}
+
+-- n, or nothing once it has begun
+abbrev pub unless_begun : Bool → ℕ → ℕ
+unless_begun true n = 0
+unless_begun false n = n
 
 module _ {C U : Type 0} where
   abbrev pub scanned : Results C U → C
@@ -22,6 +27,10 @@ module _ {C U : Type 0} where
 
   abbrev pub is_over : Results C U → Bool
   is_over s = s.upstream.ended
+
+  -- how often it can be asked: the initial value is one answer more than the upstream has
+  abbrev pub most_results : (C → ℕ) → Results C U → ℕ
+  most_results most s = most s.upstream.chain + unless_begun (has_begun s.last) 1
 
   -- what was made of an item is the answer and the last result; it may have failed for want of memory
   abbrev pub KeepsResult : Result U ChainFault → Asked U → Results C U → Type 0

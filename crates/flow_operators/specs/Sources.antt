@@ -1,5 +1,5 @@
 -- The runs of the sources. A list's is `list_run`.
-use Rattle.std.specs.Prelude.{ℕ, zero, suc, ◌+◌, ℤ, pos, ◌+ℤ◌, ◌-ℤ◌, int_lt, nat_abs, cond, List, [], ◌∷◌, drop}
+use Rattle.std.specs.Prelude.{ℕ, zero, suc, ◌+◌, ℤ, pos, ◌+ℤ◌, ◌-ℤ◌, int_lt, nat_abs, Bool, cond, List, [], ◌∷◌, drop}
 use Rattle.flow_law.specs.declared.chain.ChainFault.TheVariants.{Source}
 use Rattle.flow_law.specs.declared.chain.End.TheVariants.{Completed, Failed}
 use Rattle.flow_law.specs.ChainRun.{ChainRun, gives, pends, ends, list_run}
@@ -15,6 +15,10 @@ count_up first (suc n) = first ∷ count_up (first +ℤ pos 1) n
 -- how many numbers there are from first to last
 abbrev pub span : ℤ → ℤ → ℕ
 span first last = cond (int_lt last first) 0 (nat_abs (last -ℤ first) + 1)
+
+-- how many of them are left to give
+abbrev pub span_left : Bool → ℤ → ℤ → ℕ
+span_left has_ended next last = cond has_ended 0 (span next last)
 
 abbrev pub range_run : ℤ → ℤ → ChainRun ℤ
 range_run first last = list_run (count_up first (span first last))

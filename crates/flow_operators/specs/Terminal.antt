@@ -1,14 +1,18 @@
 -- What the terminal operators answer, by the list of a chain's items and by its ending.
---   items and ending       fold (+) 0    first          count
---   [1, 2], Completed      Ok 3          Ok (Some 1)    Ok 2
---   [1, 2], Failed fault   Err fault     Ok (Some 1)    Err fault
---   [], Completed          Ok 0          Ok None        Ok 0
+--   items and ending       fold (+) 0    reduce (+)       first          last           single         count        any even     all even
+--   [1, 2], Completed      Ok 3          Ok (Some 3)      Ok (Some 1)    Ok (Some 2)    Ok None        Ok 2         Ok true      Ok false
+--   [1, 2], Failed fault   Err fault     Err fault        Ok (Some 1)    Err fault      Ok None        Err fault    Ok true      Ok false
+--   [2], Completed         Ok 2          Ok (Some 2)      Ok (Some 2)    Ok (Some 2)    Ok (Some 2)    Ok 1         Ok true      Ok true
+--   [], Completed          Ok 0          Ok None          Ok None        Ok None        Ok None        Ok 0         Ok false     Ok true
+--   [], Failed fault       Err fault, each of them
 -- Want of memory may come in place of any answer (`Follows`).
-use Rattle.std.specs.Prelude.{◌≡◌, ◌⊎◌, ℕ, ◌^◌, nat_lt, cond, List, [], ◌∷◌, length, Option, Some, None, Result, Ok, Err}
+use Rattle.std.specs.Prelude.{◌≡◌, ◌⊎◌, ℕ, ◌^◌, nat_lt, Bool, true, false, not, cond, List, [], ◌∷◌, length, filter, Option, Some, None, Result, Ok, Err}
+use Rattle.std.specs.List.{list_all, list_any}
 use Rattle.flow_law.specs.declared.chain.ChainFault.{ChainFault}
 use Rattle.flow_law.specs.declared.chain.ChainFault.TheVariants.{OutOfMemory, Overflow}
 use Rattle.flow_law.specs.declared.chain.End.{End}
 use Rattle.flow_law.specs.declared.chain.End.TheVariants.{Completed, Failed}
+use Rattle.flow_law.specs.ChainRun.{ChainRun, ends, items, ending}
 use Rattle.flow_operators.specs.Closures.{Follows}
 
 -- x where the chain completed, and else its fault
@@ -26,14 +30,42 @@ abbrev pub folded : {A B : Type 0} → (B × A → Result B ChainFault) → B �
 folded f last [] e = at_ending last e
 folded f last (x ∷ xs) e = proceeding (f (last, x)) (λ y. folded f y xs e)
 
+-- the same from the first item on; nothing of no items
+abbrev pub reduced_to : {A : Type 0} → (A × A → Result A ChainFault) → List A → End → Result (Option A) ChainFault
+reduced_to f [] e = at_ending None e
+reduced_to f (x ∷ xs) e = proceeding (folded f x xs e) (λ y. Ok (Some y))
+
 -- the first item, whatever follows it
 abbrev pub first_of : {A : Type 0} → List A → End → Result (Option A) ChainFault
 first_of [] e = at_ending None e
 first_of (x ∷ xs) e = Ok (Some x)
 
+-- the item that came last, of these and one that may have come before them
+abbrev pub last_after : {A : Type 0} → Option A → List A → End → Result (Option A) ChainFault
+last_after last [] e = at_ending last e
+last_after last (x ∷ xs) e = last_after (Some x) xs e
+
+-- the last item
+abbrev pub last_of : {A : Type 0} → List A → End → Result (Option A) ChainFault
+last_of xs e = last_after None xs e
+
+-- the item that is alone; a second one settles that there is none
+abbrev pub single_of : {A : Type 0} → List A → End → Result (Option A) ChainFault
+single_of [] e = at_ending None e
+single_of (x ∷ []) e = at_ending (Some x) e
+single_of (x ∷ y ∷ xs) e = Ok None
+
 -- how many items there are; a number of more than 64 bits is Overflow
 abbrev pub counted : {A : Type 0} → List A → End → Result ℕ ChainFault
 counted xs e = cond (nat_lt (length xs) (2 ^ 64)) (at_ending (length xs) e) (Err Overflow)
+
+-- whether some item passes: the first that does settles it
+abbrev pub any_of : {A : Type 0} → (A → Bool) → List A → End → Result Bool ChainFault
+any_of test xs e = cond (list_any test xs) (Ok true) (at_ending false e)
+
+-- whether all items pass: the first that does not settles it
+abbrev pub all_of : {A : Type 0} → (A → Bool) → List A → End → Result Bool ChainFault
+all_of test xs e = cond (list_all test xs) (at_ending true e) (Ok false)
 
 -- some call of the closure answers the fault; `post` says what a call may answer
 abbrev pub CallFails : {A B C : Type 0} → (A → B → Result C ChainFault → Type 0) → ChainFault → Type 0
@@ -50,3 +82,19 @@ Visits {F = F} step f (x ∷ xs) e result =
     (result ≡ Err OutOfMemory)
     ⊎ ((g : F) × step f x (Ok tt) g × Visits step g xs e result)
     ⊎ ((fault : ChainFault) × (g : F) × step f x (Err fault) g × (result ≡ Err fault))
+
+-- the next item, or the end in place of one; turns that pend are passed over
+abbrev pub GivesItem : {T : Type 0} → ChainRun T → Result (Option T) ChainFault → ChainRun T → Type 0
+GivesItem before (Ok (Some x)) after = (items before ≡ x ∷ items after) × (ending before ≡ ending after)
+GivesItem before (Ok None) after = (items before ≡ []) × (ending before ≡ Completed) × (after ≡ ends Completed)
+GivesItem before (Err fault) after = (((items before ≡ []) × (ending before ≡ Failed fault)) ⊎ (fault ≡ OutOfMemory)) × (after ≡ ends Completed)
+
+-- P where there was no item
+abbrev pub OnNoItem : {T : Type 0} → Result (Option T) ChainFault → Type 0 → Type 0
+OnNoItem (Ok (Some x)) P = Unit {0}
+OnNoItem (Ok None) P = P
+OnNoItem (Err fault) P = P
+
+-- what is looked for: an item that passes, or one that does not
+abbrev pub sought : {A : Type 0} → Bool → (A → Bool) → A → Bool
+sought wanted test x = cond wanted (test x) (not (test x))

@@ -1,102 +1,84 @@
 //! The operators as methods of every chain, so that a chain reads in the order in which its items go.
 //!
 //! Each method is the constructor of its operator, with the constructor's contract.
-ghost use Rattle.std.specs.Prelude.{◌≡◌, ◌↔◌, None, IfOk, IfErr};
+ghost use Rattle.std.specs.Prelude.{◌≡◌, ◌↔◌, None, Ok, Bool, List, Result, IfOk, IfErr};
 ghost use Rattle.std.specs.Fn.{FnReturnsAt};
-ghost use Rattle.flow_law.specs.ChainRun.{gives};
+ghost use Rattle.flow_law.specs.declared.chain.ChainFault.{ChainFault};
+ghost use Rattle.flow_law.specs.ChainRun.{ChainRun, gives};
 ghost use Rattle.flow_law.specs.Chain as means;
 ghost use Rattle.flow_law.specs.Chain.{meaning_of};
 ghost use Rattle.flow_law.specs.OperatorRuns as runs;
-ghost use Rattle.flow_operators.specs.Closures.{Computes, ComputesBy, Decides};
+ghost use Rattle.flow_operators.specs.Closures.{Computes, ComputesBy, ComputesPairs, Decides, Makes, Opens, OpensCallable};
 ghost use Rattle.flow_operators.specs.Taking.{items_left};
 
 use crate::cold::Cold;
-use crate::computation::{ItemComputation, ItemTest, PairComputation};
-use crate::meaning::{InnerMeaning, ItemMeaning, ListMeaning, PairMeaning, TestMeaning};
 use crate::operators::{
-    Distinct, DropFirst, DropWhile, Filter, FlatMapConcat, Map, RunningReduce, Scan, Take,
-    TakeWhile, Transform, Zip,
+    Distinct, DropFirst, DropWhile, Filter, FlatMapConcat, Map, MapValue, RunningReduce, Scan,
+    Take, TakeWhile, Transform, Zip,
 };
-use crate::sources::Scripted;
-use crate::with_meaning::WithMeaning;
 use flow_law::{ChainFault, FlowValue};
 
 /// Operators on any chain.
 pub trait Chain: Cold {
-    /// Gives what the closure makes of each item. See `Map::new`.
-    final fn map<U, M, F>(self, meaning: M, closure: F) -> Map<Self, U, WithMeaning<M, F>>
+    /// Gives what the closure makes of each item; its first fault ends the chain. See `Map::new`.
+    final fn map<U, F>(self, closure: F) -> Map<Self, F>
     where
         Self: Sized,
         U: FlowValue,
-        M: ItemMeaning<Self::Item, U>,
         F: Fn(Self::Item) -> Result<U, ChainFault>,
-        requires sound { Self.sound self }
+        requires upstream { Self.CanAsk self }
         requires callable { F.IsAlwaysCallable closure }
-        requires computes { Computes (F.post closure) (M.image meaning) }
-        ensures sound { ⟦<Map<Self, U, WithMeaning<M, F>> as Cold>⟧.sound result }
-        ensures whole { ⟦<Map<Self, U, WithMeaning<M, F>> as Cold>⟧.whole result
-            ≡ runs.map_run (M.image meaning) (Self.whole self) }
-        ensures meaning { meaning_of (⟦<Map<Self, U, WithMeaning<M, F>> as Cold>⟧.whole result)
-            ≡ means.map_meaning (M.image meaning) (meaning_of (Self.whole self)) }
-        ensures rest { ⟦<Map<Self, U, WithMeaning<M, F>> as Cold>⟧.rest result
-            ≡ runs.map_run (M.image meaning) (Self.rest self) }
+        ensures callable { ⟦<Map<Self, F> as Cold>⟧.CanAsk result }
+        ensures reads { (m : Self.Reading) (f : Self.Item → Result U ChainFault) → Self.Reads self m
+            → Computes (F.post closure) f → ⟦<Map<Self, F> as Cold>⟧.Reads result (m, f) }
+        ensures whole { (m : Self.Reading) (f : Self.Item → Result U ChainFault)
+            → ⟦<Map<Self, F> as Cold>⟧.whole result (m, f) ≡ runs.map_run f (Self.whole self m) }
+        ensures meaning { (m : Self.Reading) (f : Self.Item → Result U ChainFault)
+            → meaning_of (⟦<Map<Self, F> as Cold>⟧.whole result (m, f)) ≡ means.map_meaning f (meaning_of (Self.whole self m)) }
+        ensures rest { (m : Self.Reading) (f : Self.Item → Result U ChainFault)
+            → ⟦<Map<Self, F> as Cold>⟧.rest result (m, f) ≡ runs.map_run f (Self.rest self m) }
     {
-        Map::new(self, WithMeaning { meaning, closure })
+        Map::new(self, closure)
     }
 
-    /// Gives what the computation makes of each item, as `Plus { k: 1 }` does. See `Map::new`.
-    final fn map_by<U, M>(self, computation: M) -> Map<Self, U, M>
+    /// Gives what the closure makes of each item, which cannot fail. See `MapValue::new`.
+    final fn map_value<U, F>(self, closure: F) -> MapValue<Self, F>
     where
         Self: Sized,
         U: FlowValue,
-        M: ItemComputation<Self::Item, U>,
-        requires sound { Self.sound self }
-        requires computes { M.sound computation }
-        ensures sound { ⟦<Map<Self, U, M> as Cold>⟧.sound result }
-        ensures whole { ⟦<Map<Self, U, M> as Cold>⟧.whole result
-            ≡ runs.map_run (M.image computation) (Self.whole self) }
-        ensures meaning { meaning_of (⟦<Map<Self, U, M> as Cold>⟧.whole result)
-            ≡ means.map_meaning (M.image computation) (meaning_of (Self.whole self)) }
-        ensures rest { ⟦<Map<Self, U, M> as Cold>⟧.rest result
-            ≡ runs.map_run (M.image computation) (Self.rest self) }
+        F: Fn(Self::Item) -> U,
+        requires upstream { Self.CanAsk self }
+        requires callable { F.IsAlwaysCallable closure }
+        ensures callable { ⟦<MapValue<Self, F> as Cold>⟧.CanAsk result }
+        ensures reads { (m : Self.Reading) (f : Self.Item → U) → Self.Reads self m
+            → Makes (F.post closure) f → ⟦<MapValue<Self, F> as Cold>⟧.Reads result (m, f) }
+        ensures whole { (m : Self.Reading) (f : Self.Item → U)
+            → ⟦<MapValue<Self, F> as Cold>⟧.whole result (m, f) ≡ runs.map_run (λ x. Ok (f x)) (Self.whole self m) }
+        ensures meaning { (m : Self.Reading) (f : Self.Item → U)
+            → meaning_of (⟦<MapValue<Self, F> as Cold>⟧.whole result (m, f)) ≡ means.map_meaning (λ x. Ok (f x)) (meaning_of (Self.whole self m)) }
+        ensures rest { (m : Self.Reading) (f : Self.Item → U)
+            → ⟦<MapValue<Self, F> as Cold>⟧.rest result (m, f) ≡ runs.map_run (λ x. Ok (f x)) (Self.rest self m) }
     {
-        Map::new(self, computation)
+        MapValue::new(self, closure)
     }
 
     /// Gives the items that pass the test. See `Filter::new`.
-    final fn filter<M, F>(self, meaning: M, closure: F) -> Filter<Self, WithMeaning<M, F>>
+    final fn filter<F>(self, test: F) -> Filter<Self, F>
     where
         Self: Sized,
-        M: TestMeaning<Self::Item>,
         F: Fn(&Self::Item) -> bool,
-        requires sound { Self.sound self }
-        requires callable { F.IsAlwaysCallable closure }
-        requires computes { Decides (λ x b. FnReturnsAt F.Fn closure x b) (M.passes meaning) }
-        ensures sound { ⟦<Filter<Self, WithMeaning<M, F>> as Cold>⟧.sound result }
-        ensures whole { ⟦<Filter<Self, WithMeaning<M, F>> as Cold>⟧.whole result
-            ≡ runs.filter_run (M.passes meaning) (Self.whole self) }
-        ensures meaning { meaning_of (⟦<Filter<Self, WithMeaning<M, F>> as Cold>⟧.whole result)
-            ≡ means.filter_meaning (M.passes meaning) (meaning_of (Self.whole self)) }
-        ensures rest { ⟦<Filter<Self, WithMeaning<M, F>> as Cold>⟧.rest result
-            ≡ runs.filter_run (M.passes meaning) (Self.rest self) }
-    {
-        Filter::new(self, WithMeaning { meaning, closure })
-    }
-
-    /// Gives the items that pass the test, as `Even` is one. See `Filter::new`.
-    final fn filter_by<M>(self, test: M) -> Filter<Self, M>
-    where
-        Self: Sized,
-        M: ItemTest<Self::Item>,
-        requires sound { Self.sound self }
-        requires decides { M.sound test }
-        ensures sound { ⟦<Filter<Self, M> as Cold>⟧.sound result }
-        ensures whole { ⟦<Filter<Self, M> as Cold>⟧.whole result
-            ≡ runs.filter_run (M.passes test) (Self.whole self) }
-        ensures meaning { meaning_of (⟦<Filter<Self, M> as Cold>⟧.whole result)
-            ≡ means.filter_meaning (M.passes test) (meaning_of (Self.whole self)) }
-        ensures rest { ⟦<Filter<Self, M> as Cold>⟧.rest result
-            ≡ runs.filter_run (M.passes test) (Self.rest self) }
+        requires upstream { Self.CanAsk self }
+        requires callable { F.IsAlwaysCallable test }
+        ensures callable { ⟦<Filter<Self, F> as Cold>⟧.CanAsk result }
+        ensures reads { (m : Self.Reading) (p : Self.Item → Bool) → Self.Reads self m
+            → Decides (λ x b. FnReturnsAt F.Fn test x b) p → ⟦<Filter<Self, F> as Cold>⟧.Reads result (m, p) }
+        ensures whole { (m : Self.Reading) (p : Self.Item → Bool)
+            → ⟦<Filter<Self, F> as Cold>⟧.whole result (m, p) ≡ runs.filter_run p (Self.whole self m) }
+        ensures meaning { (m : Self.Reading) (p : Self.Item → Bool)
+            → meaning_of (⟦<Filter<Self, F> as Cold>⟧.whole result (m, p))
+            ≡ means.filter_meaning p (meaning_of (Self.whole self m)) }
+        ensures rest { (m : Self.Reading) (p : Self.Item → Bool)
+            → ⟦<Filter<Self, F> as Cold>⟧.rest result (m, p) ≡ runs.filter_run p (Self.rest self m) }
     {
         Filter::new(self, test)
     }
@@ -105,14 +87,15 @@ pub trait Chain: Cold {
     final fn take(self, count: u64) -> Result<Take<Self>, ChainFault>
     where
         Self: Sized,
-        requires { Self.sound self }
-        ensures sound { IfOk result ⟦<Take<Self> as Cold>⟧.sound }
-        ensures whole { IfOk result (λ t. ⟦<Take<Self> as Cold>⟧.whole t
-            ≡ runs.take_run count (Self.whole self)) }
-        ensures meaning { IfOk result (λ t. meaning_of (⟦<Take<Self> as Cold>⟧.whole t)
-            ≡ means.take_meaning count (meaning_of (Self.whole self))) }
-        ensures rest { IfOk result (λ t. ⟦<Take<Self> as Cold>⟧.rest t
-            ≡ runs.take_run count (Self.rest self)) }
+        requires { Self.CanAsk self }
+        ensures callable { IfOk result ⟦<Take<Self> as Cold>⟧.CanAsk }
+        ensures reads { IfOk result (λ t. (m : Self.Reading) → Self.Reads self m → ⟦<Take<Self> as Cold>⟧.Reads t m) }
+        ensures whole { IfOk result (λ t. (m : Self.Reading) →
+            ⟦<Take<Self> as Cold>⟧.whole t m ≡ runs.take_run count (Self.whole self m)) }
+        ensures meaning { IfOk result (λ t. (m : Self.Reading) →
+            meaning_of (⟦<Take<Self> as Cold>⟧.whole t m) ≡ means.take_meaning count (meaning_of (Self.whole self m))) }
+        ensures rest { IfOk result (λ t. (m : Self.Reading) →
+            ⟦<Take<Self> as Cold>⟧.rest t m ≡ runs.take_run count (Self.rest self m)) }
         ensures left { IfOk result (λ t. items_left t ≡ count) }
         ensures refused { (result ≡ Err ChainFault.NotPositive) ↔ (count ≡ 0) }
         ensures otherwise { IfErr result (λ fault. fault ≡ ChainFault.NotPositive) }
@@ -124,289 +107,190 @@ pub trait Chain: Cold {
     final fn drop_first(self, count: u64) -> DropFirst<Self>
     where
         Self: Sized,
-        requires { Self.sound self }
-        ensures sound { ⟦<DropFirst<Self> as Cold>⟧.sound result }
-        ensures whole { ⟦<DropFirst<Self> as Cold>⟧.whole result ≡ runs.drop_run (Self.whole self) count }
-        ensures meaning { meaning_of (⟦<DropFirst<Self> as Cold>⟧.whole result)
-            ≡ means.drop_meaning count (meaning_of (Self.whole self)) }
-        ensures rest { ⟦<DropFirst<Self> as Cold>⟧.rest result ≡ runs.drop_run (Self.rest self) count }
+        requires { Self.CanAsk self }
+        ensures callable { ⟦<DropFirst<Self> as Cold>⟧.CanAsk result }
+        ensures reads { (m : Self.Reading) → Self.Reads self m → ⟦<DropFirst<Self> as Cold>⟧.Reads result m }
+        ensures whole { (m : Self.Reading) → ⟦<DropFirst<Self> as Cold>⟧.whole result m
+            ≡ runs.drop_run (Self.whole self m) count }
+        ensures meaning { (m : Self.Reading) → meaning_of (⟦<DropFirst<Self> as Cold>⟧.whole result m)
+            ≡ means.drop_meaning count (meaning_of (Self.whole self m)) }
+        ensures rest { (m : Self.Reading) → ⟦<DropFirst<Self> as Cold>⟧.rest result m
+            ≡ runs.drop_run (Self.rest self m) count }
     {
         DropFirst::new(self, count)
     }
 
     /// Gives the items before the first that does not pass the test. See `TakeWhile::new`.
-    final fn take_while<M, F>(self, meaning: M, closure: F) -> TakeWhile<Self, WithMeaning<M, F>>
+    final fn take_while<F>(self, test: F) -> TakeWhile<Self, F>
     where
         Self: Sized,
-        M: TestMeaning<Self::Item>,
         F: Fn(&Self::Item) -> bool,
-        requires sound { Self.sound self }
-        requires callable { F.IsAlwaysCallable closure }
-        requires computes { Decides (λ x b. FnReturnsAt F.Fn closure x b) (M.passes meaning) }
-        ensures sound { ⟦<TakeWhile<Self, WithMeaning<M, F>> as Cold>⟧.sound result }
-        ensures whole { ⟦<TakeWhile<Self, WithMeaning<M, F>> as Cold>⟧.whole result
-            ≡ runs.take_while_run (M.passes meaning) (Self.whole self) }
-        ensures meaning { meaning_of (⟦<TakeWhile<Self, WithMeaning<M, F>> as Cold>⟧.whole result)
-            ≡ means.take_while_meaning (M.passes meaning) (meaning_of (Self.whole self)) }
-        ensures rest { ⟦<TakeWhile<Self, WithMeaning<M, F>> as Cold>⟧.rest result
-            ≡ runs.take_while_run (M.passes meaning) (Self.rest self) }
-    {
-        TakeWhile::new(self, WithMeaning { meaning, closure })
-    }
-
-    /// Gives the items before the first that does not pass the test. See `TakeWhile::new`.
-    final fn take_while_by<M>(self, test: M) -> TakeWhile<Self, M>
-    where
-        Self: Sized,
-        M: ItemTest<Self::Item>,
-        requires sound { Self.sound self }
-        requires decides { M.sound test }
-        ensures sound { ⟦<TakeWhile<Self, M> as Cold>⟧.sound result }
-        ensures whole { ⟦<TakeWhile<Self, M> as Cold>⟧.whole result
-            ≡ runs.take_while_run (M.passes test) (Self.whole self) }
-        ensures meaning { meaning_of (⟦<TakeWhile<Self, M> as Cold>⟧.whole result)
-            ≡ means.take_while_meaning (M.passes test) (meaning_of (Self.whole self)) }
-        ensures rest { ⟦<TakeWhile<Self, M> as Cold>⟧.rest result
-            ≡ runs.take_while_run (M.passes test) (Self.rest self) }
+        requires upstream { Self.CanAsk self }
+        requires callable { F.IsAlwaysCallable test }
+        ensures callable { ⟦<TakeWhile<Self, F> as Cold>⟧.CanAsk result }
+        ensures reads { (m : Self.Reading) (p : Self.Item → Bool) → Self.Reads self m
+            → Decides (λ x b. FnReturnsAt F.Fn test x b) p → ⟦<TakeWhile<Self, F> as Cold>⟧.Reads result (m, p) }
+        ensures whole { (m : Self.Reading) (p : Self.Item → Bool)
+            → ⟦<TakeWhile<Self, F> as Cold>⟧.whole result (m, p) ≡ runs.take_while_run p (Self.whole self m) }
+        ensures meaning { (m : Self.Reading) (p : Self.Item → Bool)
+            → meaning_of (⟦<TakeWhile<Self, F> as Cold>⟧.whole result (m, p))
+            ≡ means.take_while_meaning p (meaning_of (Self.whole self m)) }
+        ensures rest { (m : Self.Reading) (p : Self.Item → Bool)
+            → ⟦<TakeWhile<Self, F> as Cold>⟧.rest result (m, p) ≡ runs.take_while_run p (Self.rest self m) }
     {
         TakeWhile::new(self, test)
     }
 
     /// Drops the first items while they pass the test, and gives all others. See `DropWhile::new`.
-    final fn drop_while<M, F>(self, meaning: M, closure: F) -> DropWhile<Self, WithMeaning<M, F>>
+    final fn drop_while<F>(self, test: F) -> DropWhile<Self, F>
     where
         Self: Sized,
-        M: TestMeaning<Self::Item>,
         F: Fn(&Self::Item) -> bool,
-        requires sound { Self.sound self }
-        requires callable { F.IsAlwaysCallable closure }
-        requires computes { Decides (λ x b. FnReturnsAt F.Fn closure x b) (M.passes meaning) }
-        ensures sound { ⟦<DropWhile<Self, WithMeaning<M, F>> as Cold>⟧.sound result }
-        ensures whole { ⟦<DropWhile<Self, WithMeaning<M, F>> as Cold>⟧.whole result
-            ≡ runs.drop_while_run (M.passes meaning) (Self.whole self) }
-        ensures meaning { meaning_of (⟦<DropWhile<Self, WithMeaning<M, F>> as Cold>⟧.whole result)
-            ≡ means.drop_while_meaning (M.passes meaning) (meaning_of (Self.whole self)) }
-        ensures rest { ⟦<DropWhile<Self, WithMeaning<M, F>> as Cold>⟧.rest result
-            ≡ runs.drop_while_run (M.passes meaning) (Self.rest self) }
-    {
-        DropWhile::new(self, WithMeaning { meaning, closure })
-    }
-
-    /// Drops the first items while they pass the test, and gives all others. See `DropWhile::new`.
-    final fn drop_while_by<M>(self, test: M) -> DropWhile<Self, M>
-    where
-        Self: Sized,
-        M: ItemTest<Self::Item>,
-        requires sound { Self.sound self }
-        requires decides { M.sound test }
-        ensures sound { ⟦<DropWhile<Self, M> as Cold>⟧.sound result }
-        ensures whole { ⟦<DropWhile<Self, M> as Cold>⟧.whole result
-            ≡ runs.drop_while_run (M.passes test) (Self.whole self) }
-        ensures meaning { meaning_of (⟦<DropWhile<Self, M> as Cold>⟧.whole result)
-            ≡ means.drop_while_meaning (M.passes test) (meaning_of (Self.whole self)) }
-        ensures rest { ⟦<DropWhile<Self, M> as Cold>⟧.rest result
-            ≡ runs.drop_while_run (M.passes test) (Self.rest self) }
+        requires upstream { Self.CanAsk self }
+        requires callable { F.IsAlwaysCallable test }
+        ensures callable { ⟦<DropWhile<Self, F> as Cold>⟧.CanAsk result }
+        ensures reads { (m : Self.Reading) (p : Self.Item → Bool) → Self.Reads self m
+            → Decides (λ x b. FnReturnsAt F.Fn test x b) p → ⟦<DropWhile<Self, F> as Cold>⟧.Reads result (m, p) }
+        ensures whole { (m : Self.Reading) (p : Self.Item → Bool)
+            → ⟦<DropWhile<Self, F> as Cold>⟧.whole result (m, p) ≡ runs.drop_while_run p (Self.whole self m) }
+        ensures meaning { (m : Self.Reading) (p : Self.Item → Bool)
+            → meaning_of (⟦<DropWhile<Self, F> as Cold>⟧.whole result (m, p))
+            ≡ means.drop_while_meaning p (meaning_of (Self.whole self m)) }
+        ensures rest { (m : Self.Reading) (p : Self.Item → Bool)
+            → ⟦<DropWhile<Self, F> as Cold>⟧.rest result (m, p) ≡ runs.drop_while_run p (Self.rest self m) }
     {
         DropWhile::new(self, test)
     }
 
     /// Gives `initial`, then what the closure makes of the last result and each item. See `Scan::new`.
-    final fn scan<U, M, F>(
-        self,
-        initial: U,
-        meaning: M,
-        closure: F,
-    ) -> Scan<Self, U, WithMeaning<M, F>>
+    final fn scan<U, F>(self, initial: U, closure: F) -> Scan<Self, U, F>
     where
         Self: Sized,
         U: FlowValue,
-        M: PairMeaning<U, Self::Item, U>,
         F: Fn(U, Self::Item) -> Result<U, ChainFault>,
-        requires sound { Self.sound self }
+        requires upstream { Self.CanAsk self }
         requires callable { F.IsAlwaysCallable closure }
-        requires computes { Computes (λ x r. F.post closure x.0 x.1 r) (M.image meaning) }
-        ensures sound { ⟦<Scan<Self, U, WithMeaning<M, F>> as Cold>⟧.sound result }
-        ensures whole { ⟦<Scan<Self, U, WithMeaning<M, F>> as Cold>⟧.whole result
-            ≡ gives initial (runs.scan_run (M.image meaning) initial (Self.whole self)) }
-        ensures meaning { meaning_of (⟦<Scan<Self, U, WithMeaning<M, F>> as Cold>⟧.whole result)
-            ≡ means.scan_meaning (M.image meaning) initial (meaning_of (Self.whole self)) }
-        ensures rest { ⟦<Scan<Self, U, WithMeaning<M, F>> as Cold>⟧.rest result
-            ≡ gives initial (runs.scan_run (M.image meaning) initial (Self.rest self)) }
+        ensures callable { ⟦<Scan<Self, U, F> as Cold>⟧.CanAsk result }
+        ensures reads { (m : Self.Reading) (f : U × Self.Item → Result U ChainFault) → Self.Reads self m
+            → ComputesPairs (F.post closure) f → ⟦<Scan<Self, U, F> as Cold>⟧.Reads result (m, f) }
+        ensures whole { (m : Self.Reading) (f : U × Self.Item → Result U ChainFault)
+            → ⟦<Scan<Self, U, F> as Cold>⟧.whole result (m, f) ≡ gives initial (runs.scan_run f initial (Self.whole self m)) }
+        ensures meaning { (m : Self.Reading) (f : U × Self.Item → Result U ChainFault)
+            → meaning_of (⟦<Scan<Self, U, F> as Cold>⟧.whole result (m, f))
+            ≡ means.scan_meaning f initial (meaning_of (Self.whole self m)) }
+        ensures rest { (m : Self.Reading) (f : U × Self.Item → Result U ChainFault)
+            → ⟦<Scan<Self, U, F> as Cold>⟧.rest result (m, f) ≡ gives initial (runs.scan_run f initial (Self.rest self m)) }
     {
-        Scan::new(self, initial, WithMeaning { meaning, closure })
+        Scan::new(self, initial, closure)
     }
 
-    /// Gives `initial`, then what the computation makes of the last result and each item. See `Scan::new`.
-    final fn scan_by<U, M>(self, initial: U, computation: M) -> Scan<Self, U, M>
+    /// Gives the first item, then what the closure makes of the last result and each further item. See `RunningReduce::new`.
+    final fn running_reduce<F>(self, closure: F) -> RunningReduce<Self, F>
     where
         Self: Sized,
-        U: FlowValue,
-        M: PairComputation<U, Self::Item, U>,
-        requires sound { Self.sound self }
-        requires computes { M.sound computation }
-        ensures sound { ⟦<Scan<Self, U, M> as Cold>⟧.sound result }
-        ensures whole { ⟦<Scan<Self, U, M> as Cold>⟧.whole result
-            ≡ gives initial (runs.scan_run (M.image computation) initial (Self.whole self)) }
-        ensures meaning { meaning_of (⟦<Scan<Self, U, M> as Cold>⟧.whole result)
-            ≡ means.scan_meaning (M.image computation) initial (meaning_of (Self.whole self)) }
-        ensures rest { ⟦<Scan<Self, U, M> as Cold>⟧.rest result
-            ≡ gives initial (runs.scan_run (M.image computation) initial (Self.rest self)) }
-    {
-        Scan::new(self, initial, computation)
-    }
-
-    /// Gives the first item, then what the closure makes of the last result and each further item. See
-    /// `RunningReduce::new`.
-    final fn running_reduce<M, F>(
-        self,
-        meaning: M,
-        closure: F,
-    ) -> RunningReduce<Self, WithMeaning<M, F>>
-    where
-        Self: Sized,
-        M: PairMeaning<Self::Item, Self::Item, Self::Item>,
         F: Fn(Self::Item, Self::Item) -> Result<Self::Item, ChainFault>,
-        requires sound { Self.sound self }
+        requires upstream { Self.CanAsk self }
         requires callable { F.IsAlwaysCallable closure }
-        requires computes { Computes (λ x r. F.post closure x.0 x.1 r) (M.image meaning) }
-        ensures sound { ⟦<RunningReduce<Self, WithMeaning<M, F>> as Cold>⟧.sound result }
-        ensures whole { ⟦<RunningReduce<Self, WithMeaning<M, F>> as Cold>⟧.whole result
-            ≡ runs.running_reduce_run (M.image meaning) None (Self.whole self) }
-        ensures meaning { meaning_of (⟦<RunningReduce<Self, WithMeaning<M, F>> as Cold>⟧.whole result)
-            ≡ means.running_reduce_meaning (M.image meaning) (meaning_of (Self.whole self)) }
-        ensures rest { ⟦<RunningReduce<Self, WithMeaning<M, F>> as Cold>⟧.rest result
-            ≡ runs.running_reduce_run (M.image meaning) None (Self.rest self) }
+        ensures callable { ⟦<RunningReduce<Self, F> as Cold>⟧.CanAsk result }
+        ensures reads { (m : Self.Reading) (f : Self.Item × Self.Item → Result Self.Item ChainFault) → Self.Reads self m
+            → ComputesPairs (F.post closure) f → ⟦<RunningReduce<Self, F> as Cold>⟧.Reads result (m, f) }
+        ensures whole { (m : Self.Reading) (f : Self.Item × Self.Item → Result Self.Item ChainFault)
+            → ⟦<RunningReduce<Self, F> as Cold>⟧.whole result (m, f) ≡ runs.running_reduce_run f None (Self.whole self m) }
+        ensures meaning { (m : Self.Reading) (f : Self.Item × Self.Item → Result Self.Item ChainFault)
+            → meaning_of (⟦<RunningReduce<Self, F> as Cold>⟧.whole result (m, f))
+            ≡ means.running_reduce_meaning f (meaning_of (Self.whole self m)) }
+        ensures rest { (m : Self.Reading) (f : Self.Item × Self.Item → Result Self.Item ChainFault)
+            → ⟦<RunningReduce<Self, F> as Cold>⟧.rest result (m, f) ≡ runs.running_reduce_run f None (Self.rest self m) }
     {
-        RunningReduce::new(self, WithMeaning { meaning, closure })
-    }
-
-    /// Gives the first item, then what the computation makes of the last result and each further item. See
-    /// `RunningReduce::new`.
-    final fn running_reduce_by<M>(self, computation: M) -> RunningReduce<Self, M>
-    where
-        Self: Sized,
-        M: PairComputation<Self::Item, Self::Item, Self::Item>,
-        requires sound { Self.sound self }
-        requires computes { M.sound computation }
-        ensures sound { ⟦<RunningReduce<Self, M> as Cold>⟧.sound result }
-        ensures whole { ⟦<RunningReduce<Self, M> as Cold>⟧.whole result
-            ≡ runs.running_reduce_run (M.image computation) None (Self.whole self) }
-        ensures meaning { meaning_of (⟦<RunningReduce<Self, M> as Cold>⟧.whole result)
-            ≡ means.running_reduce_meaning (M.image computation) (meaning_of (Self.whole self)) }
-        ensures rest { ⟦<RunningReduce<Self, M> as Cold>⟧.rest result
-            ≡ runs.running_reduce_run (M.image computation) None (Self.rest self) }
-    {
-        RunningReduce::new(self, computation)
+        RunningReduce::new(self, closure)
     }
 
     /// Drops each item that is the same as the one before. See `Distinct::new`.
     final fn distinct(self) -> Distinct<Self>
     where
         Self: Sized,
-        requires { Self.sound self }
-        ensures sound { ⟦<Distinct<Self> as Cold>⟧.sound result }
-        ensures whole { ⟦<Distinct<Self> as Cold>⟧.whole result
-            ≡ runs.distinct_run Self.Item.is_same None (Self.whole self) }
-        ensures meaning { meaning_of (⟦<Distinct<Self> as Cold>⟧.whole result)
-            ≡ means.distinct_meaning Self.Item.is_same (meaning_of (Self.whole self)) }
-        ensures rest { ⟦<Distinct<Self> as Cold>⟧.rest result
-            ≡ runs.distinct_run Self.Item.is_same None (Self.rest self) }
+        requires { Self.CanAsk self }
+        ensures callable { ⟦<Distinct<Self> as Cold>⟧.CanAsk result }
+        ensures reads { (m : Self.Reading) → Self.Reads self m → ⟦<Distinct<Self> as Cold>⟧.Reads result m }
+        ensures whole { (m : Self.Reading) → ⟦<Distinct<Self> as Cold>⟧.whole result m
+            ≡ runs.distinct_run Self.Item.is_same None (Self.whole self m) }
+        ensures meaning { (m : Self.Reading) → meaning_of (⟦<Distinct<Self> as Cold>⟧.whole result m)
+            ≡ means.distinct_meaning Self.Item.is_same (meaning_of (Self.whole self m)) }
+        ensures rest { (m : Self.Reading) → ⟦<Distinct<Self> as Cold>⟧.rest result m
+            ≡ runs.distinct_run Self.Item.is_same None (Self.rest self m) }
     {
         Distinct::new(self)
     }
 
     /// Gives the items of the list that the closure makes of each item. See `Transform::new`.
-    final fn transform<U, M, F>(self, meaning: M, closure: F) -> Transform<Self, U, M, F>
+    final fn transform<U, F>(self, closure: F) -> Transform<Self, U, F>
     where
         Self: Sized,
         U: FlowValue,
-        M: ListMeaning<Self::Item, U>,
         F: Fn(Self::Item) -> Result<Vec<U>, ChainFault>,
-        requires sound { Self.sound self }
+        requires upstream { Self.CanAsk self }
         requires callable { F.IsAlwaysCallable closure }
-        requires computes { ComputesBy (λ v. v.items) (F.post closure) (M.images meaning) }
-        ensures sound { ⟦<Transform<Self, U, M, F> as Cold>⟧.sound result }
-        ensures whole { ⟦<Transform<Self, U, M, F> as Cold>⟧.whole result
-            ≡ runs.transform_run (M.images meaning) (Self.whole self) }
-        ensures meaning { meaning_of (⟦<Transform<Self, U, M, F> as Cold>⟧.whole result)
-            ≡ means.transform_meaning (M.images meaning) (meaning_of (Self.whole self)) }
-        ensures rest { ⟦<Transform<Self, U, M, F> as Cold>⟧.rest result
-            ≡ runs.transform_run (M.images meaning) (Self.rest self) }
+        ensures callable { ⟦<Transform<Self, U, F> as Cold>⟧.CanAsk result }
+        ensures reads { (m : Self.Reading) (f : Self.Item → Result (List U) ChainFault) → Self.Reads self m
+            → ComputesBy (λ v. v.items) (F.post closure) f → ⟦<Transform<Self, U, F> as Cold>⟧.Reads result (m, f) }
+        ensures whole { (m : Self.Reading) (f : Self.Item → Result (List U) ChainFault)
+            → ⟦<Transform<Self, U, F> as Cold>⟧.whole result (m, f) ≡ runs.transform_run f (Self.whole self m) }
+        ensures meaning { (m : Self.Reading) (f : Self.Item → Result (List U) ChainFault)
+            → meaning_of (⟦<Transform<Self, U, F> as Cold>⟧.whole result (m, f))
+            ≡ means.transform_meaning f (meaning_of (Self.whole self m)) }
+        ensures rest { (m : Self.Reading) (f : Self.Item → Result (List U) ChainFault)
+            → ⟦<Transform<Self, U, F> as Cold>⟧.rest result (m, f) ≡ runs.transform_run f (Self.rest self m) }
     {
-        Transform::new(self, meaning, closure)
+        Transform::new(self, closure)
     }
 
-    /// Gives the items of the chain that the closure opens at each item, one chain after the other. See
-    /// `FlatMapConcat::new`.
-    final fn flat_map_concat<U, M, F>(self, meaning: M, closure: F) -> FlatMapConcat<Self, U, M, F>
+    /// Gives the items of the chain that the closure opens at each item, one chain after the other. See `FlatMapConcat::new`.
+    final fn flat_map_concat<D, F>(self, closure: F) -> FlatMapConcat<Self, D, F>
     where
         Self: Sized,
-        U: FlowValue,
-        M: InnerMeaning<Self::Item, U>,
-        F: Fn(Self::Item) -> Result<Scripted<U>, ChainFault>,
-        requires sound { Self.sound self }
+        D: Cold,
+        F: Fn(Self::Item) -> Result<D, ChainFault>,
+        requires upstream { Self.CanAsk self }
         requires callable { F.IsAlwaysCallable closure }
-        requires computes { ComputesBy ⟦<Scripted<U> as Cold>⟧.whole (F.post closure) (M.inner meaning) }
-        ensures sound { ⟦<FlatMapConcat<Self, U, M, F> as Cold>⟧.sound result }
-        ensures whole { ⟦<FlatMapConcat<Self, U, M, F> as Cold>⟧.whole result
-            ≡ runs.flat_map_run (M.inner meaning) (Self.whole self) }
-        ensures meaning { meaning_of (⟦<FlatMapConcat<Self, U, M, F> as Cold>⟧.whole result)
-            ≡ means.flat_map_meaning (M.inner meaning) (meaning_of (Self.whole self)) }
-        ensures rest { ⟦<FlatMapConcat<Self, U, M, F> as Cold>⟧.rest result
-            ≡ runs.flat_map_run (M.inner meaning) (Self.rest self) }
+        requires opens { OpensCallable D.CanAsk (F.post closure) }
+        requires limited { D.IsLimited }
+        ensures callable { ⟦<FlatMapConcat<Self, D, F> as Cold>⟧.CanAsk result }
+        ensures reads { (m : Self.Reading) (n : D.Reading) (f : Self.Item → Result (ChainRun D.Item) ChainFault)
+            → Self.Reads self m → Opens (λ d. D.Reads d n) (λ d. D.whole d n) (F.post closure) f
+            → ⟦<FlatMapConcat<Self, D, F> as Cold>⟧.Reads result ((m, n), f) }
+        ensures whole { (m : Self.Reading) (n : D.Reading) (f : Self.Item → Result (ChainRun D.Item) ChainFault)
+            → ⟦<FlatMapConcat<Self, D, F> as Cold>⟧.whole result ((m, n), f) ≡ runs.flat_map_run f (Self.whole self m) }
+        ensures meaning { (m : Self.Reading) (n : D.Reading) (f : Self.Item → Result (ChainRun D.Item) ChainFault)
+            → meaning_of (⟦<FlatMapConcat<Self, D, F> as Cold>⟧.whole result ((m, n), f))
+            ≡ means.flat_map_meaning f (meaning_of (Self.whole self m)) }
+        ensures rest { (m : Self.Reading) (n : D.Reading) (f : Self.Item → Result (ChainRun D.Item) ChainFault)
+            → ⟦<FlatMapConcat<Self, D, F> as Cold>⟧.rest result ((m, n), f) ≡ runs.flat_map_run f (Self.rest self m) }
     {
-        FlatMapConcat::new(self, meaning, closure)
+        FlatMapConcat::new(self, closure)
     }
 
     /// Gives what the closure makes of each pair; this chain is the left side. See `Zip::new`.
-    final fn zip<R, U, M, F>(
-        self,
-        right: R,
-        meaning: M,
-        closure: F,
-    ) -> Zip<Self, R, U, WithMeaning<M, F>>
+    final fn zip<R, U, F>(self, right: R, closure: F) -> Zip<Self, R, F>
     where
         Self: Sized,
         R: Cold,
         U: FlowValue,
-        M: PairMeaning<Self::Item, R::Item, U>,
         F: Fn(Self::Item, R::Item) -> Result<U, ChainFault>,
-        requires left { Self.sound self }
-        requires right { R.sound right }
+        requires left { Self.CanAsk self }
+        requires right { R.CanAsk right }
         requires callable { F.IsAlwaysCallable closure }
-        requires computes { Computes (λ x r. F.post closure x.0 x.1 r) (M.image meaning) }
-        ensures sound { ⟦<Zip<Self, R, U, WithMeaning<M, F>> as Cold>⟧.sound result }
-        ensures whole { ⟦<Zip<Self, R, U, WithMeaning<M, F>> as Cold>⟧.whole result
-            ≡ runs.zip_run (M.image meaning) (Self.whole self) (R.whole right) }
-        ensures meaning { meaning_of (⟦<Zip<Self, R, U, WithMeaning<M, F>> as Cold>⟧.whole result)
-            ≡ means.zip_meaning (M.image meaning) (meaning_of (Self.whole self))
-            (meaning_of (R.whole right)) }
-        ensures rest { ⟦<Zip<Self, R, U, WithMeaning<M, F>> as Cold>⟧.rest result
-            ≡ runs.zip_run (M.image meaning) (Self.rest self) (R.rest right) }
+        ensures callable { ⟦<Zip<Self, R, F> as Cold>⟧.CanAsk result }
+        ensures reads { (m : Self.Reading) (n : R.Reading) (f : Self.Item × R.Item → Result U ChainFault) → Self.Reads self m
+            → R.Reads right n → ComputesPairs (F.post closure) f → ⟦<Zip<Self, R, F> as Cold>⟧.Reads result ((m, n), f) }
+        ensures whole { (m : Self.Reading) (n : R.Reading) (f : Self.Item × R.Item → Result U ChainFault)
+            → ⟦<Zip<Self, R, F> as Cold>⟧.whole result ((m, n), f) ≡ runs.zip_run f (Self.whole self m) (R.whole right n) }
+        ensures meaning { (m : Self.Reading) (n : R.Reading) (f : Self.Item × R.Item → Result U ChainFault)
+            → meaning_of (⟦<Zip<Self, R, F> as Cold>⟧.whole result ((m, n), f))
+            ≡ means.zip_meaning f (meaning_of (Self.whole self m)) (meaning_of (R.whole right n)) }
+        ensures rest { (m : Self.Reading) (n : R.Reading) (f : Self.Item × R.Item → Result U ChainFault)
+            → ⟦<Zip<Self, R, F> as Cold>⟧.rest result ((m, n), f) ≡ runs.zip_run f (Self.rest self m) (R.rest right n) }
     {
-        Zip::new(self, right, WithMeaning { meaning, closure })
-    }
-
-    /// Gives what the computation makes of each pair; this chain is the left side. See `Zip::new`.
-    final fn zip_by<R, U, M>(self, right: R, computation: M) -> Zip<Self, R, U, M>
-    where
-        Self: Sized,
-        R: Cold,
-        U: FlowValue,
-        M: PairComputation<Self::Item, R::Item, U>,
-        requires left { Self.sound self }
-        requires right { R.sound right }
-        requires computes { M.sound computation }
-        ensures sound { ⟦<Zip<Self, R, U, M> as Cold>⟧.sound result }
-        ensures whole { ⟦<Zip<Self, R, U, M> as Cold>⟧.whole result
-            ≡ runs.zip_run (M.image computation) (Self.whole self) (R.whole right) }
-        ensures meaning { meaning_of (⟦<Zip<Self, R, U, M> as Cold>⟧.whole result)
-            ≡ means.zip_meaning (M.image computation) (meaning_of (Self.whole self))
-            (meaning_of (R.whole right)) }
-        ensures rest { ⟦<Zip<Self, R, U, M> as Cold>⟧.rest result
-            ≡ runs.zip_run (M.image computation) (Self.rest self) (R.rest right) }
-    {
-        Zip::new(self, right, computation)
+        Zip::new(self, right, closure)
     }
 }
 

@@ -22,17 +22,19 @@ pub fn collect_all<C: Cold, A: Allocator>(
     alloc: A,
     chain: &mut C,
 ) -> Result<Collected<C::Item, A>, ChainFault>
-    requires { C.sound chain.old }
-    ensures sound { C.sound chain.new }
-    ensures whole { C.whole chain.new ≡ C.whole chain.old }
-    ensures collects { IfOk result (λ collected.
-        Collects (C.whole chain.old) collected.items.items collected.end) }
+    requires { C.CanAsk chain.old }
+    ensures callable { C.CanAsk chain.new }
+    ensures reads { (m : C.Reading) → C.Reads chain.old m → C.Reads chain.new m }
+    ensures whole { (m : C.Reading) → C.whole chain.new m ≡ C.whole chain.old m }
+    ensures collects { IfOk result (λ collected. (m : C.Reading) → C.Reads chain.old m
+        → Collects (C.whole chain.old m) collected.items.items collected.end) }
     // The end is the chain's own last answer. So is want of memory in place of one; the items before it are given.
     ensures over { IfOk result (λ _. C.IsOver chain.new) }
     ensures answered { IfOk result (λ collected. C.HasAnswered chain.new collected.end) }
     // The list had no room for the item that came last.
     ensures memory { IfErr result (λ fault. fault ≡ ChainFault.OutOfMemory) }
-    ensures refused { IfErr result (λ _. StandsAfterItem (C.whole chain.old) (C.rest chain.new)) }
+    ensures refused { IfErr result (λ _. (m : C.Reading) → C.Reads chain.old m
+        → StandsAfterItem (C.whole chain.old m) (C.rest chain.new m)) }
 {
     chain.rewind();
     let mut items = Vec::new(alloc);

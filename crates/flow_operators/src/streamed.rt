@@ -1,5 +1,5 @@
 //! A chain as a stream.
-ghost use Rattle.std.specs.Prelude.{◌≡◌, ◌↔◌, cond, [], List, Option, Result, IfSome, OnSome};
+ghost use Rattle.std.specs.Prelude.{◌≡◌, cond, [], List, Option, Result, IfSome, OnSome};
 ghost use Rattle.futures.specs.Poll.{IfReady, OnPending};
 ghost use Rattle.futures.specs.Runs.{After, Within};
 ghost use Rattle.futures.specs.Task.{Covers, Keeps};
@@ -21,11 +21,11 @@ pub struct Streamed<C> {
 impl<C: Cold> Streamed<C> {
     /// Streams the chain from its start.
     pub fn new(mut chain: C) -> Self
-        requires { C.sound chain }
-        ensures sound { ⟦<Streamed<C> as Stream>⟧.can_poll result }
+        requires { C.CanAsk chain }
+        ensures callable { ⟦<Streamed<C> as Stream>⟧.can_poll result }
         ensures yields { (xs : List (Result C.Item ChainFault)) (last : Option (Result C.Item ChainFault))
             → ⟦<Streamed<C> as Stream>⟧.yields result xs last
-            ↔ Streams (C.whole chain) xs last }
+            → (m : C.Reading) → C.Reads chain m → Streams (C.whole chain m) xs last }
     {
         chain.rewind();
         Streamed {
@@ -38,9 +38,10 @@ impl<C: Cold> Streamed<C> {
 impl<C: Cold> Stream for Streamed<C> {
     type Item = Result<C::Item, ChainFault>;
 
-    ghost can_poll = { λ s. C.sound s.chain };
+    ghost can_poll = { λ s. C.CanAsk s.chain };
 
-    ghost yields = { λ s xs last. cond s.ended (Over xs last) (Streams (C.rest s.chain) xs last) };
+    ghost yields = { λ s xs last. cond s.ended (Over xs last)
+        ((m : C.Reading) → C.Reads s.chain m → Streams (C.rest s.chain m) xs last) };
 
     // The trait's clauses, and: a fault is the chain's own last answer, also where it is out of memory.
     fn poll_next(&mut self, cx: &mut Context<'_>) -> Poll<Option<Result<C::Item, ChainFault>>>

@@ -1,82 +1,232 @@
 //! What a chain comes to: the terminal operators, each of which starts the chain anew and asks it.
 //!
-//! A turn that pends is followed by the next ask. The chain's fault is the answer, as far as it is reached. A list of
-//! all items is what `collect_all` gathers.
-ghost use Rattle.std.specs.Prelude.{◌≡◌, ◌⊎◌, ◌∷◌, IfOk, IfErr, IfSome};
-ghost use Rattle.flow_law.specs.ChainRun.{items, ending};
-ghost use Rattle.flow_operators.specs.Closures.{Computes, Follows};
-ghost use Rattle.flow_operators.specs.Terminal.{CallFails, VisitFails, Visits, counted, first_of, folded};
+//! A turn that pends is followed by the next ask. The chain's fault is the answer, as far as it is reached.
+ghost use Rattle.std.specs.Prelude.{◌≡◌, ◌⊎◌, Bool, Result, filter, IfOk, IfErr, IfSome};
+ghost use Rattle.std.specs.Fn.{FnReturnsAt};
+ghost use Rattle.flow_law.specs.declared.chain.ChainFault.{ChainFault};
+ghost use Rattle.flow_law.specs.ChainRun.{Collects, items, ending};
+ghost use Rattle.flow_operators.specs.Closures.{ComputesPairs, Decides, Follows};
+ghost use Rattle.flow_operators.specs.Collecting.{StandsAfter, StandsAfterItem};
+ghost use Rattle.flow_operators.specs.Terminal.{CallFails, OnNoItem, VisitFails, Visits};
+ghost use Rattle.flow_operators.specs.Terminal.{all_of, any_of, counted, first_of, folded, last_of, reduced_to, single_of};
 
-use crate::cold::{Asked, Cold};
-use crate::meaning::PairMeaning;
-use crate::with_meaning::WithMeaning;
+use crate::cold::Cold;
+use crate::collect::{Collected, collect_all};
+use crate::stepping::{find, fold_rest, next_item};
 use flow_law::{ChainFault, End};
+use std::alloc::Allocator;
 
 /// Terminal operators on any chain.
 pub trait Terminal: Cold {
     /// Gives the last of the results, each made of the one before and an item; `initial` where there is no item. The
-    /// closure's first fault is the answer, and then nothing more is asked. `meaning` is for contracts.
-    final fn fold<U, M, F>(&mut self, initial: U, meaning: M, closure: F) -> Result<U, ChainFault>
+    /// closure's first fault is the answer, and then nothing more is asked.
+    final fn fold<U, F>(&mut self, initial: U, closure: F) -> Result<U, ChainFault>
     where
         U: Drop,
-        M: PairMeaning<U, Self::Item, U>,
         F: Fn(U, Self::Item) -> Result<U, ChainFault>,
-        requires sound { Self.sound self.old }
+        requires chain { Self.CanAsk self.old }
         requires callable { F.IsAlwaysCallable closure }
-        requires computes { Computes (λ x r. F.post closure x.0 x.1 r) (M.image meaning) }
-        ensures sound { Self.sound self.new }
-        ensures whole { Self.whole self.new ≡ Self.whole self.old }
-        ensures folds { Follows (folded (M.image meaning) initial
-            (items (Self.whole self.old)) (ending (Self.whole self.old))) result }
+        ensures callable { Self.CanAsk self.new }
+        ensures reads { (m : Self.Reading) → Self.Reads self.old m → Self.Reads self.new m }
+        ensures whole { (m : Self.Reading) → Self.whole self.new m ≡ Self.whole self.old m }
+        ensures folds { (m : Self.Reading) (f : U × Self.Item → Result U ChainFault) → Self.Reads self.old m
+            → ComputesPairs (F.post closure) f
+            → Follows (folded f initial (items (Self.whole self.old m)) (ending (Self.whole self.old m))) result }
         ensures over { IfOk result (λ _. Self.IsOver self.new) }
+        // After a fault of the closure the chain stands just after the item at which it was answered.
+        ensures stands { IfErr result (λ _. Self.IsOver self.new
+            ⊎ ((m : Self.Reading) → Self.Reads self.old m → StandsAfterItem (Self.whole self.old m) (Self.rest self.new m))) }
         // A fault is the chain's own last answer, or a call of the closure answered it. So is want of memory.
         ensures answered { IfErr result (λ fault.
             Self.HasAnswered self.new (End.Failed fault) ⊎ CallFails (F.post closure) fault) }
     {
-        let given = WithMeaning { meaning, closure };
         self.rewind();
-        let mut last = initial;
-        loop {
-            match self.ask() {
-                Asked::Item(item) => last = given.image_of_pair(last, item)?,
-                Asked::Pending => {}
-                Asked::End => return Ok(last),
-                Asked::Fault(fault) => return Err(fault),
-            }
+        fold_rest(self, initial, &closure)
+    }
+
+    /// Gives the last of the results, the first of which is the first item, and each other is made of the one before and
+    /// a further item; `None` where there is no item. The closure's first fault is the answer, and then nothing more is
+    /// asked.
+    final fn reduce<F>(&mut self, closure: F) -> Result<Option<Self::Item>, ChainFault>
+    where
+        F: Fn(Self::Item, Self::Item) -> Result<Self::Item, ChainFault>,
+        requires chain { Self.CanAsk self.old }
+        requires callable { F.IsAlwaysCallable closure }
+        ensures callable { Self.CanAsk self.new }
+        ensures reads { (m : Self.Reading) → Self.Reads self.old m → Self.Reads self.new m }
+        ensures whole { (m : Self.Reading) → Self.whole self.new m ≡ Self.whole self.old m }
+        ensures reduces { (m : Self.Reading) (f : Self.Item × Self.Item → Result Self.Item ChainFault) → Self.Reads self.old m
+            → ComputesPairs (F.post closure) f
+            → Follows (reduced_to f (items (Self.whole self.old m)) (ending (Self.whole self.old m))) result }
+        ensures over { IfOk result (λ _. Self.IsOver self.new) }
+        // After a fault of the closure the chain stands just after the item at which it was answered.
+        ensures stands { IfErr result (λ _. Self.IsOver self.new
+            ⊎ ((m : Self.Reading) → Self.Reads self.old m → StandsAfterItem (Self.whole self.old m) (Self.rest self.new m))) }
+        // A fault is the chain's own last answer, or a call of the closure answered it. So is want of memory.
+        ensures answered { IfErr result (λ fault.
+            Self.HasAnswered self.new (End.Failed fault) ⊎ CallFails (F.post closure) fault) }
+    {
+        self.rewind();
+        match next_item(self)? {
+            Some(first) => match fold_rest(self, first, &closure) {
+                Ok(last) => Ok(Some(last)),
+                Err(fault) => Err(fault),
+            },
+            None => Ok(None),
         }
     }
 
     /// Gives the first item, or `None` where the chain completes without one. Nothing is asked after it.
     final fn first(&mut self) -> Result<Option<Self::Item>, ChainFault>
-        requires { Self.sound self.old }
-        ensures sound { Self.sound self.new }
-        ensures whole { Self.whole self.new ≡ Self.whole self.old }
-        ensures first { Follows (first_of
-            (items (Self.whole self.old)) (ending (Self.whole self.old))) result }
-        ensures rest { IfOk result (λ found.
-            IfSome found (λ item. items (Self.whole self.old) ≡ item ∷ items (Self.rest self.new))) }
+        requires { Self.CanAsk self.old }
+        ensures callable { Self.CanAsk self.new }
+        ensures reads { (m : Self.Reading) → Self.Reads self.old m → Self.Reads self.new m }
+        ensures whole { (m : Self.Reading) → Self.whole self.new m ≡ Self.whole self.old m }
+        ensures first { (m : Self.Reading) → Self.Reads self.old m
+            → Follows (first_of (items (Self.whole self.old m)) (ending (Self.whole self.old m))) result }
+        ensures over { OnNoItem result (Self.IsOver self.new) }
+        ensures stands { IfOk result (λ found. IfSome found (λ item. (m : Self.Reading) → Self.Reads self.old m
+            → StandsAfter item (Self.whole self.old m) (Self.rest self.new m))) }
         // A fault is the chain's own last answer. So is want of memory.
         ensures answered { IfErr result (λ fault. Self.HasAnswered self.new (End.Failed fault)) }
     {
         self.rewind();
+        next_item(self)
+    }
+
+    /// Gives the first item that passes the test, or `None` where the chain completes without one. Nothing is asked after
+    /// it.
+    final fn first_where<F>(&mut self, test: F) -> Result<Option<Self::Item>, ChainFault>
+    where
+        F: Fn(&Self::Item) -> bool,
+        requires chain { Self.CanAsk self.old }
+        requires callable { F.IsAlwaysCallable test }
+        ensures callable { Self.CanAsk self.new }
+        ensures reads { (m : Self.Reading) → Self.Reads self.old m → Self.Reads self.new m }
+        ensures whole { (m : Self.Reading) → Self.whole self.new m ≡ Self.whole self.old m }
+        ensures finds { (m : Self.Reading) (p : Self.Item → Bool) → Self.Reads self.old m
+            → Decides (λ x b. FnReturnsAt F.Fn test x b) p
+            → Follows (first_of (filter p (items (Self.whole self.old m))) (ending (Self.whole self.old m))) result }
+        ensures over { OnNoItem result (Self.IsOver self.new) }
+        ensures stands { IfOk result (λ found. IfSome found (λ item. (m : Self.Reading) → Self.Reads self.old m
+            → StandsAfter item (Self.whole self.old m) (Self.rest self.new m))) }
+        // A fault is the chain's own last answer. So is want of memory.
+        ensures answered { IfErr result (λ fault. Self.HasAnswered self.new (End.Failed fault)) }
+    {
+        self.rewind();
+        find(self, &test, true)
+    }
+
+    /// Tells whether some item passes the test. Nothing is asked after the first that does.
+    final fn any<F>(&mut self, test: F) -> Result<bool, ChainFault>
+    where
+        F: Fn(&Self::Item) -> bool,
+        requires chain { Self.CanAsk self.old }
+        requires callable { F.IsAlwaysCallable test }
+        ensures callable { Self.CanAsk self.new }
+        ensures reads { (m : Self.Reading) → Self.Reads self.old m → Self.Reads self.new m }
+        ensures whole { (m : Self.Reading) → Self.whole self.new m ≡ Self.whole self.old m }
+        ensures tells { (m : Self.Reading) (p : Self.Item → Bool) → Self.Reads self.old m
+            → Decides (λ x b. FnReturnsAt F.Fn test x b) p
+            → Follows (any_of p (items (Self.whole self.old m)) (ending (Self.whole self.old m))) result }
+        ensures stands { IfOk result (λ _. Self.IsOver self.new
+            ⊎ ((m : Self.Reading) → Self.Reads self.old m → StandsAfterItem (Self.whole self.old m) (Self.rest self.new m))) }
+        // A fault is the chain's own last answer. So is want of memory.
+        ensures over { IfErr result (λ _. Self.IsOver self.new) }
+        ensures answered { IfErr result (λ fault. Self.HasAnswered self.new (End.Failed fault)) }
+    {
+        self.rewind();
+        match find(self, &test, true) {
+            Ok(Some(_)) => Ok(true),
+            Ok(None) => Ok(false),
+            Err(fault) => Err(fault),
+        }
+    }
+
+    /// Tells whether all items pass the test. Nothing is asked after the first that does not.
+    final fn all<F>(&mut self, test: F) -> Result<bool, ChainFault>
+    where
+        F: Fn(&Self::Item) -> bool,
+        requires chain { Self.CanAsk self.old }
+        requires callable { F.IsAlwaysCallable test }
+        ensures callable { Self.CanAsk self.new }
+        ensures reads { (m : Self.Reading) → Self.Reads self.old m → Self.Reads self.new m }
+        ensures whole { (m : Self.Reading) → Self.whole self.new m ≡ Self.whole self.old m }
+        ensures tells { (m : Self.Reading) (p : Self.Item → Bool) → Self.Reads self.old m
+            → Decides (λ x b. FnReturnsAt F.Fn test x b) p
+            → Follows (all_of p (items (Self.whole self.old m)) (ending (Self.whole self.old m))) result }
+        ensures stands { IfOk result (λ _. Self.IsOver self.new
+            ⊎ ((m : Self.Reading) → Self.Reads self.old m → StandsAfterItem (Self.whole self.old m) (Self.rest self.new m))) }
+        // A fault is the chain's own last answer. So is want of memory.
+        ensures over { IfErr result (λ _. Self.IsOver self.new) }
+        ensures answered { IfErr result (λ fault. Self.HasAnswered self.new (End.Failed fault)) }
+    {
+        self.rewind();
+        match find(self, &test, false) {
+            Ok(Some(_)) => Ok(false),
+            Ok(None) => Ok(true),
+            Err(fault) => Err(fault),
+        }
+    }
+
+    /// Gives the last item, or `None` where the chain completes without one.
+    final fn last(&mut self) -> Result<Option<Self::Item>, ChainFault>
+        requires { Self.CanAsk self.old }
+        ensures callable { Self.CanAsk self.new }
+        ensures reads { (m : Self.Reading) → Self.Reads self.old m → Self.Reads self.new m }
+        ensures whole { (m : Self.Reading) → Self.whole self.new m ≡ Self.whole self.old m }
+        ensures last { (m : Self.Reading) → Self.Reads self.old m
+            → Follows (last_of (items (Self.whole self.old m)) (ending (Self.whole self.old m))) result }
+        ensures over { Self.IsOver self.new }
+        // A fault is the chain's own last answer. So is want of memory.
+        ensures answered { IfErr result (λ fault. Self.HasAnswered self.new (End.Failed fault)) }
+    {
+        self.rewind();
+        let mut last = None;
         loop {
-            match self.ask() {
-                Asked::Item(item) => return Ok(Some(item)),
-                Asked::Pending => {}
-                Asked::End => return Ok(None),
-                Asked::Fault(fault) => return Err(fault),
+            match next_item(self)? {
+                Some(item) => last = Some(item),
+                None => return Ok(last),
             }
+        }
+    }
+
+    /// Gives the item of a chain that has just one, and else `None`. Nothing is asked after a second item.
+    final fn single(&mut self) -> Result<Option<Self::Item>, ChainFault>
+        requires { Self.CanAsk self.old }
+        ensures callable { Self.CanAsk self.new }
+        ensures reads { (m : Self.Reading) → Self.Reads self.old m → Self.Reads self.new m }
+        ensures whole { (m : Self.Reading) → Self.whole self.new m ≡ Self.whole self.old m }
+        ensures single { (m : Self.Reading) → Self.Reads self.old m
+            → Follows (single_of (items (Self.whole self.old m)) (ending (Self.whole self.old m))) result }
+        ensures stands { IfOk result (λ _. Self.IsOver self.new
+            ⊎ ((m : Self.Reading) → Self.Reads self.old m → StandsAfterItem (Self.whole self.old m) (Self.rest self.new m))) }
+        // A fault is the chain's own last answer. So is want of memory.
+        ensures over { IfErr result (λ _. Self.IsOver self.new) }
+        ensures answered { IfErr result (λ fault. Self.HasAnswered self.new (End.Failed fault)) }
+    {
+        self.rewind();
+        let Some(first) = next_item(self)? else {
+            return Ok(None);
+        };
+        match next_item(self)? {
+            Some(_) => Ok(None),
+            None => Ok(Some(first)),
         }
     }
 
     /// Gives how many items the chain has. A number of more than 64 bits is Overflow.
     final fn count(&mut self) -> Result<u64, ChainFault>
-        requires { Self.sound self.old }
-        ensures sound { Self.sound self.new }
-        ensures whole { Self.whole self.new ≡ Self.whole self.old }
-        ensures counts { Follows (counted
-            (items (Self.whole self.old)) (ending (Self.whole self.old))) result }
+        requires { Self.CanAsk self.old }
+        ensures callable { Self.CanAsk self.new }
+        ensures reads { (m : Self.Reading) → Self.Reads self.old m → Self.Reads self.new m }
+        ensures whole { (m : Self.Reading) → Self.whole self.new m ≡ Self.whole self.old m }
+        ensures counts { (m : Self.Reading) → Self.Reads self.old m
+            → Follows (counted (items (Self.whole self.old m)) (ending (Self.whole self.old m))) result }
         ensures over { IfOk result (λ _. Self.IsOver self.new) }
+        // After a count that was too large the chain stands just after the item that made it so.
+        ensures stands { IfErr result (λ _. Self.IsOver self.new
+            ⊎ ((m : Self.Reading) → Self.Reads self.old m → StandsAfterItem (Self.whole self.old m) (Self.rest self.new m))) }
         // A fault is the chain's own last answer, unless the count was too large. So is want of memory.
         ensures answered { IfErr result (λ fault.
             (fault ≡ ChainFault.Overflow) ⊎ Self.HasAnswered self.new (End.Failed fault)) }
@@ -84,14 +234,12 @@ pub trait Terminal: Cold {
         self.rewind();
         let mut count = 0u64;
         loop {
-            match self.ask() {
-                Asked::Item(_) => match count.checked_add(1) {
+            match next_item(self)? {
+                Some(_) => match count.checked_add(1) {
                     Some(next) => count = next,
                     None => return Err(ChainFault::Overflow),
                 },
-                Asked::Pending => {}
-                Asked::End => return Ok(count),
-                Asked::Fault(fault) => return Err(fault),
+                None => return Ok(count),
             }
         }
     }
@@ -100,26 +248,51 @@ pub trait Terminal: Cold {
     final fn for_each<F>(&mut self, mut visit: F) -> Result<(), ChainFault>
     where
         F: FnMut(Self::Item) -> Result<(), ChainFault>,
-        requires sound { Self.sound self.old }
+        requires chain { Self.CanAsk self.old }
         requires callable { F.IsAlwaysCallable visit }
-        ensures sound { Self.sound self.new }
-        ensures whole { Self.whole self.new ≡ Self.whole self.old }
-        ensures visits { Visits (λ f x r g. F.step f x r g) visit
-            (items (Self.whole self.old)) (ending (Self.whole self.old)) result }
+        ensures callable { Self.CanAsk self.new }
+        ensures reads { (m : Self.Reading) → Self.Reads self.old m → Self.Reads self.new m }
+        ensures whole { (m : Self.Reading) → Self.whole self.new m ≡ Self.whole self.old m }
+        ensures visits { (m : Self.Reading) → Self.Reads self.old m → Visits (λ f x r g. F.step f x r g) visit
+            (items (Self.whole self.old m)) (ending (Self.whole self.old m)) result }
         ensures over { IfOk result (λ _. Self.IsOver self.new) }
+        // After a fault of the closure the chain stands just after the item at which it was answered.
+        ensures stands { IfErr result (λ _. Self.IsOver self.new
+            ⊎ ((m : Self.Reading) → Self.Reads self.old m → StandsAfterItem (Self.whole self.old m) (Self.rest self.new m))) }
         // A fault is the chain's own last answer, or a call of the closure answered it. So is want of memory.
         ensures answered { IfErr result (λ fault. Self.HasAnswered self.new (End.Failed fault)
             ⊎ VisitFails (λ f x r g. F.step f x r g) fault) }
     {
         self.rewind();
         loop {
-            match self.ask() {
-                Asked::Item(item) => visit(item)?,
-                Asked::Pending => {}
-                Asked::End => return Ok(()),
-                Asked::Fault(fault) => return Err(fault),
+            match next_item(self) {
+                Ok(Some(item)) => visit(item)?,
+                Ok(None) => return Ok(()),
+                Err(fault) => return Err(fault),
             }
         }
+    }
+
+    /// Gives all items, and the end. See `collect_all`.
+    final fn to_list<A: Allocator>(
+        &mut self,
+        alloc: A,
+    ) -> Result<Collected<Self::Item, A>, ChainFault>
+    where
+        Self: Sized,
+        requires { Self.CanAsk self.old }
+        ensures callable { Self.CanAsk self.new }
+        ensures reads { (m : Self.Reading) → Self.Reads self.old m → Self.Reads self.new m }
+        ensures whole { (m : Self.Reading) → Self.whole self.new m ≡ Self.whole self.old m }
+        ensures collects { IfOk result (λ collected. (m : Self.Reading) → Self.Reads self.old m
+            → Collects (Self.whole self.old m) collected.items.items collected.end) }
+        ensures over { IfOk result (λ _. Self.IsOver self.new) }
+        ensures answered { IfOk result (λ collected. Self.HasAnswered self.new collected.end) }
+        ensures memory { IfErr result (λ fault. fault ≡ ChainFault.OutOfMemory) }
+        ensures refused { IfErr result (λ _. (m : Self.Reading) → Self.Reads self.old m
+            → StandsAfterItem (Self.whole self.old m) (Self.rest self.new m)) }
+    {
+        collect_all(alloc, self)
     }
 }
 

@@ -1,6 +1,6 @@
 //! What every operator stands on: the chain behind it, and whether the operator has ended.
-ghost use Rattle.std.specs.Prelude.{◌≡◌, true, false, IfOk, IfErr};
-ghost use Rattle.flow_operators.specs.Asking.{IsFinal};
+ghost use Rattle.std.specs.Prelude.{◌≡◌, ◌⊎◌, ◌<◌, true, false, IfOk, IfErr};
+ghost use Rattle.flow_operators.specs.Asking.{IsFinal, IsItem};
 ghost use Rattle.flow_operators.specs.Upstreams.{NextGives, answer_of, chain_of, is_ended, is_fault, left_of};
 
 use crate::cold::{Asked, Cold};
@@ -26,12 +26,18 @@ impl<C: Cold> Upstream<C> {
 
     /// The chain's next item, or the answer in place of one, which the operator passes on. An end or a fault ends it.
     pub(crate) fn next<U>(&mut self) -> Result<C::Item, Asked<U>>
-        requires { C.sound (chain_of self.old) }
-        ensures sound { C.sound (chain_of self.new) }
-        ensures whole { C.whole (chain_of self.new) ≡ C.whole (chain_of self.old) }
-        ensures gives { NextGives (left_of C.rest self.old) result (left_of C.rest self.new) }
-        ensures behind { (¬ (is_ended self.old ≡ true))
-            → NextGives (C.rest (chain_of self.old)) result (C.rest (chain_of self.new)) }
+        requires { C.CanAsk (chain_of self.old) }
+        ensures callable { C.CanAsk (chain_of self.new) }
+        ensures reads { (m : C.Reading) → C.Reads (chain_of self.old) m → C.Reads (chain_of self.new) m }
+        ensures whole { (m : C.Reading) → C.whole (chain_of self.new) m ≡ C.whole (chain_of self.old) m }
+        ensures gives { (m : C.Reading) → C.Reads (chain_of self.old) m
+            → NextGives (left_of (λ c. C.rest c m) self.old) result (left_of (λ c. C.rest c m) self.new) }
+        ensures behind { (¬ (is_ended self.old ≡ true)) → (m : C.Reading) → C.Reads (chain_of self.old) m
+            → NextGives (C.rest (chain_of self.old) m) result (C.rest (chain_of self.new) m) }
+        ensures fewer { IfOk result (λ _. C.most_asks (chain_of self.new) < C.most_asks (chain_of self.old)) }
+        ensures pends { IfErr result (λ asked. IsFinal asked
+            ⊎ C.most_asks (chain_of self.new) < C.most_asks (chain_of self.old)) }
+        ensures no_item { IfErr result (λ asked. ¬ IsItem asked) }
         ensures runs { IfOk result (λ _. (is_ended self.old ≡ false) × (is_ended self.new ≡ false)) }
         ensures over { IfErr result (λ asked. IsFinal asked → is_ended self.new ≡ true) }
         ensures end { is_ended self.old ≡ true → (result ≡ Err Asked.End) × self.new ≡ self.old }
@@ -82,10 +88,11 @@ impl<C: Cold> Upstream<C> {
     }
 
     pub(crate) fn rewind(&mut self)
-        requires { C.sound (chain_of self.old) }
-        ensures sound { C.sound (chain_of self.new) }
-        ensures whole { C.whole (chain_of self.new) ≡ C.whole (chain_of self.old) }
-        ensures rest { C.rest (chain_of self.new) ≡ C.whole (chain_of self.old) }
+        requires { C.CanAsk (chain_of self.old) }
+        ensures callable { C.CanAsk (chain_of self.new) }
+        ensures reads { (m : C.Reading) → C.Reads (chain_of self.old) m → C.Reads (chain_of self.new) m }
+        ensures whole { (m : C.Reading) → C.whole (chain_of self.new) m ≡ C.whole (chain_of self.old) m }
+        ensures rest { (m : C.Reading) → C.rest (chain_of self.new) m ≡ C.whole (chain_of self.old) m }
         ensures ended { is_ended self.new ≡ false }
     {
         self.ended = false;

@@ -27,9 +27,9 @@ module _ {C H T : Type 0} where
     hub = sharing.hub;
   }
 
-  -- the chain's closures may be called, and answer what their meanings say
-  abbrev pub IsSound : (C → Type 0) → Sharing C H T → Type 0
-  IsSound sound sharing = sound sharing.chain
+  -- the chain's closures may be called
+  abbrev pub CanRun : (C → Type 0) → Sharing C H T → Type 0
+  CanRun can_ask sharing = can_ask sharing.chain
 
   -- the sharing has this policy, and these observations, the newest one first, were accepted
   abbrev pub HasObserved : Started → Sharing C H T → List SharingObservation → Type 0

@@ -9,7 +9,7 @@ ghost use Rattle.flow_law.specs.TurnMeaning.{BetweenTurns, IsQuiet};
 ghost use Rattle.flow_turns.specs.CoreHub.{core_of, is_waiting};
 ghost use Rattle.flow_turns.specs.ShareIn.{share_config};
 ghost use Rattle.flow_turns.specs.StateHub.{state_core_of, initial_of, never_waits};
-ghost use Rattle.flow_turns.specs.SharingViews.{state_of, chain_and_hub, hub_of, IsSound, HasObserved};
+ghost use Rattle.flow_turns.specs.SharingViews.{state_of, chain_and_hub, chain_of, hub_of, CanRun, HasObserved};
 
 use crate::core_hub::CoreHub;
 use crate::sharing::Sharing;
@@ -34,21 +34,22 @@ pub fn share_in<C: Cold, A: Allocator + Copy>(
     replay: u32,
     limit: u64,
 ) -> Result<Sharing<C, CoreHub<C::Item, A>>, ShareFault>
-    requires { C.sound chain }
+    requires { C.CanAsk chain }
     ensures flow { MatchResult result
         (λ sharing. (config_fault (share_config replay limit) ≡ None)
         × StandsFor (core_of (hub_of sharing)) (first_state (share_config replay limit)))
         (λ fault. (refusal : FlowFault) × NoFlow (share_config replay limit) refusal
         × (fault ≡ ShareFault.Flow refusal)) }
     ensures nothing { IfOk result (λ sharing. HasObserved started sharing []) }
-    ensures sound { IfOk result (λ sharing. IsSound C.sound sharing) }
+    ensures callable { IfOk result (λ sharing. CanRun C.CanAsk sharing) }
+    ensures reads { IfOk result (λ sharing. (m : C.Reading) → C.Reads chain m → C.Reads (chain_of sharing) m) }
     ensures state { IfOk result (λ sharing. state_of sharing ≡ at_rest) }
-    ensures chain { IfOk result (λ sharing. chain_and_hub C.whole C.rest sharing
-        ≡ record { whole = C.whole chain; rest = C.rest chain; hub = hub_of sharing }) }
-    ensures between { IfOk result (λ sharing.
-        BetweenTurns (state_of sharing) (chain_and_hub C.whole C.rest sharing)) }
-    ensures quiet { IfOk result (λ sharing.
-        IsQuiet is_waiting (state_of sharing) (chain_and_hub C.whole C.rest sharing)) }
+    ensures chain { IfOk result (λ sharing. (m : C.Reading) → chain_and_hub (λ c. C.whole c m) (λ c. C.rest c m) sharing
+        ≡ record { whole = C.whole chain m; rest = C.rest chain m; hub = hub_of sharing }) }
+    ensures between { IfOk result (λ sharing. (m : C.Reading) →
+        BetweenTurns (state_of sharing) (chain_and_hub (λ c. C.whole c m) (λ c. C.rest c m) sharing)) }
+    ensures quiet { IfOk result (λ sharing. (m : C.Reading) →
+        IsQuiet is_waiting (state_of sharing) (chain_and_hub (λ c. C.whole c m) (λ c. C.rest c m) sharing)) }
 {
     let config = Config {
         replay,
@@ -72,19 +73,20 @@ pub fn state_in<C: Cold, A: Allocator + Copy>(
     initial: C::Item,
     limit: u64,
 ) -> Result<Sharing<C, StateHub<C::Item, A>>, ShareFault>
-    requires { C.sound chain }
+    requires { C.CanAsk chain }
     ensures refused { IfErr result (λ fault. fault ≡ ShareFault.Flow FlowFault.OutOfMemory) }
     ensures flow { IfOk result (λ sharing. state_core_of (hub_of sharing) ≡ first_state_flow limit initial) }
     ensures initial { IfOk result (λ sharing. initial_of (hub_of sharing) ≡ initial) }
     ensures nothing { IfOk result (λ sharing. HasObserved started sharing []) }
-    ensures sound { IfOk result (λ sharing. IsSound C.sound sharing) }
+    ensures callable { IfOk result (λ sharing. CanRun C.CanAsk sharing) }
+    ensures reads { IfOk result (λ sharing. (m : C.Reading) → C.Reads chain m → C.Reads (chain_of sharing) m) }
     ensures state { IfOk result (λ sharing. state_of sharing ≡ at_rest) }
-    ensures chain { IfOk result (λ sharing. chain_and_hub C.whole C.rest sharing
-        ≡ record { whole = C.whole chain; rest = C.rest chain; hub = hub_of sharing }) }
-    ensures between { IfOk result (λ sharing.
-        BetweenTurns (state_of sharing) (chain_and_hub C.whole C.rest sharing)) }
-    ensures quiet { IfOk result (λ sharing.
-        IsQuiet never_waits (state_of sharing) (chain_and_hub C.whole C.rest sharing)) }
+    ensures chain { IfOk result (λ sharing. (m : C.Reading) → chain_and_hub (λ c. C.whole c m) (λ c. C.rest c m) sharing
+        ≡ record { whole = C.whole chain m; rest = C.rest chain m; hub = hub_of sharing }) }
+    ensures between { IfOk result (λ sharing. (m : C.Reading) →
+        BetweenTurns (state_of sharing) (chain_and_hub (λ c. C.whole c m) (λ c. C.rest c m) sharing)) }
+    ensures quiet { IfOk result (λ sharing. (m : C.Reading) →
+        IsQuiet never_waits (state_of sharing) (chain_and_hub (λ c. C.whole c m) (λ c. C.rest c m) sharing)) }
 {
     match initial.try_copy() {
         Ok(copy) => {

@@ -7,7 +7,7 @@ ghost use Rattle.flow_law.specs.SharingTurn as steps;
 ghost use Rattle.flow_law.specs.SharingTurn.{at_rest};
 ghost use Rattle.flow_law.specs.TurnMeaning.{BetweenTurns, IsQuiet};
 ghost use Rattle.flow_operators.specs.Asking.{AskGives, OnEnd};
-ghost use Rattle.flow_turns.specs.SharingViews.{state_of, chain_and_hub, chain_of, IsSound, HasObserved, has_ended};
+ghost use Rattle.flow_turns.specs.SharingViews.{state_of, chain_and_hub, chain_of, hub_of, CanRun, HasObserved, has_ended};
 ghost use Rattle.flow_turns.specs.TurnClauses.{CallsHub, ComesTo, CommandComesTo, TakesTurn, MeansAnswer, HandlesReset, StaysBetween, StaysQuiet, OnChainFault, ended_after};
 
 use crate::answers::{refusal_of, report_of};
@@ -20,10 +20,11 @@ use flow_law::{Command, FlowFault, Refused, Started};
 
 /// Asks the chain, once in a turn. The answer is the chain's own, also where it is out of memory.
 fn ask_chain<C: Cold>(chain: &mut C) -> Asked<C::Item>
-    requires { C.sound chain.old }
-    ensures sound { C.sound chain.new }
-    ensures whole { C.whole chain.new ≡ C.whole chain.old }
-    ensures gives { AskGives (C.rest chain.old) result (C.rest chain.new) }
+    requires { C.CanAsk chain.old }
+    ensures callable { C.CanAsk chain.new }
+    ensures reads { (m : C.Reading) → C.Reads chain.old m → C.Reads chain.new m }
+    ensures whole { (m : C.Reading) → C.whole chain.new m ≡ C.whole chain.old m }
+    ensures gives { (m : C.Reading) → C.Reads chain.old m → AskGives (C.rest chain.old m) result (C.rest chain.new m) }
     ensures answered { OnEnd result (C.HasAnswered chain.new) }
 {
     chain.ask()
@@ -32,15 +33,17 @@ fn ask_chain<C: Cold>(chain: &mut C) -> Asked<C::Item>
 impl<C: Cold, H: Hub<Item = C::Item>> Sharing<C, H> {
     /// A sharing that has not observed anything. The hub has no emission that waits.
     pub fn new(chain: C, started: Started, hub: H) -> Self
-        requires sound { C.sound chain }
+        requires callable { C.CanAsk chain }
         requires free { H.waits hub ≡ false }
-        ensures sound { IsSound C.sound result }
+        ensures callable { CanRun C.CanAsk result }
+        ensures reads { (m : C.Reading) → C.Reads chain m → C.Reads (chain_of result) m }
+        ensures hub { hub_of result ≡ hub }
         ensures nothing { HasObserved started result [] }
         ensures state { state_of result ≡ at_rest }
-        ensures chain { chain_and_hub C.whole C.rest result
-            ≡ record { whole = C.whole chain; rest = C.rest chain; hub = hub } }
-        ensures between { BetweenTurns (state_of result) (chain_and_hub C.whole C.rest result) }
-        ensures quiet { IsQuiet H.waits (state_of result) (chain_and_hub C.whole C.rest result) }
+        ensures chain { (m : C.Reading) → chain_and_hub (λ c. C.whole c m) (λ c. C.rest c m) result
+            ≡ record { whole = C.whole chain m; rest = C.rest chain m; hub = hub } }
+        ensures between { (m : C.Reading) → BetweenTurns (state_of result) (chain_and_hub (λ c. C.whole c m) (λ c. C.rest c m) result) }
+        ensures quiet { (m : C.Reading) → IsQuiet H.waits (state_of result) (chain_and_hub (λ c. C.whole c m) (λ c. C.rest c m) result) }
     {
         Sharing {
             chain,
@@ -56,16 +59,18 @@ impl<C: Cold, H: Hub<Item = C::Item>> Sharing<C, H> {
 
     /// Puts an item, which is kept where the hub refuses it.
     fn put(&mut self, item: C::Item) -> Result<Event, ShareFault>
-        requires sound { IsSound C.sound self.old }
+        requires callable { CanRun C.CanAsk self.old }
         requires free { H.waits self.old.hub ≡ false }
         requires empty { self.old.kept ≡ None }
-        ensures sound { IsSound C.sound self.new }
+        ensures callable { CanRun C.CanAsk self.new }
+        ensures reads { (m : C.Reading) → C.Reads (chain_of self.old) m → C.Reads (chain_of self.new) m }
         ensures policy { self.new.policy ≡ self.old.policy }
         ensures ended { has_ended self.new ≡ ended_after result (has_ended self.old) }
         ensures not_ended { result ≢ Err ShareFault.Ended }
         ensures answered { OnChainFault result
             (λ fault. C.HasAnswered (chain_of self.new) (End.Failed fault)) }
-        ensures steps { ComesTo C.whole C.rest H.does H.waits
+        ensures steps { (m : C.Reading) → C.Reads (chain_of self.old) m
+            → ComesTo (λ c. C.whole c m) (λ c. C.rest c m) H.does H.waits
             (λ command seen. steps.put command seen item) self.old result self.new }
     {
         match self.hub.put(item) {
@@ -86,15 +91,17 @@ impl<C: Cold, H: Hub<Item = C::Item>> Sharing<C, H> {
 
     /// Puts the kept item, or the chain's next one.
     fn send(&mut self) -> Result<Event, ShareFault>
-        requires sound { IsSound C.sound self.old }
+        requires callable { CanRun C.CanAsk self.old }
         requires free { H.waits self.old.hub ≡ false }
-        ensures sound { IsSound C.sound self.new }
+        ensures callable { CanRun C.CanAsk self.new }
+        ensures reads { (m : C.Reading) → C.Reads (chain_of self.old) m → C.Reads (chain_of self.new) m }
         ensures policy { self.new.policy ≡ self.old.policy }
         ensures ended { has_ended self.new ≡ ended_after result (has_ended self.old) }
         ensures not_ended { result ≢ Err ShareFault.Ended }
         ensures answered { OnChainFault result
             (λ fault. C.HasAnswered (chain_of self.new) (End.Failed fault)) }
-        ensures steps { ComesTo C.whole C.rest H.does H.waits
+        ensures steps { (m : C.Reading) → C.Reads (chain_of self.old) m
+            → ComesTo (λ c. C.whole c m) (λ c. C.rest c m) H.does H.waits
             (λ command seen s. steps.send command seen s.kept s) self.old result self.new }
     {
         if let Some(item) = self.kept.take() {
@@ -116,11 +123,12 @@ impl<C: Cold, H: Hub<Item = C::Item>> Sharing<C, H> {
 
     /// Whether an emission waits.
     fn is_waiting(&mut self) -> Result<bool, FlowFault>
-        requires { IsSound C.sound self.old }
-        ensures sound { IsSound C.sound self.new }
+        requires { CanRun C.CanAsk self.old }
+        ensures callable { CanRun C.CanAsk self.new }
+        ensures reads { (m : C.Reading) → C.Reads (chain_of self.old) m → C.Reads (chain_of self.new) m }
         ensures policy { self.new.policy ≡ self.old.policy }
         ensures state { state_of self.new ≡ state_of self.old }
-        ensures polls { CallsHub C.whole C.rest H.does H.waits polls self.old result self.new }
+        ensures polls { (m : C.Reading) → CallsHub (λ c. C.whole c m) (λ c. C.rest c m) H.does H.waits polls self.old result self.new }
         ensures waits { MatchResult result
             (λ waits. H.waits self.new.hub ≡ waits)
             (λ _. H.waits self.new.hub ≡ H.waits self.old.hub) }
@@ -130,14 +138,16 @@ impl<C: Cold, H: Hub<Item = C::Item>> Sharing<C, H> {
 
     /// While it runs, polls an emission that waits, and else sends the next item.
     fn collect(&mut self) -> Result<Event, ShareFault>
-        requires { IsSound C.sound self.old }
-        ensures sound { IsSound C.sound self.new }
+        requires { CanRun C.CanAsk self.old }
+        ensures callable { CanRun C.CanAsk self.new }
+        ensures reads { (m : C.Reading) → C.Reads (chain_of self.old) m → C.Reads (chain_of self.new) m }
         ensures policy { self.new.policy ≡ self.old.policy }
         ensures ended { has_ended self.new ≡ ended_after result (has_ended self.old) }
         ensures not_ended { result ≢ Err ShareFault.Ended }
         ensures answered { OnChainFault result
             (λ fault. C.HasAnswered (chain_of self.new) (End.Failed fault)) }
-        ensures steps { ComesTo C.whole C.rest H.does H.waits
+        ensures steps { (m : C.Reading) → C.Reads (chain_of self.old) m
+            → ComesTo (λ c. C.whole c m) (λ c. C.rest c m) H.does H.waits
             steps.collect_while_running self.old result self.new }
     {
         if !self.policy.is_running() {
@@ -158,13 +168,14 @@ impl<C: Cold, H: Hub<Item = C::Item>> Sharing<C, H> {
 
     /// Takes the hub's emission back. The cancel stays due where the hub refuses it.
     fn cancel(&mut self) -> Result<bool, FlowFault>
-        requires { IsSound C.sound self.old }
-        ensures sound { IsSound C.sound self.new }
+        requires { CanRun C.CanAsk self.old }
+        ensures callable { CanRun C.CanAsk self.new }
+        ensures reads { (m : C.Reading) → C.Reads (chain_of self.old) m → C.Reads (chain_of self.new) m }
         ensures policy { self.new.policy ≡ self.old.policy }
         ensures state { MatchResult result
             (λ _. state_of self.new ≡ record (state_of self.old) { cancel_due = false })
             (λ _. state_of self.new ≡ state_of self.old) }
-        ensures cancels { CallsHub C.whole C.rest H.does H.waits cancels self.old result self.new }
+        ensures cancels { (m : C.Reading) → CallsHub (λ c. C.whole c m) (λ c. C.rest c m) H.does H.waits cancels self.old result self.new }
         ensures free { IfOk result (λ _. H.waits self.new.hub ≡ false) }
     {
         let waited = self.hub.cancel()?;
@@ -174,14 +185,15 @@ impl<C: Cold, H: Hub<Item = C::Item>> Sharing<C, H> {
 
     /// Makes the flow forget what it replays. The reset stays due where the hub refuses it.
     fn reset(&mut self) -> Result<(), FlowFault>
-        requires sound { IsSound C.sound self.old }
+        requires callable { CanRun C.CanAsk self.old }
         requires free { H.waits self.old.hub ≡ false }
-        ensures sound { IsSound C.sound self.new }
+        ensures callable { CanRun C.CanAsk self.new }
+        ensures reads { (m : C.Reading) → C.Reads (chain_of self.old) m → C.Reads (chain_of self.new) m }
         ensures policy { self.new.policy ≡ self.old.policy }
         ensures state { MatchResult result
             (λ _. state_of self.new ≡ record (state_of self.old) { reset_due = false })
             (λ _. state_of self.new ≡ state_of self.old) }
-        ensures resets { CallsHub C.whole C.rest H.does H.waits resets self.old result self.new }
+        ensures resets { (m : C.Reading) → CallsHub (λ c. C.whole c m) (λ c. C.rest c m) H.does H.waits resets self.old result self.new }
     {
         self.hub.reset()?;
         self.reset_due = false;
@@ -190,15 +202,17 @@ impl<C: Cold, H: Hub<Item = C::Item>> Sharing<C, H> {
 
     /// What a turn does after a cancel: the reset first, where it is due.
     fn reset_if_due(&mut self) -> Result<Event, ShareFault>
-        requires sound { IsSound C.sound self.old }
+        requires callable { CanRun C.CanAsk self.old }
         requires free { H.waits self.old.hub ≡ false }
-        ensures sound { IsSound C.sound self.new }
+        ensures callable { CanRun C.CanAsk self.new }
+        ensures reads { (m : C.Reading) → C.Reads (chain_of self.old) m → C.Reads (chain_of self.new) m }
         ensures policy { self.new.policy ≡ self.old.policy }
         ensures ended { has_ended self.new ≡ ended_after result (has_ended self.old) }
         ensures not_ended { result ≢ Err ShareFault.Ended }
         ensures answered { OnChainFault result
             (λ fault. C.HasAnswered (chain_of self.new) (End.Failed fault)) }
-        ensures steps { ComesTo C.whole C.rest H.does H.waits steps.reset_if_due self.old result self.new }
+        ensures steps { (m : C.Reading) → C.Reads (chain_of self.old) m
+            → ComesTo (λ c. C.whole c m) (λ c. C.rest c m) H.does H.waits steps.reset_if_due self.old result self.new }
     {
         if !self.reset_due {
             return self.collect();
@@ -218,14 +232,16 @@ impl<C: Cold, H: Hub<Item = C::Item>> Sharing<C, H> {
 
     /// What a turn does after its command: what is due first, the cancel and then the reset.
     fn work(&mut self) -> Result<Event, ShareFault>
-        requires { IsSound C.sound self.old }
-        ensures sound { IsSound C.sound self.new }
+        requires { CanRun C.CanAsk self.old }
+        ensures callable { CanRun C.CanAsk self.new }
+        ensures reads { (m : C.Reading) → C.Reads (chain_of self.old) m → C.Reads (chain_of self.new) m }
         ensures policy { self.new.policy ≡ self.old.policy }
         ensures ended { has_ended self.new ≡ ended_after result (has_ended self.old) }
         ensures not_ended { result ≢ Err ShareFault.Ended }
         ensures answered { OnChainFault result
             (λ fault. C.HasAnswered (chain_of self.new) (End.Failed fault)) }
-        ensures steps { ComesTo C.whole C.rest H.does H.waits steps.work self.old result self.new }
+        ensures steps { (m : C.Reading) → C.Reads (chain_of self.old) m
+            → ComesTo (λ c. C.whole c m) (λ c. C.rest c m) H.does H.waits steps.work self.old result self.new }
     {
         if !self.is_work_due() {
             return self.collect();
@@ -238,14 +254,16 @@ impl<C: Cold, H: Hub<Item = C::Item>> Sharing<C, H> {
 
     /// Does what the command asks of the chain, and what follows it.
     fn begin(&mut self, command: Command) -> Result<Event, ShareFault>
-        requires { IsSound C.sound self.old }
-        ensures sound { IsSound C.sound self.new }
+        requires { CanRun C.CanAsk self.old }
+        ensures callable { CanRun C.CanAsk self.new }
+        ensures reads { (m : C.Reading) → C.Reads (chain_of self.old) m → C.Reads (chain_of self.new) m }
         ensures policy { self.new.policy ≡ self.old.policy }
         ensures ended { has_ended self.new ≡ ended_after result (has_ended self.old) }
         ensures not_ended { result ≢ Err ShareFault.Ended }
         ensures answered { OnChainFault result
             (λ fault. C.HasAnswered (chain_of self.new) (End.Failed fault)) }
-        ensures steps { CommandComesTo C.whole C.rest H.does H.waits command self.old result self.new }
+        ensures steps { (m : C.Reading) → C.Reads (chain_of self.old) m
+            → CommandComesTo (λ c. C.whole c m) (λ c. C.rest c m) H.does H.waits command self.old result self.new }
     {
         match command {
             Command::Start => {
@@ -270,11 +288,12 @@ impl<C: Cold, H: Hub<Item = C::Item>> Sharing<C, H> {
 
     /// How many subscribers there are.
     fn counted(&mut self) -> Result<u64, FlowFault>
-        requires { IsSound C.sound self.old }
-        ensures sound { IsSound C.sound self.new }
+        requires { CanRun C.CanAsk self.old }
+        ensures callable { CanRun C.CanAsk self.new }
+        ensures reads { (m : C.Reading) → C.Reads (chain_of self.old) m → C.Reads (chain_of self.new) m }
         ensures policy { self.new.policy ≡ self.old.policy }
         ensures state { state_of self.new ≡ state_of self.old }
-        ensures counts { CallsHub C.whole C.rest H.does H.waits counts self.old result self.new }
+        ensures counts { (m : C.Reading) → CallsHub (λ c. C.whole c m) (λ c. C.rest c m) H.does H.waits counts self.old result self.new }
     {
         self.hub.count()
     }
@@ -285,11 +304,13 @@ impl<C: Cold, H: Hub<Item = C::Item>> Sharing<C, H> {
     /// An emission that waits is polled first, and only once it is done the next item follows, in the same turn. What a
     /// refusal leaves undone (an item in hand, a cancel, a reset) is where the next turn goes on.
     pub fn turn(&mut self, now: u64) -> Result<Report, ShareFault>
-        requires { IsSound C.sound self.old }
-        ensures sound { IsSound C.sound self.new }
+        requires { CanRun C.CanAsk self.old }
+        ensures callable { CanRun C.CanAsk self.new }
+        ensures reads { (m : C.Reading) → C.Reads (chain_of self.old) m → C.Reads (chain_of self.new) m }
 
         // The steps of the turn, and what has been observed after it.
-        ensures turn { TakesTurn C.whole C.rest H.does H.waits now self.old result self.new }
+        ensures turn { (m : C.Reading) → C.Reads (chain_of self.old) m
+            → TakesTurn (λ c. C.whole c m) (λ c. C.rest c m) H.does H.waits now self.old result self.new }
 
         // The sharing has ended once a turn has answered a fault of the chain, and every later turn says so.
         ensures ended { has_ended self.new ≡ ended_after result (has_ended self.old) }
@@ -300,10 +321,14 @@ impl<C: Cold, H: Hub<Item = C::Item>> Sharing<C, H> {
             (λ fault. C.HasAnswered (chain_of self.new) (End.Failed fault)) }
 
         // What the answer means for the items that the flow has accepted since the last start.
-        ensures means { MeansAnswer C.whole C.rest H.does H.waits self.old result self.new }
-        ensures resets { HandlesReset H.does H.waits self.old result self.new }
-        ensures between { StaysBetween C.whole C.rest self.old self.new }
-        ensures quiet { StaysQuiet C.whole C.rest H.waits self.old result self.new }
+        ensures means { (m : C.Reading) → C.Reads (chain_of self.old) m
+            → MeansAnswer (λ c. C.whole c m) (λ c. C.rest c m) H.does H.waits self.old result self.new }
+        ensures resets { (m : C.Reading) → C.Reads (chain_of self.old) m
+            → HandlesReset H.does H.waits self.old result self.new }
+        ensures between { (m : C.Reading) → C.Reads (chain_of self.old) m
+            → StaysBetween (λ c. C.whole c m) (λ c. C.rest c m) self.old self.new }
+        ensures quiet { (m : C.Reading) → C.Reads (chain_of self.old) m
+            → StaysQuiet (λ c. C.whole c m) (λ c. C.rest c m) H.waits self.old result self.new }
     {
         if self.ended {
             return Err(ShareFault::Ended);

@@ -1,7 +1,7 @@
 //! Building a chain of whole numbers, and asking it.
 ghost use Rattle.std.specs.Prelude.{◌≡◌, ◌≤◌, ⊤, ℕ, ℤ, IfOk, IfErr, MatchResult};
 ghost use Rattle.flow_law.specs.Chain.{meaning_of};
-ghost use Rattle.flow_law.specs.ChainRun.{ChainRun};
+ghost use Rattle.flow_law.specs.ChainRun.{ChainRun, asks};
 ghost use Rattle.flow_cold.specs.Build.{AddsDepth, Refuses, RefusesDepth, TakesNone, depth_of, op_depth, op_meaning, op_rest, op_whole, source_rest, source_whole};
 ghost use Rattle.flow_cold.specs.Part.{part_depth, part_rest, part_whole};
 ghost use Rattle.flow_cold.specs.ScriptChain.{IsNodeOver, NodeAsksBehind, node_depth, node_rest, node_whole};
@@ -114,8 +114,8 @@ impl ScriptChain {
 
     /// The chain of a source alone.
     pub fn source(source: Source) -> ScriptChain
-        ensures whole { ⟦<ScriptChain as Cold>⟧.whole result ≡ source_whole source }
-        ensures rest { ⟦<ScriptChain as Cold>⟧.rest result ≡ source_rest source }
+        ensures whole { ⟦<ScriptChain as Cold>⟧.whole result tt ≡ source_whole source }
+        ensures rest { ⟦<ScriptChain as Cold>⟧.rest result tt ≡ source_rest source }
         ensures depth { depth_of result ≡ 1 }
     {
         let node = match source {
@@ -130,12 +130,12 @@ impl ScriptChain {
     /// deep as `TooDeep`, then want of memory. Where it is refused the chain is dropped, and so is the operator.
     #[tactic(auto, using(crate::proofs::OpLemmas::op_means))]
     pub fn then(self, alloc: Global, op: Op) -> Result<ScriptChain, ChainFault>
-        ensures whole { IfOk result (λ chain. ⟦<ScriptChain as Cold>⟧.whole chain
-            ≡ op_whole op (⟦<ScriptChain as Cold>⟧.whole self)) }
-        ensures meaning { IfOk result (λ chain. meaning_of (⟦<ScriptChain as Cold>⟧.whole chain)
-            ≡ op_meaning op (meaning_of (⟦<ScriptChain as Cold>⟧.whole self))) }
-        ensures rest { IfOk result (λ chain. ⟦<ScriptChain as Cold>⟧.rest chain
-            ≡ op_rest op (⟦<ScriptChain as Cold>⟧.rest self)) }
+        ensures whole { IfOk result (λ chain. ⟦<ScriptChain as Cold>⟧.whole chain tt
+            ≡ op_whole op (⟦<ScriptChain as Cold>⟧.whole self tt)) }
+        ensures meaning { IfOk result (λ chain. meaning_of (⟦<ScriptChain as Cold>⟧.whole chain tt)
+            ≡ op_meaning op (meaning_of (⟦<ScriptChain as Cold>⟧.whole self tt))) }
+        ensures rest { IfOk result (λ chain. ⟦<ScriptChain as Cold>⟧.rest chain tt
+            ≡ op_rest op (⟦<ScriptChain as Cold>⟧.rest self tt)) }
         ensures depth { MatchResult result (λ chain. AddsDepth op (depth_of self) (depth_of chain))
             (Refuses op self) }
     {
@@ -152,15 +152,25 @@ impl ScriptChain {
 impl Cold for ScriptChain {
     type Item = i64;
 
-    ghost sound = { λ _. ⊤ };
+    ghost Reading = { ⊤ };
 
-    ghost whole = { λ s. node_whole s.node };
+    ghost CanAsk = { λ _. ⊤ };
 
-    ghost rest = { λ s. node_rest s.node };
+    ghost Reads = { λ _ _. ⊤ };
+
+    ghost whole = { λ s _. node_whole s.node };
+
+    ghost rest = { λ s _. node_rest s.node };
+
+    ghost most_asks = { λ s. asks (node_rest s.node) };
+
+    ghost IsLimited = { ⊥ };
+
+    ghost limit = { 0 };
 
     ghost IsOver = { λ s. IsNodeOver s.node };
 
-    ghost AsksBehind = { λ old result new. NodeAsksBehind old.node result new.node };
+    ghost AsksBehind = { λ old _ result new. NodeAsksBehind old.node result new.node };
 
     fn ask(&mut self) -> Asked<i64> {
         ask_node(&mut self.node).asked()
@@ -169,4 +179,6 @@ impl Cold for ScriptChain {
     fn rewind(&mut self) {
         rewind_node(&mut self.node);
     }
+
+    ghost limited = { λ never s. absurd never };
 }

@@ -20,17 +20,27 @@ pub struct Distinct<C: Cold> {
 impl<C: Cold> Cold for Distinct<C> {
     type Item = C::Item;
 
-    ghost sound = { λ s. C.sound (chain_of s.upstream) };
+    ghost Reading = { C.Reading };
 
-    ghost whole = { λ s. distinct_run C.Item.is_same None (C.whole (chain_of s.upstream)) };
+    ghost CanAsk = { λ s. C.CanAsk (chain_of s.upstream) };
 
-    ghost rest = { λ s. distinct_run C.Item.is_same s.last (left_of C.rest s.upstream) };
+    ghost Reads = { λ s m. C.Reads (chain_of s.upstream) m };
+
+    ghost whole = { λ s m. distinct_run C.Item.is_same None (C.whole (chain_of s.upstream) m) };
+
+    ghost rest = { λ s m. distinct_run C.Item.is_same s.last (left_of (λ c. C.rest c m) s.upstream) };
+
+    ghost most_asks = { λ s. C.most_asks (chain_of s.upstream) };
+
+    ghost IsLimited = { C.IsLimited };
+
+    ghost limit = { C.limit };
 
     ghost IsOver = { λ s. is_ended s.upstream ≡ true };
 
-    ghost AsksBehind = { λ old result new.
-        Leaves (after_distinct C.Item.is_same old.last (C.rest (chain_of old.upstream)))
-        result (C.rest (chain_of new.upstream)) };
+    ghost AsksBehind = { λ old m result new.
+        Leaves (after_distinct C.Item.is_same old.last (C.rest (chain_of old.upstream) m))
+        result (C.rest (chain_of new.upstream) m) };
 
     fn ask(&mut self) -> Asked<C::Item> {
         loop {
@@ -50,6 +60,8 @@ impl<C: Cold> Cold for Distinct<C> {
         self.last = None;
         self.upstream.rewind();
     }
+
+    ghost limited = { λ l s. C.limited l (chain_of s.upstream) };
 }
 
 /// Whether `item` is the same as the last one.
@@ -65,14 +77,15 @@ fn is_last<T: FlowValue>(last: &Option<T>, item: &T) -> bool
 impl<C: Cold> Distinct<C> {
     /// Items are compared as values of flows are.
     pub fn new(upstream: C) -> Self
-        requires { C.sound upstream }
-        ensures sound { ⟦<Distinct<C> as Cold>⟧.sound result }
-        ensures whole { ⟦<Distinct<C> as Cold>⟧.whole result
-            ≡ distinct_run C.Item.is_same None (C.whole upstream) }
-        ensures meaning { meaning_of (⟦<Distinct<C> as Cold>⟧.whole result)
-            ≡ distinct_meaning C.Item.is_same (meaning_of (C.whole upstream)) }
-        ensures rest { ⟦<Distinct<C> as Cold>⟧.rest result
-            ≡ distinct_run C.Item.is_same None (C.rest upstream) }
+        requires { C.CanAsk upstream }
+        ensures callable { ⟦<Distinct<C> as Cold>⟧.CanAsk result }
+        ensures reads { (m : C.Reading) → C.Reads upstream m → ⟦<Distinct<C> as Cold>⟧.Reads result m }
+        ensures whole { (m : C.Reading) → ⟦<Distinct<C> as Cold>⟧.whole result m
+            ≡ distinct_run C.Item.is_same None (C.whole upstream m) }
+        ensures meaning { (m : C.Reading) → meaning_of (⟦<Distinct<C> as Cold>⟧.whole result m)
+            ≡ distinct_meaning C.Item.is_same (meaning_of (C.whole upstream m)) }
+        ensures rest { (m : C.Reading) → ⟦<Distinct<C> as Cold>⟧.rest result m
+            ≡ distinct_run C.Item.is_same None (C.rest upstream m) }
     {
         Distinct {
             upstream: Upstream::new(upstream),

@@ -19,17 +19,27 @@ pub struct DropFirst<C> {
 impl<C: Cold> Cold for DropFirst<C> {
     type Item = C::Item;
 
-    ghost sound = { λ s. C.sound (chain_of s.upstream) };
+    ghost Reading = { C.Reading };
 
-    ghost whole = { λ s. drop_run (C.whole (chain_of s.upstream)) s.count };
+    ghost CanAsk = { λ s. C.CanAsk (chain_of s.upstream) };
 
-    ghost rest = { λ s. drop_run (left_of C.rest s.upstream) s.left };
+    ghost Reads = { λ s m. C.Reads (chain_of s.upstream) m };
+
+    ghost whole = { λ s m. drop_run (C.whole (chain_of s.upstream) m) s.count };
+
+    ghost rest = { λ s m. drop_run (left_of (λ c. C.rest c m) s.upstream) s.left };
+
+    ghost most_asks = { λ s. C.most_asks (chain_of s.upstream) };
+
+    ghost IsLimited = { C.IsLimited };
+
+    ghost limit = { C.limit };
 
     ghost IsOver = { λ s. is_ended s.upstream ≡ true };
 
-    ghost AsksBehind = { λ old result new.
-        Leaves (after_drop (C.rest (chain_of old.upstream)) old.left)
-        result (C.rest (chain_of new.upstream)) };
+    ghost AsksBehind = { λ old m result new.
+        Leaves (after_drop (C.rest (chain_of old.upstream) m) old.left)
+        result (C.rest (chain_of new.upstream) m) };
 
     fn ask(&mut self) -> Asked<C::Item> {
         loop {
@@ -49,17 +59,22 @@ impl<C: Cold> Cold for DropFirst<C> {
         self.left = self.count;
         self.upstream.rewind();
     }
+
+    ghost limited = { λ l s. C.limited l (chain_of s.upstream) };
 }
 
 impl<C: Cold> DropFirst<C> {
     /// A count of 0 gives the chain as it is.
     pub fn new(upstream: C, count: u64) -> Self
-        requires { C.sound upstream }
-        ensures sound { ⟦<DropFirst<C> as Cold>⟧.sound result }
-        ensures whole { ⟦<DropFirst<C> as Cold>⟧.whole result ≡ drop_run (C.whole upstream) count }
-        ensures meaning { meaning_of (⟦<DropFirst<C> as Cold>⟧.whole result)
-            ≡ drop_meaning count (meaning_of (C.whole upstream)) }
-        ensures rest { ⟦<DropFirst<C> as Cold>⟧.rest result ≡ drop_run (C.rest upstream) count }
+        requires { C.CanAsk upstream }
+        ensures callable { ⟦<DropFirst<C> as Cold>⟧.CanAsk result }
+        ensures reads { (m : C.Reading) → C.Reads upstream m → ⟦<DropFirst<C> as Cold>⟧.Reads result m }
+        ensures whole { (m : C.Reading) → ⟦<DropFirst<C> as Cold>⟧.whole result m
+            ≡ drop_run (C.whole upstream m) count }
+        ensures meaning { (m : C.Reading) → meaning_of (⟦<DropFirst<C> as Cold>⟧.whole result m)
+            ≡ drop_meaning count (meaning_of (C.whole upstream m)) }
+        ensures rest { (m : C.Reading) → ⟦<DropFirst<C> as Cold>⟧.rest result m
+            ≡ drop_run (C.rest upstream m) count }
     {
         DropFirst {
             upstream: Upstream::new(upstream),

@@ -1,44 +1,57 @@
 //! `dropWhile`: the items from the first that does not pass.
-ghost use Rattle.std.specs.Prelude.{◌≡◌, true};
+ghost use Rattle.std.specs.Prelude.{◌≡◌, ◌&&◌, true, Bool};
+ghost use Rattle.std.specs.Fn.{FnReturnsAt};
 ghost use Rattle.flow_law.specs.Chain.{drop_while_meaning, meaning_of};
 ghost use Rattle.flow_law.specs.OperatorRuns.{drop_while_run};
 ghost use Rattle.flow_operators.specs.Behind.{Leaves, after_drop_while};
+ghost use Rattle.flow_operators.specs.Closures.{Decides};
 ghost use Rattle.flow_operators.specs.Kept.{drop_while_rest};
 ghost use Rattle.flow_operators.specs.Upstreams.{chain_of, is_ended, left_of};
 
 use crate::cold::{Asked, Cold};
-use crate::computation::ItemTest;
+use crate::operators::passing::passes;
 use crate::upstream::Upstream;
 
 /// Drops a chain's first items while they pass a test, and gives all others. What follows the first that does not pass
 /// is not tested.
 #[derive(Drop)]
-pub struct DropWhile<C, M> {
+pub struct DropWhile<C, F> {
     upstream: Upstream<C>,
-    test: M,
+    test: F,
     dropping: bool,
 }
 
-impl<C: Cold, M: ItemTest<C::Item>> Cold for DropWhile<C, M> {
+impl<C: Cold, F: Fn(&C::Item) -> bool> Cold for DropWhile<C, F> {
     type Item = C::Item;
 
-    ghost sound = { λ s. C.sound (chain_of s.upstream) × M.sound s.test };
+    ghost Reading = { C.Reading × (C.Item → Bool) };
 
-    ghost whole = { λ s. drop_while_run (M.passes s.test) (C.whole (chain_of s.upstream)) };
+    ghost CanAsk = { λ s. C.CanAsk (chain_of s.upstream) × F.IsAlwaysCallable s.test };
 
-    ghost rest = { λ s. drop_while_rest (M.passes s.test) s.dropping (left_of C.rest s.upstream) };
+    ghost Reads = { λ s m. C.Reads (chain_of s.upstream) m.0
+        × Decides (λ x b. FnReturnsAt F.Fn s.test x b) m.1 };
+
+    ghost whole = { λ s m. drop_while_run m.1 (C.whole (chain_of s.upstream) m.0) };
+
+    ghost rest = { λ s m. drop_while_rest m.1 s.dropping (left_of (λ c. C.rest c m.0) s.upstream) };
+
+    ghost most_asks = { λ s. C.most_asks (chain_of s.upstream) };
+
+    ghost IsLimited = { C.IsLimited };
+
+    ghost limit = { C.limit };
 
     ghost IsOver = { λ s. is_ended s.upstream ≡ true };
 
-    ghost AsksBehind = { λ old result new.
-        Leaves (after_drop_while (M.passes old.test) old.dropping (C.rest (chain_of old.upstream)))
-        result (C.rest (chain_of new.upstream)) };
+    ghost AsksBehind = { λ old m result new.
+        Leaves (after_drop_while m.1 old.dropping (C.rest (chain_of old.upstream) m.0))
+        result (C.rest (chain_of new.upstream) m.0) };
 
     fn ask(&mut self) -> Asked<C::Item> {
         loop {
             match self.upstream.next() {
                 Ok(item) => {
-                    self.dropping = self.dropping && self.test.test(&item);
+                    self.dropping = still_drops(self.dropping, &self.test, &item);
                     if !self.dropping {
                         return Asked::Item(item);
                     }
@@ -52,20 +65,33 @@ impl<C: Cold, M: ItemTest<C::Item>> Cold for DropWhile<C, M> {
         self.dropping = true;
         self.upstream.rewind();
     }
+
+    ghost limited = { λ l s. C.limited l (chain_of s.upstream) };
 }
 
-impl<C: Cold, M: ItemTest<C::Item>> DropWhile<C, M> {
+/// Tells whether items are dropped from this one on: they are while each passes.
+fn still_drops<T, F: Fn(&T) -> bool>(dropping: bool, test: &F, item: &T) -> bool
+    requires { F.IsAlwaysCallable test.now }
+    ensures { (p : T → Bool) → Decides (λ x b. FnReturnsAt F.Fn test.now x b) p → result ≡ (dropping && p item.now) }
+{
+    dropping && passes(test, item)
+}
+
+impl<C: Cold, F: Fn(&C::Item) -> bool> DropWhile<C, F> {
     /// The chain from where it stands, and the test that its first items are to pass to be dropped.
-    pub fn new(upstream: C, test: M) -> Self
-        requires sound { C.sound upstream }
-        requires decides { M.sound test }
-        ensures sound { ⟦<DropWhile<C, M> as Cold>⟧.sound result }
-        ensures whole { ⟦<DropWhile<C, M> as Cold>⟧.whole result
-            ≡ drop_while_run (M.passes test) (C.whole upstream) }
-        ensures meaning { meaning_of (⟦<DropWhile<C, M> as Cold>⟧.whole result)
-            ≡ drop_while_meaning (M.passes test) (meaning_of (C.whole upstream)) }
-        ensures rest { ⟦<DropWhile<C, M> as Cold>⟧.rest result
-            ≡ drop_while_run (M.passes test) (C.rest upstream) }
+    pub fn new(upstream: C, test: F) -> Self
+        requires upstream { C.CanAsk upstream }
+        requires callable { F.IsAlwaysCallable test }
+        ensures callable { ⟦<DropWhile<C, F> as Cold>⟧.CanAsk result }
+        ensures reads { (m : C.Reading) (p : C.Item → Bool) → C.Reads upstream m
+            → Decides (λ x b. FnReturnsAt F.Fn test x b) p → ⟦<DropWhile<C, F> as Cold>⟧.Reads result (m, p) }
+        ensures whole { (m : C.Reading) (p : C.Item → Bool)
+            → ⟦<DropWhile<C, F> as Cold>⟧.whole result (m, p) ≡ drop_while_run p (C.whole upstream m) }
+        ensures meaning { (m : C.Reading) (p : C.Item → Bool)
+            → meaning_of (⟦<DropWhile<C, F> as Cold>⟧.whole result (m, p))
+            ≡ drop_while_meaning p (meaning_of (C.whole upstream m)) }
+        ensures rest { (m : C.Reading) (p : C.Item → Bool)
+            → ⟦<DropWhile<C, F> as Cold>⟧.rest result (m, p) ≡ drop_while_run p (C.rest upstream m) }
     {
         DropWhile {
             upstream: Upstream::new(upstream),

@@ -1,58 +1,70 @@
 //! `flatMapConcat`: inner chains, one after the other.
-ghost use Rattle.std.specs.Prelude.{◌≡◌, true};
+ghost use Rattle.std.specs.Prelude.{◌≡◌, ◌⊎◌, ◌<◌, ◌+◌, ◌*◌, true, None, Result, IfOk, IfSome};
 ghost use Rattle.flow_law.specs.Chain.{flat_map_meaning, meaning_of};
+ghost use Rattle.flow_law.specs.ChainRun.{ChainRun};
 ghost use Rattle.flow_law.specs.OperatorRuns.{flat_map_run, followed};
 ghost use Rattle.flow_operators.specs.Behind.{Leaves, after_flat_map, unless_completed};
-ghost use Rattle.flow_operators.specs.Kept.{unless_ended, inner_left};
+ghost use Rattle.flow_operators.specs.Kept.{inner_left, most_inner, unless_ended};
 ghost use Rattle.flow_operators.specs.Upstreams.{chain_of, is_ended};
-ghost use Rattle.flow_operators.specs.Asking.{AskGives};
-ghost use Rattle.flow_operators.specs.Closures.{ComputesBy};
+ghost use Rattle.flow_operators.specs.Asking.{AskGives, IsFinal};
+ghost use Rattle.flow_operators.specs.Closures.{Opens, OpensCallable, OpensTo};
+ghost use Rattle.std.proofs.Common.{arith};
+ghost use Rattle.std.proofs.lemmas.Grind.{common_steps};
 
 use crate::cold::{Asked, Cold};
-use crate::meaning::InnerMeaning;
-use crate::sources::Scripted;
 use crate::upstream::Upstream;
-use crate::with_meaning::WithMeaning;
-use flow_law::{ChainFault, FlowValue};
+use flow_law::ChainFault;
 
 /// Gives the items of the chain that a closure opens at each item, one chain after the other.
 ///
 /// An inner chain is started anew before it is asked. A fault of it ends the whole.
 #[derive(Drop)]
-pub struct FlatMapConcat<C, U: FlowValue, M, F> {
+pub struct FlatMapConcat<C, D, F> {
     upstream: Upstream<C>,
-    inner: Option<Scripted<U>>,
-    given: WithMeaning<M, F>,
+    inner: Option<D>,
+    closure: F,
 }
 
-impl<C, U, M, F> Cold for FlatMapConcat<C, U, M, F>
+impl<C, D, F> Cold for FlatMapConcat<C, D, F>
 where
     C: Cold,
-    U: FlowValue,
-    M: InnerMeaning<C::Item, U>,
-    F: Fn(C::Item) -> Result<Scripted<U>, ChainFault>,
+    D: Cold,
+    F: Fn(C::Item) -> Result<D, ChainFault>,
 {
-    type Item = U;
+    ghost use Rattle.flow_law.specs.declared.chain.ChainFault.{ChainFault};
 
-    ghost sound = { λ s. C.sound (chain_of s.upstream)
-        × F.IsAlwaysCallable s.given.closure
-        × ComputesBy ⟦<Scripted<U> as Cold>⟧.whole (F.post s.given.closure) (M.inner s.given.meaning) };
+    type Item = D::Item;
 
-    ghost whole = { λ s. flat_map_run (M.inner s.given.meaning) (C.whole (chain_of s.upstream)) };
+    ghost Reading = { (C.Reading × D.Reading) × (C.Item → Result (ChainRun D.Item) ChainFault) };
 
-    ghost rest = { λ s. unless_ended (is_ended s.upstream)
-        (followed (inner_left ⟦<Scripted<U> as Cold>⟧.rest s.inner)
-        (flat_map_run (M.inner s.given.meaning) (C.rest (chain_of s.upstream)))) };
+    ghost CanAsk = { λ s. C.CanAsk (chain_of s.upstream) × IfSome s.inner D.CanAsk
+        × F.IsAlwaysCallable s.closure × OpensCallable D.CanAsk (F.post s.closure) × D.IsLimited };
+
+    ghost Reads = { λ s m. (C.Reads (chain_of s.upstream) m.0.0 × IfSome s.inner (λ d. D.Reads d m.0.1))
+        × Opens (λ d. D.Reads d m.0.1) (λ d. D.whole d m.0.1) (F.post s.closure) m.1 };
+
+    ghost whole = { λ s m. flat_map_run m.1 (C.whole (chain_of s.upstream) m.0.0) };
+
+    ghost rest = { λ s m. unless_ended (is_ended s.upstream)
+        (followed (inner_left (λ d. D.rest d m.0.1) s.inner)
+        (flat_map_run m.1 (C.rest (chain_of s.upstream) m.0.0))) };
+
+    ghost most_asks = { λ s. C.most_asks (chain_of s.upstream) * (D.limit + 1)
+        + most_inner D.most_asks s.inner };
+
+    ghost IsLimited = { C.IsLimited × D.IsLimited };
+
+    ghost limit = { C.limit * (D.limit + 1) + D.limit };
 
     ghost IsOver = { λ s. is_ended s.upstream ≡ true };
 
-    ghost AsksBehind = { λ old result new.
-        Leaves (unless_completed (inner_left ⟦<Scripted<U> as Cold>⟧.rest old.inner)
-        (C.rest (chain_of old.upstream))
-        (after_flat_map (M.inner old.given.meaning) (C.rest (chain_of old.upstream))))
-        result (C.rest (chain_of new.upstream)) };
+    ghost AsksBehind = { λ old m result new.
+        Leaves (unless_completed (inner_left (λ d. D.rest d m.0.1) old.inner)
+        (C.rest (chain_of old.upstream) m.0.0)
+        (after_flat_map m.1 (C.rest (chain_of old.upstream) m.0.0)))
+        result (C.rest (chain_of new.upstream) m.0.0) };
 
-    fn ask(&mut self) -> Asked<U> {
+    fn ask(&mut self) -> Asked<D::Item> {
         if self.upstream.ended {
             return Asked::End;
         }
@@ -64,11 +76,8 @@ where
                 Asked::Fault(fault) => return self.upstream.fail(fault),
             }
             match self.upstream.next() {
-                Ok(item) => match self.given.inner(item) {
-                    Ok(mut inner) => {
-                        inner.rewind();
-                        self.inner = Some(inner);
-                    }
+                Ok(item) => match open(&self.closure, item) {
+                    Ok(inner) => self.inner = Some(inner),
                     Err(fault) => return self.upstream.fail(fault),
                 },
                 Err(asked) => return asked,
@@ -80,12 +89,19 @@ where
         self.inner = None;
         self.upstream.rewind();
     }
+
+    ghost limited = { λ l s. Prim.grind (arith, common_steps, C.limited l.0 (chain_of s.upstream), D.limited l.1) };
 }
 
 /// Asks the open inner chain, and closes it at its end. With none open the answer is the end.
-fn ask_inner<U: FlowValue>(inner: &mut Option<Scripted<U>>) -> Asked<U>
-    ensures { AskGives (inner_left ⟦<Scripted<U> as Cold>⟧.rest inner.old) result
-        (inner_left ⟦<Scripted<U> as Cold>⟧.rest inner.new) }
+fn ask_inner<D: Cold>(inner: &mut Option<D>) -> Asked<D::Item>
+    requires { IfSome inner.old D.CanAsk }
+    ensures callable { IfSome inner.new D.CanAsk }
+    ensures reads { (n : D.Reading) → IfSome inner.old (λ d. D.Reads d n) → IfSome inner.new (λ d. D.Reads d n) }
+    ensures gives { (n : D.Reading) → IfSome inner.old (λ d. D.Reads d n)
+        → AskGives (inner_left (λ d. D.rest d n) inner.old) result (inner_left (λ d. D.rest d n) inner.new) }
+    ensures fewer { IsFinal result ⊎ most_inner D.most_asks inner.new < most_inner D.most_asks inner.old }
+    ensures closed { IsFinal result → inner.new ≡ None }
 {
     let Some(mut open) = inner.take() else {
         return Asked::End;
@@ -103,31 +119,59 @@ fn ask_inner<U: FlowValue>(inner: &mut Option<Scripted<U>>) -> Asked<U>
     }
 }
 
-impl<C, U, M, F> FlatMapConcat<C, U, M, F>
+/// Opens the chain of an item, which is the one that each function says that the closure computes. It stands at its start.
+fn open<A, D, F>(closure: &F, item: A) -> Result<D, ChainFault>
+where
+    D: Cold,
+    F: Fn(A) -> Result<D, ChainFault>,
+    requires callable { F.IsAlwaysCallable closure.now }
+    requires opens { OpensCallable D.CanAsk (F.post closure.now) }
+    ensures callable { IfOk result D.CanAsk }
+    ensures opens { (n : D.Reading) (f : A → Result (ChainRun D.Item) ChainFault)
+        → Opens (λ d. D.Reads d n) (λ d. D.whole d n) (F.post closure.now) f
+        → OpensTo (λ d. D.Reads d n) (λ d. D.rest d n) (f item) result }
+{
+    match closure(item) {
+        Ok(mut inner) => {
+            inner.rewind();
+            Ok(inner)
+        }
+        Err(fault) => Err(fault),
+    }
+}
+
+impl<C, D, F> FlatMapConcat<C, D, F>
 where
     C: Cold,
-    U: FlowValue,
-    M: InnerMeaning<C::Item, U>,
-    F: Fn(C::Item) -> Result<Scripted<U>, ChainFault>,
+    D: Cold,
+    F: Fn(C::Item) -> Result<D, ChainFault>,
 {
-    /// A fault that the closure answers ends the chain, too. `meaning` is for contracts: its type says which chain
-    /// the closure opens.
-    pub fn new(upstream: C, meaning: M, closure: F) -> Self
-        requires sound { C.sound upstream }
+    ghost use Rattle.flow_law.specs.declared.chain.ChainFault.{ChainFault};
+
+    /// A fault that the closure answers ends the chain, too.
+    ///
+    /// By a reading n of the inner chains, which is the same for all that are opened.
+    pub fn new(upstream: C, closure: F) -> Self
+        requires upstream { C.CanAsk upstream }
         requires callable { F.IsAlwaysCallable closure }
-        requires computes { ComputesBy ⟦<Scripted<U> as Cold>⟧.whole (F.post closure) (M.inner meaning) }
-        ensures sound { ⟦<FlatMapConcat<C, U, M, F> as Cold>⟧.sound result }
-        ensures whole { ⟦<FlatMapConcat<C, U, M, F> as Cold>⟧.whole result
-            ≡ flat_map_run (M.inner meaning) (C.whole upstream) }
-        ensures meaning { meaning_of (⟦<FlatMapConcat<C, U, M, F> as Cold>⟧.whole result)
-            ≡ flat_map_meaning (M.inner meaning) (meaning_of (C.whole upstream)) }
-        ensures rest { ⟦<FlatMapConcat<C, U, M, F> as Cold>⟧.rest result
-            ≡ flat_map_run (M.inner meaning) (C.rest upstream) }
+        requires opens { OpensCallable D.CanAsk (F.post closure) }
+        requires limited { D.IsLimited }
+        ensures callable { ⟦<FlatMapConcat<C, D, F> as Cold>⟧.CanAsk result }
+        ensures reads { (m : C.Reading) (n : D.Reading) (f : C.Item → Result (ChainRun D.Item) ChainFault)
+            → C.Reads upstream m → Opens (λ d. D.Reads d n) (λ d. D.whole d n) (F.post closure) f
+            → ⟦<FlatMapConcat<C, D, F> as Cold>⟧.Reads result ((m, n), f) }
+        ensures whole { (m : C.Reading) (n : D.Reading) (f : C.Item → Result (ChainRun D.Item) ChainFault)
+            → ⟦<FlatMapConcat<C, D, F> as Cold>⟧.whole result ((m, n), f) ≡ flat_map_run f (C.whole upstream m) }
+        ensures meaning { (m : C.Reading) (n : D.Reading) (f : C.Item → Result (ChainRun D.Item) ChainFault)
+            → meaning_of (⟦<FlatMapConcat<C, D, F> as Cold>⟧.whole result ((m, n), f))
+            ≡ flat_map_meaning f (meaning_of (C.whole upstream m)) }
+        ensures rest { (m : C.Reading) (n : D.Reading) (f : C.Item → Result (ChainRun D.Item) ChainFault)
+            → ⟦<FlatMapConcat<C, D, F> as Cold>⟧.rest result ((m, n), f) ≡ flat_map_run f (C.rest upstream m) }
     {
         FlatMapConcat {
             upstream: Upstream::new(upstream),
             inner: None,
-            given: WithMeaning { meaning, closure },
+            closure,
         }
     }
 }

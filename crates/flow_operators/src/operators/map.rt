@@ -1,46 +1,59 @@
 //! `map`: what a closure makes of each item.
-ghost use Rattle.std.specs.Prelude.{◌≡◌, true};
+ghost use Rattle.std.specs.Prelude.{◌≡◌, true, Result};
 ghost use Rattle.flow_law.specs.Chain.{map_meaning, meaning_of};
 ghost use Rattle.flow_law.specs.OperatorRuns.{map_run};
 ghost use Rattle.flow_operators.specs.Behind.{AsksOnce};
+ghost use Rattle.flow_operators.specs.Closures.{Computes};
 ghost use Rattle.flow_operators.specs.Upstreams.{chain_of, is_ended, left_of};
 
 use crate::cold::{Asked, Cold};
-use crate::computation::ItemComputation;
 use crate::upstream::Upstream;
-use flow_law::FlowValue;
-use std::marker::PhantomData;
+use flow_law::{ChainFault, FlowValue};
 
-/// Gives what a computation makes of each item: a closure beside its meaning (`WithMeaning`), or one with code of its own.
+/// Gives what a closure makes of each item.
 #[derive(Drop)]
-pub struct Map<C, U, M> {
+pub struct Map<C, F> {
     upstream: Upstream<C>,
-    computation: M,
-    of: PhantomData<U>,
+    closure: F,
 }
 
-impl<C, U, M> Cold for Map<C, U, M>
+impl<C, U, F> Cold for Map<C, F>
 where
     C: Cold,
     U: FlowValue,
-    M: ItemComputation<C::Item, U>,
+    F: Fn(C::Item) -> Result<U, ChainFault>,
 {
+    ghost use Rattle.flow_law.specs.declared.chain.ChainFault.{ChainFault};
+
     type Item = U;
 
-    ghost sound = { λ s. C.sound (chain_of s.upstream) × M.sound s.computation };
+    ghost Reading = { C.Reading × (C.Item → Result U ChainFault) };
 
-    ghost whole = { λ s. map_run (M.image s.computation) (C.whole (chain_of s.upstream)) };
+    ghost CanAsk = { λ s. C.CanAsk (chain_of s.upstream) × F.IsAlwaysCallable s.closure };
 
-    ghost rest = { λ s. map_run (M.image s.computation) (left_of C.rest s.upstream) };
+    ghost Reads = { λ s m. C.Reads (chain_of s.upstream) m.0 × Computes (F.post s.closure) m.1 };
+
+    ghost whole = { λ s m. map_run m.1 (C.whole (chain_of s.upstream) m.0) };
+
+    ghost rest = { λ s m. map_run m.1 (left_of (λ c. C.rest c m.0) s.upstream) };
+
+    ghost most_asks = { λ s. C.most_asks (chain_of s.upstream) };
+
+    ghost IsLimited = { C.IsLimited };
+
+    ghost limit = { C.limit };
 
     ghost IsOver = { λ s. is_ended s.upstream ≡ true };
 
-    ghost AsksBehind = { λ old result new.
-        AsksOnce (C.rest (chain_of old.upstream)) result (C.rest (chain_of new.upstream)) };
+    ghost AsksBehind = { λ old m result new.
+        AsksOnce (C.rest (chain_of old.upstream) m.0) result (C.rest (chain_of new.upstream) m.0) };
 
     fn ask(&mut self) -> Asked<U> {
         match self.upstream.next() {
-            Ok(item) => self.upstream.answer(self.computation.compute(item)),
+            Ok(item) => {
+                let made = (self.closure)(item);
+                self.upstream.answer(made)
+            }
             Err(asked) => asked,
         }
     }
@@ -48,30 +61,35 @@ where
     fn rewind(&mut self) {
         self.upstream.rewind();
     }
+
+    ghost limited = { λ l s. C.limited l (chain_of s.upstream) };
 }
 
-impl<C, U, M> Map<C, U, M>
+impl<C, U, F> Map<C, F>
 where
     C: Cold,
     U: FlowValue,
-    M: ItemComputation<C::Item, U>,
+    F: Fn(C::Item) -> Result<U, ChainFault>,
 {
-    /// A fault that the computation answers ends the chain; of that item nothing is given.
-    pub fn new(upstream: C, computation: M) -> Self
-        requires sound { C.sound upstream }
-        requires computes { M.sound computation }
-        ensures sound { ⟦<Map<C, U, M> as Cold>⟧.sound result }
-        ensures whole { ⟦<Map<C, U, M> as Cold>⟧.whole result
-            ≡ map_run (M.image computation) (C.whole upstream) }
-        ensures meaning { meaning_of (⟦<Map<C, U, M> as Cold>⟧.whole result)
-            ≡ map_meaning (M.image computation) (meaning_of (C.whole upstream)) }
-        ensures rest { ⟦<Map<C, U, M> as Cold>⟧.rest result
-            ≡ map_run (M.image computation) (C.rest upstream) }
+    ghost use Rattle.flow_law.specs.declared.chain.ChainFault.{ChainFault};
+
+    /// A fault that the closure answers ends the chain; of that item nothing is given.
+    pub fn new(upstream: C, closure: F) -> Self
+        requires upstream { C.CanAsk upstream }
+        requires callable { F.IsAlwaysCallable closure }
+        ensures callable { ⟦<Map<C, F> as Cold>⟧.CanAsk result }
+        ensures reads { (m : C.Reading) (f : C.Item → Result U ChainFault) → C.Reads upstream m
+            → Computes (F.post closure) f → ⟦<Map<C, F> as Cold>⟧.Reads result (m, f) }
+        ensures whole { (m : C.Reading) (f : C.Item → Result U ChainFault)
+            → ⟦<Map<C, F> as Cold>⟧.whole result (m, f) ≡ map_run f (C.whole upstream m) }
+        ensures meaning { (m : C.Reading) (f : C.Item → Result U ChainFault)
+            → meaning_of (⟦<Map<C, F> as Cold>⟧.whole result (m, f)) ≡ map_meaning f (meaning_of (C.whole upstream m)) }
+        ensures rest { (m : C.Reading) (f : C.Item → Result U ChainFault)
+            → ⟦<Map<C, F> as Cold>⟧.rest result (m, f) ≡ map_run f (C.rest upstream m) }
     {
         Map {
             upstream: Upstream::new(upstream),
-            computation,
-            of: PhantomData,
+            closure,
         }
     }
 }

@@ -1,8 +1,8 @@
 //! What the forms of `zip` stand on: pairs of the items of two chains.
-ghost use Rattle.std.specs.Prelude.{◌≡◌, true, false, None, IfErr};
+ghost use Rattle.std.specs.Prelude.{◌≡◌, ◌⊎◌, ◌<◌, true, false, None, IfOk, IfErr};
 ghost use Rattle.flow_operators.specs.Asking.{IsFinal};
 ghost use Rattle.flow_operators.specs.Pairs.{AsksSides, PairGives};
-ghost use Rattle.flow_operators.specs.Pairs.{is_over, kept_item, left_chain, right_chain};
+ghost use Rattle.flow_operators.specs.Pairs.{is_over, kept_item, left_chain, most_pairs, right_chain};
 ghost use Rattle.flow_operators.specs.Upstreams.{WithAnswer};
 
 use crate::cold::{Asked, Cold};
@@ -32,16 +32,25 @@ impl<L: Cold, R: Cold> Pairs<L, R, L::Item> {
 
     /// The next pair, or the answer in place of one.
     pub(crate) fn next<U>(&mut self) -> Result<(L::Item, R::Item), Asked<U>>
-        requires left { L.sound (left_chain self.old) }
-        requires right { R.sound (right_chain self.old) }
-        ensures left { L.sound (left_chain self.new) }
-        ensures right { R.sound (right_chain self.new) }
-        ensures left_whole { L.whole (left_chain self.new) ≡ L.whole (left_chain self.old) }
-        ensures right_whole { R.whole (right_chain self.new) ≡ R.whole (right_chain self.old) }
-        ensures gives { PairGives L.rest R.rest self.old result self.new }
+        requires left { L.CanAsk (left_chain self.old) }
+        requires right { R.CanAsk (right_chain self.old) }
+        ensures left { L.CanAsk (left_chain self.new) }
+        ensures right { R.CanAsk (right_chain self.new) }
+        ensures left_reads { (m : L.Reading) → L.Reads (left_chain self.old) m → L.Reads (left_chain self.new) m }
+        ensures right_reads { (n : R.Reading) → R.Reads (right_chain self.old) n → R.Reads (right_chain self.new) n }
+        ensures left_whole { (m : L.Reading) → L.whole (left_chain self.new) m ≡ L.whole (left_chain self.old) m }
+        ensures right_whole { (n : R.Reading) → R.whole (right_chain self.new) n ≡ R.whole (right_chain self.old) n }
+        ensures gives { (m : L.Reading) (n : R.Reading) → L.Reads (left_chain self.old) m → R.Reads (right_chain self.old) n
+            → PairGives (λ c. L.rest c m) (λ c. R.rest c n) self.old result self.new }
+        ensures runs { IfOk result (λ _. is_over self.new ≡ false) }
+        ensures fewer { IfOk result (λ _. most_pairs L.most_asks R.most_asks self.new
+            < most_pairs L.most_asks R.most_asks self.old) }
+        ensures pends { IfErr result (λ asked. IsFinal asked ⊎ most_pairs L.most_asks R.most_asks self.new
+            < most_pairs L.most_asks R.most_asks self.old) }
         ensures over { IfErr result (λ asked. IsFinal asked → is_over self.new ≡ true) }
-        ensures behind { (¬ (is_over self.old ≡ true))
-            → WithAnswer result (λ asked. AsksSides L.rest R.rest self.old asked self.new) }
+        ensures behind { (¬ (is_over self.old ≡ true)) → (m : L.Reading) (n : R.Reading)
+            → L.Reads (left_chain self.old) m → R.Reads (right_chain self.old) n
+            → WithAnswer result (λ asked. AsksSides (λ c. L.rest c m) (λ c. R.rest c n) self.old asked self.new) }
         ensures end { is_over self.old ≡ true → (result ≡ Err Asked.End) × self.new ≡ self.old }
     {
         if self.left.ended {
@@ -63,14 +72,16 @@ impl<L: Cold, R: Cold> Pairs<L, R, L::Item> {
     }
 
     pub(crate) fn rewind(&mut self)
-        requires left { L.sound (left_chain self.old) }
-        requires right { R.sound (right_chain self.old) }
-        ensures left { L.sound (left_chain self.new) }
-        ensures right { R.sound (right_chain self.new) }
-        ensures left_whole { L.whole (left_chain self.new) ≡ L.whole (left_chain self.old) }
-        ensures right_whole { R.whole (right_chain self.new) ≡ R.whole (right_chain self.old) }
-        ensures left_rest { L.rest (left_chain self.new) ≡ L.whole (left_chain self.old) }
-        ensures right_rest { R.rest (right_chain self.new) ≡ R.whole (right_chain self.old) }
+        requires left { L.CanAsk (left_chain self.old) }
+        requires right { R.CanAsk (right_chain self.old) }
+        ensures left { L.CanAsk (left_chain self.new) }
+        ensures right { R.CanAsk (right_chain self.new) }
+        ensures left_reads { (m : L.Reading) → L.Reads (left_chain self.old) m → L.Reads (left_chain self.new) m }
+        ensures right_reads { (n : R.Reading) → R.Reads (right_chain self.old) n → R.Reads (right_chain self.new) n }
+        ensures left_whole { (m : L.Reading) → L.whole (left_chain self.new) m ≡ L.whole (left_chain self.old) m }
+        ensures right_whole { (n : R.Reading) → R.whole (right_chain self.new) n ≡ R.whole (right_chain self.old) n }
+        ensures left_rest { (m : L.Reading) → L.rest (left_chain self.new) m ≡ L.whole (left_chain self.old) m }
+        ensures right_rest { (n : R.Reading) → R.rest (right_chain self.new) n ≡ R.whole (right_chain self.old) n }
         ensures kept { kept_item self.new ≡ None }
         ensures over { is_over self.new ≡ false }
     {

@@ -1,8 +1,8 @@
 //! What the forms of `scan` stand on: the results so far.
-ghost use Rattle.std.specs.Prelude.{◌≡◌, true, false, None, IfErr};
+ghost use Rattle.std.specs.Prelude.{◌≡◌, ◌⊎◌, ◌<◌, true, false, None, IfOk, IfErr};
 ghost use Rattle.flow_operators.specs.Asking.{IsFinal};
 ghost use Rattle.flow_operators.specs.Results.{AsksScanned, KeepsResult, ResultGives};
-ghost use Rattle.flow_operators.specs.Results.{initial_of, is_over, last_of, scanned};
+ghost use Rattle.flow_operators.specs.Results.{initial_of, is_over, last_of, most_results, scanned};
 ghost use Rattle.flow_operators.specs.Upstreams.{WithAnswer};
 
 use crate::cold::{Asked, Cold};
@@ -33,14 +33,20 @@ impl<C: Cold, U: FlowValue> Results<C, U> {
 
     /// The last result and the next item, or the answer in place of them. The first answer is the initial value.
     pub(crate) fn next(&mut self) -> Result<(U, C::Item), Asked<U>>
-        requires { C.sound (scanned self.old) }
-        ensures sound { C.sound (scanned self.new) }
-        ensures whole { C.whole (scanned self.new) ≡ C.whole (scanned self.old) }
+        requires { C.CanAsk (scanned self.old) }
+        ensures callable { C.CanAsk (scanned self.new) }
+        ensures reads { (m : C.Reading) → C.Reads (scanned self.old) m → C.Reads (scanned self.new) m }
+        ensures whole { (m : C.Reading) → C.whole (scanned self.new) m ≡ C.whole (scanned self.old) m }
         ensures initial { initial_of self.new ≡ initial_of self.old }
-        ensures gives { ResultGives C.rest self.old result self.new }
+        ensures gives { (m : C.Reading) → C.Reads (scanned self.old) m
+            → ResultGives (λ c. C.rest c m) self.old result self.new }
+        ensures runs { IfOk result (λ _. is_over self.new ≡ false) }
+        ensures fewer { IfOk result (λ _. C.most_asks (scanned self.new) < most_results C.most_asks self.old) }
+        ensures pends { IfErr result (λ asked. IsFinal asked
+            ⊎ most_results C.most_asks self.new < most_results C.most_asks self.old) }
         ensures over { IfErr result (λ asked. IsFinal asked → is_over self.new ≡ true) }
-        ensures behind { (¬ (is_over self.old ≡ true))
-            → WithAnswer result (λ asked. AsksScanned C.rest self.old asked self.new) }
+        ensures behind { (¬ (is_over self.old ≡ true)) → (m : C.Reading) → C.Reads (scanned self.old) m
+            → WithAnswer result (λ asked. AsksScanned (λ c. C.rest c m) self.old asked self.new) }
         ensures end { is_over self.old ≡ true → (result ≡ Err Asked.End) × self.new ≡ self.old }
     {
         if self.upstream.ended {
@@ -82,10 +88,11 @@ impl<C: Cold, U: FlowValue> Results<C, U> {
     }
 
     pub(crate) fn rewind(&mut self)
-        requires { C.sound (scanned self.old) }
-        ensures sound { C.sound (scanned self.new) }
-        ensures whole { C.whole (scanned self.new) ≡ C.whole (scanned self.old) }
-        ensures rest { C.rest (scanned self.new) ≡ C.whole (scanned self.old) }
+        requires { C.CanAsk (scanned self.old) }
+        ensures callable { C.CanAsk (scanned self.new) }
+        ensures reads { (m : C.Reading) → C.Reads (scanned self.old) m → C.Reads (scanned self.new) m }
+        ensures whole { (m : C.Reading) → C.whole (scanned self.new) m ≡ C.whole (scanned self.old) m }
+        ensures rest { (m : C.Reading) → C.rest (scanned self.new) m ≡ C.whole (scanned self.old) m }
         ensures initial { initial_of self.new ≡ initial_of self.old }
         ensures last { last_of self.new ≡ None }
         ensures over { is_over self.new ≡ false }

@@ -1,48 +1,60 @@
 //! `runningReduce`: the first item, and then the results so far.
-ghost use Rattle.std.specs.Prelude.{◌≡◌, true, None};
+ghost use Rattle.std.specs.Prelude.{◌≡◌, true, None, Result};
 ghost use Rattle.flow_law.specs.Chain.{running_reduce_meaning, meaning_of};
 ghost use Rattle.flow_law.specs.OperatorRuns.{running_reduce_run};
 ghost use Rattle.flow_operators.specs.Behind.{AsksOnce};
+ghost use Rattle.flow_operators.specs.Closures.{ComputesPairs};
 ghost use Rattle.flow_operators.specs.Upstreams.{chain_of, is_ended, left_of};
 
 use crate::cold::{Asked, Cold};
-use crate::computation::PairComputation;
 use crate::operators::last::keep_made;
 use crate::upstream::Upstream;
+use flow_law::ChainFault;
 
-/// Gives a chain's first item, then what a computation makes of the last result and each further item. Of no items it
+/// Gives a chain's first item, then what a closure makes of the last result and each further item. Of no items it
 /// gives nothing.
 #[derive(Drop)]
-pub struct RunningReduce<C: Cold, M> {
+pub struct RunningReduce<C: Cold, F> {
     upstream: Upstream<C>,
-    computation: M,
+    closure: F,
     last: Option<C::Item>,
 }
 
-impl<C, M> Cold for RunningReduce<C, M>
+impl<C, F> Cold for RunningReduce<C, F>
 where
     C: Cold,
-    M: PairComputation<C::Item, C::Item, C::Item>,
+    F: Fn(C::Item, C::Item) -> Result<C::Item, ChainFault>,
 {
+    ghost use Rattle.flow_law.specs.declared.chain.ChainFault.{ChainFault};
+
     type Item = C::Item;
 
-    ghost sound = { λ s. C.sound (chain_of s.upstream) × M.sound s.computation };
+    ghost Reading = { C.Reading × (C.Item × C.Item → Result C.Item ChainFault) };
 
-    ghost whole = { λ s.
-        running_reduce_run (M.image s.computation) None (C.whole (chain_of s.upstream)) };
+    ghost CanAsk = { λ s. C.CanAsk (chain_of s.upstream) × F.IsAlwaysCallable s.closure };
 
-    ghost rest = { λ s. running_reduce_run (M.image s.computation) s.last (left_of C.rest s.upstream) };
+    ghost Reads = { λ s m. C.Reads (chain_of s.upstream) m.0 × ComputesPairs (F.post s.closure) m.1 };
+
+    ghost whole = { λ s m. running_reduce_run m.1 None (C.whole (chain_of s.upstream) m.0) };
+
+    ghost rest = { λ s m. running_reduce_run m.1 s.last (left_of (λ c. C.rest c m.0) s.upstream) };
+
+    ghost most_asks = { λ s. C.most_asks (chain_of s.upstream) };
+
+    ghost IsLimited = { C.IsLimited };
+
+    ghost limit = { C.limit };
 
     ghost IsOver = { λ s. is_ended s.upstream ≡ true };
 
-    ghost AsksBehind = { λ old result new.
-        AsksOnce (C.rest (chain_of old.upstream)) result (C.rest (chain_of new.upstream)) };
+    ghost AsksBehind = { λ old m result new.
+        AsksOnce (C.rest (chain_of old.upstream) m.0) result (C.rest (chain_of new.upstream) m.0) };
 
     fn ask(&mut self) -> Asked<C::Item> {
         match self.upstream.next() {
             Ok(item) => {
                 let made = match self.last.take() {
-                    Some(last) => self.computation.compute(last, item),
+                    Some(last) => (self.closure)(last, item),
                     None => Ok(item),
                 };
                 let kept = keep_made(&mut self.last, made);
@@ -56,28 +68,35 @@ where
         self.last = None;
         self.upstream.rewind();
     }
+
+    ghost limited = { λ l s. C.limited l (chain_of s.upstream) };
 }
 
-impl<C, M> RunningReduce<C, M>
+impl<C, F> RunningReduce<C, F>
 where
     C: Cold,
-    M: PairComputation<C::Item, C::Item, C::Item>,
+    F: Fn(C::Item, C::Item) -> Result<C::Item, ChainFault>,
 {
-    /// A fault that the computation answers ends the chain.
-    pub fn new(upstream: C, computation: M) -> Self
-        requires sound { C.sound upstream }
-        requires computes { M.sound computation }
-        ensures sound { ⟦<RunningReduce<C, M> as Cold>⟧.sound result }
-        ensures whole { ⟦<RunningReduce<C, M> as Cold>⟧.whole result
-            ≡ running_reduce_run (M.image computation) None (C.whole upstream) }
-        ensures meaning { meaning_of (⟦<RunningReduce<C, M> as Cold>⟧.whole result)
-            ≡ running_reduce_meaning (M.image computation) (meaning_of (C.whole upstream)) }
-        ensures rest { ⟦<RunningReduce<C, M> as Cold>⟧.rest result
-            ≡ running_reduce_run (M.image computation) None (C.rest upstream) }
+    ghost use Rattle.flow_law.specs.declared.chain.ChainFault.{ChainFault};
+
+    /// A fault that the closure answers ends the chain.
+    pub fn new(upstream: C, closure: F) -> Self
+        requires upstream { C.CanAsk upstream }
+        requires callable { F.IsAlwaysCallable closure }
+        ensures callable { ⟦<RunningReduce<C, F> as Cold>⟧.CanAsk result }
+        ensures reads { (m : C.Reading) (f : C.Item × C.Item → Result C.Item ChainFault) → C.Reads upstream m
+            → ComputesPairs (F.post closure) f → ⟦<RunningReduce<C, F> as Cold>⟧.Reads result (m, f) }
+        ensures whole { (m : C.Reading) (f : C.Item × C.Item → Result C.Item ChainFault)
+            → ⟦<RunningReduce<C, F> as Cold>⟧.whole result (m, f) ≡ running_reduce_run f None (C.whole upstream m) }
+        ensures meaning { (m : C.Reading) (f : C.Item × C.Item → Result C.Item ChainFault)
+            → meaning_of (⟦<RunningReduce<C, F> as Cold>⟧.whole result (m, f))
+            ≡ running_reduce_meaning f (meaning_of (C.whole upstream m)) }
+        ensures rest { (m : C.Reading) (f : C.Item × C.Item → Result C.Item ChainFault)
+            → ⟦<RunningReduce<C, F> as Cold>⟧.rest result (m, f) ≡ running_reduce_run f None (C.rest upstream m) }
     {
         RunningReduce {
             upstream: Upstream::new(upstream),
-            computation,
+            closure,
             last: None,
         }
     }

@@ -1,45 +1,59 @@
 //! `scan`: the results so far.
-ghost use Rattle.std.specs.Prelude.{◌≡◌, true};
+ghost use Rattle.std.specs.Prelude.{◌≡◌, ◌+◌, true, Result};
 ghost use Rattle.flow_law.specs.ChainRun.{gives};
 ghost use Rattle.flow_law.specs.Chain.{scan_meaning, meaning_of};
 ghost use Rattle.flow_law.specs.OperatorRuns.{scan_run};
-ghost use Rattle.flow_operators.specs.Results.{AsksScanned, initial_of, is_over, results_rest, scanned};
+ghost use Rattle.flow_operators.specs.Closures.{ComputesPairs};
+ghost use Rattle.flow_operators.specs.Results.{AsksScanned, initial_of, is_over, most_results, results_rest, scanned};
+ghost use Rattle.std.proofs.Common.{arith};
+ghost use Rattle.std.proofs.lemmas.Grind.{common_steps};
 
 use crate::cold::{Asked, Cold};
-use crate::computation::PairComputation;
 use crate::operators::results::Results;
-use flow_law::FlowValue;
+use flow_law::{ChainFault, FlowValue};
 
-/// Gives a first value, then what a computation makes of the last result and each item.
+/// Gives a first value, then what a closure makes of the last result and each item.
 #[derive(Drop)]
-pub struct Scan<C, U, M> {
+pub struct Scan<C, U, F> {
     results: Results<C, U>,
-    computation: M,
+    closure: F,
 }
 
-impl<C, U, M> Cold for Scan<C, U, M>
+impl<C, U, F> Cold for Scan<C, U, F>
 where
     C: Cold,
     U: FlowValue,
-    M: PairComputation<U, C::Item, U>,
+    F: Fn(U, C::Item) -> Result<U, ChainFault>,
 {
+    ghost use Rattle.flow_law.specs.declared.chain.ChainFault.{ChainFault};
+
     type Item = U;
 
-    ghost sound = { λ s. C.sound (scanned s.results) × M.sound s.computation };
+    ghost Reading = { C.Reading × (U × C.Item → Result U ChainFault) };
 
-    ghost whole = { λ s. gives (initial_of s.results)
-        (scan_run (M.image s.computation) (initial_of s.results) (C.whole (scanned s.results))) };
+    ghost CanAsk = { λ s. C.CanAsk (scanned s.results) × F.IsAlwaysCallable s.closure };
 
-    ghost rest = { λ s. results_rest C.rest (M.image s.computation) s.results };
+    ghost Reads = { λ s m. C.Reads (scanned s.results) m.0 × ComputesPairs (F.post s.closure) m.1 };
+
+    ghost whole = { λ s m. gives (initial_of s.results)
+        (scan_run m.1 (initial_of s.results) (C.whole (scanned s.results) m.0)) };
+
+    ghost rest = { λ s m. results_rest (λ c. C.rest c m.0) m.1 s.results };
+
+    ghost most_asks = { λ s. most_results C.most_asks s.results };
+
+    ghost IsLimited = { C.IsLimited };
+
+    ghost limit = { C.limit + 1 };
 
     ghost IsOver = { λ s. is_over s.results ≡ true };
 
-    ghost AsksBehind = { λ old result new. AsksScanned C.rest old.results result new.results };
+    ghost AsksBehind = { λ old m result new. AsksScanned (λ c. C.rest c m.0) old.results result new.results };
 
     fn ask(&mut self) -> Asked<U> {
         match self.results.next() {
             Ok((last, item)) => {
-                let made = self.computation.compute(last, item);
+                let made = (self.closure)(last, item);
                 self.results.keep(made)
             }
             Err(asked) => asked,
@@ -49,29 +63,36 @@ where
     fn rewind(&mut self) {
         self.results.rewind();
     }
+
+    ghost limited = { λ l s. Prim.grind (arith, common_steps, C.limited l (scanned s.results)) };
 }
 
-impl<C, U, M> Scan<C, U, M>
+impl<C, U, F> Scan<C, U, F>
 where
     C: Cold,
     U: FlowValue,
-    M: PairComputation<U, C::Item, U>,
+    F: Fn(U, C::Item) -> Result<U, ChainFault>,
 {
-    /// The initial value is given without asking the upstream. A fault that the computation answers ends the chain.
-    pub fn new(upstream: C, initial: U, computation: M) -> Self
-        requires sound { C.sound upstream }
-        requires computes { M.sound computation }
-        ensures sound { ⟦<Scan<C, U, M> as Cold>⟧.sound result }
-        ensures whole { ⟦<Scan<C, U, M> as Cold>⟧.whole result
-            ≡ gives initial (scan_run (M.image computation) initial (C.whole upstream)) }
-        ensures meaning { meaning_of (⟦<Scan<C, U, M> as Cold>⟧.whole result)
-            ≡ scan_meaning (M.image computation) initial (meaning_of (C.whole upstream)) }
-        ensures rest { ⟦<Scan<C, U, M> as Cold>⟧.rest result
-            ≡ gives initial (scan_run (M.image computation) initial (C.rest upstream)) }
+    ghost use Rattle.flow_law.specs.declared.chain.ChainFault.{ChainFault};
+
+    /// The initial value is given without asking the upstream. A fault that the closure answers ends the chain.
+    pub fn new(upstream: C, initial: U, closure: F) -> Self
+        requires upstream { C.CanAsk upstream }
+        requires callable { F.IsAlwaysCallable closure }
+        ensures callable { ⟦<Scan<C, U, F> as Cold>⟧.CanAsk result }
+        ensures reads { (m : C.Reading) (f : U × C.Item → Result U ChainFault) → C.Reads upstream m
+            → ComputesPairs (F.post closure) f → ⟦<Scan<C, U, F> as Cold>⟧.Reads result (m, f) }
+        ensures whole { (m : C.Reading) (f : U × C.Item → Result U ChainFault)
+            → ⟦<Scan<C, U, F> as Cold>⟧.whole result (m, f) ≡ gives initial (scan_run f initial (C.whole upstream m)) }
+        ensures meaning { (m : C.Reading) (f : U × C.Item → Result U ChainFault)
+            → meaning_of (⟦<Scan<C, U, F> as Cold>⟧.whole result (m, f))
+            ≡ scan_meaning f initial (meaning_of (C.whole upstream m)) }
+        ensures rest { (m : C.Reading) (f : U × C.Item → Result U ChainFault)
+            → ⟦<Scan<C, U, F> as Cold>⟧.rest result (m, f) ≡ gives initial (scan_run f initial (C.rest upstream m)) }
     {
         Scan {
             results: Results::new(upstream, initial),
-            computation,
+            closure,
         }
     }
 }

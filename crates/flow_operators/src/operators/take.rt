@@ -1,5 +1,5 @@
 //! `take`: the first items.
-ghost use Rattle.std.specs.Prelude.{◌≡◌, ◌⊎◌, ◌↔◌, true, IfOk, IfErr};
+ghost use Rattle.std.specs.Prelude.{◌≡◌, ◌⊎◌, ◌<◌, ◌↔◌, true, IfOk, IfErr};
 ghost use Rattle.flow_law.specs.Chain.{take_meaning, meaning_of};
 ghost use Rattle.flow_operators.specs.Behind.{AsksOnce};
 ghost use Rattle.flow_operators.specs.Asking.{AskGives, IsFinal, OnEnd};
@@ -22,12 +22,15 @@ pub struct Take<C> {
 impl<C: Cold> Take<C> {
     /// A count of 0 is refused, and the chain is dropped.
     pub fn new(upstream: C, count: u64) -> Result<Self, ChainFault>
-        requires { C.sound upstream }
-        ensures sound { IfOk result ⟦<Take<C> as Cold>⟧.sound }
-        ensures whole { IfOk result (λ t. ⟦<Take<C> as Cold>⟧.whole t ≡ take_run count (C.whole upstream)) }
-        ensures meaning { IfOk result (λ t. meaning_of (⟦<Take<C> as Cold>⟧.whole t)
-            ≡ take_meaning count (meaning_of (C.whole upstream))) }
-        ensures rest { IfOk result (λ t. ⟦<Take<C> as Cold>⟧.rest t ≡ take_run count (C.rest upstream)) }
+        requires { C.CanAsk upstream }
+        ensures callable { IfOk result ⟦<Take<C> as Cold>⟧.CanAsk }
+        ensures reads { IfOk result (λ t. (m : C.Reading) → C.Reads upstream m → ⟦<Take<C> as Cold>⟧.Reads t m) }
+        ensures whole { IfOk result (λ t. (m : C.Reading) →
+            ⟦<Take<C> as Cold>⟧.whole t m ≡ take_run count (C.whole upstream m)) }
+        ensures meaning { IfOk result (λ t. (m : C.Reading) →
+            meaning_of (⟦<Take<C> as Cold>⟧.whole t m) ≡ take_meaning count (meaning_of (C.whole upstream m))) }
+        ensures rest { IfOk result (λ t. (m : C.Reading) →
+            ⟦<Take<C> as Cold>⟧.rest t m ≡ take_run count (C.rest upstream m)) }
         ensures left { IfOk result (λ t. items_left t ≡ count) }
         ensures refused { (result ≡ Err ChainFault.NotPositive) ↔ (count ≡ 0) }
         ensures otherwise { IfErr result (λ fault. fault ≡ ChainFault.NotPositive) }
@@ -46,28 +49,41 @@ impl<C: Cold> Take<C> {
 impl<C: Cold> Cold for Take<C> {
     type Item = C::Item;
 
-    ghost sound = { λ s. C.sound (chain_of s.upstream) };
+    ghost Reading = { C.Reading };
 
-    ghost whole = { λ s. take_run s.count (C.whole (chain_of s.upstream)) };
+    ghost CanAsk = { λ s. C.CanAsk (chain_of s.upstream) };
 
-    ghost rest = { λ s. take_run s.left (left_of C.rest s.upstream) };
+    ghost Reads = { λ s m. C.Reads (chain_of s.upstream) m };
+
+    ghost whole = { λ s m. take_run s.count (C.whole (chain_of s.upstream) m) };
+
+    ghost rest = { λ s m. take_run s.left (left_of (λ c. C.rest c m) s.upstream) };
+
+    ghost most_asks = { λ s. C.most_asks (chain_of s.upstream) };
+
+    ghost IsLimited = { C.IsLimited };
+
+    ghost limit = { C.limit };
 
     ghost IsOver = { λ s. (s.left ≡ 0) ⊎ (is_ended s.upstream ≡ true) };
 
-    ghost AsksBehind = { λ old result new.
-        AsksOnce (C.rest (chain_of old.upstream)) result (C.rest (chain_of new.upstream)) };
+    ghost AsksBehind = { λ old m result new.
+        AsksOnce (C.rest (chain_of old.upstream) m) result (C.rest (chain_of new.upstream) m) };
 
     // The trait's clauses, and how many items are left. After the last one the upstream is left as it is.
     fn ask(&mut self) -> Asked<C::Item>
-        requires { ⟦<Take<C> as Cold>⟧.sound self.old }
-        ensures sound { ⟦<Take<C> as Cold>⟧.sound self.new }
-        ensures whole { ⟦<Take<C> as Cold>⟧.whole self.new ≡ ⟦<Take<C> as Cold>⟧.whole self.old }
-        ensures gives { AskGives (⟦<Take<C> as Cold>⟧.rest self.old) result
-            (⟦<Take<C> as Cold>⟧.rest self.new) }
+        requires { ⟦<Take<C> as Cold>⟧.CanAsk self.old }
+        ensures callable { ⟦<Take<C> as Cold>⟧.CanAsk self.new }
+        ensures reads { (m : C.Reading) → ⟦<Take<C> as Cold>⟧.Reads self.old m → ⟦<Take<C> as Cold>⟧.Reads self.new m }
+        ensures whole { (m : C.Reading) → ⟦<Take<C> as Cold>⟧.whole self.new m ≡ ⟦<Take<C> as Cold>⟧.whole self.old m }
+        ensures gives { (m : C.Reading) → ⟦<Take<C> as Cold>⟧.Reads self.old m
+            → AskGives (⟦<Take<C> as Cold>⟧.rest self.old m) result (⟦<Take<C> as Cold>⟧.rest self.new m) }
+        ensures fewer { IsFinal result
+            ⊎ ⟦<Take<C> as Cold>⟧.most_asks self.new < ⟦<Take<C> as Cold>⟧.most_asks self.old }
         ensures over { IsFinal result → ⟦<Take<C> as Cold>⟧.IsOver self.new }
         ensures answered { OnEnd result (⟦<Take<C> as Cold>⟧.HasAnswered self.new) }
-        ensures behind { (¬ ⟦<Take<C> as Cold>⟧.IsOver self.old)
-            → ⟦<Take<C> as Cold>⟧.AsksBehind self.old result self.new }
+        ensures behind { (¬ ⟦<Take<C> as Cold>⟧.IsOver self.old) → (m : C.Reading)
+            → ⟦<Take<C> as Cold>⟧.Reads self.old m → ⟦<Take<C> as Cold>⟧.AsksBehind self.old m result self.new }
         ensures end { ⟦<Take<C> as Cold>⟧.IsOver self.old → (result ≡ Asked.End) × self.new ≡ self.old }
         ensures left { items_left self.new ≡ left_after result (items_left self.old) }
         ensures last { items_left self.old ≡ 0 → (result ≡ Asked.End) × self.new ≡ self.old }
@@ -88,4 +104,6 @@ impl<C: Cold> Cold for Take<C> {
         self.left = self.count;
         self.upstream.rewind();
     }
+
+    ghost limited = { λ l s. C.limited l (chain_of s.upstream) };
 }

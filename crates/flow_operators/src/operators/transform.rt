@@ -1,51 +1,63 @@
 //! `transform`: several items for each.
-ghost use Rattle.std.specs.Prelude.{◌≡◌, ◌∷◌, true, None, [], MatchOption};
+ghost use Rattle.std.specs.Prelude.{◌≡◌, ◌∷◌, ◌+◌, ◌*◌, ◌^◌, true, None, [], List, Result, MatchOption, length};
 ghost use Rattle.flow_law.specs.Chain.{transform_meaning, meaning_of};
 ghost use Rattle.flow_law.specs.OperatorRuns.{prepended, transform_run};
 ghost use Rattle.flow_operators.specs.Behind.{Leaves, after_transform, unless_empty};
 ghost use Rattle.flow_operators.specs.Kept.{unless_ended, images_left};
 ghost use Rattle.flow_operators.specs.Upstreams.{chain_of, is_ended};
-ghost use Rattle.flow_operators.specs.Closures.{ComputesBy};
+ghost use Rattle.flow_operators.specs.Closures.{ComputesBy, FollowsBy};
+ghost use Rattle.std.proofs.Common.{arith};
+ghost use Rattle.std.proofs.lemmas.Grind.{common_steps};
 
 use crate::cold::{Asked, Cold};
-use crate::meaning::ListMeaning;
 use crate::upstream::Upstream;
-use crate::with_meaning::WithMeaning;
 use flow_law::{ChainFault, FlowValue};
 
 /// Gives the items of the list that a closure makes of each item.
 #[derive(Drop)]
-pub struct Transform<C, U: FlowValue, M, F> {
+pub struct Transform<C, U: FlowValue, F> {
     upstream: Upstream<C>,
     images: Option<Vec<U>>,
-    given: WithMeaning<M, F>,
+    closure: F,
 }
 
-impl<C, U, M, F> Cold for Transform<C, U, M, F>
+impl<C, U, F> Cold for Transform<C, U, F>
 where
     C: Cold,
     U: FlowValue,
-    M: ListMeaning<C::Item, U>,
     F: Fn(C::Item) -> Result<Vec<U>, ChainFault>,
 {
+    ghost use Rattle.flow_law.specs.declared.chain.ChainFault.{ChainFault};
+
     type Item = U;
 
-    ghost sound = { λ s. C.sound (chain_of s.upstream)
-        × F.IsAlwaysCallable s.given.closure
-        × ComputesBy (λ v. v.items) (F.post s.given.closure) (M.images s.given.meaning) };
+    ghost Reading = { C.Reading × (C.Item → Result (List U) ChainFault) };
 
-    ghost whole = { λ s. transform_run (M.images s.given.meaning) (C.whole (chain_of s.upstream)) };
+    ghost CanAsk = { λ s. C.CanAsk (chain_of s.upstream) × F.IsAlwaysCallable s.closure };
 
-    ghost rest = { λ s. unless_ended (is_ended s.upstream)
+    ghost Reads = { λ s m. C.Reads (chain_of s.upstream) m.0
+        × ComputesBy (λ v. v.items) (F.post s.closure) m.1 };
+
+    ghost whole = { λ s m. transform_run m.1 (C.whole (chain_of s.upstream) m.0) };
+
+    ghost rest = { λ s m. unless_ended (is_ended s.upstream)
         (prepended (images_left (λ v. v.items) s.images)
-        (transform_run (M.images s.given.meaning) (C.rest (chain_of s.upstream)))) };
+        (transform_run m.1 (C.rest (chain_of s.upstream) m.0))) };
+
+    // A list has fewer than 2 ^ 64 items.
+    ghost most_asks = { λ s. C.most_asks (chain_of s.upstream) * 2 ^ 64
+        + length (images_left (λ v. v.items) s.images) };
+
+    ghost IsLimited = { C.IsLimited };
+
+    ghost limit = { C.limit * 2 ^ 64 + 2 ^ 64 };
 
     ghost IsOver = { λ s. is_ended s.upstream ≡ true };
 
-    ghost AsksBehind = { λ old result new.
-        Leaves (unless_empty (images_left (λ v. v.items) old.images) (C.rest (chain_of old.upstream))
-        (after_transform (M.images old.given.meaning) (C.rest (chain_of old.upstream))))
-        result (C.rest (chain_of new.upstream)) };
+    ghost AsksBehind = { λ old m result new.
+        Leaves (unless_empty (images_left (λ v. v.items) old.images) (C.rest (chain_of old.upstream) m.0)
+        (after_transform m.1 (C.rest (chain_of old.upstream) m.0)))
+        result (C.rest (chain_of new.upstream) m.0) };
 
     fn ask(&mut self) -> Asked<U> {
         if self.upstream.ended {
@@ -56,7 +68,7 @@ where
                 return Asked::Item(item);
             }
             match self.upstream.next() {
-                Ok(item) => match self.given.images(item) {
+                Ok(item) => match images_of(&self.closure, item) {
                     Ok(mut images) => {
                         images.reverse();
                         self.images = Some(images);
@@ -72,6 +84,8 @@ where
         self.images = None;
         self.upstream.rewind();
     }
+
+    ghost limited = { λ l s. Prim.grind (arith, common_steps, C.limited l (chain_of s.upstream)) };
 }
 
 /// Takes the next image off those that are kept in reverse.
@@ -86,31 +100,45 @@ fn next_image<U: FlowValue>(images: &mut Option<Vec<U>>) -> Option<U>
     Some(image)
 }
 
-impl<C, U, M, F> Transform<C, U, M, F>
+/// Makes the list of an item's images, which is what each function that the closure computes says of it.
+fn images_of<A, U, F>(closure: &F, item: A) -> Result<Vec<U>, ChainFault>
+where
+    U: FlowValue,
+    F: Fn(A) -> Result<Vec<U>, ChainFault>,
+    requires { F.IsAlwaysCallable closure.now }
+    ensures { (f : A → Result (List U) ChainFault) → ComputesBy (λ v. v.items) (F.post closure.now) f
+        → FollowsBy (λ v. v.items) (f item) result }
+{
+    closure(item)
+}
+
+impl<C, U, F> Transform<C, U, F>
 where
     C: Cold,
     U: FlowValue,
-    M: ListMeaning<C::Item, U>,
     F: Fn(C::Item) -> Result<Vec<U>, ChainFault>,
 {
-    /// A fault that the closure answers ends the chain; of that item nothing is given. `meaning` is for contracts:
-    /// its type says which list the closure makes.
-    pub fn new(upstream: C, meaning: M, closure: F) -> Self
-        requires sound { C.sound upstream }
+    ghost use Rattle.flow_law.specs.declared.chain.ChainFault.{ChainFault};
+
+    /// A fault that the closure answers ends the chain; of that item nothing is given.
+    pub fn new(upstream: C, closure: F) -> Self
+        requires upstream { C.CanAsk upstream }
         requires callable { F.IsAlwaysCallable closure }
-        requires computes { ComputesBy (λ v. v.items) (F.post closure) (M.images meaning) }
-        ensures sound { ⟦<Transform<C, U, M, F> as Cold>⟧.sound result }
-        ensures whole { ⟦<Transform<C, U, M, F> as Cold>⟧.whole result
-            ≡ transform_run (M.images meaning) (C.whole upstream) }
-        ensures meaning { meaning_of (⟦<Transform<C, U, M, F> as Cold>⟧.whole result)
-            ≡ transform_meaning (M.images meaning) (meaning_of (C.whole upstream)) }
-        ensures rest { ⟦<Transform<C, U, M, F> as Cold>⟧.rest result
-            ≡ transform_run (M.images meaning) (C.rest upstream) }
+        ensures callable { ⟦<Transform<C, U, F> as Cold>⟧.CanAsk result }
+        ensures reads { (m : C.Reading) (f : C.Item → Result (List U) ChainFault) → C.Reads upstream m
+            → ComputesBy (λ v. v.items) (F.post closure) f → ⟦<Transform<C, U, F> as Cold>⟧.Reads result (m, f) }
+        ensures whole { (m : C.Reading) (f : C.Item → Result (List U) ChainFault)
+            → ⟦<Transform<C, U, F> as Cold>⟧.whole result (m, f) ≡ transform_run f (C.whole upstream m) }
+        ensures meaning { (m : C.Reading) (f : C.Item → Result (List U) ChainFault)
+            → meaning_of (⟦<Transform<C, U, F> as Cold>⟧.whole result (m, f))
+            ≡ transform_meaning f (meaning_of (C.whole upstream m)) }
+        ensures rest { (m : C.Reading) (f : C.Item → Result (List U) ChainFault)
+            → ⟦<Transform<C, U, F> as Cold>⟧.rest result (m, f) ≡ transform_run f (C.rest upstream m) }
     {
         Transform {
             upstream: Upstream::new(upstream),
             images: None,
-            given: WithMeaning { meaning, closure },
+            closure,
         }
     }
 }

@@ -1,51 +1,64 @@
 //! `zip`: pairs of two chains.
-ghost use Rattle.std.specs.Prelude.{◌≡◌, true};
+ghost use Rattle.std.specs.Prelude.{◌≡◌, ◌+◌, true, Result};
 ghost use Rattle.flow_law.specs.Chain.{zip_meaning, meaning_of};
 ghost use Rattle.flow_law.specs.OperatorRuns.{zip_run};
-ghost use Rattle.flow_operators.specs.Pairs.{AsksSides, is_over, left_chain, pairs_rest, right_chain};
+ghost use Rattle.flow_operators.specs.Closures.{ComputesPairs};
+ghost use Rattle.flow_operators.specs.Pairs.{AsksSides, is_over, left_chain, most_pairs, pairs_rest, right_chain};
+ghost use Rattle.std.proofs.Common.{arith};
 
 use crate::cold::{Asked, Cold};
-use crate::computation::PairComputation;
 use crate::operators::pairs::Pairs;
-use flow_law::FlowValue;
-use std::marker::PhantomData;
+use flow_law::{ChainFault, FlowValue};
 
-/// Gives what a computation makes of each pair, and ends as soon as one side does.
+/// Gives what a closure makes of each pair, and ends as soon as one side does.
 ///
 /// For each pair the left side is asked first. Where it pends, the right side is not asked; where the right side pends,
 /// the left item is kept.
 #[derive(Drop)]
-pub struct Zip<L: Cold, R, U, M> {
+pub struct Zip<L: Cold, R, F> {
     pairs: Pairs<L, R, L::Item>,
-    computation: M,
-    of: PhantomData<U>,
+    closure: F,
 }
 
-impl<L, R, U, M> Cold for Zip<L, R, U, M>
+impl<L, R, U, F> Cold for Zip<L, R, F>
 where
     L: Cold,
     R: Cold,
     U: FlowValue,
-    M: PairComputation<L::Item, R::Item, U>,
+    F: Fn(L::Item, R::Item) -> Result<U, ChainFault>,
 {
+    ghost use Rattle.flow_law.specs.declared.chain.ChainFault.{ChainFault};
+
     type Item = U;
 
-    ghost sound = { λ s.
-        L.sound (left_chain s.pairs) × R.sound (right_chain s.pairs) × M.sound s.computation };
+    ghost Reading = { (L.Reading × R.Reading) × (L.Item × R.Item → Result U ChainFault) };
 
-    ghost whole = { λ s. zip_run (M.image s.computation)
-        (L.whole (left_chain s.pairs)) (R.whole (right_chain s.pairs)) };
+    ghost CanAsk = { λ s.
+        L.CanAsk (left_chain s.pairs) × R.CanAsk (right_chain s.pairs) × F.IsAlwaysCallable s.closure };
 
-    ghost rest = { λ s. pairs_rest L.rest R.rest (M.image s.computation) s.pairs };
+    ghost Reads = { λ s m. (L.Reads (left_chain s.pairs) m.0.0 × R.Reads (right_chain s.pairs) m.0.1)
+        × ComputesPairs (F.post s.closure) m.1 };
+
+    ghost whole = { λ s m. zip_run m.1
+        (L.whole (left_chain s.pairs) m.0.0) (R.whole (right_chain s.pairs) m.0.1) };
+
+    ghost rest = { λ s m. pairs_rest (λ c. L.rest c m.0.0) (λ c. R.rest c m.0.1) m.1 s.pairs };
+
+    ghost most_asks = { λ s. most_pairs L.most_asks R.most_asks s.pairs };
+
+    ghost IsLimited = { L.IsLimited × R.IsLimited };
+
+    ghost limit = { L.limit + R.limit };
 
     ghost IsOver = { λ s. is_over s.pairs ≡ true };
 
-    ghost AsksBehind = { λ old result new. AsksSides L.rest R.rest old.pairs result new.pairs };
+    ghost AsksBehind = { λ old m result new.
+        AsksSides (λ c. L.rest c m.0.0) (λ c. R.rest c m.0.1) old.pairs result new.pairs };
 
     fn ask(&mut self) -> Asked<U> {
         match self.pairs.next() {
             Ok((left, right)) => {
-                let made = self.computation.compute(left, right);
+                let made = (self.closure)(left, right);
                 self.pairs.left.answer(made)
             }
             Err(asked) => asked,
@@ -55,32 +68,38 @@ where
     fn rewind(&mut self) {
         self.pairs.rewind();
     }
+
+    ghost limited = { λ l s. Prim.omega (arith, L.limited l.0 (left_chain s.pairs), R.limited l.1 (right_chain s.pairs)) };
 }
 
-impl<L, R, U, M> Zip<L, R, U, M>
+impl<L, R, U, F> Zip<L, R, F>
 where
     L: Cold,
     R: Cold,
     U: FlowValue,
-    M: PairComputation<L::Item, R::Item, U>,
+    F: Fn(L::Item, R::Item) -> Result<U, ChainFault>,
 {
-    /// A fault that the computation answers ends the chain.
-    pub fn new(left: L, right: R, computation: M) -> Self
-        requires left { L.sound left }
-        requires right { R.sound right }
-        requires computes { M.sound computation }
-        ensures sound { ⟦<Zip<L, R, U, M> as Cold>⟧.sound result }
-        ensures whole { ⟦<Zip<L, R, U, M> as Cold>⟧.whole result
-            ≡ zip_run (M.image computation) (L.whole left) (R.whole right) }
-        ensures meaning { meaning_of (⟦<Zip<L, R, U, M> as Cold>⟧.whole result)
-            ≡ zip_meaning (M.image computation) (meaning_of (L.whole left)) (meaning_of (R.whole right)) }
-        ensures rest { ⟦<Zip<L, R, U, M> as Cold>⟧.rest result
-            ≡ zip_run (M.image computation) (L.rest left) (R.rest right) }
+    ghost use Rattle.flow_law.specs.declared.chain.ChainFault.{ChainFault};
+
+    /// A fault that the closure answers ends the chain.
+    pub fn new(left: L, right: R, closure: F) -> Self
+        requires left { L.CanAsk left }
+        requires right { R.CanAsk right }
+        requires callable { F.IsAlwaysCallable closure }
+        ensures callable { ⟦<Zip<L, R, F> as Cold>⟧.CanAsk result }
+        ensures reads { (m : L.Reading) (n : R.Reading) (f : L.Item × R.Item → Result U ChainFault) → L.Reads left m
+            → R.Reads right n → ComputesPairs (F.post closure) f → ⟦<Zip<L, R, F> as Cold>⟧.Reads result ((m, n), f) }
+        ensures whole { (m : L.Reading) (n : R.Reading) (f : L.Item × R.Item → Result U ChainFault)
+            → ⟦<Zip<L, R, F> as Cold>⟧.whole result ((m, n), f) ≡ zip_run f (L.whole left m) (R.whole right n) }
+        ensures meaning { (m : L.Reading) (n : R.Reading) (f : L.Item × R.Item → Result U ChainFault)
+            → meaning_of (⟦<Zip<L, R, F> as Cold>⟧.whole result ((m, n), f))
+            ≡ zip_meaning f (meaning_of (L.whole left m)) (meaning_of (R.whole right n)) }
+        ensures rest { (m : L.Reading) (n : R.Reading) (f : L.Item × R.Item → Result U ChainFault)
+            → ⟦<Zip<L, R, F> as Cold>⟧.rest result ((m, n), f) ≡ zip_run f (L.rest left m) (R.rest right n) }
     {
         Zip {
             pairs: Pairs::new(left, right),
-            computation,
-            of: PhantomData,
+            closure,
         }
     }
 }

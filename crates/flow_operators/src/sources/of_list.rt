@@ -1,6 +1,7 @@
 //! A list as a chain.
-ghost use Rattle.std.specs.Prelude.{◌≡◌, ◌≤◌, drop, length, ⊤};
+ghost use Rattle.std.specs.Prelude.{◌≡◌, ◌≤◌, ◌-◌, ◌^◌, drop, length, ⊤};
 ghost use Rattle.flow_law.specs.ChainRun.{ChainRun, list_run};
+ghost use Rattle.std.proofs.Common.{arith};
 
 use crate::cold::{Asked, Cold};
 use flow_law::{ChainFault, FlowValue};
@@ -16,8 +17,10 @@ pub struct OfList<T, A: Allocator = Global> {
 impl<T: FlowValue, A: Allocator> OfList<T, A> {
     /// Each item is copied as it is given, so the list can be given again.
     pub fn new(items: Vec<T, A>) -> Self
-        ensures whole { ⟦<OfList<T, A> as Cold>⟧.whole result ≡ list_run items.items }
-        ensures rest { ⟦<OfList<T, A> as Cold>⟧.rest result ≡ list_run items.items }
+        ensures callable { ⟦<OfList<T, A> as Cold>⟧.CanAsk result }
+        ensures reads { ⟦<OfList<T, A> as Cold>⟧.Reads result tt }
+        ensures whole { ⟦<OfList<T, A> as Cold>⟧.whole result tt ≡ list_run items.items }
+        ensures rest { ⟦<OfList<T, A> as Cold>⟧.rest result tt ≡ list_run items.items }
     {
         OfList { items, at: 0 }
     }
@@ -26,13 +29,25 @@ impl<T: FlowValue, A: Allocator> OfList<T, A> {
 impl<T: FlowValue, A: Allocator> Cold for OfList<T, A> {
     type Item = T;
 
-    ghost sound = { λ _. ⊤ };
+    ghost Reading = { ⊤ };
 
-    ghost whole = { λ s. list_run s.items.items };
+    ghost CanAsk = { λ _. ⊤ };
 
-    ghost rest = { λ s. list_run (drop s.at s.items.items) };
+    ghost Reads = { λ _ _. ⊤ };
+
+    ghost whole = { λ s _. list_run s.items.items };
+
+    ghost rest = { λ s _. list_run (drop s.at s.items.items) };
+
+    ghost most_asks = { λ s. length s.items.items - s.at };
+
+    ghost IsLimited = { ⊤ };
+
+    ghost limit = { 2 ^ 64 };
 
     ghost IsOver = { λ s. length s.items.items ≤ s.at };
+
+    ghost AsksBehind = { λ _ _ _ _. ⊤ };
 
     fn ask(&mut self) -> Asked<T> {
         if self.at >= self.items.len() {
@@ -53,4 +68,6 @@ impl<T: FlowValue, A: Allocator> Cold for OfList<T, A> {
     fn rewind(&mut self) {
         self.at = 0;
     }
+
+    ghost limited = { λ _ s. Prim.omega (arith, s.items.ok.0) };
 }

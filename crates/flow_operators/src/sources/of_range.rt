@@ -1,7 +1,8 @@
 //! A range of whole numbers as a chain.
-ghost use Rattle.std.specs.Prelude.{◌≡◌, true, ⊤};
+ghost use Rattle.std.specs.Prelude.{◌≡◌, ◌^◌, min, true, ⊤};
 ghost use Rattle.flow_operators.specs.Kept.{unless_ended};
-ghost use Rattle.flow_operators.specs.Sources.{range_run};
+ghost use Rattle.flow_operators.specs.Sources.{range_run, span_left};
+ghost use Rattle.std.proofs.Common.{arith};
 
 use crate::cold::{Asked, Cold};
 
@@ -17,8 +18,10 @@ pub struct OfRange {
 impl OfRange {
     /// No number is kept but the next.
     pub fn new(first: i64, last: i64) -> Self
-        ensures whole { ⟦<OfRange as Cold>⟧.whole result ≡ range_run first last }
-        ensures rest { ⟦<OfRange as Cold>⟧.rest result ≡ range_run first last }
+        ensures callable { ⟦<OfRange as Cold>⟧.CanAsk result }
+        ensures reads { ⟦<OfRange as Cold>⟧.Reads result tt }
+        ensures whole { ⟦<OfRange as Cold>⟧.whole result tt ≡ range_run first last }
+        ensures rest { ⟦<OfRange as Cold>⟧.rest result tt ≡ range_run first last }
     {
         OfRange {
             first,
@@ -32,13 +35,26 @@ impl OfRange {
 impl Cold for OfRange {
     type Item = i64;
 
-    ghost sound = { λ _. ⊤ };
+    ghost Reading = { ⊤ };
 
-    ghost whole = { λ s. range_run s.first s.last };
+    ghost CanAsk = { λ _. ⊤ };
 
-    ghost rest = { λ s. unless_ended s.ended (range_run s.next s.last) };
+    ghost Reads = { λ _ _. ⊤ };
+
+    ghost whole = { λ s _. range_run s.first s.last };
+
+    ghost rest = { λ s _. unless_ended s.ended (range_run s.next s.last) };
+
+    // The numbers of 64 bits are so many; the code knows that its own are among them.
+    ghost most_asks = { λ s. min (span_left s.ended s.next s.last) (2 ^ 64) };
+
+    ghost IsLimited = { ⊤ };
+
+    ghost limit = { 2 ^ 64 };
 
     ghost IsOver = { λ s. s.ended ≡ true };
+
+    ghost AsksBehind = { λ _ _ _ _. ⊤ };
 
     fn ask(&mut self) -> Asked<i64> {
         if self.ended {
@@ -61,4 +77,6 @@ impl Cold for OfRange {
         self.ended = false;
         self.next = self.first;
     }
+
+    ghost limited = { λ _ s. Prim.omega arith };
 }

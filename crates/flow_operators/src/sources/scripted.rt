@@ -1,5 +1,6 @@
 //! A scripted source.
-ghost use Rattle.std.specs.Prelude.{◌≡◌, ◌≤◌, drop, length, ⊤};
+ghost use Rattle.std.specs.Prelude.{◌≡◌, ◌≤◌, ◌-◌, ◌^◌, drop, length, ⊤};
+ghost use Rattle.std.proofs.Common.{arith};
 
 use crate::cold::{Asked, Cold};
 use flow_law::{ChainFault, FlowValue};
@@ -27,8 +28,10 @@ impl<T: FlowValue, A: Allocator> Scripted<T, A> {
 
     /// Each item is copied as it is given. Entries after the first fault are never reached.
     pub fn new(entries: Vec<Entry<T>, A>) -> Self
-        ensures whole { ⟦<Scripted<T, A> as Cold>⟧.whole result ≡ scripted_run entries.items }
-        ensures rest { ⟦<Scripted<T, A> as Cold>⟧.rest result ≡ scripted_run entries.items }
+        ensures callable { ⟦<Scripted<T, A> as Cold>⟧.CanAsk result }
+        ensures reads { ⟦<Scripted<T, A> as Cold>⟧.Reads result tt }
+        ensures whole { ⟦<Scripted<T, A> as Cold>⟧.whole result tt ≡ scripted_run entries.items }
+        ensures rest { ⟦<Scripted<T, A> as Cold>⟧.rest result tt ≡ scripted_run entries.items }
     {
         Scripted { entries, at: 0 }
     }
@@ -39,13 +42,25 @@ impl<T: FlowValue, A: Allocator> Cold for Scripted<T, A> {
 
     type Item = T;
 
-    ghost sound = { λ _. ⊤ };
+    ghost Reading = { ⊤ };
 
-    ghost whole = { λ s. scripted_run s.entries.items };
+    ghost CanAsk = { λ _. ⊤ };
 
-    ghost rest = { λ s. scripted_run (drop s.at s.entries.items) };
+    ghost Reads = { λ _ _. ⊤ };
+
+    ghost whole = { λ s _. scripted_run s.entries.items };
+
+    ghost rest = { λ s _. scripted_run (drop s.at s.entries.items) };
+
+    ghost most_asks = { λ s. length s.entries.items - s.at };
+
+    ghost IsLimited = { ⊤ };
+
+    ghost limit = { 2 ^ 64 };
 
     ghost IsOver = { λ s. length s.entries.items ≤ s.at };
+
+    ghost AsksBehind = { λ _ _ _ _. ⊤ };
 
     fn ask(&mut self) -> Asked<T> {
         if self.at >= self.entries.len() {
@@ -77,4 +92,6 @@ impl<T: FlowValue, A: Allocator> Cold for Scripted<T, A> {
     fn rewind(&mut self) {
         self.at = 0;
     }
+
+    ghost limited = { λ _ s. Prim.omega (arith, s.entries.ok.0) };
 }

@@ -1,9 +1,10 @@
 //! How often a chain is asked.
+ghost use Rattle.std.specs.Prelude.{⊤};
 
 use crate::chains::gives::{COLLECTIONS, begins_with};
-use crate::chains::operators::Add;
+use crate::chains::operators::sum;
 use crate::compare::compare;
-use flow_cold::{Asked, Chain, Cold, OfRange};
+use flow_cold::{Asked, Chain, Cold, OfRange, law_asks_left};
 use std::cell::Cell;
 
 /// Counts how often a chain is asked.
@@ -16,13 +17,25 @@ struct Counted<'a, C> {
 impl<'a, C: Cold> Cold for Counted<'a, C> {
     type Item = C::Item;
 
-    ghost sound = { λ s. C.sound s.chain };
+    ghost Reading = { C.Reading };
 
-    ghost whole = { λ s. C.whole s.chain };
+    ghost CanAsk = { λ s. C.CanAsk s.chain };
 
-    ghost rest = { λ s. C.rest s.chain };
+    ghost Reads = { λ s m. C.Reads s.chain m };
+
+    ghost whole = { λ s m. C.whole s.chain m };
+
+    ghost rest = { λ s m. C.rest s.chain m };
+
+    ghost most_asks = { λ s. C.most_asks s.chain };
+
+    ghost IsLimited = { C.IsLimited };
+
+    ghost limit = { C.limit };
 
     ghost IsOver = { λ s. C.IsOver s.chain };
+
+    ghost AsksBehind = { λ _ _ _ _. ⊤ };
 
     fn ask(&mut self) -> Asked<C::Item> {
         self.asks.set(self.asks.get().saturating_add(1));
@@ -32,6 +45,8 @@ impl<'a, C: Cold> Cold for Counted<'a, C> {
     fn rewind(&mut self) {
         self.chain.rewind();
     }
+
+    ghost limited = { λ l s. C.limited l s.chain };
 }
 
 /// The scan gives its initial value without asking, and nothing is asked after the last item of a take.
@@ -48,6 +63,11 @@ fn a_take_asks_no_more_than_it_gives(rt: HostRuntime) {
         chain: OfRange::new(1, 5),
         asks: &asks,
     };
-    begins_with(&rt, rt.alloc(), 1, counted.scan_by(0, Add), 3, &[0, 1, 3]);
+    begins_with(&rt, rt.alloc(), 1, counted.scan(0, sum), 3, &[0, 1, 3]);
     compare(&rt, 1, asks.get(), 2 * COLLECTIONS);
+}
+
+#[test]
+fn the_law_of_asks_holds_of_whole_numbers() {
+    law_asks_left::<i64>();
 }

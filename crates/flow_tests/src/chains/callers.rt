@@ -1,30 +1,32 @@
-//! A caller, from a list to what was collected.
-ghost use Rattle.std.specs.Prelude.{◌≡◌, ◌+ℤ◌, IfOk, IfErr};
+//! Callers, from a list or a range to what was collected. Each answers in `proofs/` which functions its closures compute.
+ghost use Rattle.std.specs.Prelude.{◌≡◌, ◌+ℤ◌, ◌*ℤ◌, pos, IfOk, IfErr};
 ghost use Rattle.flow_law.specs.ChainRun.{Collects, list_run};
-ghost use Rattle.flow_law.specs.OperatorRuns.{map_run};
+ghost use Rattle.flow_law.specs.OperatorRuns.{filter_run, map_run, take_run};
 ghost use Rattle.flow_cold.specs.Numbers.{ranged};
+ghost use Rattle.flow_operators.specs.Numbers.{is_even};
+ghost use Rattle.flow_operators.specs.Sources.{range_run};
 
-use flow_cold::{Chain, ChainFault, Collected, ItemMeaning, OfList, collect_all};
+use flow_cold::{Chain, ChainFault, Collected, OfList, OfRange, collect_all};
 use std::alloc::Global;
-
-/// Adds `k`.
-#[derive(Drop)]
-pub struct Plus {
-    k: i64,
-}
-
-impl ItemMeaning<i64, i64> for Plus {
-    ghost image = { λ s x. ranged (x +ℤ s.k) };
-}
 
 /// The items, each plus `k`, up to the first sum that is out of range.
 pub fn collect_plus(alloc: Global, items: Vec<i64>, k: i64) -> Result<Collected<i64>, ChainFault>
     ensures collects { IfOk result (λ r. Collects (map_run (λ x. ranged (x +ℤ k)) (list_run items.items)) r.items.items r.end) }
     ensures memory { IfErr result (λ fault. fault ≡ ChainFault.OutOfMemory) }
 {
-    let mut chain = OfList::new(items).map(Plus { k }, |x: i64| match x.checked_add(k) {
-        Some(sum) => Ok(sum),
-        None => Err(ChainFault::Overflow),
-    });
-    collect_all(alloc, &mut chain)
+    let mut chain = OfList::new(items).map(|x| x.checked_add(k).ok_or(ChainFault::Overflow));
+    Ok(collect_all(alloc, &mut chain)?)
+}
+
+/// The first three even numbers from 1 to `last`, times `k`.
+pub fn even_times(alloc: Global, last: i64, k: i64) -> Result<Collected<i64>, ChainFault>
+    ensures { IfOk result (λ r. Collects
+        (take_run 3 (map_run (λ x. ranged (x *ℤ k)) (filter_run is_even (range_run (pos 1) last))))
+        r.items.items r.end) }
+{
+    let mut chain = OfRange::new(1, last)
+        .filter(|x| x % 2 == 0)
+        .map(|x| x.checked_mul(k).ok_or(ChainFault::Overflow))
+        .take(3)?;
+    Ok(collect_all(alloc, &mut chain)?)
 }

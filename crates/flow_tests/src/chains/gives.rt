@@ -16,7 +16,7 @@ pub fn gives<C: Cold<Item = i64>>(
     items: &[i64],
     end: End,
 )
-    requires { C.sound chain }
+    requires { C.CanAsk chain }
 {
     let mut chain = chain;
     gives_once(rt, alloc, place, &mut chain, items, end);
@@ -32,8 +32,8 @@ pub fn gives_once<C: Cold<Item = i64>>(
     items: &[i64],
     end: End,
 )
-    requires { C.sound chain.old }
-    ensures { C.sound chain.new }
+    requires { C.CanAsk chain.old }
+    ensures { C.CanAsk chain.new }
 {
     let got = collect_all(alloc, chain).expect(rt, "memory");
     compare(rt, place, got.items.as_slice(), items);
@@ -49,7 +49,7 @@ pub fn begins_with<C: Cold<Item = i64>>(
     count: u64,
     items: &[i64],
 )
-    requires { C.sound chain }
+    requires { C.CanAsk chain }
 {
     let first = chain.take(count).expect(rt, "a take");
     gives(rt, alloc, place, first, items, End::Completed);

@@ -16,8 +16,8 @@ fn gives<'a, C: Cold<Item = CopyLimited<'a>>>(
     numbers: &[i64],
     end: End,
 )
-    requires { C.sound chain.old }
-    ensures { C.sound chain.new }
+    requires { C.CanAsk chain.old }
+    ensures { C.CanAsk chain.new }
 {
     let Ok(got) = collect_all(alloc, chain) else {
         panic!(rt; "memory")

@@ -1,14 +1,12 @@
 //! Chains that want memory: those whose closures take it, and those that are built at run time. After a refusal a collection
 //! gives all.
-ghost use Rattle.std.specs.Prelude.{◌≡◌};
-ghost use Rattle.flow_tests.specs.Meanings.{GivesTwice, OpensTwice};
 
 use crate::chains::gives::gives_once;
-use crate::chains::operators::{Twice, TwiceRun, listed, opened};
+use crate::chains::operators::{listed, opened};
 use crate::compare::compare;
 use flow_cold::{
-    Arithmetic, ChainFault, Cold, Collected, End, FlatMapConcat, OfRange, Op, ScriptChain,
-    Scripted, Source, Transform, collect_all,
+    Arithmetic, Chain, ChainFault, Cold, Collected, End, OfRange, Op, ScriptChain, Scripted,
+    Source, collect_all,
 };
 use std::alloc::Global;
 use std::cell::Cell;
@@ -21,18 +19,14 @@ fn refuses(calls: &Cell<u64>) -> bool {
     left == 1
 }
 
-fn listed_unless(alloc: Global, calls: &Cell<u64>, x: i64) -> Result<Vec<i64>, ChainFault>
-    ensures { GivesTwice x result }
-{
+fn listed_unless(alloc: Global, calls: &Cell<u64>, x: i64) -> Result<Vec<i64>, ChainFault> {
     if refuses(calls) {
         return Err(ChainFault::OutOfMemory);
     }
     listed(alloc, x)
 }
 
-fn opened_unless(alloc: Global, calls: &Cell<u64>, x: i64) -> Result<Scripted<i64>, ChainFault>
-    ensures { OpensTwice x result }
-{
+fn opened_unless(alloc: Global, calls: &Cell<u64>, x: i64) -> Result<Scripted<i64>, ChainFault> {
     if refuses(calls) {
         return Err(ChainFault::OutOfMemory);
     }
@@ -51,8 +45,8 @@ fn refused_at<C: Cold<Item = i64>>(
     call: u64,
     items: &[i64],
 )
-    requires { C.sound chain.old }
-    ensures { C.sound chain.new }
+    requires { C.CanAsk chain.old }
+    ensures { C.CanAsk chain.new }
 {
     calls.set(call);
     let end = End::Failed(ChainFault::OutOfMemory);
@@ -62,7 +56,7 @@ fn refused_at<C: Cold<Item = i64>>(
 
 /// Each of the three calls of the chain's closure is refused in turn.
 fn refused_at_each<C: Cold<Item = i64>>(rt: &impl Abort, alloc: Global, calls: &Cell<u64>, chain: C)
-    requires { C.sound chain }
+    requires { C.CanAsk chain }
 {
     let mut chain = chain;
     refused_at(rt, alloc, calls, &mut chain, 1, &[]);
@@ -74,8 +68,7 @@ fn refused_at_each<C: Cold<Item = i64>>(rt: &impl Abort, alloc: Global, calls: &
 fn a_refused_list_ends_a_chain(rt: HostRuntime) {
     let alloc = rt.alloc();
     let calls = Cell::new(0);
-    let twice = |x: i64| listed_unless(alloc, &calls, x);
-    let made = Transform::new(OfRange::new(1, 3), Twice, &twice);
+    let made = OfRange::new(1, 3).transform(|x| listed_unless(alloc, &calls, x));
     refused_at_each(&rt, alloc, &calls, made);
 }
 
@@ -83,8 +76,7 @@ fn a_refused_list_ends_a_chain(rt: HostRuntime) {
 fn a_refused_inner_chain_ends_a_chain(rt: HostRuntime) {
     let alloc = rt.alloc();
     let calls = Cell::new(0);
-    let twice = |x: i64| opened_unless(alloc, &calls, x);
-    let made = FlatMapConcat::new(OfRange::new(1, 3), TwiceRun, &twice);
+    let made = OfRange::new(1, 3).flat_map_concat(|x| opened_unless(alloc, &calls, x));
     refused_at_each(&rt, alloc, &calls, made);
 }
 
@@ -104,7 +96,7 @@ fn collected(alloc: Global) -> Result<Collected<i64>, ChainFault> {
 
 /// Where memory is refused it is built and collected once more. `rt try --test --fail-alloc N` refuses the allocation N.
 #[test]
-fn a_refused_chain_is_built_again(rt: HostRuntime) {
+fn a_chain_is_built(rt: HostRuntime) {
     let got = match collected(rt.alloc()) {
         Ok(got) => got,
         Err(fault) => {

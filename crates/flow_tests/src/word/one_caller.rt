@@ -24,7 +24,7 @@ fn made_again(rt: &impl Abort, alloc: Global) -> (WordState<i64>, WordSeat<i64>)
 }
 
 #[test]
-fn a_refused_flow_is_made_again(rt: HostRuntime) {
+fn a_word_state_is_made(rt: HostRuntime) {
     let (flow, mut seat) = made_again(&rt, rt.alloc());
     compare(&rt, 1, flow.value(&mut seat), 7);
 }
@@ -73,6 +73,8 @@ fn who_has_met_reads_what_the_other_one_set(rt: HostRuntime) {
     let received = flow.next(&mut subscription);
     compare(&rt, 2, received, Next::Value(flow.value(&mut other)));
     compare(&rt, 3, flow.value(&mut other), 4);
+    flow.seen_by_subscription(&mut subscription);
+    compare(&rt, 4, flow.next(&mut subscription), Next::Empty);
 }
 
 #[test]

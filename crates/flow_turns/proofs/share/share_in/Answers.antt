@@ -13,16 +13,17 @@ returns-in-Ok g c =
     let made = c.new-in-Ok-2.ensures in
     let T = g.row.C-Item.Denot in
     let Hub = CoreHub T g.row.A.Denot in
-    let hub = ap (λ (both : ChainAndHub T Hub). both.hub) made.chain in
+    let hub = made.hub in
     let P : ℕ → Core T → Type 0 = λ room core.
     let config : Config = record { replay = c.args.replay; extra = room - c.args.replay; overflow = Suspend; limit = c.args.limit } in
     (config_fault config ≡ None) × StandsFor core (first_state {T = T} config) in
     record {
       flow = subst (P _) (sym (ap core_of hub ∙ c.new-in-Ok.ensures.core)) (subst (λ room. P room c.in-Ok.core) c.max.ensures c.in-Ok.ensures);
       nothing = made.nothing;
-      sound = made.sound;
+      callable = made.callable;
+      reads = made.reads;
       state = made.state;
-      chain = made.chain ∙ ap (λ (h : Hub). record { whole = g.C.Cold.whole c.args.chain; rest = g.C.Cold.rest c.args.chain; hub = h }) (sym hub);
+      chain = λ m. made.chain m ∙ ap (λ (h : Hub). record { whole = g.C.Cold.whole c.args.chain m; rest = g.C.Cold.rest c.args.chain m; hub = h }) (sym hub);
       between = made.between;
       quiet = made.quiet;
     }
@@ -33,7 +34,8 @@ returns-in-Err g c =
     record {
       flow = (c.in-Err.fault, subst P c.max.ensures c.in-Err.ensures, refl);
       nothing = tt;
-      sound = tt;
+      callable = tt;
+      reads = tt;
       state = tt;
       chain = tt;
       between = tt;

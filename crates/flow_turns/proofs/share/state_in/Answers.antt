@@ -11,15 +11,16 @@ returns-in-Ok g c =
     let made = c.new-in-Ok.ensures in
     let T = g.row.C-Item.Denot in
     let Hub = StateHub T g.row.A.Denot in
-    let hub = ap (λ (both : ChainAndHub T Hub). both.hub) made.chain in
+    let hub = made.hub in
     record {
       refused = tt;
       flow = ap state_core_of hub ∙ c.new-hub.ensures.core ∙ c.new.ensures ∙ ap (first_state_flow c.args.limit) c.in-Ok.ensures.copy;
       initial = ap initial_of hub ∙ c.new-hub.ensures.initial;
       nothing = made.nothing;
-      sound = made.sound;
+      callable = made.callable;
+      reads = made.reads;
       state = made.state;
-      chain = made.chain ∙ ap (λ (h : Hub). record { whole = g.C.Cold.whole c.args.chain; rest = g.C.Cold.rest c.args.chain; hub = h }) (sym hub);
+      chain = λ m. made.chain m ∙ ap (λ (h : Hub). record { whole = g.C.Cold.whole c.args.chain m; rest = g.C.Cold.rest c.args.chain m; hub = h }) (sym hub);
       between = made.between;
       quiet = made.quiet;
     }
@@ -30,7 +31,8 @@ returns-in-Err g c = record {
   flow = tt;
   initial = tt;
   nothing = tt;
-  sound = tt;
+  callable = tt;
+  reads = tt;
   state = tt;
   chain = tt;
   between = tt;

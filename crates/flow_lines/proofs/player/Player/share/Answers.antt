@@ -22,9 +22,9 @@ returns c =
     let flow : EmittingFlow ℤ = record { flow = first_state (share_config c.args.replay c.args.limit); waiting = None } in
     let sharing = c.in_ok-sharing.sharing in
     let made = c.in_ok-sharing.ensures in
-    let is = made.chain ∙ ap (λ r. chained r (node_rest c.in_ok-chain.chain.node) sharing.hub) c.in_ok-chain.ensures.2 ∙ ap (λ r. chained built.run r sharing.hub) c.in_ok-chain.ensures.3 in
+    let is = made.chain tt ∙ ap (λ r. chained r (node_rest c.in_ok-chain.chain.node) sharing.hub) c.in_ok-chain.ensures.2 ∙ ap (λ r. chained built.run r sharing.hub) c.in_ok-chain.ensures.3 in
     let play = first_sharing built.run started flow in
-    let waits = none-waits (emission_of sharing.hub) (made.quiet (ap (λ (z : SharingState _). z.runs) made.state) (ap (λ (z : SharingState _). z.cancel_due) made.state)) in (
+    let waits = none-waits (emission_of sharing.hub) (made.quiet tt (ap (λ (z : SharingState _). z.runs) made.state) (ap (λ (z : SharingState _). z.cancel_due) made.state)) in (
       share play,
       ap (λ b. player_of (shared_chain b started c.args.replay c.args.limit)) c.in_ok-chain.ensures.1
           ∙ ap (λ o. option_map_or (λ fault. Err (share_fault_text (Flow fault))) o (Ok (share play))) made.flow.0,

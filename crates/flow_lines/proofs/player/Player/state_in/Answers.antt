@@ -19,7 +19,7 @@ returns c =
     let flow : StateAndInitial ℤ = record { flow = first; initial = c.args.initial } in
     let sharing = c.in_ok-sharing.sharing in
     let made = c.in_ok-sharing.ensures in
-    let is = made.chain ∙ ap (λ r. chained r (node_rest c.in_ok-chain.chain.node) sharing.hub) c.in_ok-chain.ensures.2 ∙ ap (λ r. chained built.run r sharing.hub) c.in_ok-chain.ensures.3 in
+    let is = made.chain tt ∙ ap (λ r. chained r (node_rest c.in_ok-chain.chain.node) sharing.hub) c.in_ok-chain.ensures.2 ∙ ap (λ r. chained built.run r sharing.hub) c.in_ok-chain.ensures.3 in
     let core = subst (λ v. state_core_of sharing.hub ≡ first_state_flow c.args.limit v) (to_z-of_z c.ranges.initial) made.flow in
     let initial = subst (λ v. initial_of sharing.hub ≡ v) (to_z-of_z c.ranges.initial) made.initial in
     let shown : state_flow_of sharing.hub ≡ flow =

@@ -1,26 +1,20 @@
-use Rattle.std.proofs.Common.{arith}
+use Rattle.std.proofs.Common.{arith, ◌∙◌}
 use Rattle.std.proofs.lemmas.Grind.{common_steps}
-use Rattle.flow_law.specs.declared.chain.End.TheVariants.{Completed}
-use Rattle.flow_operators.proofs.TerminalLemmas.{counted_ends, counted_fault}
+use Rattle.flow_operators.proofs.TerminalLemmas.{reaches-next}
 use Rattle.flow_operators.proofs.terminal.Terminal.count.Goals as goal
 
-pub returns-in-End-clause-counts : goal.returns-in-End-clause-counts
-returns-in-End-clause-counts g c = counted_ends (g.Self.Cold.whole c.args.self.now) _ c.loop-next.count Completed c.loop-next.invariant.fits c.loop-next.invariant.count c.loop-next.invariant.ending c.in-End.ensures.gives.0
-
-pub returns-in-Fault-clause-counts : goal.returns-in-Fault-clause-counts
-returns-in-Fault-clause-counts g c = counted_fault (g.Self.Cold.whole c.args.self.now) _ c.loop-next.count c.in-Fault.fault c.loop-next.invariant.fits c.loop-next.invariant.count c.loop-next.invariant.ending c.in-Fault.ensures.gives.0
-
-pub loop-next-preserved-after-ask : goal.loop-next-preserved-after-ask
-loop-next-preserved-after-ask g c = grind (arith, common_steps)
-
-pub loop-next-preserved : goal.loop-next-preserved
-loop-next-preserved g c = grind (arith, common_steps)
-
-pub loop-next-smaller-after-ask : goal.loop-next-smaller-after-ask
-loop-next-smaller-after-ask g c = grind (arith, common_steps)
-
-pub loop-next-smaller : goal.loop-next-smaller
-loop-next-smaller g c = grind (arith, common_steps)
-
-pub returns-in-None : goal.returns-in-None
-returns-in-None g c = grind (arith, common_steps)
+pub loop-next-preserved-in-Some-checked_add : goal.loop-next-preserved-in-Some-checked_add
+loop-next-preserved-in-Some-checked_add g c = record {
+  callable = c.next_item.ensures.callable;
+  reads = λ m r. c.next_item.ensures.reads m (c.loop-next.invariant.reads m r);
+  whole = λ m. c.next_item.ensures.whole m ∙ c.loop-next.invariant.whole m;
+  fits = grind (arith, common_steps);
+  count = λ m r.
+      let gives = rw c.in-Some.is at (c.in_ok-next_item.ensures.gives m (c.loop-next.invariant.reads m r)) in
+      let count = c.loop-next.invariant.count m r in
+      grind (arith, common_steps);
+  ending = λ m r.
+      let gives = rw c.in-Some.is at (c.in_ok-next_item.ensures.gives m (c.loop-next.invariant.reads m r)) in
+      c.loop-next.invariant.ending m r ∙ gives.1;
+  stands = λ m r. reaches-next c.in-Some.field-0 (g.Self.Cold.whole c.args.self.now m) (g.Self.Cold.rest c.loop-next.self m) (g.Self.Cold.rest c.next_item.new.chain m) (c.loop-next.invariant.stands m r) (rw c.in-Some.is at (c.in_ok-next_item.ensures.gives m (c.loop-next.invariant.reads m r)));
+}

@@ -1,15 +1,18 @@
 use Rattle.std.proofs.Common.{◌≡◌, ◌+◌, ◌<◌, ◌^◌, length}
-use Rattle.flow_law.specs.ChainRun.{items, ending, asks}
+use Rattle.flow_law.specs.ChainRun.{items, ending}
+use Rattle.flow_operators.specs.Collecting.{Reaches}
 use Rattle.flow_operators.proofs.terminal.Terminal.count.Given as goal
 
 abbrev pub invariant-loop-next : goal.invariant-loop-next
 invariant-loop-next g l = record {
-  sound : g.Self.Cold.sound l.self;
-  whole : g.Self.Cold.whole l.self ≡ g.Self.Cold.whole l.fn.self;
+  callable : g.Self.Cold.CanAsk l.self;
+  reads : (m : _) → g.Self.Cold.Reads l.fn.self m → g.Self.Cold.Reads l.self m;
+  whole : (m : _) → g.Self.Cold.whole l.self m ≡ g.Self.Cold.whole l.fn.self m;
   fits : l.count < 2 ^ 64;
-  count : length (items (g.Self.Cold.whole l.fn.self)) ≡ l.count + length (items (g.Self.Cold.rest l.self));
-  ending : ending (g.Self.Cold.whole l.fn.self) ≡ ending (g.Self.Cold.rest l.self);
+  count : (m : _) → g.Self.Cold.Reads l.fn.self m → length (items (g.Self.Cold.whole l.fn.self m)) ≡ l.count + length (items (g.Self.Cold.rest l.self m));
+  ending : (m : _) → g.Self.Cold.Reads l.fn.self m → ending (g.Self.Cold.whole l.fn.self m) ≡ ending (g.Self.Cold.rest l.self m);
+  stands : (m : _) → g.Self.Cold.Reads l.fn.self m → Reaches (g.Self.Cold.whole l.fn.self m) (g.Self.Cold.rest l.self m);
 }
 
 abbrev pub decreases-loop-next : goal.decreases-loop-next
-decreases-loop-next g l = asks (g.Self.Cold.rest l.self)
+decreases-loop-next g l = g.Self.Cold.most_asks l.self

@@ -1,6 +1,9 @@
-use Rattle.std.proofs.Common.{to_z-of_z}
+use Rattle.std.proofs.Common.{◌+ℤ◌, ℤ, rules}
+use Rattle.flow_cold.specs.Numbers.{ranged}
 use Rattle.flow_tests.proofs.chains.callers.collect_plus.Goals as goal
 
 pub returns-clause-collects : goal.returns-clause-collects
 returns-clause-collects c =
-    simp (to_z-of_z, c.ranges.k) at (rw (c.map-chain.ensures.whole, c.new.ensures.whole) at c.collect_all.ensures.collects)
+    let f = λ (x : ℤ). ranged (x +ℤ c.args.k) in
+    rw (c.map-chain.ensures.whole tt f, c.new.ensures.whole) at
+    (c.in_ok-collect_all.ensures.collects (tt, f) (c.map-chain.ensures.reads tt f c.new.ensures.reads (λ x r p. search rules)))

@@ -9,25 +9,25 @@ use Rattle.flow_turns.proofs.StepLemmas.{same-end, event-is-no-end, goes-on, pol
 use Rattle.flow_turns.proofs.sharing.Sharing.collect.Goals as goal
 
 pub returns-in-Err-clause-steps : goal.returns-in-Err-clause-steps
-returns-in-Err-clause-steps g c = λ command seen.
-    polls-hub _ _ _ _ command seen (state_of c.args.self.now) (chain_and_hub g.C.Cold.whole g.C.Cold.rest c.is_waiting.new.self) (Err c.in-Err.fault)
-    (sym c.is_running.ensures ∙ c.if-not-is_running.false) c.if-self.false c.in-Err.ensures.polls
+returns-in-Err-clause-steps g c = λ m r command seen.
+    polls-hub _ _ _ _ command seen (state_of c.args.self.now) (chain_and_hub (λ x. g.C.Cold.whole x m) (λ x. g.C.Cold.rest x m) c.is_waiting.new.self) (Err c.in-Err.fault)
+    (sym c.is_running.ensures ∙ c.if-not-is_running.false) c.if-self.false (c.in-Err.ensures.polls m)
     (same-end seen _ _ _ _ (ap (reported command) c.refusal_of.ensures) c.in-Err.ensures.state, refl)
 
 pub returns-then-waiting-clause-steps : goal.returns-then-waiting-clause-steps
-returns-then-waiting-clause-steps g c = λ command seen.
-    polls-hub _ _ _ _ command seen (state_of c.args.self.now) (chain_and_hub g.C.Cold.whole g.C.Cold.rest c.is_waiting.new.self) (Ok true)
-    (sym c.is_running.ensures ∙ c.if-not-is_running.false) c.if-self.false (rw c.if-waiting.true at c.in-Ok.ensures.polls)
+returns-then-waiting-clause-steps g c = λ m r command seen.
+    polls-hub _ _ _ _ command seen (state_of c.args.self.now) (chain_and_hub (λ x. g.C.Cold.whole x m) (λ x. g.C.Cold.rest x m) c.is_waiting.new.self) (Ok true)
+    (sym c.is_running.ensures ∙ c.if-not-is_running.false) c.if-self.false (rw c.if-waiting.true at (c.in-Ok.ensures.polls m))
     (same-end seen _ _ _ _ refl c.in-Ok.ensures.state, refl)
 
 pub returns-clause-steps : goal.returns-clause-steps
-returns-clause-steps g c = λ command seen.
+returns-clause-steps g c = λ m r command seen.
     let P : SharingState g.row.C-Item.Denot → Type 0 = λ s.
-    Takes (CallDoes (HubStep g.H.Hub.does g.H.Hub.waits)) (send command seen s.kept s) (chain_and_hub g.C.Cold.whole g.C.Cold.rest c.is_waiting.new.self)
-    (record { answer = reported command c.send.result; seen = seen; state = state_of c.send.new.self }) (chain_and_hub g.C.Cold.whole g.C.Cold.rest c.send.new.self) in
-    polls-hub _ _ _ _ command seen (state_of c.args.self.now) (chain_and_hub g.C.Cold.whole g.C.Cold.rest c.is_waiting.new.self) (Ok false)
-    (sym c.is_running.ensures ∙ c.if-not-is_running.false) c.if-self.false (rw c.if-waiting.false at c.in-Ok.ensures.polls)
-    (subst P c.in-Ok.ensures.state (c.send.ensures.steps command seen))
+    Takes (CallDoes (HubStep g.H.Hub.does g.H.Hub.waits)) (send command seen s.kept s) (chain_and_hub (λ x. g.C.Cold.whole x m) (λ x. g.C.Cold.rest x m) c.is_waiting.new.self)
+    (record { answer = reported command c.send.result; seen = seen; state = state_of c.send.new.self }) (chain_and_hub (λ x. g.C.Cold.whole x m) (λ x. g.C.Cold.rest x m) c.send.new.self) in
+    polls-hub _ _ _ _ command seen (state_of c.args.self.now) (chain_and_hub (λ x. g.C.Cold.whole x m) (λ x. g.C.Cold.rest x m) c.is_waiting.new.self) (Ok false)
+    (sym c.is_running.ensures ∙ c.if-not-is_running.false) c.if-self.false (rw c.if-waiting.false at (c.in-Ok.ensures.polls m))
+    (subst P c.in-Ok.ensures.state (c.send.ensures.steps m (c.is_waiting.ensures.reads m r) command seen))
 
 pub returns-in-Err-clause-ended : goal.returns-in-Err-clause-ended
 returns-in-Err-clause-ended g c =

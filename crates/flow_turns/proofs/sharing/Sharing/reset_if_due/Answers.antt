@@ -7,22 +7,22 @@ use Rattle.flow_turns.proofs.StepLemmas.{same-end, goes-on, resets-hub, resets-n
 use Rattle.flow_turns.proofs.sharing.Sharing.reset_if_due.Goals as goal
 
 pub returns-then-not-self-clause-steps : goal.returns-then-not-self-clause-steps
-returns-then-not-self-clause-steps g c = λ command seen.
-    resets-nothing _ _ _ _ command seen (state_of c.args.self.now) c.if-not-self.true (c.collect.ensures.steps command seen)
+returns-then-not-self-clause-steps g c = λ m r command seen.
+    resets-nothing _ _ _ _ command seen (state_of c.args.self.now) c.if-not-self.true (c.collect.ensures.steps m r command seen)
 
 pub returns-in-Ok-clause-steps : goal.returns-in-Ok-clause-steps
-returns-in-Ok-clause-steps g c = λ command seen.
+returns-in-Ok-clause-steps g c = λ m r command seen.
     let P : SharingState g.row.C-Item.Denot → Type 0 = λ s.
-    Takes (CallDoes (HubStep g.H.Hub.does g.H.Hub.waits)) (collect_while_running command seen s) (chain_and_hub g.C.Cold.whole g.C.Cold.rest c.reset.new.self)
-    (record { answer = reported command c.collect-in-Ok.result; seen = seen; state = state_of c.collect-in-Ok.new.self }) (chain_and_hub g.C.Cold.whole g.C.Cold.rest c.collect-in-Ok.new.self) in
-    resets-hub _ _ _ _ command seen (state_of c.args.self.now) (chain_and_hub g.C.Cold.whole g.C.Cold.rest c.reset.new.self) (Ok tt)
-    c.if-not-self.false c.in-Ok.ensures.resets
-    (subst P c.in-Ok.ensures.state (c.collect-in-Ok.ensures.steps command seen))
+    Takes (CallDoes (HubStep g.H.Hub.does g.H.Hub.waits)) (collect_while_running command seen s) (chain_and_hub (λ x. g.C.Cold.whole x m) (λ x. g.C.Cold.rest x m) c.reset.new.self)
+    (record { answer = reported command c.collect-in-Ok.result; seen = seen; state = state_of c.collect-in-Ok.new.self }) (chain_and_hub (λ x. g.C.Cold.whole x m) (λ x. g.C.Cold.rest x m) c.collect-in-Ok.new.self) in
+    resets-hub _ _ _ _ command seen (state_of c.args.self.now) (chain_and_hub (λ x. g.C.Cold.whole x m) (λ x. g.C.Cold.rest x m) c.reset.new.self) (Ok tt)
+    c.if-not-self.false (c.in-Ok.ensures.resets m)
+    (subst P c.in-Ok.ensures.state (c.collect-in-Ok.ensures.steps m (c.reset.ensures.reads m r) command seen))
 
 pub returns-in-Err-clause-steps : goal.returns-in-Err-clause-steps
-returns-in-Err-clause-steps g c = λ command seen.
-    resets-hub _ _ _ _ command seen (state_of c.args.self.now) (chain_and_hub g.C.Cold.whole g.C.Cold.rest c.reset.new.self) (Err c.in-Err.fault)
-    c.if-not-self.false c.in-Err.ensures.resets
+returns-in-Err-clause-steps g c = λ m r command seen.
+    resets-hub _ _ _ _ command seen (state_of c.args.self.now) (chain_and_hub (λ x. g.C.Cold.whole x m) (λ x. g.C.Cold.rest x m) c.reset.new.self) (Err c.in-Err.fault)
+    c.if-not-self.false (c.in-Err.ensures.resets m)
     (same-end seen _ _ _ _ (ap (reported command) c.refusal_of.ensures) c.in-Err.ensures.state, refl)
 
 pub returns-in-Err-clause-ended : goal.returns-in-Err-clause-ended

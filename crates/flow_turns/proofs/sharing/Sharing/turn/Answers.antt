@@ -20,75 +20,75 @@ use Rattle.flow_turns.proofs.StepLemmas.{if-true, same-end, counts-hub, observes
 use Rattle.flow_turns.proofs.sharing.Sharing.turn.Goals as goal
 
 pub returns-then-self-clause-turn : goal.returns-then-self-clause-turn
-returns-then-self-clause-turn g c = λ started seen stands.
+returns-then-self-clause-turn g c = λ m r started seen stands.
     let s = state_of c.args.self.now in
-    let both = chain_and_hub g.C.Cold.whole g.C.Cold.rest c.args.self.now in
+    let both = chain_and_hub (λ x. g.C.Cold.whole x m) (λ x. g.C.Cold.rest x m) c.args.self.now in
     let r : Turned g.row.C-Item.Denot = record { answer = Err Ended; seen = seen; state = s } in
     (seen, stands, if-true (λ steps. Takes (CallDoes (HubStep g.H.Hub.does g.H.Hub.waits)) steps both r both) s.ended _ _ c.if-self.true (refl, refl))
 
 pub returns-in-Err-clause-turn : goal.returns-in-Err-clause-turn
-returns-in-Err-clause-turn g c = λ started seen stands. (
+returns-in-Err-clause-turn g c = λ m r started seen stands. (
   seen,
   rw c.counted.ensures.policy stands,
-  counts-hub _ _ _ _ started c.args.now seen (state_of c.args.self.now) (chain_and_hub g.C.Cold.whole g.C.Cold.rest c.counted.new.self) (Err c.in-Err.fault)
-      c.if-self.false c.in-Err.ensures.counts
+  counts-hub _ _ _ _ started c.args.now seen (state_of c.args.self.now) (chain_and_hub (λ x. g.C.Cold.whole x m) (λ x. g.C.Cold.rest x m) c.counted.new.self) (Err c.in-Err.fault)
+      c.if-self.false (c.in-Err.ensures.counts m)
       (same-end seen _ _ _ _ (c.report_of.ensures ∙ ap (reported Keep) c.refusal_of.ensures) c.in-Err.ensures.state, refl),
 )
 
 pub returns-in-Err-observe-clause-turn : goal.returns-in-Err-observe-clause-turn
-returns-in-Err-observe-clause-turn g c = λ started seen stands.
+returns-in-Err-observe-clause-turn g c = λ m r started seen stands.
     let held : HasSeen started c.counted.new.self.policy seen = rw c.counted.ensures.policy stands in
     let told = c.in-Err-observe.ensures.observes started seen held in
-    let mid = chain_and_hub g.C.Cold.whole g.C.Cold.rest c.counted.new.self in (
+    let mid = chain_and_hub (λ x. g.C.Cold.whole x m) (λ x. g.C.Cold.rest x m) c.counted.new.self in (
       seen,
       rw c.in-Err-observe.ensures.unchanged held,
       counts-hub _ _ _ _ started c.args.now seen (state_of c.args.self.now) mid (Ok c.in-Ok.count)
-          c.if-self.false c.in-Ok.ensures.counts
+          c.if-self.false (c.in-Ok.ensures.counts m)
           (goes-back _ mid mid _ started c.args.now seen (state_of c.args.self.now) c.in-Ok.count told.0
           (same-end seen _ _ _ _ (ap (λ last. Err (Backwards last)) told.1) (rw c.in-Err-observe.ensures.unchanged c.in-Ok.ensures.state)) refl),
     )
 
 pub returns-clause-turn : goal.returns-clause-turn
-returns-clause-turn g c = λ started seen stands.
+returns-clause-turn g c = λ m r started seen stands.
     let held : HasSeen started c.counted.new.self.policy seen = rw c.counted.ensures.policy stands in
     let told = c.in-Ok-observe.ensures.observes started seen held in
     let all : List SharingObservation = record { moment = c.args.now; count = c.in-Ok.count } ∷ seen in
-    let mid = chain_and_hub g.C.Cold.whole g.C.Cold.rest c.counted.new.self in
-    let last = chain_and_hub g.C.Cold.whole g.C.Cold.rest c.begin-outcome.new.self in
+    let mid = chain_and_hub (λ x. g.C.Cold.whole x m) (λ x. g.C.Cold.rest x m) c.counted.new.self in
+    let last = chain_and_hub (λ x. g.C.Cold.whole x m) (λ x. g.C.Cold.rest x m) c.begin-outcome.new.self in
     let D = CallDoes (HubStep g.H.Hub.does g.H.Hub.waits) in
     let P : SharingState g.row.C-Item.Denot → Type 0 = λ s.
     Takes D (begin all c.in-Ok-observe.command s) mid (record { answer = reported c.in-Ok-observe.command c.begin-outcome.result; seen = all; state = state_of c.begin-outcome.new.self }) last in
     let Q : Command → Type 0 = λ command.
     Takes D (begin all command (state_of c.args.self.now)) mid (record { answer = reported c.in-Ok-observe.command c.begin-outcome.result; seen = all; state = state_of c.begin-outcome.new.self }) last in
     let R : Turned g.row.C-Item.Denot → Type 0 = λ r. Takes D (begin all (newest_command started all) (state_of c.args.self.now)) mid r last in
-    let begun : P (state_of c.counted.new.self) = c.begin-outcome.ensures.steps all c.counted.new.self.policy.running c.in-Ok-observe.ensures.runs in (
+    let begun : P (state_of c.counted.new.self) = c.begin-outcome.ensures.steps m (c.counted.ensures.reads m r) all c.counted.new.self.policy.running c.in-Ok-observe.ensures.runs in (
       all,
       rw c.begin-outcome.ensures.policy told.2,
       counts-hub _ _ _ _ started c.args.now seen (state_of c.args.self.now) mid (Ok c.in-Ok.count)
-          c.if-self.false c.in-Ok.ensures.counts
+          c.if-self.false (c.in-Ok.ensures.counts m)
           (observes-count D mid last _ started c.args.now seen (state_of c.args.self.now) c.in-Ok.count told.0
           (subst R (sym (same-end all _ _ _ _ c.report_of-2.ensures refl)) (subst Q told.1 (subst P c.in-Ok.ensures.state begun)))),
     )
 
 pub returns-clause-means : goal.returns-clause-means
-returns-clause-means g c = λ started seen accepted stands between held.
-    let turn = returns-clause-turn g c started seen stands in
+returns-clause-means g c = λ m r started seen accepted stands between held.
+    let turn = returns-clause-turn g c m r started seen stands in
     (turn-means _ started c.args.now seen _ _ _ _ accepted stands.running between turn.2).0 held
 
 pub returns-clause-between : goal.returns-clause-between
-returns-clause-between g c = λ started seen stands between.
-    let turn = returns-clause-turn g c started seen stands in
+returns-clause-between g c = λ m r started seen stands between.
+    let turn = returns-clause-turn g c m r started seen stands in
     (turn-means _ started c.args.now seen _ _ _ _ [] stands.running between turn.2).1
 
 pub returns-clause-quiet : goal.returns-clause-quiet
-returns-clause-quiet g c = λ started seen stands quiet.
-    let turn = returns-clause-turn g c started seen stands in turn-quiet g.H.Hub.does g.H.Hub.waits started c.args.now seen _ _ _ _ quiet turn.2
+returns-clause-quiet g c = λ m r started seen stands quiet.
+    let turn = returns-clause-turn g c m r started seen stands in turn-quiet g.H.Hub.does g.H.Hub.waits started c.args.now seen _ _ _ _ quiet turn.2
 
 pub returns-clause-resets : goal.returns-clause-resets
-returns-clause-resets g c =
+returns-clause-resets g c = λ m r.
     let D = HubStep g.H.Hub.does g.H.Hub.waits in
-    let mid = chain_and_hub g.C.Cold.whole g.C.Cold.rest c.counted.new.self in
-    let last = chain_and_hub g.C.Cold.whole g.C.Cold.rest c.begin-outcome.new.self in
+    let mid = chain_and_hub (λ x. g.C.Cold.whole x m) (λ x. g.C.Cold.rest x m) c.counted.new.self in
+    let last = chain_and_hub (λ x. g.C.Cold.whole x m) (λ x. g.C.Cold.rest x m) c.begin-outcome.new.self in
     let Is : Command → Type 0 = WasCommanded c.args.self.now c.begin-outcome.new.self in
     let is : Is c.in-Ok-observe.command = λ started seen stands.
     let held : HasSeen started c.counted.new.self.policy seen = rw c.counted.ensures.policy stands in
@@ -102,54 +102,54 @@ returns-clause-resets g c =
     subst Q (sym c.report_of-2.ensures) (subst P c.in-Ok.ensures.state
     (begun-resets D c.args.self.now.hub (state_of c.counted.new.self) Is [] c.in-Ok-observe.command mid last
     (record { answer = reported c.in-Ok-observe.command c.begin-outcome.result; seen = []; state = state_of c.begin-outcome.new.self })
-    is (c.in-Ok.count, c.in-Ok.ensures.counts.0)
-    (c.begin-outcome.ensures.steps [] c.counted.new.self.policy.running c.in-Ok-observe.ensures.runs)))
+    is (c.in-Ok.count, (c.in-Ok.ensures.counts m).0)
+    (c.begin-outcome.ensures.steps m (c.counted.ensures.reads m r) [] c.counted.new.self.policy.running c.in-Ok-observe.ensures.runs)))
 
 pub returns-then-self-clause-means : goal.returns-then-self-clause-means
-returns-then-self-clause-means g c = λ started seen accepted stands between held. (c.if-self.true, refl, refl)
+returns-then-self-clause-means g c = λ m r started seen accepted stands between held. (c.if-self.true, refl, refl)
 
 pub returns-then-self-clause-between : goal.returns-then-self-clause-between
-returns-then-self-clause-between g c = λ started seen stands between. between
+returns-then-self-clause-between g c = λ m r started seen stands between. between
 
 pub returns-then-self-clause-quiet : goal.returns-then-self-clause-quiet
-returns-then-self-clause-quiet g c = λ started seen stands quiet.
-    let turn = returns-then-self-clause-turn g c started seen stands in turn-quiet g.H.Hub.does g.H.Hub.waits started c.args.now seen _ _ _ _ quiet turn.2
+returns-then-self-clause-quiet g c = λ m r started seen stands quiet.
+    let turn = returns-then-self-clause-turn g c m r started seen stands in turn-quiet g.H.Hub.does g.H.Hub.waits started c.args.now seen _ _ _ _ quiet turn.2
 
 pub returns-in-Err-clause-means : goal.returns-in-Err-clause-means
-returns-in-Err-clause-means g c = λ started seen accepted stands between held.
-    let turn = returns-in-Err-clause-turn g c started seen stands in
+returns-in-Err-clause-means g c = λ m r started seen accepted stands between held.
+    let turn = returns-in-Err-clause-turn g c m r started seen stands in
     (turn-means _ started c.args.now seen _ _ _ _ accepted stands.running between turn.2).0 held
 
 pub returns-in-Err-clause-between : goal.returns-in-Err-clause-between
-returns-in-Err-clause-between g c = λ started seen stands between.
-    let turn = returns-in-Err-clause-turn g c started seen stands in
+returns-in-Err-clause-between g c = λ m r started seen stands between.
+    let turn = returns-in-Err-clause-turn g c m r started seen stands in
     (turn-means _ started c.args.now seen _ _ _ _ [] stands.running between turn.2).1
 
 pub returns-in-Err-clause-quiet : goal.returns-in-Err-clause-quiet
-returns-in-Err-clause-quiet g c = λ started seen stands quiet.
-    let turn = returns-in-Err-clause-turn g c started seen stands in turn-quiet g.H.Hub.does g.H.Hub.waits started c.args.now seen _ _ _ _ quiet turn.2
+returns-in-Err-clause-quiet g c = λ m r started seen stands quiet.
+    let turn = returns-in-Err-clause-turn g c m r started seen stands in turn-quiet g.H.Hub.does g.H.Hub.waits started c.args.now seen _ _ _ _ quiet turn.2
 
 pub returns-in-Err-observe-clause-means : goal.returns-in-Err-observe-clause-means
-returns-in-Err-observe-clause-means g c = λ started seen accepted stands between held.
-    let turn = returns-in-Err-observe-clause-turn g c started seen stands in
+returns-in-Err-observe-clause-means g c = λ m r started seen accepted stands between held.
+    let turn = returns-in-Err-observe-clause-turn g c m r started seen stands in
     (turn-means _ started c.args.now seen _ _ _ _ accepted stands.running between turn.2).0 held
 
 pub returns-in-Err-observe-clause-between : goal.returns-in-Err-observe-clause-between
-returns-in-Err-observe-clause-between g c = λ started seen stands between.
-    let turn = returns-in-Err-observe-clause-turn g c started seen stands in
+returns-in-Err-observe-clause-between g c = λ m r started seen stands between.
+    let turn = returns-in-Err-observe-clause-turn g c m r started seen stands in
     (turn-means _ started c.args.now seen _ _ _ _ [] stands.running between turn.2).1
 
 pub returns-in-Err-observe-clause-quiet : goal.returns-in-Err-observe-clause-quiet
-returns-in-Err-observe-clause-quiet g c = λ started seen stands quiet.
-    let turn = returns-in-Err-observe-clause-turn g c started seen stands in turn-quiet g.H.Hub.does g.H.Hub.waits started c.args.now seen _ _ _ _ quiet turn.2
+returns-in-Err-observe-clause-quiet g c = λ m r started seen stands quiet.
+    let turn = returns-in-Err-observe-clause-turn g c m r started seen stands in turn-quiet g.H.Hub.does g.H.Hub.waits started c.args.now seen _ _ _ _ quiet turn.2
 
 pub returns-then-self-clause-resets : goal.returns-then-self-clause-resets
-returns-then-self-clause-resets g c =
+returns-then-self-clause-resets g c = λ m r.
     uncalled-resets (HubStep g.H.Hub.does g.H.Hub.waits) c.args.self.now.hub (state_of c.args.self.now) (WasCommanded c.args.self.now c.args.self.now) (Err Ended)
     (λ started seen stands. (seen, stands, inl (refl, refl))) tt tt
 
 pub returns-in-Err-clause-resets : goal.returns-in-Err-clause-resets
-returns-in-Err-clause-resets g c =
+returns-in-Err-clause-resets g c = λ m r.
     let D = HubStep g.H.Hub.does g.H.Hub.waits in
     let Is : Command → Type 0 = WasCommanded c.args.self.now c.counted.new.self in
     let keeps : Is Keep = λ started seen stands. (seen, rw c.counted.ensures.policy stands, inl (refl, refl)) in
@@ -159,10 +159,10 @@ returns-in-Err-clause-resets g c =
     TurnResets D Is (state_of c.args.self.now) c.args.self.now.hub answer (state_of c.counted.new.self) c.counted.new.self.hub in
     subst Q (sym (c.report_of.ensures ∙ ap (reported Keep) c.refusal_of.ensures))
     (subst P (sym c.in-Err.ensures.state)
-    (uncounted-resets D c.args.self.now.hub (state_of c.args.self.now) Is c.in-Err.fault c.counted.new.self.hub keeps c.in-Err.ensures.counts.0))
+    (uncounted-resets D c.args.self.now.hub (state_of c.args.self.now) Is c.in-Err.fault c.counted.new.self.hub keeps (c.in-Err.ensures.counts m).0))
 
 pub returns-in-Err-observe-clause-resets : goal.returns-in-Err-observe-clause-resets
-returns-in-Err-observe-clause-resets g c =
+returns-in-Err-observe-clause-resets g c = λ m r.
     let D = HubStep g.H.Hub.does g.H.Hub.waits in
     let new = record c.counted.new.self { policy = c.observe.new.self } in
     let Is : Command → Type 0 = WasCommanded c.args.self.now new in
@@ -173,7 +173,7 @@ returns-in-Err-observe-clause-resets g c =
     let P : SharingState g.row.C-Item.Denot → Type 0 = λ s.
     TurnResets D Is (state_of c.args.self.now) c.args.self.now.hub (Err (Backwards c.in-Err-observe.backwards.last)) s c.counted.new.self.hub in
     subst P (sym same)
-    (unobserved-resets D c.args.self.now.hub (state_of c.args.self.now) Is (Err (Backwards c.in-Err-observe.backwards.last)) c.in-Ok.count c.counted.new.self.hub keeps c.in-Ok.ensures.counts.0 tt tt)
+    (unobserved-resets D c.args.self.now.hub (state_of c.args.self.now) Is (Err (Backwards c.in-Err-observe.backwards.last)) c.in-Ok.count c.counted.new.self.hub keeps (c.in-Ok.ensures.counts m).0 tt tt)
 
 pub returns-in-Err-clause-answered : goal.returns-in-Err-clause-answered
 returns-in-Err-clause-answered g c = report-answered _ Keep c.refusal_of.result _ c.report_of.ensures (refused-answered _ c.refusal_of.result c.in-Err.fault c.refusal_of.ensures)

@@ -7,22 +7,22 @@ use Rattle.flow_turns.proofs.StepLemmas.{same-end, goes-on, cancels-hub, cancels
 use Rattle.flow_turns.proofs.sharing.Sharing.work.Goals as goal
 
 pub returns-then-not-is_work_due-clause-steps : goal.returns-then-not-is_work_due-clause-steps
-returns-then-not-is_work_due-clause-steps g c = λ command seen.
-    cancels-nothing _ _ _ _ command seen (state_of c.args.self.now) (sym c.is_work_due.ensures ∙ c.if-not-is_work_due.true) (c.collect.ensures.steps command seen)
+returns-then-not-is_work_due-clause-steps g c = λ m r command seen.
+    cancels-nothing _ _ _ _ command seen (state_of c.args.self.now) (sym c.is_work_due.ensures ∙ c.if-not-is_work_due.true) (c.collect.ensures.steps m r command seen)
 
 pub returns-in-Ok-clause-steps : goal.returns-in-Ok-clause-steps
-returns-in-Ok-clause-steps g c = λ command seen.
+returns-in-Ok-clause-steps g c = λ m r command seen.
     let P : SharingState g.row.C-Item.Denot → Type 0 = λ s.
-    Takes (CallDoes (HubStep g.H.Hub.does g.H.Hub.waits)) (reset_if_due command seen s) (chain_and_hub g.C.Cold.whole g.C.Cold.rest c.cancel.new.self)
-    (record { answer = reported command c.reset_if_due.result; seen = seen; state = state_of c.reset_if_due.new.self }) (chain_and_hub g.C.Cold.whole g.C.Cold.rest c.reset_if_due.new.self) in
-    cancels-hub _ _ _ _ command seen (state_of c.args.self.now) (chain_and_hub g.C.Cold.whole g.C.Cold.rest c.cancel.new.self) (Ok c.in-Ok.field-0)
-    (sym c.is_work_due.ensures ∙ c.if-not-is_work_due.false) c.in-Ok.ensures.cancels
-    (subst P c.in-Ok.ensures.state (c.reset_if_due.ensures.steps command seen))
+    Takes (CallDoes (HubStep g.H.Hub.does g.H.Hub.waits)) (reset_if_due command seen s) (chain_and_hub (λ x. g.C.Cold.whole x m) (λ x. g.C.Cold.rest x m) c.cancel.new.self)
+    (record { answer = reported command c.reset_if_due.result; seen = seen; state = state_of c.reset_if_due.new.self }) (chain_and_hub (λ x. g.C.Cold.whole x m) (λ x. g.C.Cold.rest x m) c.reset_if_due.new.self) in
+    cancels-hub _ _ _ _ command seen (state_of c.args.self.now) (chain_and_hub (λ x. g.C.Cold.whole x m) (λ x. g.C.Cold.rest x m) c.cancel.new.self) (Ok c.in-Ok.field-0)
+    (sym c.is_work_due.ensures ∙ c.if-not-is_work_due.false) (c.in-Ok.ensures.cancels m)
+    (subst P c.in-Ok.ensures.state (c.reset_if_due.ensures.steps m (c.cancel.ensures.reads m r) command seen))
 
 pub returns-in-Err-clause-steps : goal.returns-in-Err-clause-steps
-returns-in-Err-clause-steps g c = λ command seen.
-    cancels-hub _ _ _ _ command seen (state_of c.args.self.now) (chain_and_hub g.C.Cold.whole g.C.Cold.rest c.cancel.new.self) (Err c.in-Err.fault)
-    (sym c.is_work_due.ensures ∙ c.if-not-is_work_due.false) c.in-Err.ensures.cancels
+returns-in-Err-clause-steps g c = λ m r command seen.
+    cancels-hub _ _ _ _ command seen (state_of c.args.self.now) (chain_and_hub (λ x. g.C.Cold.whole x m) (λ x. g.C.Cold.rest x m) c.cancel.new.self) (Err c.in-Err.fault)
+    (sym c.is_work_due.ensures ∙ c.if-not-is_work_due.false) (c.in-Err.ensures.cancels m)
     (same-end seen _ _ _ _ (ap (reported command) c.refusal_of.ensures) c.in-Err.ensures.state, refl)
 
 pub returns-in-Err-clause-ended : goal.returns-in-Err-clause-ended

@@ -1,27 +1,110 @@
-use Rattle.std.proofs.Common.{arith}
+use Rattle.std.proofs.Common.{inl, inr, arith, rules}
 use Rattle.std.proofs.lemmas.Grind.{common_steps}
+use Rattle.flow_operators.proofs.BoundLemmas.{opened-fewer}
 use Rattle.flow_operators.proofs.operators.flat_map_concat.FlatMapConcatCold.ask.Goals as goal
 
-pub loop-item-preserved-in-Ok-inner : goal.loop-item-preserved-in-Ok-inner
-loop-item-preserved-in-Ok-inner g c = grind (arith, common_steps)
+pub returns-in-Item-clause-reads : goal.returns-in-Item-clause-reads
+returns-in-Item-clause-reads g c = λ m r. ((c.loop-item.invariant.reads m.0.0 r.0.0, c.in-Item.ensures.reads m.0.1 (c.loop-item.invariant.inner_reads m.0.1 m.1 r.0.1 r.1)), c.loop-item.invariant.computes m.0.1 m.1 r.1)
+
+pub returns-in-Item-clause-gives : goal.returns-in-Item-clause-gives
+returns-in-Item-clause-gives g c = λ m r.
+    let left = c.loop-item.invariant.rest m.0.0 m.0.1 m.1 r.0.0 r.0.1 r.1 in
+    let asked = c.in-Item.ensures.gives m.0.1 (c.loop-item.invariant.inner_reads m.0.1 m.1 r.0.1 r.1) in
+    grind (arith, common_steps)
+
+pub returns-in-Item-clause-behind : goal.returns-in-Item-clause-behind
+returns-in-Item-clause-behind g c = λ running m r.
+    let left = c.loop-item.invariant.behind m.0.0 m.0.1 m.1 r.0.0 r.0.1 r.1 in
+    let asked = c.in-Item.ensures.gives m.0.1 (c.loop-item.invariant.inner_reads m.0.1 m.1 r.0.1 r.1) in
+    grind (arith, common_steps)
+
+pub returns-in-Pending-clause-reads : goal.returns-in-Pending-clause-reads
+returns-in-Pending-clause-reads g c = λ m r. ((c.loop-item.invariant.reads m.0.0 r.0.0, c.in-Pending.ensures.reads m.0.1 (c.loop-item.invariant.inner_reads m.0.1 m.1 r.0.1 r.1)), c.loop-item.invariant.computes m.0.1 m.1 r.1)
+
+pub returns-in-Pending-clause-gives : goal.returns-in-Pending-clause-gives
+returns-in-Pending-clause-gives g c = λ m r.
+    let left = c.loop-item.invariant.rest m.0.0 m.0.1 m.1 r.0.0 r.0.1 r.1 in
+    let asked = c.in-Pending.ensures.gives m.0.1 (c.loop-item.invariant.inner_reads m.0.1 m.1 r.0.1 r.1) in
+    grind (arith, common_steps)
+
+pub returns-in-Pending-clause-behind : goal.returns-in-Pending-clause-behind
+returns-in-Pending-clause-behind g c = λ running m r.
+    let left = c.loop-item.invariant.behind m.0.0 m.0.1 m.1 r.0.0 r.0.1 r.1 in
+    let asked = c.in-Pending.ensures.gives m.0.1 (c.loop-item.invariant.inner_reads m.0.1 m.1 r.0.1 r.1) in
+    grind (arith, common_steps)
+
+pub returns-in-Fault-clause-gives : goal.returns-in-Fault-clause-gives
+returns-in-Fault-clause-gives g c = λ m r.
+    let left = c.loop-item.invariant.rest m.0.0 m.0.1 m.1 r.0.0 r.0.1 r.1 in
+    let asked = c.in-Fault.ensures.gives m.0.1 (c.loop-item.invariant.inner_reads m.0.1 m.1 r.0.1 r.1) in
+    grind (arith, common_steps)
+
+pub returns-in-Fault-clause-behind : goal.returns-in-Fault-clause-behind
+returns-in-Fault-clause-behind g c = λ running m r.
+    let left = c.loop-item.invariant.behind m.0.0 m.0.1 m.1 r.0.0 r.0.1 r.1 in
+    let asked = c.in-Fault.ensures.gives m.0.1 (c.loop-item.invariant.inner_reads m.0.1 m.1 r.0.1 r.1) in
+    grind (arith, common_steps)
 
 pub loop-item-preserved : goal.loop-item-preserved
-loop-item-preserved g c = grind (arith, common_steps)
+loop-item-preserved g c = record {
+  callable = c.in-Ok.ensures.callable;
+  inner = c.in-Ok-open.ensures.callable;
+  closure = c.loop-item.invariant.closure;
+  opens = c.loop-item.invariant.opens;
+  computes = c.loop-item.invariant.computes;
+  runs = c.in-Ok.ensures.runs.1;
+  fewer =
+      let most = opened-fewer _ _ g.D.Cold.limit _ c.in-Ok.ensures.fewer (g.met.D.Cold.limited (search rules) c.in-Ok-open.inner) in
+      grind (arith, common_steps);
+  reads = λ m r. c.in-Ok.ensures.reads m (c.loop-item.invariant.reads m r);
+  inner_reads = λ n f i o. (c.in-Ok-open.ensures.opens n f (c.loop-item.invariant.computes n f o)).0;
+  whole = λ m. grind (arith, common_steps, c.in-Ok.ensures.whole m, c.loop-item.invariant.whole m);
+  rest = λ m n f r i o.
+      let left = c.loop-item.invariant.rest m n f r i o in
+      let asked = c.in-End.ensures.gives n (c.loop-item.invariant.inner_reads n f i o) in
+      let gives = c.in-Ok.ensures.behind (λ e. grind (arith, common_steps)) m (c.loop-item.invariant.reads m r) in
+      let opened = c.in-Ok-open.ensures.opens n f (c.loop-item.invariant.computes n f o) in
+      grind (arith, common_steps, left, asked, gives, opened.1);
+  behind = λ m n f r i o.
+      let left = c.loop-item.invariant.behind m n f r i o in
+      let asked = c.in-End.ensures.gives n (c.loop-item.invariant.inner_reads n f i o) in
+      let gives = c.in-Ok.ensures.behind (λ e. grind (arith, common_steps)) m (c.loop-item.invariant.reads m r) in
+      let opened = c.in-Ok-open.ensures.opens n f (c.loop-item.invariant.computes n f o) in
+      grind (arith, common_steps, left, asked, gives, opened.1);
+}
 
-pub returns-then-self : goal.returns-then-self
-returns-then-self g c = grind (arith, common_steps)
+pub returns-in-Err-open-clause-gives : goal.returns-in-Err-open-clause-gives
+returns-in-Err-open-clause-gives g c = λ m r.
+    let left = c.loop-item.invariant.rest m.0.0 m.0.1 m.1 r.0.0 r.0.1 r.1 in
+    let asked = c.in-End.ensures.gives m.0.1 (c.loop-item.invariant.inner_reads m.0.1 m.1 r.0.1 r.1) in
+    let gives = c.in-Ok.ensures.behind (λ e. grind (arith, common_steps)) m.0.0 (c.loop-item.invariant.reads m.0.0 r.0.0) in
+    let opened = c.in-Err-open.ensures.opens m.0.1 m.1 (c.loop-item.invariant.computes m.0.1 m.1 r.1) in
+    grind (arith, common_steps)
 
-pub returns-in-Item : goal.returns-in-Item
-returns-in-Item g c = grind (arith, common_steps)
+pub returns-in-Err-open-clause-behind : goal.returns-in-Err-open-clause-behind
+returns-in-Err-open-clause-behind g c = λ running m r.
+    let left = c.loop-item.invariant.behind m.0.0 m.0.1 m.1 r.0.0 r.0.1 r.1 in
+    let asked = c.in-End.ensures.gives m.0.1 (c.loop-item.invariant.inner_reads m.0.1 m.1 r.0.1 r.1) in
+    let gives = c.in-Ok.ensures.behind (λ e. grind (arith, common_steps)) m.0.0 (c.loop-item.invariant.reads m.0.0 r.0.0) in
+    let opened = c.in-Err-open.ensures.opens m.0.1 m.1 (c.loop-item.invariant.computes m.0.1 m.1 r.1) in
+    grind (arith, common_steps)
 
-pub returns-in-Pending : goal.returns-in-Pending
-returns-in-Pending g c = grind (arith, common_steps)
+pub returns-in-Err-clause-gives : goal.returns-in-Err-clause-gives
+returns-in-Err-clause-gives g c = λ m r.
+    let left = c.loop-item.invariant.rest m.0.0 m.0.1 m.1 r.0.0 r.0.1 r.1 in
+    let asked = c.in-End.ensures.gives m.0.1 (c.loop-item.invariant.inner_reads m.0.1 m.1 r.0.1 r.1) in
+    let gives = c.in-Err.ensures.behind (λ e. grind (arith, common_steps)) m.0.0 (c.loop-item.invariant.reads m.0.0 r.0.0) in
+    grind (arith, common_steps)
 
-pub returns-in-Fault : goal.returns-in-Fault
-returns-in-Fault g c = grind (arith, common_steps)
+pub returns-in-Err-clause-behind : goal.returns-in-Err-clause-behind
+returns-in-Err-clause-behind g c = λ running m r.
+    let left = c.loop-item.invariant.behind m.0.0 m.0.1 m.1 r.0.0 r.0.1 r.1 in
+    let asked = c.in-End.ensures.gives m.0.1 (c.loop-item.invariant.inner_reads m.0.1 m.1 r.0.1 r.1) in
+    let gives = c.in-Err.ensures.behind (λ e. grind (arith, common_steps)) m.0.0 (c.loop-item.invariant.reads m.0.0 r.0.0) in
+    grind (arith, common_steps)
 
-pub returns-in-Err-inner : goal.returns-in-Err-inner
-returns-in-Err-inner g c = grind (arith, common_steps)
-
-pub returns-in-Err : goal.returns-in-Err
-returns-in-Err g c = grind (arith, common_steps)
+pub returns-in-Err-clause-fewer : goal.returns-in-Err-clause-fewer
+returns-in-Err-clause-fewer g c = elim c.in-Err.ensures.pends [
+  | inl final ↦ inl final
+  | inr fewer ↦ inr (let most = opened-fewer _ _ g.D.Cold.limit 0 fewer (omega arith) in grind (arith, common_steps))
+]

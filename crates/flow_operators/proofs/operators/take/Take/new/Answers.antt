@@ -3,8 +3,5 @@ use Rattle.std.proofs.lemmas.Grind.{common_steps}
 use Rattle.flow_law.proofs.ChainLemmas.{take_means}
 use Rattle.flow_operators.proofs.operators.take.Take.new.Goals as goal
 
-pub returns-then-count-eq0 : goal.returns-then-count-eq0
-returns-then-count-eq0 g c = grind (arith, common_steps)
-
-pub returns : goal.returns
-returns g c = grind (arith, common_steps, take_means)
+pub returns-clause-meaning : goal.returns-clause-meaning
+returns-clause-meaning g c = λ m. grind (arith, common_steps, take_means)

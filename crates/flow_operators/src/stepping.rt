@@ -1,0 +1,109 @@
+//! What the terminal operators stand on. Nothing here starts a chain anew: each goes on where the chain stands.
+ghost use Rattle.std.specs.Prelude.{◌≡◌, ◌⊎◌, ◌<◌, Bool, Result, filter, IfOk, IfErr, IfSome};
+ghost use Rattle.std.specs.Fn.{FnReturnsAt};
+ghost use Rattle.flow_law.specs.declared.chain.ChainFault.{ChainFault};
+ghost use Rattle.flow_law.specs.declared.chain.End.{End};
+ghost use Rattle.flow_law.specs.ChainRun.{items, ending};
+ghost use Rattle.flow_operators.specs.Closures.{ComputesPairs, Decides, Follows};
+ghost use Rattle.flow_operators.specs.Collecting.{StandsAfter, StandsAfterItem};
+ghost use Rattle.flow_operators.specs.Terminal.{CallFails, GivesItem, OnNoItem, first_of, folded, sought};
+
+use crate::cold::{Asked, Cold};
+use crate::operators::passes;
+use flow_law::ChainFault;
+
+/// Takes the next item, and passes over turns that pend. The chain's fault is the answer where it comes first.
+pub(crate) fn next_item<C: Cold>(chain: &mut C) -> Result<Option<C::Item>, ChainFault>
+    requires { C.CanAsk chain.old }
+    ensures callable { C.CanAsk chain.new }
+    ensures reads { (m : C.Reading) → C.Reads chain.old m → C.Reads chain.new m }
+    ensures whole { (m : C.Reading) → C.whole chain.new m ≡ C.whole chain.old m }
+    ensures gives { (m : C.Reading) → C.Reads chain.old m → GivesItem (C.rest chain.old m) result (C.rest chain.new m) }
+    ensures fewer { IfOk result (λ found. IfSome found (λ _. C.most_asks chain.new < C.most_asks chain.old)) }
+    ensures over { OnNoItem result (C.IsOver chain.new) }
+    ensures answered { IfErr result (λ fault. C.HasAnswered chain.new (End.Failed fault)) }
+{
+    loop {
+        match chain.ask() {
+            Asked::Item(item) => return Ok(Some(item)),
+            Asked::Pending => {}
+            Asked::End => return Ok(None),
+            Asked::Fault(fault) => return Err(fault),
+        }
+    }
+}
+
+/// Makes the next result, which is what each function that the closure computes says of it.
+fn next_result<A, B, U, F>(closure: &F, last: A, item: B) -> Result<U, ChainFault>
+where
+    F: Fn(A, B) -> Result<U, ChainFault>,
+    requires { F.IsAlwaysCallable closure.now }
+    ensures computes { (f : A × B → Result U ChainFault) → ComputesPairs (F.post closure.now) f
+        → Follows (f (last, item)) result }
+    ensures called { F.post closure.now last item result }
+{
+    closure(last, item)
+}
+
+/// Makes a result of the last one and each item that is left.
+pub(crate) fn fold_rest<C, U, F>(chain: &mut C, initial: U, closure: &F) -> Result<U, ChainFault>
+where
+    C: Cold,
+    U: Drop,
+    F: Fn(U, C::Item) -> Result<U, ChainFault>,
+    requires chain { C.CanAsk chain.old }
+    requires callable { F.IsAlwaysCallable closure.now }
+    ensures callable { C.CanAsk chain.new }
+    ensures reads { (m : C.Reading) → C.Reads chain.old m → C.Reads chain.new m }
+    ensures whole { (m : C.Reading) → C.whole chain.new m ≡ C.whole chain.old m }
+    ensures folds { (m : C.Reading) (f : U × C.Item → Result U ChainFault) → C.Reads chain.old m
+        → ComputesPairs (F.post closure.now) f
+        → Follows (folded f initial (items (C.rest chain.old m)) (ending (C.rest chain.old m))) result }
+    ensures over { IfOk result (λ _. C.IsOver chain.new) }
+    ensures stands { IfErr result (λ _. C.IsOver chain.new
+        ⊎ ((m : C.Reading) → C.Reads chain.old m → StandsAfterItem (C.rest chain.old m) (C.rest chain.new m))) }
+    ensures answered { IfErr result (λ fault.
+        C.HasAnswered chain.new (End.Failed fault) ⊎ CallFails (F.post closure.now) fault) }
+{
+    let mut last = initial;
+    loop {
+        match next_item(chain)? {
+            Some(item) => last = next_result(closure, last, item)?,
+            None => return Ok(last),
+        }
+    }
+}
+
+/// Looks for an item that passes the test, or for one that does not, as `wanted` says.
+pub(crate) fn find<C, F>(
+    chain: &mut C,
+    test: &F,
+    wanted: bool,
+) -> Result<Option<C::Item>, ChainFault>
+where
+    C: Cold,
+    F: Fn(&C::Item) -> bool,
+    requires chain { C.CanAsk chain.old }
+    requires callable { F.IsAlwaysCallable test.now }
+    ensures callable { C.CanAsk chain.new }
+    ensures reads { (m : C.Reading) → C.Reads chain.old m → C.Reads chain.new m }
+    ensures whole { (m : C.Reading) → C.whole chain.new m ≡ C.whole chain.old m }
+    ensures finds { (m : C.Reading) (p : C.Item → Bool) → C.Reads chain.old m
+        → Decides (λ x b. FnReturnsAt F.Fn test.now x b) p
+        → Follows (first_of (filter (sought wanted p) (items (C.rest chain.old m))) (ending (C.rest chain.old m))) result }
+    ensures over { OnNoItem result (C.IsOver chain.new) }
+    ensures stands { IfOk result (λ found. IfSome found (λ item. (m : C.Reading) → C.Reads chain.old m
+        → StandsAfter item (C.rest chain.old m) (C.rest chain.new m))) }
+    ensures answered { IfErr result (λ fault. C.HasAnswered chain.new (End.Failed fault)) }
+{
+    loop {
+        match next_item(chain)? {
+            Some(item) => {
+                if passes(test, &item) == wanted {
+                    return Ok(Some(item));
+                }
+            }
+            None => return Ok(None),
+        }
+    }
+}
