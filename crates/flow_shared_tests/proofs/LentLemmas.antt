@@ -1,5 +1,5 @@
 -- From the laws of flows to what a caller concludes to whom a flow was lent.
-use Rattle.std.proofs.Common.{Result, Ok, ◌≡◌, ◌≢◌, ℕ, ◌+◌, ◌≤◌, List, [], ◌∷◌, ◌++◌, length, drop, Option, Some, None, refl, sym, ap, ◌∙◌, subst}
+use Rattle.std.proofs.Common.{inl, inr, ◌⊎◌, Result, Ok, ◌≡◌, ◌≢◌, ℕ, ◌+◌, ◌≤◌, List, [], ◌∷◌, ◌++◌, length, drop, Option, Some, None, refl, sym, ap, ◌∙◌, subst}
 use Rattle.std.specs.List.{slice_get}
 use Rattle.std.specs.Option.{option_map_or}
 use Rattle.std.proofs.lemmas.List.{drop_all, append-nil}
@@ -22,7 +22,9 @@ use Rattle.flow_law.specs.declared.call.StateReply.TheVariants.{Got}
 use Rattle.flow_law.specs.Conflation.{Beside, beside, follows, Agrees, AgreeAll, Conflates}
 use Rattle.flow_law.specs.Growth.{event}
 use Rattle.flow_law.specs.History.{IsHistory}
+use Rattle.flow_law.specs.Lagging.{IsSubsequence, Lags}
 use Rattle.flow_law.specs.Laws.{Delivers}
+use Rattle.flow_law.specs.declared.config.Config.{Config}
 use Rattle.flow_law.specs.Mailbox.{taken, own, box, received}
 use Rattle.flow_law.specs.OneHistory.{AddsOne, said}
 use Rattle.flow_law.specs.SharedFlow.{Answer, answer, values, cache, position_of, own_of}
@@ -37,7 +39,7 @@ use Rattle.flow_gate.specs.Tokens as gated
 use Rattle.flow_shared.specs.Calls.{Nexts}
 use Rattle.flow_shared.specs.Futures.{SharedNumbered}
 use Rattle.flow_word.specs.Tokens.{Token, Origin}
-use Rattle.flow_shared_tests.specs.LentFlows.{HasAll, beside_after, IsNewest}
+use Rattle.flow_shared_tests.specs.LentFlows.{HasAll, ReadsInOrder, beside_after, IsNewest}
 
 module _ {T : Type 0} (u : ℕ) where
   -- u is there and has nothing to receive, and nothing changes
@@ -111,6 +113,23 @@ has_all_now {T} flow old answer next now called number same delivers empty =
     let alike : old.number ≡ now.number = sym (ap (λ (z : SharedNumbered T). z.number) same ∙ number) in
     subst (λ (z : ℕ × History T). HasAll z.0 flow.first.config z.1) (λ i. (alike i, sym seen i))
     (has_all old.number flow.first old.token.knows next.token.knows answered.1 (subst (λ (h : History T). Delivers old.number flow.first.config h) seen (delivers old.number)))
+
+module _ {A : Type 0} where
+  -- the beginning of a list with some elements left out is one
+  beginning_of : (xs ys zs : List A) → IsSubsequence (xs ++ ys) zs → IsSubsequence xs zs
+  beginning_of [] ys zs is = tt
+  beginning_of (x ∷ xs) ys [] is = absurd is
+  beginning_of (x ∷ xs) ys (z ∷ zs) is = elim is as (λ _. ((x ≡ z) × IsSubsequence xs zs) ⊎ IsSubsequence (x ∷ xs) zs) [
+    | inl both ↦ inl (both.0, beginning_of xs ys zs both.1)
+    | inr rest ↦ inr (beginning_of (x ∷ xs) ys zs rest)
+  ]
+
+-- a subscriber that is there has read in order
+pub reads_in_order : {T : Type 0} (u : ℕ) (config : Config) (h : History T) → Lags u config h → ReadsInOrder u config h
+reads_in_order u config h lags = record {
+  in_order = beginning_of _ (box u config h) _ lags.in_order;
+  whole = λ keeps buffered. (box u config h, sym (lags.whole keeps buffered));
+}
 
 module _ {T : Type 0} (u : ℕ) where
   after_last : (m : Beside T) (h : StateHistory T) (e : Event (Said (StateCall T) (StateReply T))) → beside_after u m (h ++ e ∷ []) ≡ follows u (beside_after u m h) e.what.call e.what.reply

@@ -1,11 +1,13 @@
 -- What a caller to whom a flow was lent concludes by the laws of flows.
-use Rattle.std.specs.Prelude.{◌≡◌, ◌≢◌, ℕ, ◌<◌, List, [], ◌∷◌, ◌++◌, length, drop}
+use Rattle.std.specs.Prelude.{◌≡◌, ◌≢◌, ℕ, ◌+◌, ◌<◌, List, [], ◌∷◌, ◌++◌, length, drop}
 use Rattle.flow_law.specs.declared.config.Config.{Config}
 use Rattle.flow_law.specs.declared.config.Overflow.TheVariants.{DropOldest}
-use Rattle.flow_law.specs.SharedFlow.{capacity, values, cache}
+use Rattle.flow_law.specs.Lagging.{IsSubsequence, emitted_since_entry}
+use Rattle.flow_law.specs.SharedFlow.{first_state, capacity, values, cache}
 use Rattle.flow_law.specs.SharedHistory.{History, state_after}
 use Rattle.flow_law.specs.Mailbox.{delivered, received, began}
 use Rattle.flow_law.specs.StateFlow.{StateHistory}
+use Rattle.flow_law.specs.Waiting.{from_flow}
 use Rattle.flow_law.specs.Conflation.{Beside, beside, follows}
 
 module _ {T : Type 0} where
@@ -15,6 +17,13 @@ module _ {T : Type 0} where
     pub delivered : received u h ≡ delivered u config h
     pub emitted : config.overflow ≢ DropOldest → 0 < capacity (state_after config h)
         → received u h ≡ (began u config h).first ++ drop (began u config h).entry (values (state_after config h))
+
+  -- What the subscriber received of the flow's values so far was emitted since it entered: nothing comes twice, and nothing
+  -- out of order. If the flow has a buffer and does not drop the oldest, the subscriber has missed nothing.
+  pub record ReadsInOrder (u : ℕ) (config : Config) (h : History T) : Type 0 where
+    pub in_order : IsSubsequence (from_flow u (first_state config) h) (emitted_since_entry u config h)
+    pub whole : config.overflow ≢ DropOldest → 0 < config.replay + config.extra
+        → (rest : List T) × (emitted_since_entry u config h ≡ from_flow u (first_state config) h ++ rest)
 
   -- the shared flow beside a state flow, after a history of it
   abbrev pub beside_after : ℕ → Beside T → StateHistory T → Beside T

@@ -1,6 +1,8 @@
 //! Worked examples by one caller with a seat for each emission. The values come from kotlinx.coroutines' documentation of
 //! `MutableSharedFlow` and `BufferOverflow`.
 
+mod asleep;
+mod closed;
 mod drains;
 mod emissions;
 mod futures_awaited;
@@ -13,5 +15,4 @@ mod own_values;
 mod state;
 mod subscribers;
 mod threads;
-mod turns;
 mod worker;

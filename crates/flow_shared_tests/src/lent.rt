@@ -3,7 +3,7 @@ ghost use Rattle.std.specs.Prelude.{◌≡◌, Ok};
 ghost use Rattle.flow_law.specs.declared.outcome.Next.TheVariants.{Empty};
 ghost use Rattle.flow_law.specs.Laws.{NoIdleQueue};
 ghost use Rattle.flow_law.specs.SharedHistory.{state_after};
-ghost use Rattle.flow_shared_tests.specs.LentFlows.{HasAll, IsNewest};
+ghost use Rattle.flow_shared_tests.specs.LentFlows.{HasAll, IsNewest, ReadsInOrder};
 
 use flow_law::{FlowFault, FlowValue, Next, Packed, Refused};
 use flow_shared::{Seat, SharedFlow, Subscription};
@@ -36,6 +36,22 @@ pub fn next_or_all<R: Wait, T: FlowValue>(
     ensures table { subscription.new.token.table_id ≡ flow.now.table_id }
     ensures all { result ≡ Ok Empty
         → HasAll subscription.new.number flow.now.first.config subscription.new.token.knows.seen }
+{
+    let next = flow.next(rt, subscription);
+    flow.seen_by_subscription(subscription);
+    next
+}
+
+/// Receives the next value: what the subscriber received so far was emitted since it subscribed, in order; with a buffer,
+/// unless the flow drops the oldest, nothing is left out.
+pub fn next_in_order<R: Wait, T: FlowValue>(
+    rt: &R,
+    flow: &SharedFlow<T>,
+    subscription: &mut Subscription<T>,
+) -> Result<Next<T>, FlowFault>
+    requires { subscription.old.token.table_id ≡ flow.now.table_id }
+    ensures table { subscription.new.token.table_id ≡ flow.now.table_id }
+    ensures in_order { ReadsInOrder subscription.new.number flow.now.first.config subscription.new.token.knows.seen }
 {
     let next = flow.next(rt, subscription);
     flow.seen_by_subscription(subscription);

@@ -178,6 +178,9 @@ fn set_now_and_receive<R: Wait + Abort>(
     let mut subscription = flow.subscribe(rt, seat).expect(rt, "a subscription");
     flow.meet_subscription(&mut subscription, other);
     compare(rt, 2, flow.next(rt, &mut subscription), Ok(Next::Value(5)));
+    flow.seen(seat);
+    flow.seen_by_subscription(&mut subscription);
+    compare(rt, 3, flow.next(rt, &mut subscription), Ok(Next::Empty));
 }
 
 #[test]

@@ -8,7 +8,7 @@ use flow_shared::{SharedFlow, StateFlow};
 use flow_sharing::{
     Backwards, CoreHub, Hub, Policy, SharedFlowHub, StateFlowHub, StateHub, WordHub,
     law_turn_over_core, law_turn_over_shared_flow, law_turn_over_state_core,
-    law_turn_over_state_flow,
+    law_turn_over_state_flow, law_turn_over_word_state,
 };
 use flow_word::WordState;
 use std::alloc::Global;
@@ -67,6 +67,7 @@ fn laws_hold_of_whole_numbers() {
     law_turn_over_state_core::<i64, Global>();
     law_turn_over_shared_flow::<i64>();
     law_turn_over_state_flow::<i64>();
+    law_turn_over_word_state::<i64>();
 }
 
 /// The hub puts 3, which waits or not, and cancels what waits. So many subscribe.

@@ -1,4 +1,6 @@
 //! A flow that refuses, queues or is busy as a test wants, and a chain that counts how often it is asked.
+ghost use Rattle.std.specs.Prelude.{⊤};
+
 use flow_cold::{Asked, Cold, OfList};
 use flow_law::{FlowFault, Refused};
 use flow_sharing::Hub;
@@ -90,13 +92,25 @@ pub struct Counted<'a> {
 impl<'a> Cold for Counted<'a> {
     type Item = i64;
 
-    ghost sound = { λ s. ⟦<OfList<i64> as Cold>⟧.sound s.list };
+    ghost Reading = { ⊤ };
+
+    ghost CanAsk = { λ _. ⊤ };
+
+    ghost Reads = { λ _ _. ⊤ };
 
     ghost whole = { λ s. ⟦<OfList<i64> as Cold>⟧.whole s.list };
 
     ghost rest = { λ s. ⟦<OfList<i64> as Cold>⟧.rest s.list };
 
+    ghost most_asks = { λ s. ⟦<OfList<i64> as Cold>⟧.most_asks s.list };
+
+    ghost IsLimited = { ⊥ };
+
+    ghost limit = { 0 };
+
     ghost IsOver = { λ s. ⟦<OfList<i64> as Cold>⟧.IsOver s.list };
+
+    ghost AsksBehind = { λ _ _ _ _. ⊤ };
 
     fn ask(&mut self) -> Asked<i64> {
         self.asks.set(self.asks.get().wrapping_add(1));
@@ -106,4 +120,6 @@ impl<'a> Cold for Counted<'a> {
     fn rewind(&mut self) {
         self.list.rewind();
     }
+
+    ghost limited = { λ never s. absurd never };
 }

@@ -1,0 +1,54 @@
+//! The errors of handles as faults, and as text.
+use crate::compare::compare;
+use flow_law::{
+    Busy, EmitNowError, Exhausted, FlowFault, NumberError, OutOfMemory, Rejected, TryNextError,
+    Unsupported,
+};
+
+#[test]
+fn each_error_stands_for_a_fault(rt: HostRuntime) {
+    let table = [
+        (FlowFault::from(OutOfMemory), FlowFault::OutOfMemory),
+        (FlowFault::from(Exhausted), FlowFault::Exhausted),
+        (FlowFault::from(Busy), FlowFault::Busy),
+        (FlowFault::from(Unsupported), FlowFault::Unsupported),
+        (
+            FlowFault::from(NumberError::OutOfMemory),
+            FlowFault::OutOfMemory,
+        ),
+        (
+            FlowFault::from(NumberError::Exhausted),
+            FlowFault::Exhausted,
+        ),
+        (FlowFault::from(EmitNowError::Busy), FlowFault::Busy),
+        (
+            FlowFault::from(EmitNowError::Exhausted),
+            FlowFault::Exhausted,
+        ),
+        (
+            FlowFault::from(TryNextError::OutOfMemory),
+            FlowFault::OutOfMemory,
+        ),
+        (FlowFault::from(TryNextError::Busy), FlowFault::Busy),
+    ];
+    for (place, (fault, wanted)) in table.iter().enumerate() {
+        compare(&rt, place, *fault, *wanted);
+    }
+}
+
+/// What `?` makes of a refusal that hands its value back.
+fn fault_of(answer: Result<(), Rejected<i64, Busy>>) -> Result<(), FlowFault> {
+    answer?;
+    Ok(())
+}
+
+#[test]
+fn a_rejected_value_is_told_by_its_error(rt: HostRuntime) {
+    let rejected = Rejected {
+        value: 3,
+        error: Busy,
+    };
+    let text = format!(in rt.alloc(); "{rejected}").expect(&rt, "a text");
+    compare(&rt, 0, text.as_str(), "another caller was inside the flow");
+    compare(&rt, 1, fault_of(Err(rejected)), Err(FlowFault::Busy));
+}

@@ -1,0 +1,22 @@
+//! Tests of handles: of each call that it answers what the flow's own call answers. The values come from kotlinx.coroutines'
+//! documentation.
+//!
+//! They stand apart, since they need the flows for threads alone and so are proved beside all crates above those.
+#![tactic(auto)]
+
+#[cfg(test)]
+mod compare;
+#[cfg(test)]
+mod emissions;
+#[cfg(test)]
+mod errors;
+#[cfg(test)]
+mod shared;
+#[cfg(test)]
+mod state;
+#[cfg(test)]
+mod threads;
+#[cfg(test)]
+mod turns;
+#[cfg(test)]
+mod word;
