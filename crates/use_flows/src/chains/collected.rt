@@ -1,19 +1,64 @@
-//! The even numbers from 1 to 10, each times three and plus one, the first three of them.
+//! Chains over plain closures, each collected or folded. The closures capture what they need, and may fail.
 use anyhow::Result;
-use flow_cold::{Chain, Collected, Even, OfRange, Plus, Times, collect_all};
+use flow_cold::{Chain, ChainFault, Collected, OfList, OfRange, Terminal, collect_all};
 use std::alloc::Global;
 
-fn collect(alloc: Global) -> Result<Collected<i64>> {
-    let mut chain = OfRange::new(1, 10)
-        .filter_by(Even)
-        .map_by(Times { k: 3 })
-        .map_by(Plus { k: 1 })
+/// The first three even numbers from 1 to `last`, times `k`.
+fn even_times(alloc: Global, last: i64, k: i64) -> Result<Collected<i64>> {
+    let mut chain = OfRange::new(1, last)
+        .filter(|x| x % 2 == 0)
+        .map(|x| x.checked_mul(k).ok_or(ChainFault::Overflow))
         .take(3)?;
     Ok(collect_all(alloc, &mut chain)?)
 }
 
-pub fn show(rt: &HostRuntime) -> Result<()> {
-    let collected = collect(rt.alloc())?;
+/// From `first` to each number up to `last`.
+fn counted_up(alloc: Global, first: i64, last: i64) -> Result<Collected<i64>> {
+    let mut chain = OfRange::new(first, last).flat_map_concat(|x| Ok(OfRange::new(first, x)));
+    Ok(collect_all(alloc, &mut chain)?)
+}
+
+/// What is saved after each payment, and at first.
+fn savings(alloc: Global, saved: i64, payments: Vec<i64>) -> Result<Collected<i64>> {
+    let mut chain = OfList::new(payments).scan(saved, |all, payment| {
+        all.checked_add(payment).ok_or(ChainFault::Overflow)
+    });
+    Ok(collect_all(alloc, &mut chain)?)
+}
+
+/// Each amount at its price.
+fn priced(alloc: Global, amounts: Vec<i64>, prices: Vec<i64>) -> Result<Collected<i64>> {
+    let mut chain = OfList::new(amounts).zip(OfList::new(prices), |amount, price| {
+        amount.checked_mul(price).ok_or(ChainFault::Overflow)
+    });
+    Ok(collect_all(alloc, &mut chain)?)
+}
+
+/// The sum of the numbers from 1 to `last` that are not below `least`.
+fn sum_from(least: i64, last: i64) -> Result<i64> {
+    let mut chain = OfRange::new(1, last).filter(|x| *x >= least);
+    let sum = chain.fold(
+        0,
+        |all: i64, x| all.checked_add(x).ok_or(ChainFault::Overflow),
+    )?;
+    Ok(sum)
+}
+
+fn print(rt: &HostRuntime, collected: &Collected<i64>) -> Result<()> {
     println!(rt; "{:?}, {:?}", collected.items.as_slice(), collected.end)?;
+    Ok(())
+}
+
+pub fn show(rt: &HostRuntime) -> Result<()> {
+    let alloc = rt.alloc();
+    print(rt, &even_times(alloc, 10, 3)?)?;
+    print(rt, &even_times(alloc, 10, i64::MAX)?)?;
+    print(rt, &counted_up(alloc, 1, 3)?)?;
+    print(rt, &savings(alloc, 10, vec![in alloc; 5, 1]?)?)?;
+    print(
+        rt,
+        &priced(alloc, vec![in alloc; 3, 1]?, vec![in alloc; 2, 7, 9]?)?,
+    )?;
+    println!(rt; "{}", sum_from(3, 5)?)?;
     Ok(())
 }
