@@ -1,0 +1,114 @@
+"""Builds the two programs of the bench: the flows (bench/flow_bench), and what people would use in their place (bench/peers)."""
+import hashlib
+import pathlib
+import shutil
+import subprocess
+import sys
+import tempfile
+
+from built import top
+
+# The files of flow_bench have names that end in .in, and are built in a repository of their own, since the gate proves
+# each crate below the top. It is kept for the next run.
+work = pathlib.Path(tempfile.gettempdir()) / f"wumsnair-bench-{hashlib.sha256(str(top).encode()).hexdigest()[:8]}"
+sources = top / "bench" / "flow_bench"
+crate = work / "crates" / "flow_bench"
+flow_bench = crate / "out" / "flow_bench"
+LIBRARIES = "flow_law flow_core flow_shared flow_word flow_cold flow_turns"
+
+peers_sources = top / "bench" / "peers"
+peers_work = work / "peers"
+# Where Debian's packages put the crates, the folder of each, its feature in bench/peers, and the package.
+REGISTRY = pathlib.Path("/usr/share/cargo/registry")
+PACKAGES = [
+    ("tokio-1.*", "tokio", "librust-tokio-dev"),
+    ("async-broadcast-0.4.*", "async-broadcast", "librust-async-broadcast-dev"),
+    ("parking_lot-0.12.*", "parking_lot", "librust-parking-lot-dev"),
+]
+
+
+def call(folder, *words):
+    """Runs a command in a folder, and stops if it fails."""
+    ran = subprocess.run(words, cwd=folder, capture_output=True, text=True)
+    if ran.returncode != 0:
+        sys.exit(ran.stdout + ran.stderr)
+    return ran.stdout
+
+
+# ---- the flows
+
+
+def copy_libraries(lines):
+    """Copies the libraries, as they are built, and the lines of crates.txt that name them and what they stand on."""
+    listed = {}
+    for line in lines:
+        if ":" in line and not line.startswith("#"):
+            named, needs = line.split(":")
+            listed[named.split()[0]] = (line, needs.split())
+    wanted = LIBRARIES.split()
+    for name in wanted:
+        wanted += [it for it in listed[name][1] if it in listed and it not in wanted]
+    for name in wanted:
+        for part in ("src", "specs", "proofs", "out/rlib"):
+            if (top / "crates" / name / part).is_dir():
+                shutil.copytree(top / "crates" / name / part, work / "crates" / name / part)
+    return [listed[name][0] for name in wanted]
+
+
+def copy_flow_bench():
+    """Copies the program's files under their names without '.in'."""
+    for file in sources.rglob("*.in"):
+        to = crate / file.relative_to(sources).with_suffix("")
+        to.parent.mkdir(parents=True, exist_ok=True)
+        shutil.copyfile(file, to)
+
+
+def build_flow_bench():
+    """Proves and builds the flows' program, unless that is done already."""
+    for name in LIBRARIES.split():
+        call(top / "crates" / name, "rt", "lib")
+    for old in {*work.glob("crates/*"), crate / "src", crate / "proofs"} - {crate}:
+        shutil.rmtree(old, ignore_errors=True)
+    lines = copy_libraries((top / "crates.txt").read_text().splitlines())
+    copy_flow_bench()
+    (work / "crates.txt").write_text("\n".join([*lines, f"flow_bench: {LIBRARIES}", ""]))
+    if "nanoseconds" not in call(crate, "rt", "run", "--", "set_state", "plain"):
+        sys.exit("flow_bench does not answer")
+    return flow_bench
+
+
+# ---- the peers
+
+
+def features():
+    """The features that can be built, and the packages that are not there."""
+    has_cargo = shutil.which("cargo") is not None
+    found = {feature for folder, feature, _ in PACKAGES if has_cargo and any(REGISTRY.glob(folder))}
+    missing = [package for _, feature, package in PACKAGES if feature not in found]
+    return sorted(found), missing if has_cargo else ["cargo", *missing]
+
+
+def build_with_cargo(found):
+    """By cargo, from Debian's packages alone."""
+    config = ['source.crates-io.replace-with="debian"', f'source.debian.directory="{REGISTRY}"']
+    words = [word for line in config for word in ("--config", line)]
+    call(peers_work, "cargo", "build", "--release", "--offline", "--features", ",".join(found), *words)
+    return peers_work / "target" / "release" / "peers"
+
+
+def build_with_rustc():
+    """By rustc, from the files of bench/peers alone."""
+    program = peers_work / "by_rustc"
+    options = ["-C", "opt-level=3", "-C", "codegen-units=1", "-C", "panic=abort"]
+    call(peers_work, "rustc", "--edition", "2021", *options, "-o", program, "src/main.rs")
+    return program
+
+
+def build_peers():
+    """Builds the peers with all crates that are there, and says which are not."""
+    shutil.rmtree(peers_work / "src", ignore_errors=True)
+    shutil.copytree(peers_sources, peers_work, dirs_exist_ok=True)
+    found, missing = features()
+    if missing:
+        print(f"without their peers, since these Debian packages are not installed: {' '.join(missing)}")
+    return build_with_cargo(found) if found else build_with_rustc()

@@ -1,0 +1,75 @@
+"""Runs the bench's programs: what an operation costs, in nanoseconds and in instructions."""
+import json
+import re
+import shutil
+import subprocess
+import sys
+
+OF_FLOWS = {"flow", "flow_drain", "gated", "gated_drain", "plain"}
+ROUNDS = 3
+
+
+class Programs:
+    """The two programs, by the peers that each of them has."""
+
+    def __init__(self, flow_bench, peers):
+        self.flow_bench, self.peers = flow_bench, peers
+
+    def command(self, workload, peer, sizes):
+        program = self.flow_bench if peer in OF_FLOWS else self.peers
+        return [str(program), workload, peer, *(f"{name}={size}" for name, size in sizes.items())]
+
+    def run(self, workload, peer, sizes):
+        """What the program prints, or nothing if it was built without this peer."""
+        return answer(subprocess.run(self.command(workload, peer, sizes), capture_output=True, text=True, check=True).stdout)
+
+    def has(self, workload, peer):
+        return self.run(workload, peer, {"count": 16, "repeats": 1}) is not None
+
+    def cost(self, case):
+        """Nanoseconds an operation, and the sum."""
+        printed = self.run(*case)
+        if printed is None:
+            sys.exit(f"there is no such case: {case}")
+        return printed["nanoseconds"] / max(printed["operations"], 1), printed["sum"]
+
+    def costs(self, cases):
+        """The least cost of each case, of some rounds through all of them. All have to do the same work."""
+        rounds = [[self.cost(case) for case in cases] for _ in range(ROUNDS)]
+        if len({total for costs in rounds for _, total in costs}) > 1:
+            sys.exit(f"these do not do the same work: {cases}")
+        return self.least(rounds)
+
+    def growth_costs(self, cases):
+        """The same of cases that do different work."""
+        return self.least([[self.cost(case) for case in cases] for _ in range(ROUNDS)])
+
+    @staticmethod
+    def least(rounds):
+        return [min(time for time, _ in costs) for costs in zip(*rounds)]
+
+    def instructions(self, workload, peer, sizes):
+        """Instructions an operation: what twice as many operations take more."""
+        few = self.count(workload, peer, {**sizes, "repeats": 1})
+        many = self.count(workload, peer, {**sizes, "count": 2 * sizes["count"], "repeats": 1})
+        return (many[0] - few[0]) / (many[1] - few[1])
+
+    def count(self, workload, peer, sizes):
+        """All instructions of a run, and its operations."""
+        words = ["valgrind", "--tool=callgrind", "--callgrind-out-file=/dev/null"]
+        ran = subprocess.run([*words, *self.command(workload, peer, sizes)], capture_output=True, text=True)
+        counted = re.search(r"Collected : (\d+)", ran.stderr)
+        printed = answer(ran.stdout)
+        if counted is None or printed is None:
+            sys.exit(f"valgrind: {workload} {peer} {sizes}: {ran.stderr}")
+        return int(counted[1]), printed["operations"]
+
+
+def answer(printed):
+    """What a program printed, or nothing if it has no such workload."""
+    told = json.loads(printed)
+    return None if "error" in told else told
+
+
+def can_count():
+    return shutil.which("valgrind") is not None
