@@ -29,6 +29,11 @@ pub mod Values
 pub mod Packs
 pub mod Seats
 pub mod Updates
+pub mod Accepted
+pub mod Done
+pub mod Closed
+pub mod UpdateCounts
+pub mod Rounds
 pub mod HandleFaults
 pub mod Handles
 pub mod Sleeping

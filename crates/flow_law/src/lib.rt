@@ -30,8 +30,8 @@ pub use fault::{FlowFault, Refused};
 pub use guarded::Guarded;
 pub use history::{Event, Knowledge, Said};
 pub use laws::{
-    law_admitted, law_conflated, law_current, law_delivered, law_idle_since, law_lagged,
-    law_no_idle_queue, law_replay, law_turn_account,
+    law_accepted, law_admitted, law_closed, law_conflated, law_current, law_delivered,
+    law_idle_since, law_lagged, law_no_idle_queue, law_replay, law_turn_account, law_updated,
 };
 pub use outcome::{Drained, Emit, Next};
 pub use sequence::Sequence;
