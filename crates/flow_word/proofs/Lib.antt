@@ -1,3 +1,4 @@
 pub mod Keeps
 pub mod SeatSteps
 pub mod Subscribing
+pub mod Waits

@@ -7,6 +7,7 @@ ghost use Rattle.flow_law.specs.StateFlow.{first_state_flow, state_flow};
 ghost use Rattle.flow_law.specs.Tokens.{Begins, CallsAtOnceIn, knowing};
 
 use crate::plays::{Exchange, Make, Put, Read};
+use crate::sleepers::WordSleepers;
 use crate::token::{WordSeat, WordState};
 use crate::view::Start;
 use atomic_table::Table;
@@ -32,7 +33,15 @@ impl<T: Packed> WordState<T> {
             limit: u64::from(limit),
         };
         match Table::of_words(alloc, &[start.word, 0], &start) {
-            Ok((table, seat)) => Ok((WordState { table, limit }, WordSeat { seat })),
+            Ok((table, seat)) => {
+                let state = WordState {
+                    table,
+                    limit,
+                    readers: WordSleepers::new(alloc),
+                    watchers: WordSleepers::new(alloc),
+                };
+                Ok((state, WordSeat { seat }))
+            }
             Err(_) => Err(FlowFault::OutOfMemory),
         }
     }
@@ -73,7 +82,11 @@ impl<T: Packed> WordState<T> {
             .table
             .shared
             .compare_exchange::<Exchange>(&mut seat.seat, 0, expect, update);
-        found == expect
+        let won = found == expect;
+        if won && expect != update {
+            self.readers.wake();
+        }
+        won
     }
 
     /// The current value.
@@ -97,7 +110,10 @@ impl<T: Packed> WordState<T> {
         ensures { CallsAtOnceIn state_flow self.now.first seat.old (call.Set value) reply.Done seat.new }
     {
         let word = value.pack();
-        self.table.shared.swap::<Put>(&mut seat.seat, 0, word);
+        let old = self.table.shared.swap::<Put>(&mut seat.seat, 0, word);
+        if old != word {
+            self.readers.wake();
+        }
     }
 
     /// Atomically compares the current value with `expect` and sets it to `update` if it is equal to

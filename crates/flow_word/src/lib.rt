@@ -24,17 +24,25 @@
 #![tactic(auto)]
 
 mod calls;
+mod changed_future;
 mod handles;
+mod limit;
 mod meeting;
 mod plays;
 mod rule;
 mod seen;
+mod sleepers;
 mod subscriber;
 mod token;
 mod update;
+mod values;
 mod view;
+mod watch;
 
+pub use changed_future::ChangedFuture;
 pub use handles::{WordReader, WordSetter};
 pub use rule::WordRule;
 pub use token::{WordSeat, WordState, WordSubscription};
+pub use values::WordValues;
 pub use view::{Known, LastGot, Start};
+pub use watch::CountWatch;

@@ -40,6 +40,7 @@ impl<T: Packed> WordState<T> {
         if found != word {
             return None;
         }
+        self.watchers.wake();
         Some(Ok(WordSubscription {
             seat: self.table.shared.split_seat::<Make>(&mut seat.seat),
             number: issued + 1,
@@ -95,6 +96,7 @@ impl<T: Packed> WordState<T> {
     {
         let WordSubscription { mut seat, .. } = subscription;
         self.table.shared.fetch_sub::<Leave>(&mut seat, 1, 1);
+        self.watchers.wake();
         WordSeat { seat }
     }
 

@@ -1,13 +1,16 @@
 //! The flow, and the tokens of its callers.
 ghost use Rattle.std.specs.Prelude.{◌≡◌};
+ghost use Rattle.futures.specs.Task.{IsArmed, Keeps};
 ghost use Rattle.flow_law.specs.Tokens.{origin, numbered};
 ghost use Rattle.flow_word.specs.View.{begun};
 ghost use Rattle.flow_word.specs.Tokens.{Token, Origin, NumberedToken, word_id, token_of, IsIdle, IsSubscribed};
 
 use crate::rule::WordRule;
+use crate::sleepers::{Announced, WordSleepers};
 use crate::view::{Known, Start};
 use atomic_table::{Seat, Table};
 use flow_law::{Packed, Sequence};
+use futures::task::Context;
 use std::alloc::Global;
 use std::marker::Model;
 
@@ -19,6 +22,25 @@ pub struct WordState<T: Packed> {
     /// many subscribers there are.
     pub(crate) table: Table<(), Sequence<Known<T>>, Start, WordRule, Global>,
     pub(crate) limit: u32,
+    /// The callers that sleep until the value changes.
+    pub(crate) readers: WordSleepers,
+    /// The callers that sleep until the number of subscribers changes.
+    pub(crate) watchers: WordSleepers,
+}
+
+impl<T: Packed> WordState<T> {
+    /// Counts a thread among those that sleep until the value changes.
+    pub(crate) fn announce(&self) -> Announced<'_> {
+        self.readers.announce()
+    }
+
+    /// Leaves the waker of the task that is polled, to be woken when the value changes.
+    pub(crate) fn leave_waker(&self, cx: &mut Context<'_>, subscription: &WordSubscription<T>)
+        ensures armed { IsArmed cx.new }
+        ensures kept { Keeps cx.old cx.new }
+    {
+        self.readers.leave_waker(cx, subscription.number);
+    }
 }
 
 impl<T: Packed> Model for WordState<T> {

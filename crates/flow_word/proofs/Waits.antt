@@ -1,0 +1,42 @@
+-- Calls of `next` that found nothing, before one that did.
+use Rattle.std.proofs.Common.{◌≡◌, List, [], ◌∷◌, Option, Some, None, Ok}
+use Rattle.futures.specs.Runs.{After, Within}
+use Rattle.flow_law.specs.declared.history.Said.{Said}
+use Rattle.flow_law.specs.declared.outcome.Next.TheVariants.{Value, Empty}
+use Rattle.flow_law.specs.History.{Kind}
+use Rattle.flow_law.specs.Handles.{next_of}
+use Rattle.flow_law.specs.Tokens.{NumberedToken, NextsIn}
+use Rattle.flow_word.specs.Receiving.{AsksInVain, not_asked, one_more, Receives, FindsNone, ReceivesInTime, Yields}
+
+abbrev Numbered : (Id C R : Type 0) → Type 0
+Numbered Id C R = NumberedToken Id (Said C R)
+
+module _ {Id T S C R : Type 0} (kind : Kind T S C R) (first : S) where
+  pub in_vain_far : {s t u : Numbered Id C R} → AsksInVain kind first s t → AsksInVain kind first t u → AsksInVain kind first s u
+  in_vain_far one not_asked = one
+  in_vain_far one (one_more two more) = one_more (in_vain_far one two) more
+
+  -- one look
+  pub found_now : (s t : Numbered Id C R) (found : Option T) → NextsIn kind first s (Ok (next_of found)) t → t.number ≡ s.number → ReceivesInTime kind first s found t
+  found_now s t (Some value) called same = record { between = s; in_vain = not_asked; given = (called, same) }
+  found_now s t None called same = record { between = s; in_vain = not_asked; empty = (called, same) }
+
+  pub in_vain_all : {s t u : Numbered Id C R} → AsksInVain kind first s t → FindsNone kind first t u → AsksInVain kind first s u
+  in_vain_all one none = one_more (in_vain_far one none.in_vain) none.empty
+
+  pub receives_far : {s t u : Numbered Id C R} {value : T} → AsksInVain kind first s t → Receives kind first t value u → Receives kind first s value u
+  receives_far one h = record { between = h.between; in_vain = in_vain_far one h.in_vain; given = h.given }
+
+  pub found_far : (s t u : Numbered Id C R) (found : Option T) → AsksInVain kind first s t → ReceivesInTime kind first t found u → ReceivesInTime kind first s found u
+  found_far s t u (Some value) one h = receives_far one h
+  found_far s t u None one h = record { between = h.between; in_vain = in_vain_far one h.in_vain; empty = h.empty }
+
+  -- ---- streams
+
+  pub yields_rest : {s u : Numbered Id C R} {value : T} → Receives kind first s value u → After (Yields kind first s) value (Yields kind first u)
+  yields_rest {s} {u} given values next rest = (u, given, rest)
+
+  pub yields_far : {s u : Numbered Id C R} → AsksInVain kind first s u → Within (Yields kind first s) (Yields kind first u)
+  yields_far one [] (Some value) h = (h.0, receives_far one h.1)
+  yields_far one [] None h = h
+  yields_far one (value ∷ values) next h = (h.0, receives_far one h.1, h.2)

@@ -1,0 +1,19 @@
+use Rattle.std.proofs.Common.{refl, ◌∙◌, subst}
+use Rattle.flow_law.specs.StateFlow.{state_flow}
+use Rattle.flow_word.specs.Receiving.{Receives, none_failed, one_failed}
+use Rattle.flow_word.proofs.handles.reader.WordReader.wait_for.Goals as goal
+
+pub loop-init : goal.loop-init
+loop-init g c = (tt, tt, refl, none_failed)
+
+pub loop-preserved : goal.loop-preserved
+loop-preserved g c =
+    let now = c.loop.self.subscription in let new = c.changed-value.new.self.subscription in
+    let given = subst (λ f. Receives state_flow f.first now c.changed-value.result new) c.loop.invariant.2 c.changed-value.ensures.received in
+    (tt, tt, c.changed-value.ensures.flow ∙ c.loop.invariant.2, one_failed c.loop.invariant.3 given (record { shown = _; shows = refl; says = record { met = c.if-test.ensures } }))
+
+pub returns-then-test-clause-received : goal.returns-then-test-clause-received
+returns-then-test-clause-received g c =
+    let now = c.loop.self.subscription in let new = c.changed-value.new.self.subscription in
+    let given = subst (λ f. Receives state_flow f.first now c.changed-value.result new) c.loop.invariant.2 c.changed-value.ensures.received in
+    record { between = now; failed = c.loop.invariant.3; received = given; passes = record { shown = _; shows = refl; says = record { met = c.if-test.ensures } } }

@@ -1,0 +1,70 @@
+-- What waiting for a value is: calls of `next`, each one event of the one history. Begin with `Receives`. `first` is the state that the
+-- flow began with.
+use Rattle.std.specs.Prelude.{◌≡◌, List, [], ◌∷◌, Option, Some, None, Ok}
+use Rattle.flow_law.specs.declared.history.Said.{Said}
+use Rattle.flow_law.specs.declared.outcome.Next.{Next}
+use Rattle.flow_law.specs.declared.outcome.Next.TheVariants.{Value, Empty}
+use Rattle.flow_law.specs.Handles.{ReaderOf}
+use Rattle.flow_law.specs.History.{Kind}
+use Rattle.flow_law.specs.Tokens.{NumberedToken, NextsIn}
+
+module _ {Id T S C R : Type 0} (kind : Kind T S C R) (first : S) where
+  -- one call of `next` gave this, and the subscription keeps its number
+  abbrev pub NextGives : NumberedToken Id (Said C R) → Next T → NumberedToken Id (Said C R) → Type 0
+  NextGives old next new = NextsIn kind first old (Ok next) new × (new.number ≡ old.number)
+
+  -- calls of `next` that found nothing
+  pub data AsksInVain : NumberedToken Id (Said C R) → NumberedToken Id (Said C R) → Type 0 where
+    not_asked : {s : NumberedToken Id (Said C R)} → AsksInVain s s
+    one_more : {s t u : NumberedToken Id (Said C R)} → AsksInVain s t → NextGives t Empty u → AsksInVain s u
+
+  -- calls of `next` that found nothing, and then one that gave this value
+  pub record Receives (old : NumberedToken Id (Said C R)) (value : T) (new : NumberedToken Id (Said C R)) : Type 0 where
+    pub between : NumberedToken Id (Said C R)
+    pub in_vain : AsksInVain old between
+    pub given : NextGives between (Value value) new
+
+  -- one call of `next` or more, and all found nothing
+  pub record FindsNone (old new : NumberedToken Id (Said C R)) : Type 0 where
+    pub between : NumberedToken Id (Said C R)
+    pub in_vain : AsksInVain old between
+    pub empty : NextGives between Empty new
+
+  -- what a look that ends at a time found
+  abbrev pub ReceivesInTime : NumberedToken Id (Said C R) → Option T → NumberedToken Id (Said C R) → Type 0
+  ReceivesInTime old (Some value) new = Receives old value new
+  ReceivesInTime old None new = FindsNone old new
+
+  -- values that were received one after the other, and failed a test
+  pub data PassesOver (Fails : T → Type 0) : NumberedToken Id (Said C R) → NumberedToken Id (Said C R) → Type 0 where
+    none_failed : {s : NumberedToken Id (Said C R)} → PassesOver Fails s s
+    one_failed : {s t u : NumberedToken Id (Said C R)} {value : T} → PassesOver Fails s t → Receives t value u → Fails value → PassesOver Fails s u
+
+  -- values that failed a test, and then this one, which passed it
+  pub record ReceivesIf (Passes Fails : T → Type 0) (old : NumberedToken Id (Said C R)) (value : T) (new : NumberedToken Id (Said C R)) : Type 0 where
+    pub between : NumberedToken Id (Said C R)
+    pub failed : PassesOver Fails old between
+    pub received : Receives between value new
+    pub passes : Passes value
+
+  -- values that failed a test, and then calls of `next` that found nothing
+  pub record PassesNone (Fails : T → Type 0) (old new : NumberedToken Id (Said C R)) : Type 0 where
+    pub between : NumberedToken Id (Said C R)
+    pub failed : PassesOver Fails old between
+    pub empty : FindsNone between new
+
+  -- what a wait for a value that passes a test came to at its end or in its time
+  abbrev pub ReceivesIfInTime : (Passes Fails : T → Type 0) → NumberedToken Id (Said C R) → Option T → NumberedToken Id (Said C R) → Type 0
+  ReceivesIfInTime Passes Fails old (Some value) new = ReceivesIf Passes Fails old value new
+  ReceivesIfInTime Passes Fails old None new = PassesNone Fails old new
+
+  -- each value of a stream is what may be received at its turn, and there is no end
+  abbrev pub Yields : NumberedToken Id (Said C R) → List T → Option T → Type 0
+  Yields old [] (Some value) = (new : NumberedToken Id (Said C R)) × Receives old value new
+  Yields old [] None = ⊥
+  Yields old (value ∷ values) next = (new : NumberedToken Id (Said C R)) × Receives old value new × Yields new values next
+
+-- what a future of a reader may give: the reader, which has received this value. None is left once it was ready
+abbrev pub GivesChanged : {Id T S C R : Type 0} → Kind T S C R → Option (ReaderOf Id S (Said C R)) → ReaderOf Id S (Said C R) × T → Type 0
+GivesChanged kind (Some reader) given = (given.0.flow ≡ reader.flow) × Receives kind reader.flow.first reader.subscription given.1 given.0.subscription
+GivesChanged kind None given = ⊥

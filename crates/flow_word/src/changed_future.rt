@@ -1,0 +1,79 @@
+//! The next change of a word state, as a future that is woken.
+ghost use Rattle.std.specs.Prelude.{◌≡◌, ⊤, Some, None};
+ghost use Rattle.futures.specs.Task.{Covers, Keeps};
+ghost use Rattle.futures.specs.Poll.{IfReady, OnPending};
+ghost use Rattle.flow_law.specs.StateFlow.{state_flow};
+ghost use Rattle.flow_word.specs.Receiving.{GivesChanged};
+
+use crate::handles::WordReader;
+use flow_law::Packed;
+use futures::Future;
+use futures::task::{Context, Poll};
+use std::marker::Model;
+
+/// Waits until the value differs from the one that a reader got last, and gives the reader and the value.
+///
+/// A poll that finds nothing leaves its task's waker with the flow, and looks once more; the call that changes the value
+/// wakes the task. If no waker can be kept at that moment, the task asks to be polled again. After Ready a poll is pending
+/// and calls nothing.
+///
+/// # Dropping
+/// Dropping it loses no value, but leaves the subscription in the flow, and perhaps a waker: its task may be woken once
+/// more. Call `into_reader` to get the reader back.
+#[derive(Drop)]
+pub struct ChangedFuture<'a, T: Packed> {
+    reader: Option<WordReader<'a, T>>,
+}
+
+impl<'a, T: Packed> Model for ChangedFuture<'a, T> {
+    ghost use Rattle.std.specs.Prelude.{Option};
+    ghost use Rattle.flow_law.specs.declared.history.Said.{Said};
+    ghost use Rattle.flow_law.specs.declared.call.StateCall.{StateCall};
+    ghost use Rattle.flow_law.specs.declared.call.StateReply.{StateReply};
+    ghost use Rattle.flow_law.specs.declared.states.StateFlowState.{StateFlowState};
+    ghost use Rattle.flow_law.specs.Handles.{ReaderOf};
+    ghost use Rattle.flow_word.specs.Tokens.{WordId};
+
+    ghost Value = { Option (ReaderOf WordId (StateFlowState T) (Said (StateCall T) (StateReply T))) };
+
+    ghost view = { λ f. f.reader };
+}
+
+impl<'a, T: Packed> WordReader<'a, T> {
+    /// Returns a future that waits until the value changes. Nothing is received before it is polled.
+    pub fn into_changed(self) -> ChangedFuture<'a, T>
+        ensures { result ≡ Some self.entry }
+    {
+        ChangedFuture { reader: Some(self) }
+    }
+}
+
+impl<'a, T: Packed> ChangedFuture<'a, T> {
+    /// Ends the future, and returns the reader. `None` after Ready, when the answer had it.
+    pub fn into_reader(self) -> Option<WordReader<'a, T>>
+        ensures { result ≡ self.entry }
+    {
+        let ChangedFuture { reader } = self;
+        reader
+    }
+}
+
+impl<'a, T: Packed> Future for ChangedFuture<'a, T> {
+    type Output = (WordReader<'a, T>, T);
+
+    ghost gives = { λ f given. GivesChanged state_flow f given };
+
+    fn poll(&mut self, cx: &mut Context<'_>) -> Poll<(WordReader<'a, T>, T)> {
+        let mut reader = match self.reader.take() {
+            Some(reader) => reader,
+            None => return cx.yield_now(),
+        };
+        match reader.look_or_leave_waker(cx) {
+            Some(value) => Poll::Ready((reader, value)),
+            None => {
+                self.reader = Some(reader);
+                Poll::Pending
+            }
+        }
+    }
+}

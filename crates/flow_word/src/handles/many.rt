@@ -1,0 +1,75 @@
+//! Callers that each have a thread of their own, and what they have done once these threads have ended.
+ghost use Rattle.std.specs.Prelude.{◌≡◌, ◌∷◌, ℕ, ◌<◌, All, IfOk, length, map, slice_index_or, vec_len};
+ghost use Rattle.flow_law.specs.Closed.{makes_many, nth_child};
+ghost use Rattle.flow_law.specs.Handles.{called_by};
+ghost use Rattle.flow_law.specs.Rounds.{OnlyMeets, MeetsInTurn, IsFinalValue};
+ghost use Rattle.flow_law.specs.StateFlow.{state_flow};
+ghost use Rattle.flow_law.specs.Tokens.{knowing};
+
+use super::setter::WordSetter;
+use flow_law::{OutOfMemory, Packed};
+use std::alloc::Global;
+
+impl<'a, T: Packed> WordSetter<'a, T> {
+    /// Makes so many more callers through this one. Call it before their threads start.
+    ///
+    /// # Errors
+    /// `OutOfMemory` if there is no room for them. The seats that were made by then are dropped.
+    pub fn others(
+        &mut self,
+        alloc: Global,
+        count: u32,
+    ) -> Result<Vec<WordSetter<'a, T>>, OutOfMemory>
+        ensures flow { self.new.flow ≡ self.old.flow }
+        ensures maker { IfOk result (λ made. self.new.token
+            ≡ knowing self.old.token (makes_many count self.old.token.knows)) }
+        ensures count { IfOk result (λ made. vec_len made ≡ count) }
+        ensures made { IfOk result (λ made. (i : ℕ) (d : _) → i < count → slice_index_or made.items i d
+            ≡ called_by self.old.flow (knowing self.old.token (nth_child i self.old.token.knows))) }
+    {
+        let mut made = Vec::new(alloc);
+        for _count in 0..count {
+            if made.push(self.another()).is_err() {
+                return Err(OutOfMemory);
+            }
+        }
+        Ok(made)
+    }
+
+    /// Meets each of the others, one after the other.
+    ///
+    /// Each of them has then seen what this caller had seen before, and this caller has seen what each of them had seen.
+    pub fn meet_all(&mut self, others: &mut [WordSetter<'_, T>])
+        requires { All (λ c. c.flow.table_id ≡ self.old.flow.table_id) others.old }
+        ensures flow { self.new.flow ≡ self.old.flow }
+        ensures meets { OnlyMeets self.old.token self.new.token }
+        ensures count { length others.new ≡ length others.old }
+        ensures flows { (i : ℕ) (d : _) → i < length others.old →
+            (slice_index_or others.new i d).flow ≡ (slice_index_or others.old i d).flow }
+        ensures met { (i : ℕ) (d : _) → i < length others.old →
+            MeetsInTurn state_flow self.old.flow.first self.old.token.knows self.new.token.knows
+            (slice_index_or others.old i d).token (slice_index_or others.new i d).token }
+    {
+        for k in 0..others.len() {
+            let other = &mut others[k];
+            self.meet(other);
+        }
+    }
+
+    /// Returns the value after all that this caller and the others did, and after nothing else under their names. Call it
+    /// once the threads of the others have ended.
+    ///
+    /// All meet, the value is read, and all meet again: because of the first round nothing is left out of what is read, and
+    /// the second round shows that none of them has done more.
+    pub fn final_value(&mut self, others: &mut [WordSetter<'_, T>]) -> T
+        requires { All (λ c. c.flow.table_id ≡ self.old.flow.table_id) others.old }
+        ensures flow { self.new.flow ≡ self.old.flow }
+        ensures value { IsFinalValue self.old.flow.first
+            (self.old.token.knows ∷ map (λ c. c.token.knows) others.old) result }
+    {
+        self.meet_all(others);
+        let value = self.value();
+        self.meet_all(others);
+        value
+    }
+}

@@ -1,0 +1,184 @@
+//! Calls of a reader that sleep until there is a value.
+ghost use Rattle.std.specs.Prelude.{◌≡◌, true, false, None};
+ghost use Rattle.std.specs.Fn.{FnReturnsAt};
+ghost use Rattle.futures.specs.Task.{IsArmed, Keeps};
+ghost use Rattle.flow_law.specs.StateFlow.{state_flow};
+ghost use Rattle.flow_word.specs.Receiving.{Receives, ReceivesInTime, ReceivesIf, ReceivesIfInTime};
+
+use super::reader::WordReader;
+use crate::limit::Limit;
+use flow_law::Packed;
+use futures::task::Context;
+use std::sync::Wait;
+use std::time::{Clock, Duration};
+
+impl<'a, T: Packed> WordReader<'a, T> {
+    /// Takes the value if it has changed.
+    fn look(&mut self) -> Option<T>
+        ensures flow { self.new.flow ≡ self.old.flow }
+        ensures received { ReceivesInTime state_flow self.old.flow.first
+            self.old.subscription result self.new.subscription }
+    {
+        self.next()
+    }
+
+    /// Takes the value if it has changed. If it has not, sleeps until the next change, and returns `None`.
+    fn look_or_sleep<R: Wait>(&mut self, rt: &R) -> Option<T>
+        ensures flow { self.new.flow ≡ self.old.flow }
+        ensures received { ReceivesInTime state_flow self.old.flow.first
+            self.old.subscription result self.new.subscription }
+    {
+        let flow = self.flow;
+        let announced = flow.announce();
+        match self.look() {
+            Some(value) => Some(value),
+            None => {
+                announced.sleep(rt);
+                None
+            }
+        }
+    }
+
+    /// Takes the value as `look_or_sleep` does, and sleeps for no longer than `most`.
+    fn look_or_sleep_for<R: Wait>(&mut self, rt: &R, most: Duration) -> Option<T>
+        ensures flow { self.new.flow ≡ self.old.flow }
+        ensures received { ReceivesInTime state_flow self.old.flow.first
+            self.old.subscription result self.new.subscription }
+    {
+        let flow = self.flow;
+        let announced = flow.announce();
+        match self.look() {
+            Some(value) => Some(value),
+            None => {
+                announced.sleep_for(rt, most);
+                None
+            }
+        }
+    }
+
+    /// Takes the value if it has changed. If it has not, leaves the waker of the task that is polled, and looks once more.
+    pub(crate) fn look_or_leave_waker(&mut self, cx: &mut Context<'_>) -> Option<T>
+        ensures flow { self.new.flow ≡ self.old.flow }
+        ensures received { ReceivesInTime state_flow self.old.flow.first
+            self.old.subscription result self.new.subscription }
+        ensures armed { result ≡ None → IsArmed cx.new }
+        ensures kept { Keeps cx.old cx.new }
+    {
+        match self.look() {
+            Some(value) => return Some(value),
+            None => {}
+        }
+        let flow = self.flow;
+        flow.leave_waker(cx, &self.subscription);
+        self.look()
+    }
+
+    /// Waits until the value differs from the one that the subscriber got last, and returns it. A new subscriber gets the
+    /// current value at once.
+    ///
+    /// The thread sleeps meanwhile: `set`, `compare_and_set` and the updates wake it, also those of the flow itself. A slow
+    /// subscriber skips values and gets the most recent one.
+    ///
+    /// # Source
+    /// `StateFlow.collect`: what it emits next.
+    pub fn changed<R: Wait>(&mut self, rt: &R) -> T
+        ensures flow { self.new.flow ≡ self.old.flow }
+        ensures received { Receives state_flow self.old.flow.first
+            self.old.subscription result self.new.subscription }
+    {
+        match self.look() {
+            Some(value) => return value,
+            None => {}
+        }
+        for _ in rt.forever() {
+            match self.look_or_sleep(rt) {
+                Some(value) => return value,
+                None => {}
+            }
+        }
+        unreachable!()
+    }
+
+    fn changed_within<R: Wait + Clock>(&mut self, rt: &R, limit: &Limit) -> Option<T>
+        ensures flow { self.new.flow ≡ self.old.flow }
+        ensures received { ReceivesInTime state_flow self.old.flow.first
+            self.old.subscription result self.new.subscription }
+    {
+        for _ in rt.forever() {
+            match limit.left(rt) {
+                Some(left) => match self.look_or_sleep_for(rt, left) {
+                    Some(value) => return Some(value),
+                    None => {}
+                },
+                None => return self.look(),
+            }
+        }
+        unreachable!()
+    }
+
+    /// Waits as `changed` does, for no longer than `limit`, and returns `None` if the value has not changed by then. If the
+    /// clock cannot be read, it looks once.
+    ///
+    /// # Source
+    /// `withTimeoutOrNull` around a collection of one value.
+    pub fn changed_timeout<R: Wait + Clock>(&mut self, rt: &R, limit: Duration) -> Option<T>
+        ensures flow { self.new.flow ≡ self.old.flow }
+        ensures received { ReceivesInTime state_flow self.old.flow.first
+            self.old.subscription result self.new.subscription }
+    {
+        self.changed_within(rt, &Limit::new(rt, limit))
+    }
+}
+
+impl<'a, T: Packed + Drop> WordReader<'a, T> {
+    /// Waits for the first value that passes a test, and returns it. The subscriber gets the values up to that one, each as
+    /// `changed` gives it; a value that it got before is not tested again.
+    ///
+    /// # Source
+    /// `StateFlow.first { }`, for a new subscriber.
+    pub fn wait_for<R: Wait, F: Fn(&T) -> bool>(&mut self, rt: &R, test: F) -> T
+        requires callable { F.IsAlwaysCallable test }
+        ensures flow { self.new.flow ≡ self.old.flow }
+        ensures received { ReceivesIf state_flow self.old.flow.first
+            (λ value. FnReturnsAt F.Fn test value true) (λ value. FnReturnsAt F.Fn test value false)
+            self.old.subscription result self.new.subscription }
+    {
+        for _ in rt.forever() {
+            let value = self.changed(rt);
+            if test(&value) {
+                return value;
+            }
+        }
+        unreachable!()
+    }
+
+    /// Waits as `wait_for` does, for no longer than `limit`, and returns `None` if no value has passed the test by then.
+    ///
+    /// # Source
+    /// `withTimeoutOrNull` around `StateFlow.first { }`.
+    pub fn wait_for_timeout<R: Wait + Clock, F: Fn(&T) -> bool>(
+        &mut self,
+        rt: &R,
+        limit: Duration,
+        test: F,
+    ) -> Option<T>
+        requires callable { F.IsAlwaysCallable test }
+        ensures flow { self.new.flow ≡ self.old.flow }
+        ensures received { ReceivesIfInTime state_flow self.old.flow.first
+            (λ value. FnReturnsAt F.Fn test value true) (λ value. FnReturnsAt F.Fn test value false)
+            self.old.subscription result self.new.subscription }
+    {
+        let limit = Limit::new(rt, limit);
+        for _ in rt.forever() {
+            match self.changed_within(rt, &limit) {
+                None => return None,
+                Some(value) => {
+                    if test(&value) {
+                        return Some(value);
+                    }
+                }
+            }
+        }
+        unreachable!()
+    }
+}

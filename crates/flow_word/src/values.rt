@@ -1,0 +1,83 @@
+//! The values of a subscription to a word state, as a stream that is woken.
+ghost use Rattle.std.specs.Prelude.{◌≡◌, None};
+ghost use Rattle.futures.specs.Task.{IsArmed, Keeps};
+ghost use Rattle.flow_law.specs.StateFlow.{state_flow};
+ghost use Rattle.flow_word.specs.Receiving.{ReceivesInTime, Yields};
+
+use crate::handles::WordReader;
+use flow_law::Packed;
+use futures::Stream;
+use futures::task::{Context, Poll};
+use std::marker::Model;
+
+/// The values that a reader receives, as a stream without an end.
+///
+/// A poll that finds nothing leaves its task's waker with the flow, and looks once more; the call that changes the value
+/// wakes the task. If no waker can be kept at that moment, the task asks to be polled again.
+///
+/// # Dropping
+/// Dropping it leaves the subscription in the flow, and perhaps a waker: its task may be woken once more. Call `into_reader`
+/// to get the reader back.
+///
+/// # Source
+/// `StateFlow.collect`.
+#[derive(Drop)]
+pub struct WordValues<'a, T: Packed> {
+    reader: WordReader<'a, T>,
+}
+
+impl<'a, T: Packed> Model for WordValues<'a, T> {
+    ghost use Rattle.flow_law.specs.declared.history.Said.{Said};
+    ghost use Rattle.flow_law.specs.declared.call.StateCall.{StateCall};
+    ghost use Rattle.flow_law.specs.declared.call.StateReply.{StateReply};
+    ghost use Rattle.flow_law.specs.declared.states.StateFlowState.{StateFlowState};
+    ghost use Rattle.flow_law.specs.Handles.{ReaderOf};
+    ghost use Rattle.flow_word.specs.Tokens.{WordId};
+
+    ghost Value = { ReaderOf WordId (StateFlowState T) (Said (StateCall T) (StateReply T)) };
+
+    ghost view = { λ v. v.reader };
+}
+
+impl<'a, T: Packed> WordReader<'a, T> {
+    /// Returns the values that it receives as a stream.
+    pub fn into_stream(self) -> WordValues<'a, T>
+        ensures { result ≡ self.entry }
+    {
+        WordValues { reader: self }
+    }
+}
+
+impl<'a, T: Packed> WordValues<'a, T> {
+    /// Ends the stream, and returns the reader.
+    pub fn into_reader(self) -> WordReader<'a, T>
+        ensures { result ≡ self.entry }
+    {
+        let WordValues { reader } = self;
+        reader
+    }
+
+    /// Takes the value if it has changed. If it has not, leaves the task's waker, and looks once more.
+    fn look_or_leave_waker(&mut self, cx: &mut Context<'_>) -> Option<T>
+        ensures flow { self.new.flow ≡ self.old.flow }
+        ensures received { ReceivesInTime state_flow self.old.flow.first
+            self.old.subscription result self.new.subscription }
+        ensures armed { result ≡ None → IsArmed cx.new }
+        ensures kept { Keeps cx.old cx.new }
+    {
+        self.reader.look_or_leave_waker(cx)
+    }
+}
+
+impl<'a, T: Packed> Stream for WordValues<'a, T> {
+    type Item = T;
+
+    ghost yields = { λ v values next. Yields state_flow v.flow.first v.subscription values next };
+
+    fn poll_next(&mut self, cx: &mut Context<'_>) -> Poll<Option<T>> {
+        match self.look_or_leave_waker(cx) {
+            Some(value) => Poll::Ready(Some(value)),
+            None => Poll::Pending,
+        }
+    }
+}
