@@ -1,0 +1,42 @@
+-- Which event comes first in a history. Begin with `ComesBefore`.
+use Rattle.std.specs.Prelude.{◌≡◌, ℕ, List, ◌∷◌, ◌++◌}
+use Rattle.flow_law.specs.declared.call.StateCall.{StateCall}
+use Rattle.flow_law.specs.declared.call.StateCall.TheVariants.{Set, GetValue}
+use Rattle.flow_law.specs.declared.call.StateReply.{StateReply}
+use Rattle.flow_law.specs.declared.call.StateReply.TheVariants.{Done, Got}
+use Rattle.flow_law.specs.declared.history.Event.{Event}
+use Rattle.flow_law.specs.declared.history.Knowledge.{Knowledge}
+use Rattle.flow_law.specs.declared.history.Said.{Said}
+use Rattle.flow_law.specs.Growth.{child_name, event}
+use Rattle.flow_law.specs.OneHistory.{said}
+
+-- what the events of a state flow of numbers say
+abbrev pub Says : Type 0
+Says = Said (StateCall ℕ) (StateReply ℕ)
+
+module _ {E : Type 0} where
+  -- the history has this event
+  abbrev pub Has : Event E → List (Event E) → Type 0
+  Has e h = (before : List (Event E)) × (after : List (Event E)) × (h ≡ before ++ e ∷ after)
+
+  -- the history has both events, the first one before the second one
+  abbrev pub ComesBefore : Event E → Event E → List (Event E) → Type 0
+  ComesBefore first second h =
+      (before : List (Event E)) × (between : List (Event E)) × (after : List (Event E))
+      × (h ≡ before ++ first ∷ (between ++ second ∷ after))
+
+-- the caller of this name set the value
+abbrev pub set_by : List ℕ → ℕ → Event Says
+set_by name value = event name (said (Set value) Done)
+
+-- the caller of this name read the value
+abbrev pub read_by : List ℕ → ℕ → Event Says
+read_by name value = event name (said GetValue (Got value))
+
+-- the token has seen that its maker set the value
+abbrev pub IsSetByMaker : ℕ → Knowledge Says → Type 0
+IsSetByMaker value k = (maker : List ℕ) × (j : ℕ) × (k.name ≡ child_name maker j) × Has (set_by maker value) k.seen
+
+-- some other caller set the value before this token read what it found
+abbrev pub ReadsAfterSet : ℕ → ℕ → Knowledge Says → Type 0
+ReadsAfterSet value found k = (sender : List ℕ) × ComesBefore (set_by sender value) (read_by k.name found) k.seen

@@ -1,0 +1,90 @@
+//! The two threads.
+ghost use Rattle.std.specs.Prelude.{◌≡◌, Some, IfSome};
+ghost use Rattle.flow_messages.specs.Before.{ReadsAfterSet};
+
+use crate::message::{Message, OneFlow};
+use crossbeam_channel::{Receiver, Sender, unbounded};
+use flow_word::WordSetter;
+use std::alloc::Global;
+use std::marker::Brand;
+use std::sync::Wait;
+use std::thread::{Threads, join};
+
+/// The reader of a message, the value that the message was about, and the value that the reader found then.
+#[derive(Drop)]
+pub struct Heard<'a> {
+    pub reader: WordSetter<'a, u64>,
+    pub value: u64,
+    pub found: u64,
+}
+
+/// Sets the value, and sends a message of it.
+fn tell<'a, F: OneFlow, R: Wait>(
+    rt: &R,
+    setter: WordSetter<'a, u64>,
+    to: Sender<Message<'a, F>, Global>,
+    value: u64,
+)
+    requires { F.id ≡ Some setter.flow.table_id }
+{
+    let mut setter = setter;
+    let message = Message::of_set(&mut setter, value);
+    // If it cannot be sent, the reader finds the channel empty and closed.
+    let _ = to.send(rt, message);
+}
+
+/// Waits for a message, and reads the value. `None` if no message comes.
+fn hear<'a, F: OneFlow, R: Wait>(
+    rt: &R,
+    reader: WordSetter<'a, u64>,
+    from: Receiver<Message<'a, F>, Global>,
+) -> Option<Heard<'a>>
+    requires { F.id ≡ Some reader.flow.table_id }
+    ensures { IfSome result (λ heard. ∥ ReadsAfterSet heard.value heard.found heard.reader.token.knows ∥₁) }
+{
+    let mut reader = reader;
+    let message = from.recv(rt).ok()?;
+    let value = message.value;
+    let found = message.read_after(&mut reader);
+    Some(Heard {
+        reader,
+        value,
+        found,
+    })
+}
+
+fn pass_between<'a, F: OneFlow + Send, R: Threads + Wait + Sync>(
+    rt: &R,
+    alloc: Global,
+    setter: WordSetter<'a, u64>,
+    reader: WordSetter<'a, u64>,
+    value: u64,
+) -> Option<Heard<'a>>
+    requires { (F.id ≡ Some setter.flow.table_id) × (F.id ≡ Some reader.flow.table_id) }
+    ensures { IfSome result (λ heard. ∥ ReadsAfterSet heard.value heard.found heard.reader.token.knows ∥₁) }
+{
+    let (to, from) = unbounded::<Message<'a, F>, Global>(alloc).ok()?;
+    let (heard, ()) = join(
+        rt,
+        move || hear(rt, reader, from),
+        move || tell(rt, setter, to, value),
+    );
+    heard
+}
+
+/// One thread sets the value and sends a message of it; another waits for the message and then reads the value.
+///
+/// Returns `None` if there is no memory for the channel or the message. What the reader found is the value that was set, or
+/// one that another caller set after it.
+pub fn pass_on<'a, R: Threads + Wait + Sync>(
+    rt: &R,
+    alloc: Global,
+    setter: WordSetter<'a, u64>,
+    reader: WordSetter<'a, u64>,
+    value: u64,
+) -> Option<Heard<'a>>
+    requires { setter.flow ≡ reader.flow }
+    ensures { IfSome result (λ heard. ∥ ReadsAfterSet heard.value heard.found heard.reader.token.knows ∥₁) }
+{
+    pass_between::<Brand, R>(rt, alloc, setter, reader, value)
+}
