@@ -14,6 +14,14 @@
 //! A start collects the chain from its beginning. A stop drops an item that the flow has not accepted, and cancels an
 //! emission that waits. The subscribers keep what they have.
 //!
+//! # What a turn promises
+//! A turn takes the steps of the documented turn (clause `turn`). Its answer means what it says of the items that the flow
+//! has accepted since the last start (`means`). A reset that is due is made in this turn, after the cancel, or stays due if
+//! the hub was busy or refused it (`resets`). What is true between turns is true again afterwards (`between`). No emission
+//! of the sharing waits while it does not run, unless a caller left one (`quiet`). A fault of the chain is the chain's own
+//! last answer (`answered`). `law_turn_over_core` and `law_turn_over_state_core` say that this is the same turn over the
+//! documented flow that the core stands for.
+//!
 //! # When the flow forgets
 //! Some time after the stop the flow forgets what it replays, where the policy says so (`expire`): a shared flow empties its
 //! replay cache, a state flow goes back to its initial value. It does so at the first turn that finds the time come; a
@@ -34,6 +42,7 @@ mod hub;
 mod laws;
 mod lend;
 mod policy;
+mod run;
 mod share;
 mod sharing;
 mod state_hub;
@@ -47,6 +56,7 @@ pub use flow_law::{ChainFault, Command, End, NEVER, SharingObservation, Started}
 pub use hub::Hub;
 pub use laws::{law_turn_over_core, law_turn_over_state_core};
 pub use policy::{Backwards, Policy};
+pub use run::{HubWatch, StopSignal, WatchedHub};
 pub use share::{share_in, state_in};
 pub use sharing::Sharing;
 pub use state_hub::StateHub;

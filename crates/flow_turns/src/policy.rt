@@ -50,6 +50,15 @@ fn change(ran: bool, runs: bool, was_expired: bool, expired: bool) -> Command
     }
 }
 
+/// Returns the moment that is so much later. `None` if it never comes.
+fn later(moment: u64, time: u64) -> Option<u64> {
+    if time == NEVER {
+        None
+    } else {
+        moment.checked_add(time)
+    }
+}
+
 impl Policy {
     ghost use Rattle.flow_turns.specs.Policy.{HasSeen, runs, GivesSince, GivesRunning, Observes};
 
@@ -70,6 +79,28 @@ impl Policy {
         ensures { result ≡ runs self.now }
     {
         self.running
+    }
+
+    /// Returns the last moment that was accepted, at first 0.
+    pub(crate) fn last(&self) -> u64 {
+        self.last
+    }
+
+    /// Returns the next moment at which it asks for a stop or a reset if no subscriber comes. `None` if there is none.
+    pub(crate) fn next_moment(&self) -> Option<u64> {
+        let Started::WhileSubscribed { stop, expire } = self.started else {
+            return None;
+        };
+        let stops = later(self.since?, stop)?;
+        if self.running {
+            return Some(stops);
+        }
+        let expires = later(stops, expire)?;
+        if expires <= self.last {
+            None
+        } else {
+            Some(expires)
+        }
     }
 
     /// The first moment of the zero counts at the end, after one more observation.
