@@ -1,0 +1,9 @@
+pub mod Parts
+pub mod Turns
+pub mod Timing
+pub mod Ordering
+pub mod Places
+pub mod Bridging
+pub mod StateSeats
+pub mod StateSteps
+pub mod StateJudging

@@ -1,0 +1,90 @@
+-- What loops over callers and over nodes keep.
+use Rattle.std.specs.Prelude.{◌≡◌, ℕ, ◌+◌, ◌<◌, ◌≤◌, false, List, [], ◌∷◌, length, slice_get, Option, Some, None, Vec}
+use Rattle.std.specs.declared.alloc.Global.{Global}
+use Rattle.std.proofs.Common.{refl, sym, ap, ◌∙◌, subst, drop, get_or, drop-cons, add-one, below_more, arith}
+use Rattle.std.proofs.lemmas.Option.{slice_get_within, same_Some}
+use Rattle.flow_check.specs.declared.timed.Timed.{Timed}
+use Rattle.flow_check.specs.declared.node.Node.{Node}
+use Rattle.flow_check.specs.Remaining.{next_at, next_of, MayComeNext, OwesNothing, placing, GoesThrough}
+use Rattle.flow_check.specs.Records.{Calls, recorded, call_in, count_in, is_over_before}
+use Rattle.flow_check.specs.Tables.{IsInTable, IsFollowedAt, IsFollowed, IsClosed}
+
+called_in : {C : Type 0} (o : Option (Vec (Timed C) Global)) (k : ℕ) (d : Timed C) → call_in o k ≡ Some d → (calls : Vec (Timed C) Global) × (o ≡ Some calls) × (slice_get calls.items k ≡ Some d)
+called_in (Some calls) k d h = (calls, refl, h)
+called_in None k d h = absurd (cc)
+
+pub recorded_below : {C : Type 0} (o : Option (Vec (Timed C) Global)) (k : ℕ) (d : Timed C) → call_in o k ≡ Some d → k < count_in o
+recorded_below (Some calls) k d h = slice_get_within calls.items k d h
+recorded_below None k d h = absurd (cc)
+
+module _ {C : Type 0} (callers : Calls C) where
+  -- a recorded call is one of a caller
+  pub recorded_within : (caller k : ℕ) (d : Timed C) → recorded callers caller k ≡ Some d → caller < length callers
+  recorded_within caller k d h =
+      let found = called_in (slice_get callers caller) k d h in slice_get_within callers caller found.0 found.1
+
+  placed_at : (caller : ℕ) (o : Option ℕ) (d : Timed C) → next_at callers caller o ≡ Some d → (k : ℕ) × (o ≡ Some k) × (recorded callers caller k ≡ Some d)
+  placed_at caller (Some k) d h = (k, refl, h)
+  placed_at caller None d h = absurd (cc)
+
+  pub next_within : (placed : List ℕ) (caller : ℕ) (d : Timed C) → next_of callers placed caller ≡ Some d → caller < length callers
+  next_within placed caller d h = let found = placed_at caller (slice_get placed caller) d h in recorded_within caller found.0 d found.2
+
+  abbrev pub NoneOverBelow : ℕ → ℕ → List ℕ → Type 0
+  NoneOverBelow bound moment placed = (other : ℕ) (d : Timed C) → other < bound → next_of callers placed other ≡ Some d → is_over_before d.end moment ≡ false
+
+  abbrev pub OwesNothingBelow : ℕ → List ℕ → Type 0
+  OwesNothingBelow bound placed = (caller : ℕ) (d : Timed C) → caller < bound → next_of callers placed caller ≡ Some d → d.end ≡ None
+
+module _ {S C : Type 0} (stepped : S → ℕ → C → Option S) (callers : Calls C) (nodes : List (Node S)) where
+  abbrev pub IsFollowedBelow : ℕ → Node S → Type 0
+  IsFollowedBelow bound n = (caller : ℕ) → caller < bound → IsFollowedAt stepped callers nodes n caller
+
+  abbrev pub IsClosedBelow : ℕ → Type 0
+  IsClosedBelow bound = (k : ℕ) → k < bound → (n : Node S) → slice_get nodes k ≡ Some n → IsFollowed stepped callers nodes n × (OwesNothing callers n.placed.items → ⊥)
+
+  -- from no node of a closed table does an order explain the rest
+  pub none_explains : IsClosed stepped callers nodes → (order : List ℕ) (s : S) (placed : List ℕ) → IsInTable nodes s placed → GoesThrough stepped callers s placed order → ⊥
+  none_explains closed [] s placed found h =
+      let n = found.1.0 in
+      (closed found.0 n found.1.1).1 (subst (λ (p : List ℕ). OwesNothing callers p) (sym found.1.3) h)
+  none_explains closed (caller ∷ order) s placed found h =
+      let n = found.1.0 in
+      let follows = (closed found.0 n found.1.1).0 caller in
+      none_explains closed order h.3.0 (placing caller placed) (
+      subst (λ (p : List ℕ). IsInTable nodes h.3.0 (placing caller p)) found.1.3 (
+      follows h.0 h.3.0
+      (subst (λ (p : List ℕ). next_of callers p caller ≡ Some h.0) (sym found.1.3) h.1)
+      (subst (λ (p : List ℕ). MayComeNext callers p h.0) (sym found.1.3) h.2)
+      (subst (λ (t : S). stepped t caller h.0.call ≡ Some h.3.0) (sym found.1.2) h.3.1))) h.3.2
+
+  pub followed_at : (n : Node S) (caller : ℕ) (c : Timed C) (after : S) → next_of callers n.placed.items caller ≡ Some c → stepped n.state caller c.call ≡ Some after
+      → IsInTable nodes after (placing caller n.placed.items) → IsFollowedAt stepped callers nodes n caller
+  followed_at n caller c after e f found = λ d t e' m f'.
+      let is_same = ap (λ (x : Timed C). stepped n.state caller x.call) (same_Some c d (sym e ∙ e')) in
+      subst (λ (x : S). IsInTable nodes x (placing caller n.placed.items)) (same_Some after t (sym f ∙ is_same ∙ f')) found
+
+  pub all_followed : (n : Node S) (bound : ℕ) → length callers ≤ bound → IsFollowedBelow bound n → IsFollowed stepped callers nodes n
+  all_followed n bound upto below = λ caller c after e m f.
+      let near = next_within callers n.placed.items caller c e in
+      let low : caller < bound = omega arith in below caller low c after e m f
+
+  pub all_closed : (bound : ℕ) → length nodes ≤ bound → IsClosedBelow bound → IsClosed stepped callers nodes
+  all_closed bound upto below = λ k n e.
+      let near = slice_get_within nodes k n e in
+      let low : k < bound = omega arith in below k low n e
+
+  pub closed_more : (k : ℕ) (n : Node S) → IsClosedBelow k → slice_get nodes k ≡ Some n → IsFollowed stepped callers nodes n × (OwesNothing callers n.placed.items → ⊥) → IsClosedBelow (k + 1)
+  closed_more k n below e here = below_more _ _ below (λ m e'.
+      subst (λ (x : Node S). IsFollowed stepped callers nodes x × (OwesNothing callers x.placed.items → ⊥)) (same_Some n m (sym e ∙ e')) here)
+
+module _ {S C : Type 0} (stepped : S → ℕ → C → Option S) (callers : Calls C) where
+  pub explain_more : (s after : S) (placed later order : List ℕ) (i caller : ℕ) (c : Timed C) → drop i order ≡ caller ∷ drop (i + 1) order
+      → next_of callers placed caller ≡ Some c → MayComeNext callers placed c → stepped s caller c.call ≡ Some after → later ≡ placing caller placed
+      → GoesThrough stepped callers after later (drop (i + 1) order) → GoesThrough stepped callers s placed (drop i order)
+  explain_more s after placed later order i caller c e next may step grown rest =
+      subst (λ (o : List ℕ). GoesThrough stepped callers s placed o) (sym e)
+      (c, next, may, (after, step, subst (λ (p : List ℕ). GoesThrough stepped callers after p (drop (i + 1) order)) grown rest))
+
+pub drop_here : (order : List ℕ) (i : ℕ) → i < length order → drop i order ≡ get_or order i 0 ∷ drop (i + 1) order
+drop_here order i h = rw (add-one, drop-cons order i 0)

@@ -1,0 +1,46 @@
+-- What is left of a record after some of its calls have happened, and how a checker's steps go through it.
+-- No public clause cites this module.
+use Rattle.std.specs.Prelude.{◌≡◌, ℕ, ◌+◌, false, List, [], ◌∷◌, map, slice_get, slice_set, slice_index, Option, Some, None}
+use Rattle.flow_check.specs.declared.timed.Timed.{Timed}
+use Rattle.flow_check.specs.Records.{Calls, recorded, is_over_before}
+
+-- how many calls of each caller have happened: none
+abbrev pub none_placed : {C : Type 0} → Calls C → List ℕ
+none_placed = map (λ _. 0)
+
+-- one more call of this caller has happened
+abbrev pub placing : ℕ → List ℕ → List ℕ
+placing caller placed = slice_set placed caller (slice_index placed caller + 1)
+
+module _ {C : Type 0} (callers : Calls C) where
+  abbrev pub next_at : ℕ → Option ℕ → Option (Timed C)
+  next_at caller None = None
+  next_at caller (Some k) = recorded callers caller k
+
+  -- a caller's first call that has not happened
+  abbrev pub next_of : List ℕ → ℕ → Option (Timed C)
+  next_of placed caller = next_at caller (slice_get placed caller)
+
+  -- no caller's next call was over before this moment
+  abbrev pub NoneOverBefore : ℕ → List ℕ → Type 0
+  NoneOverBefore moment placed = (other : ℕ) (d : Timed C) → next_of placed other ≡ Some d → is_over_before d.end moment ≡ false
+
+  -- no caller's next call was over before c began
+  abbrev pub MayComeNext : List ℕ → Timed C → Type 0
+  MayComeNext placed c = NoneOverBefore c.begin placed
+
+  -- every caller's next call is pending
+  abbrev pub OwesNothing : List ℕ → Type 0
+  OwesNothing placed = (caller : ℕ) (d : Timed C) → next_of placed caller ≡ Some d → d.end ≡ None
+
+-- `stepped s caller c` is the state after what was recorded of the caller's call c, if the flow may answer so in the state s
+module _ {S C : Type 0} (stepped : S → ℕ → C → Option S) (callers : Calls C) where
+  -- from a state in which so many calls have happened, this order of steps goes through the rest
+  abbrev pub GoesThrough : S → List ℕ → List ℕ → Type 0
+  GoesThrough s placed [] = OwesNothing callers placed
+  GoesThrough s placed (caller ∷ order) =
+      (c : Timed C) × (next_of callers placed caller ≡ Some c) × MayComeNext callers placed c
+      × ((after : S) × (stepped s caller c.call ≡ Some after) × GoesThrough after (placing caller placed) order)
+
+  abbrev pub GoesThroughAll : S → List ℕ → Type 0
+  GoesThroughAll first order = GoesThrough first (none_placed callers) order

@@ -1,0 +1,92 @@
+-- A state flow as a checker keeps it. Begin with `stepped`. No public clause cites this module.
+use Rattle.std.specs.Prelude.{ℕ, ◌+◌, Bool, true, false, not, ◌==◌, if◌then◌else◌, List, [], ◌∷◌, map, slice_get, slice_set, Option, Some, None}
+use Rattle.flow_check.specs.declared.state_calls.StateOperation.{StateOperation}
+use Rattle.flow_check.specs.declared.state_calls.StateOperation.TheVariants as operation
+use Rattle.flow_check.specs.declared.state_calls.StateAnswer.{StateAnswer}
+use Rattle.flow_check.specs.declared.state_calls.StateAnswer.TheVariants as answer
+use Rattle.flow_check.specs.declared.state_calls.StateEntry.{StateEntry}
+
+-- The value, and what each caller has received: None if it is not subscribed, and else the last value that it received.
+pub record Kept : Type 0 where
+  pub value : ℕ
+  pub readers : List (Option (Option ℕ))
+
+abbrev pub reader_in : Option (Option (Option ℕ)) → Option (Option ℕ)
+reader_in None = None
+reader_in (Some reader) = reader
+
+abbrev pub reader_of : ℕ → List (Option (Option ℕ)) → Option (Option ℕ)
+reader_of caller readers = reader_in (slice_get readers caller)
+
+-- how many callers are subscribed
+abbrev pub present : List (Option (Option ℕ)) → ℕ
+present [] = 0
+present (None ∷ readers) = present readers
+present (Some last ∷ readers) = present readers + 1
+
+-- no caller is subscribed
+abbrev pub none_subscribed : {C : Type 0} → List C → List (Option (Option ℕ))
+none_subscribed = map (λ _. None)
+
+-- ---- answers
+
+abbrev pub subscribe_answer : Option (Option ℕ) → Option StateAnswer
+subscribe_answer None = Some answer.Done
+subscribe_answer (Some last) = None
+
+abbrev pub next_answer : ℕ → Option (Option ℕ) → Option StateAnswer
+next_answer v None = None
+next_answer v (Some None) = Some (answer.Value v)
+next_answer v (Some (Some last)) = Some (if last == v then answer.Empty else answer.Value v)
+
+abbrev pub unsubscribe_answer : Option (Option ℕ) → Option StateAnswer
+unsubscribe_answer None = None
+unsubscribe_answer (Some last) = Some answer.Done
+
+-- the flow's own answer to a caller, if the caller may make the call
+abbrev pub own_answer : ℕ → StateOperation → Kept → Option StateAnswer
+own_answer caller operation.Value s = Some (answer.Value s.value)
+own_answer caller (operation.Set v) s = Some answer.Done
+own_answer caller (operation.TryEmit v) s = Some (answer.Truth true)
+own_answer caller (operation.CompareAndSet a b) s = Some (answer.Truth (s.value == a))
+own_answer caller operation.Subscribe s = subscribe_answer (reader_of caller s.readers)
+own_answer caller operation.Next s = next_answer s.value (reader_of caller s.readers)
+own_answer caller operation.Unsubscribe s = unsubscribe_answer (reader_of caller s.readers)
+own_answer caller operation.SubscriptionCount s = Some (answer.Number (present s.readers))
+own_answer caller operation.ReplayCache s = Some (answer.Value s.value)
+
+-- ---- the state after a call that had the flow's own answer
+
+abbrev pub with_reader : ℕ → Option (Option ℕ) → Kept → Kept
+with_reader caller reader s = record s { readers = slice_set s.readers caller reader }
+
+abbrev pub moved : ℕ → StateOperation → Kept → Kept
+moved caller operation.Value s = s
+moved caller (operation.Set v) s = record s { value = v }
+moved caller (operation.TryEmit v) s = record s { value = v }
+moved caller (operation.CompareAndSet a b) s = if s.value == a then record s { value = b } else s
+moved caller operation.Subscribe s = with_reader caller (Some None) s
+moved caller operation.Next s = with_reader caller (Some (Some s.value)) s
+moved caller operation.Unsubscribe s = with_reader caller None s
+moved caller operation.SubscriptionCount s = s
+moved caller operation.ReplayCache s = s
+
+-- ---- steps
+
+abbrev pub same_answer : StateAnswer → StateAnswer → Bool
+same_answer answer.Done answer.Done = true
+same_answer (answer.Value v) (answer.Value w) = v == w
+same_answer (answer.Truth b) (answer.Truth c) = if b then c else not c
+same_answer answer.Empty answer.Empty = true
+same_answer (answer.Number m) (answer.Number n) = m == n
+same_answer _ _ = false
+
+-- the own answer is the one that was recorded, if one was
+abbrev pub agrees : Option StateAnswer → Option StateAnswer → Bool
+agrees None written = false
+agrees (Some own) None = true
+agrees (Some own) (Some a) = same_answer own a
+
+abbrev pub stepped : Kept → ℕ → StateEntry → Option Kept
+stepped s caller entry =
+    if agrees (own_answer caller entry.operation s) entry.answer then Some (moved caller entry.operation s) else None

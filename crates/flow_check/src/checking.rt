@@ -1,0 +1,45 @@
+//! Checks records of any flow.
+ghost use Rattle.std.specs.Prelude.{◌≡◌, ℕ, List, IfOk};
+ghost use Rattle.flow_check.specs.Remaining.{GoesThroughAll};
+ghost use Rattle.flow_check.specs.Verdicts.{Judges};
+
+use crate::machine::Machine;
+use crate::refuting::refutes;
+use crate::replaying::goes_through;
+use crate::search::{Found, search};
+use crate::timed::Timed;
+use crate::verdict::Verdict;
+use std::alloc::{AllocError, Global};
+
+/// Returns whether some order of steps goes through all calls, or gives up after so many turns of
+/// the search. An order that the search finds is replayed, and a table of nodes is checked to be
+/// closed.
+pub fn check<C: Copy, M: Machine<C>>(
+    alloc: Global,
+    first: &M,
+    callers: &[Vec<Timed<C>>],
+    budget: u64,
+) -> Result<Verdict, AllocError>
+    ensures { IfOk result (λ verdict.
+        Judges (GoesThroughAll M.stepped callers.now first.now) verdict) }
+{
+    let found = search(alloc, first, callers, budget)?;
+    match found {
+        Found::GaveUp => Ok(Verdict::GaveUp),
+        Found::Order(order) => {
+            let copy = first.try_copy(alloc)?;
+            let yes = goes_through(alloc, copy, callers, order.as_slice())?;
+            if yes {
+                return Ok(Verdict::Legal(order));
+            }
+            Ok(Verdict::GaveUp)
+        }
+        Found::Table(nodes) => {
+            let yes = refutes(alloc, first, callers, nodes.as_slice())?;
+            if yes {
+                return Ok(Verdict::Illegal);
+            }
+            Ok(Verdict::GaveUp)
+        }
+    }
+}

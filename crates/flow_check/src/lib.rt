@@ -1,0 +1,35 @@
+//! Checks recorded calls of a flow: whether a legal history of the documented flow explains what
+//! callers were answered.
+//!
+//! # Records
+//! A `Record` has the calls of each caller in the caller's order, with the moments at which each
+//! began and ended. Calls of different callers may overlap. A call that has no end is pending.
+//!
+//! # Verdicts
+//! `Legal(order)` gives an order of the calls that a legal history explains. `Illegal` says that
+//! there is none. Both are proved. `GaveUp` says nothing: the search took too long.
+//!
+//! # The search
+//! Nothing is proved of the search. An order that it finds is replayed, and a table of states in
+//! which it found none is checked to be complete.
+#![tactic(auto)]
+
+mod checking;
+mod machine;
+mod node;
+mod record;
+mod refuting;
+mod remaining;
+mod replaying;
+mod search;
+mod state_calls;
+mod state_checking;
+mod state_machine;
+mod timed;
+mod verdict;
+
+pub use record::{Fault, FaultKind, Record};
+pub use state_calls::{StateAnswer, StateEntry, StateOperation};
+pub use state_checking::check_state;
+pub use timed::Timed;
+pub use verdict::Verdict;

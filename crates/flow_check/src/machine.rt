@@ -1,0 +1,25 @@
+//! What the checker knows of a flow.
+ghost use Rattle.std.specs.Prelude.{◌≡◌, ℕ, Option, IfOk, IsTrue};
+
+use std::alloc::{AllocError, Global};
+
+/// The states of a flow, and what calls of type `C` do to them.
+pub trait Machine<C>: Drop {
+    /// The state after what was recorded of a caller's call, if the flow may answer so.
+    ghost stepped: { Self → ℕ → C → Option Self };
+
+    /// Makes the step, or returns None if the flow may not answer so.
+    fn step(&self, alloc: Global, caller: usize, call: &C) -> Result<Option<Self>, AllocError>
+        ensures { IfOk result (λ after. after ≡ stepped self.now caller call.now) };
+
+    /// Copies the state.
+    fn try_copy(&self, alloc: Global) -> Result<Self, AllocError>
+        ensures { IfOk result (λ copy. copy ≡ self.now) };
+
+    /// Returns true only if both are the same state.
+    fn same(&self, other: &Self) -> bool
+        ensures { IsTrue result → self.now ≡ other.now };
+
+    /// Writes numbers by which a search finds the state again.
+    fn write_key(&self, key: &mut Vec<u64>) -> Result<(), AllocError>;
+}

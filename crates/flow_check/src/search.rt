@@ -1,0 +1,222 @@
+//! Searches for an order. Nothing is promised of what it finds, so its caller checks that.
+ghost use Rattle.std.specs.Prelude.{◌≡◌, ◌≤◌, length};
+
+use crate::machine::Machine;
+use crate::node::Node;
+use crate::remaining::{next_call, none_placed, owes_nothing, place};
+use crate::timed::Timed;
+use std::alloc::{AllocError, Global};
+use std::collections::HashMap;
+
+/// What the search found.
+#[derive(Drop)]
+pub enum Found<M> {
+    Order(Vec<usize>),
+    /// It found no order, and went through all of these nodes.
+    Table(Vec<Node<M>>),
+    GaveUp,
+}
+
+/// A caller whose next call may come next, and the end of that call.
+#[derive(Clone, Copy)]
+struct Waiting {
+    caller: usize,
+    end: u64,
+}
+
+/// A node of the path, and the callers that were not tried there. The last one is tried first.
+#[derive(Drop)]
+struct Frame {
+    node: usize,
+    todo: Vec<Waiting>,
+}
+
+/// What follows if a caller's next call happens.
+#[derive(Drop)]
+struct Following<M> {
+    state: M,
+    placed: Vec<usize>,
+}
+
+enum Turn {
+    Back,
+    Try(usize, usize),
+    End,
+}
+
+/// Returns the end of a call; a pending call ends last.
+fn end_of<C: Copy>(call: &Timed<C>) -> u64 {
+    match call.end {
+        Some(end) => end,
+        None => u64::MAX,
+    }
+}
+
+/// Returns the place of a caller with this end among those that end later.
+fn place_of(todo: &[Waiting], end: u64) -> usize
+    ensures { result ≤ length todo.now }
+{
+    for (index, waiting) in todo.iter().enumerate() {
+        if waiting.end <= end {
+            return index;
+        }
+    }
+    todo.len()
+}
+
+/// Returns the callers whose next call may come next, the latest end first.
+fn candidates<C: Copy>(
+    alloc: Global,
+    callers: &[Vec<Timed<C>>],
+    placed: &Vec<usize>,
+) -> Result<Vec<Waiting>, AllocError> {
+    let mut deadline = u64::MAX;
+    for caller in 0..callers.len() {
+        if let Some(call) = next_call(callers, placed, caller) {
+            let end = end_of(&call);
+            if end < deadline {
+                deadline = end;
+            }
+        }
+    }
+    let mut todo = Vec::new(alloc);
+    for caller in 0..callers.len() {
+        if let Some(call) = next_call(callers, placed, caller) {
+            if call.begin <= deadline {
+                let end = end_of(&call);
+                let at = place_of(todo.as_slice(), end);
+                todo.insert(at, Waiting { caller, end })?;
+            }
+        }
+    }
+    Ok(todo)
+}
+
+fn key_of<C, M: Machine<C>>(
+    alloc: Global,
+    state: &M,
+    placed: &Vec<usize>,
+) -> Result<Vec<u64>, AllocError> {
+    let mut key = Vec::new(alloc);
+    for count in placed.as_slice() {
+        key.push(*count as u64)?;
+    }
+    state.write_key(&mut key)?;
+    Ok(key)
+}
+
+fn take_turn(stack: &mut Vec<Frame>) -> Turn {
+    match stack.last_mut() {
+        None => Turn::End,
+        Some(frame) => match frame.todo.pop() {
+            None => Turn::Back,
+            Some(waiting) => Turn::Try(frame.node, waiting.caller),
+        },
+    }
+}
+
+/// Returns what follows a node if this caller's next call happens and may be answered so.
+fn advance<C: Copy, M: Machine<C>>(
+    alloc: Global,
+    callers: &[Vec<Timed<C>>],
+    nodes: &[Node<M>],
+    at: usize,
+    caller: usize,
+) -> Result<Option<Following<M>>, AllocError> {
+    let Some(node) = nodes.get(at) else {
+        return Ok(None);
+    };
+    let Some(call) = next_call(callers, &node.placed, caller) else {
+        return Ok(None);
+    };
+    let stepped = node.state.step(alloc, caller, &call.call)?;
+    let Some(state) = stepped else {
+        return Ok(None);
+    };
+    let mut placed = Vec::from_slice(alloc, node.placed.as_slice())?;
+    if !place(&mut placed, caller) {
+        return Ok(None);
+    }
+    Ok(Some(Following { state, placed }))
+}
+
+fn set_edge<M>(nodes: &mut Vec<Node<M>>, at: usize, caller: usize, next: usize) {
+    if let Some(node) = nodes.get_mut(at) {
+        if let Some(edge) = node.edges.get_mut(caller) {
+            *edge = next;
+        }
+    }
+}
+
+fn new_node<C, M: Machine<C>>(
+    alloc: Global,
+    callers: &[Vec<Timed<C>>],
+    state: M,
+    placed: Vec<usize>,
+) -> Result<Node<M>, AllocError> {
+    let mut edges = Vec::new(alloc);
+    for _caller in callers {
+        edges.push(usize::MAX)?;
+    }
+    Ok(Node {
+        state,
+        placed,
+        edges,
+    })
+}
+
+/// Goes through states and counts of calls that have happened, each once, until an order is found
+/// or none is left.
+pub fn search<C: Copy, M: Machine<C>>(
+    alloc: Global,
+    first: &M,
+    callers: &[Vec<Timed<C>>],
+    budget: u64,
+) -> Result<Found<M>, AllocError> {
+    let mut path = Vec::new(alloc);
+    let placed = none_placed(alloc, callers)?;
+    if owes_nothing(callers, &placed) {
+        return Ok(Found::Order(path));
+    }
+    let state = first.try_copy(alloc)?;
+    let mut known = HashMap::new(alloc);
+    let key = key_of(alloc, &state, &placed)?;
+    let _ = known.insert(key, 0)?;
+    let mut nodes = Vec::new(alloc);
+    let mut stack = Vec::new(alloc);
+    let todo = candidates(alloc, callers, &placed)?;
+    stack.push(Frame { node: 0, todo })?;
+    nodes.push(new_node(alloc, callers, state, placed)?)?;
+    for _ in 0..budget {
+        match take_turn(&mut stack) {
+            Turn::End => return Ok(Found::Table(nodes)),
+            Turn::Back => {
+                let _ = stack.pop();
+                let _ = path.pop();
+            }
+            Turn::Try(at, caller) => {
+                let Some(next) = advance(alloc, callers, nodes.as_slice(), at, caller)? else {
+                    continue;
+                };
+                let key = key_of(alloc, &next.state, &next.placed)?;
+                let seen = known.get(&key).copied();
+                if let Some(index) = seen {
+                    set_edge(&mut nodes, at, caller, index);
+                    continue;
+                }
+                let index = nodes.len();
+                let _ = known.insert(key, index)?;
+                set_edge(&mut nodes, at, caller, index);
+                path.push(caller)?;
+                if owes_nothing(callers, &next.placed) {
+                    return Ok(Found::Order(path));
+                }
+                let todo = candidates(alloc, callers, &next.placed)?;
+                stack.push(Frame { node: index, todo })?;
+                let Following { state, placed } = next;
+                nodes.push(new_node(alloc, callers, state, placed)?)?;
+            }
+        }
+    }
+    Ok(Found::GaveUp)
+}

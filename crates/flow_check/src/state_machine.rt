@@ -1,0 +1,278 @@
+//! A state flow as the checker keeps it.
+ghost use Rattle.std.specs.Prelude.{◌≡◌, IsTrue, IfOk};
+ghost use Rattle.flow_check.specs.StateMachine.{reader_of, present, with_reader, none_subscribed};
+ghost use Rattle.flow_check.specs.StateMachine.{subscribe_answer, next_answer, unsubscribe_answer};
+ghost use Rattle.flow_check.specs.StateMachine.{own_answer, moved, same_answer, agrees};
+
+use crate::machine::Machine;
+use crate::state_calls::{StateAnswer, StateEntry, StateOperation};
+use std::alloc::{AllocError, Global};
+use std::marker::Model;
+
+/// A state flow: its value, and what each caller has received. A caller that is not subscribed
+/// has None, and one that is has the last value that it received.
+#[derive(Drop)]
+pub struct StateMachine {
+    value: u64,
+    readers: Vec<Option<Option<u64>>>,
+}
+
+impl Model for StateMachine {
+    ghost use Rattle.flow_check.specs.StateMachine.{Kept};
+
+    ghost Value = { Kept };
+
+    ghost view = { λ m. record { value = m.value; readers = m.readers.items } };
+}
+
+/// Returns how many callers are subscribed.
+fn present(readers: &[Option<Option<u64>>]) -> usize
+    ensures { result ≡ present readers.now }
+{
+    let mut rest = readers;
+    let mut count = 0;
+    while let Some((first, others)) = rest.split_first() {
+        if first.is_some() {
+            count += 1;
+        }
+        rest = others;
+    }
+    count
+}
+
+/// Returns the answer to `subscribe` of a caller that has received this.
+fn subscribe_answer(reader: Option<Option<u64>>) -> Option<StateAnswer>
+    ensures { result ≡ subscribe_answer reader }
+{
+    match reader {
+        None => Some(StateAnswer::Done),
+        Some(_) => None,
+    }
+}
+
+/// Returns the answer to `next`.
+fn next_answer(value: u64, reader: Option<Option<u64>>) -> Option<StateAnswer>
+    ensures { result ≡ next_answer value reader }
+{
+    match reader {
+        None => None,
+        Some(None) => Some(StateAnswer::Value(value)),
+        Some(Some(last)) => {
+            if last == value {
+                Some(StateAnswer::Empty)
+            } else {
+                Some(StateAnswer::Value(value))
+            }
+        }
+    }
+}
+
+/// Returns the answer to `unsubscribe`.
+fn unsubscribe_answer(reader: Option<Option<u64>>) -> Option<StateAnswer>
+    ensures { result ≡ unsubscribe_answer reader }
+{
+    match reader {
+        None => None,
+        Some(_) => Some(StateAnswer::Done),
+    }
+}
+
+/// Returns whether an answer is the one that was recorded.
+fn same_answer(own: StateAnswer, recorded: StateAnswer) -> bool
+    ensures { result ≡ same_answer own recorded }
+{
+    match (own, recorded) {
+        (StateAnswer::Done, StateAnswer::Done) => true,
+        (StateAnswer::Value(v), StateAnswer::Value(w)) => v == w,
+        (StateAnswer::Truth(b), StateAnswer::Truth(c)) => { if b { c } else { !c } }
+        (StateAnswer::Empty, StateAnswer::Empty) => true,
+        (StateAnswer::Number(m), StateAnswer::Number(n)) => m == n,
+        _ => false,
+    }
+}
+
+/// Returns whether the flow's own answer is the one that was recorded, if one was.
+fn agrees(own: Option<StateAnswer>, recorded: Option<StateAnswer>) -> bool
+    ensures { result ≡ agrees own recorded }
+{
+    match (own, recorded) {
+        (None, _) => false,
+        (Some(_), None) => true,
+        (Some(own), Some(recorded)) => same_answer(own, recorded),
+    }
+}
+
+impl StateMachine {
+    /// Returns what a caller has received.
+    fn reader(&self, caller: usize) -> Option<Option<u64>>
+        ensures { result ≡ reader_of caller self.now.readers }
+    {
+        match self.readers.as_slice().get(caller) {
+            None => None,
+            Some(reader) => *reader,
+        }
+    }
+
+    /// Returns the flow's own answer, or None if the caller may not make the call.
+    fn own_answer(&self, caller: usize, operation: StateOperation) -> Option<StateAnswer>
+        ensures { result ≡ own_answer caller operation self.now }
+    {
+        match operation {
+            StateOperation::Value => Some(StateAnswer::Value(self.value)),
+            StateOperation::Set(_) => Some(StateAnswer::Done),
+            StateOperation::TryEmit(_) => Some(StateAnswer::Truth(true)),
+            StateOperation::CompareAndSet(expected, _) => {
+                Some(StateAnswer::Truth(self.value == expected))
+            }
+            StateOperation::Subscribe => subscribe_answer(self.reader(caller)),
+            StateOperation::Next => next_answer(self.value, self.reader(caller)),
+            StateOperation::Unsubscribe => unsubscribe_answer(self.reader(caller)),
+            StateOperation::SubscriptionCount => {
+                Some(StateAnswer::Number(present(self.readers.as_slice()) as u64))
+            }
+            StateOperation::ReplayCache => Some(StateAnswer::Value(self.value)),
+        }
+    }
+
+    /// Copies the state, with this value.
+    fn copied(&self, alloc: Global, value: u64) -> Result<StateMachine, AllocError>
+        ensures { IfOk result (λ copy.
+            copy ≡ record { value = value; readers = self.now.readers }) }
+    {
+        let readers = Vec::from_slice(alloc, self.readers.as_slice())?;
+        Ok(StateMachine { value, readers })
+    }
+
+    /// Copies the state after the caller has received this.
+    fn with_reader(
+        &self,
+        alloc: Global,
+        caller: usize,
+        reader: Option<Option<u64>>,
+    ) -> Result<StateMachine, AllocError>
+        ensures { IfOk result (λ after. after ≡ with_reader caller reader self.now) }
+    {
+        let mut readers = Vec::from_slice(alloc, self.readers.as_slice())?;
+        if caller < readers.len() {
+            readers[caller] = reader;
+        }
+        Ok(StateMachine {
+            value: self.value,
+            readers,
+        })
+    }
+
+    /// Returns the state after a call that had the flow's own answer.
+    fn moved(
+        &self,
+        alloc: Global,
+        caller: usize,
+        operation: StateOperation,
+    ) -> Result<StateMachine, AllocError>
+        ensures { IfOk result (λ after. after ≡ moved caller operation self.now) }
+    {
+        match operation {
+            StateOperation::Set(value) => self.copied(alloc, value),
+            StateOperation::TryEmit(value) => self.copied(alloc, value),
+            StateOperation::CompareAndSet(expected, value) => {
+                if self.value == expected {
+                    self.copied(alloc, value)
+                } else {
+                    self.copied(alloc, self.value)
+                }
+            }
+            StateOperation::Subscribe => self.with_reader(alloc, caller, Some(None)),
+            StateOperation::Next => self.with_reader(alloc, caller, Some(Some(self.value))),
+            StateOperation::Unsubscribe => self.with_reader(alloc, caller, None),
+            StateOperation::Value
+            | StateOperation::SubscriptionCount
+            | StateOperation::ReplayCache => self.copied(alloc, self.value),
+        }
+    }
+}
+
+fn is_same_reader(one: Option<Option<u64>>, other: Option<Option<u64>>) -> bool
+    ensures { IsTrue result → one ≡ other }
+{
+    match (one, other) {
+        (None, None) => true,
+        (Some(None), Some(None)) => true,
+        (Some(Some(v)), Some(Some(w))) => v == w,
+        _ => false,
+    }
+}
+
+fn is_same_list(one: &[Option<Option<u64>>], other: &[Option<Option<u64>>]) -> bool
+    ensures { IsTrue result → one.now ≡ other.now }
+{
+    let mut left = one;
+    let mut right = other;
+    while let (Some((first, rest)), Some((second, more))) = (
+        left.split_first(),
+        right.split_first(),
+    ) {
+        if !is_same_reader(*first, *second) {
+            return false;
+        }
+        left = rest;
+        right = more;
+    }
+    left.is_empty() && right.is_empty()
+}
+
+impl Machine<StateEntry> for StateMachine {
+    ghost use Rattle.flow_check.specs.StateMachine.{stepped};
+
+    ghost stepped = { stepped };
+
+    fn step(
+        &self,
+        alloc: Global,
+        caller: usize,
+        call: &StateEntry,
+    ) -> Result<Option<Self>, AllocError> {
+        let own = self.own_answer(caller, call.operation);
+        if !agrees(own, call.answer) {
+            return Ok(None);
+        }
+        let after = self.moved(alloc, caller, call.operation)?;
+        Ok(Some(after))
+    }
+
+    fn try_copy(&self, alloc: Global) -> Result<Self, AllocError> {
+        self.copied(alloc, self.value)
+    }
+
+    fn same(&self, other: &Self) -> bool {
+        self.value == other.value && is_same_list(self.readers.as_slice(), other.readers.as_slice())
+    }
+
+    fn write_key(&self, key: &mut Vec<u64>) -> Result<(), AllocError> {
+        key.push(self.value)?;
+        for reader in self.readers.as_slice() {
+            match reader {
+                None => key.push(0)?,
+                Some(None) => key.push(1)?,
+                Some(Some(last)) => {
+                    key.push(2)?;
+                    key.push(*last)?;
+                }
+            }
+        }
+        Ok(())
+    }
+}
+
+impl StateMachine {
+    /// Makes a state flow with this value, to which none of these callers is subscribed.
+    pub fn new<C>(alloc: Global, value: u64, callers: &[C]) -> Result<Self, AllocError>
+        ensures { IfOk result (λ made.
+            made ≡ record { value = value; readers = none_subscribed callers.now }) }
+    {
+        let mut readers = Vec::new(alloc);
+        for _caller in callers {
+            readers.push(None)?;
+        }
+        Ok(StateMachine { value, readers })
+    }
+}

@@ -1,0 +1,14 @@
+//! Tests of the checker of recorded histories: records worked by hand from kotlinx.coroutines'
+//! documentation, with their verdicts, and random ones beside a plain search.
+//!
+//! They stand apart, since a crate that has tests is proved twice.
+#![tactic(auto)]
+
+#[cfg(test)]
+mod plain;
+#[cfg(test)]
+mod random;
+#[cfg(test)]
+mod records;
+#[cfg(test)]
+mod state;

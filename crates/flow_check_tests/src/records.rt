@@ -1,0 +1,103 @@
+//! Records in few words, and what comes of one.
+use flow_check::{
+    FaultKind, Record, StateAnswer, StateEntry, StateOperation, Timed, Verdict, check_state,
+};
+use std::alloc::{AllocError, Global};
+
+/// What came of a record.
+#[derive(Clone, Copy, Debug, PartialEq)]
+pub enum Outcome {
+    Legal,
+    Illegal,
+    GaveUp,
+    EndsEarly,
+    BeginsEarly,
+}
+
+/// A call that was answered, from one moment to another.
+pub fn call(
+    operation: StateOperation,
+    answer: StateAnswer,
+    begin: u64,
+    end: u64,
+) -> Timed<StateEntry> {
+    Timed {
+        call: StateEntry {
+            operation,
+            answer: Some(answer),
+        },
+        begin,
+        end: Some(end),
+    }
+}
+
+/// A call that was not over when the record was made.
+pub fn pending(operation: StateOperation, begin: u64) -> Timed<StateEntry> {
+    Timed {
+        call: StateEntry {
+            operation,
+            answer: None,
+        },
+        begin,
+        end: None,
+    }
+}
+
+/// Makes a list of the calls of each caller.
+fn callers_of(
+    alloc: Global,
+    rows: &[&[Timed<StateEntry>]],
+) -> Result<Vec<Vec<Timed<StateEntry>>>, AllocError> {
+    let mut callers = Vec::new(alloc);
+    for row in rows {
+        callers.push(Vec::from_slice(alloc, *row)?)?;
+    }
+    Ok(callers)
+}
+
+/// Judges these calls of a state flow whose initial value is 0.
+pub fn judge(
+    alloc: Global,
+    budget: u64,
+    rows: &[&[Timed<StateEntry>]],
+) -> Result<Outcome, AllocError> {
+    judge_rows(alloc, budget, callers_of(alloc, rows)?)
+}
+
+/// Returns the order in which a history explains these calls, or none if they are not legal.
+pub fn order_of(
+    alloc: Global,
+    rows: &[&[Timed<StateEntry>]],
+) -> Result<Option<Vec<usize>>, AllocError> {
+    let Ok(record) = Record::new(callers_of(alloc, rows)?) else {
+        return Ok(None);
+    };
+    let verdict = check_state(alloc, 0, &record, 1_000)?;
+    Ok(match verdict {
+        Verdict::Legal(order) => Some(order),
+        Verdict::Illegal | Verdict::GaveUp => None,
+    })
+}
+
+/// Judges the calls of these callers.
+pub fn judge_rows(
+    alloc: Global,
+    budget: u64,
+    callers: Vec<Vec<Timed<StateEntry>>>,
+) -> Result<Outcome, AllocError> {
+    let record = match Record::new(callers) {
+        Ok(record) => record,
+        Err(fault) => {
+            return Ok(match fault.kind {
+                FaultKind::EndsEarly => Outcome::EndsEarly,
+                FaultKind::BeginsEarly => Outcome::BeginsEarly,
+            });
+        }
+    };
+    let verdict = check_state(alloc, 0, &record, budget)?;
+    Ok(match verdict {
+        Verdict::Legal(_) => Outcome::Legal,
+        Verdict::Illegal => Outcome::Illegal,
+        Verdict::GaveUp => Outcome::GaveUp,
+    })
+}

@@ -1,0 +1,234 @@
+//! Records of state flows. Each says in its comment why it is legal or illegal.
+use crate::records::{Outcome, call, judge, order_of, pending};
+use flow_check::StateAnswer::{Done, Empty, Number, Truth, Value};
+use flow_check::StateOperation;
+use flow_check::StateOperation::{
+    CompareAndSet, Next, ReplayCache, Set, Subscribe, SubscriptionCount, TryEmit, Unsubscribe,
+};
+use std::alloc::AllocError;
+
+const TURNS: u64 = 10_000;
+
+/// `value` gives the value that was set last.
+#[test]
+fn judges_reads(rt: HostRuntime) -> Result<(), AllocError> {
+    let read = StateOperation::Value;
+    let rows = [
+        // It was set before the read began.
+        (
+            call(Set(1), Done, 0, 1),
+            call(read, Value(0), 2, 3),
+            Outcome::Illegal,
+        ),
+        (
+            call(Set(1), Done, 0, 1),
+            call(read, Value(1), 2, 3),
+            Outcome::Legal,
+        ),
+        // Both overlap, or touch in one moment: either may come first.
+        (
+            call(Set(1), Done, 0, 2),
+            call(read, Value(0), 1, 3),
+            Outcome::Legal,
+        ),
+        (
+            call(Set(1), Done, 0, 2),
+            call(read, Value(0), 2, 3),
+            Outcome::Legal,
+        ),
+        // It was never set to 2.
+        (
+            call(Set(1), Done, 0, 2),
+            call(read, Value(2), 1, 3),
+            Outcome::Illegal,
+        ),
+        // A pending set may have happened, or not yet.
+        (
+            pending(Set(1), 0),
+            call(read, Value(1), 2, 3),
+            Outcome::Legal,
+        ),
+        (
+            pending(Set(1), 0),
+            call(read, Value(0), 2, 3),
+            Outcome::Legal,
+        ),
+        // `tryEmit` sets the value, and is never refused.
+        (
+            call(TryEmit(1), Truth(true), 0, 1),
+            call(read, Value(1), 2, 3),
+            Outcome::Legal,
+        ),
+        (
+            call(TryEmit(1), Truth(false), 0, 1),
+            call(read, Value(1), 2, 3),
+            Outcome::Illegal,
+        ),
+        // The replay cache is the value.
+        (
+            call(Set(1), Done, 0, 1),
+            call(ReplayCache, Value(1), 2, 3),
+            Outcome::Legal,
+        ),
+        (
+            call(Set(1), Done, 0, 1),
+            call(ReplayCache, Value(0), 2, 3),
+            Outcome::Illegal,
+        ),
+    ];
+    for (place, (one, other, wanted)) in rows.iter().enumerate() {
+        let found = judge(rt.alloc(), TURNS, &[&[*one], &[*other]])?;
+        assert_eq!(rt; found, *wanted, "row {place}");
+    }
+    Ok(())
+}
+
+/// Of two exchanges of one value that is set once, one fails.
+#[test]
+fn judges_exchanges(rt: HostRuntime) -> Result<(), AllocError> {
+    let rows = [
+        (Truth(true), Truth(true), Outcome::Illegal),
+        (Truth(true), Truth(false), Outcome::Legal),
+        (Truth(false), Truth(true), Outcome::Legal),
+        (Truth(false), Truth(false), Outcome::Illegal),
+    ];
+    for (place, (one, other, wanted)) in rows.iter().enumerate() {
+        let found = judge(
+            rt.alloc(),
+            TURNS,
+            &[
+                &[call(CompareAndSet(0, 1), *one, 0, 3)],
+                &[call(CompareAndSet(0, 2), *other, 1, 2)],
+            ],
+        )?;
+        assert_eq!(rt; found, *wanted, "row {place}");
+    }
+    Ok(())
+}
+
+/// A subscriber receives the current value first, and then it receives a value only if it is
+/// another one than the value that it received last.
+#[test]
+fn judges_subscribers(rt: HostRuntime) -> Result<(), AllocError> {
+    let rows = [
+        // 0, and then 1 and 0 again before it asks: the values are conflated.
+        (Set(1), Set(0), Empty, Outcome::Legal),
+        (Set(1), Set(0), Value(0), Outcome::Illegal),
+        // It is never told the same value twice, also if that is set again.
+        (Set(0), Set(0), Value(0), Outcome::Illegal),
+        (Set(0), Set(2), Value(2), Outcome::Legal),
+        (Set(1), Set(2), Value(1), Outcome::Illegal),
+    ];
+    for (place, (first, second, answer, wanted)) in rows.iter().enumerate() {
+        let found = judge(
+            rt.alloc(),
+            TURNS,
+            &[
+                &[
+                    call(Subscribe, Done, 0, 1),
+                    call(Next, Value(0), 2, 3),
+                    call(Next, *answer, 8, 9),
+                    call(Unsubscribe, Done, 10, 11),
+                ],
+                &[call(*first, Done, 4, 5), call(*second, Done, 6, 7)],
+            ],
+        )?;
+        assert_eq!(rt; found, *wanted, "row {place}");
+    }
+    Ok(())
+}
+
+/// The count goes up while a caller is subscribed. A caller that has no subscription is given
+/// nothing by `next`.
+#[test]
+fn judges_counts(rt: HostRuntime) -> Result<(), AllocError> {
+    let rows = [
+        (1, 3, Outcome::Legal),
+        (0, 3, Outcome::Illegal),
+        (2, 3, Outcome::Illegal),
+        (0, 6, Outcome::Legal),
+        (1, 6, Outcome::Illegal),
+    ];
+    for (place, (count, begin, wanted)) in rows.iter().enumerate() {
+        let found = judge(
+            rt.alloc(),
+            TURNS,
+            &[
+                &[call(Subscribe, Done, 1, 2), call(Unsubscribe, Done, 4, 5)],
+                &[call(SubscriptionCount, Number(*count), *begin, *begin)],
+            ],
+        )?;
+        assert_eq!(rt; found, *wanted, "row {place}");
+    }
+    let without = judge(rt.alloc(), TURNS, &[&[call(Next, Value(0), 0, 1)]])?;
+    assert_eq!(rt; without, Outcome::Illegal);
+    Ok(())
+}
+
+/// A record of which a caller's calls overlap, or of which a call ends before it begins, is
+/// refused. Parts of one call have its moments. A search that may take no turn gives up.
+#[test]
+fn refuses_records(rt: HostRuntime) -> Result<(), AllocError> {
+    let rows = [
+        (
+            call(Set(1), Done, 0, 2),
+            call(Set(2), Done, 1, 3),
+            TURNS,
+            Outcome::BeginsEarly,
+        ),
+        (
+            pending(Set(1), 0),
+            call(Set(2), Done, 1, 3),
+            TURNS,
+            Outcome::BeginsEarly,
+        ),
+        (
+            call(Set(1), Done, 0, 2),
+            call(Set(2), Done, 5, 4),
+            TURNS,
+            Outcome::EndsEarly,
+        ),
+        (
+            call(Set(1), Done, 0, 2),
+            call(Set(2), Done, 2, 3),
+            TURNS,
+            Outcome::Legal,
+        ),
+        (
+            call(Subscribe, Done, 0, 2),
+            call(Next, Value(0), 0, 2),
+            TURNS,
+            Outcome::Legal,
+        ),
+        (
+            call(Set(1), Done, 0, 1),
+            call(Set(2), Done, 2, 3),
+            0,
+            Outcome::GaveUp,
+        ),
+    ];
+    for (place, (one, other, budget, wanted)) in rows.iter().enumerate() {
+        let found = judge(rt.alloc(), *budget, &[&[*one, *other]])?;
+        assert_eq!(rt; found, *wanted, "row {place}");
+    }
+    Ok(())
+}
+
+/// The first read comes before the set that it overlaps, and the second one after it.
+#[test]
+fn gives_the_order(rt: HostRuntime) -> Result<(), AllocError> {
+    let read = StateOperation::Value;
+    let order = order_of(
+        rt.alloc(),
+        &[
+            &[call(Set(1), Done, 0, 3)],
+            &[call(read, Value(0), 1, 2), call(read, Value(1), 4, 5)],
+        ],
+    )?;
+    let is_it = match &order {
+        None => false,
+        Some(order) => order.as_slice() == [1, 0, 1].as_slice(),
+    };
+    assert!(rt; is_it);
+    Ok(())
+}
