@@ -1,0 +1,134 @@
+"""What ./play and ./draw share: their arguments, and the program that they run, which is built where there is none yet."""
+import contextlib
+import os
+import pathlib
+import shutil
+import subprocess
+import sys
+import tempfile
+import threading
+import time
+
+from built import sources, top
+
+VERSION = "0.1.0"
+# Status of the command itself. The programs use 0, 2, 3 and 4.
+FAILED = 1
+REFUSED = 2
+
+
+def say(words):
+    print(words, file=sys.stderr, flush=True)
+
+
+def stop(words):
+    say(words)
+    sys.exit(FAILED)
+
+
+def fresh_program(name):
+    """The program as it was proved or built last; None if there is none that is as new as its sources."""
+    crate = top / "crates" / name
+    newest = max(file.stat().st_mtime for file in sources(name))
+    built = (crate / "out" / name, crate / "out" / f"{name}.unproved")
+    return next((file for file in built if file.exists() and file.stat().st_mtime >= newest), None)
+
+
+def keep(room, kept, has_ended):
+    """Links the program that `rt try` builds in a folder to a name of its own, before `rt try` removes it."""
+    while not has_ended.is_set():
+        for program in pathlib.Path(room).glob("*/*/program"):
+            with contextlib.suppress(OSError):
+                os.link(program, kept)
+        if kept.exists():
+            return
+        time.sleep(0.002)
+
+
+def build(name):
+    """Builds a program without a proof, and returns it; None if that fails."""
+    crate = top / "crates" / name
+    kept = crate / "out" / f"{name}.unproved"
+    kept.parent.mkdir(exist_ok=True)
+    kept.unlink(missing_ok=True)
+    say(f"building {name} without a proof, which takes about a minute; `rt run` in crates/{name} proves it as well")
+    with tempfile.TemporaryDirectory(prefix="flows-", dir=kept.parent) as room:
+        # Many runs, so that the program is there for a while.
+        cases = pathlib.Path(room, "cases")
+        cases.mkdir()
+        for number in range(60):
+            (cases / f"{number}.json").touch()
+        has_ended = threading.Event()
+        keeper = threading.Thread(target=keep, args=(room, kept, has_ended))
+        keeper.start()
+        tried = subprocess.run(["rt", "try", "--cases", cases], cwd=crate, env={**os.environ, "TMPDIR": room}, capture_output=True)
+        has_ended.set()
+        keeper.join()
+    if tried.returncode != 0:
+        say((tried.stdout + tried.stderr).decode(errors="replace"))
+        kept.unlink(missing_ok=True)
+    return kept if kept.exists() else None
+
+
+def program(name):
+    """The program as it was proved or built last, or else one that is built now, without a proof."""
+    found = fresh_program(name)
+    if found is None and not shutil.which("rt"):
+        stop("the toolchain's command `rt` is not on this machine")
+    return found or build(name) or sys.exit(FAILED)
+
+
+def script_of(words):
+    """The text of the script that the words name, and the words that are left. Without any words it is standard input; with
+    options alone it is None, since the program refuses or reads by itself."""
+    files = [word for word in words if not word.startswith("-")]
+    if not files:
+        return (None if words else sys.stdin.buffer.read()), words
+    if len(files) > 1:
+        stop(f"one script at a time: {' '.join(files)}")
+    try:
+        text = pathlib.Path(files[0]).read_bytes()
+    except FileNotFoundError:
+        stop(f"no such file: {files[0]}")
+    except OSError as error:
+        stop(f"cannot read {files[0]}: {error.strerror}")
+    return text, [word for word in words if word != files[0]]
+
+
+def watched(words):
+    """The file to watch."""
+    files = [word for word in words if not word.startswith("-")]
+    if len(files) != 1:
+        stop("--watch takes one script: --watch FILE")
+    return files[0]
+
+
+def watch(file, show):
+    """Calls `show` now, and again whenever the file has changed, until it is interrupted."""
+    seen = None
+    try:
+        while True:
+            try:
+                changed = os.stat(file).st_mtime_ns
+            except FileNotFoundError:
+                if seen is None:
+                    stop(f"no such file: {file}")
+                changed = seen
+            if changed != seen:
+                seen = changed
+                if sys.stdout.isatty():
+                    print("\x1b[2J\x1b[H", end="", flush=True)
+                show()
+            time.sleep(0.2)
+    except KeyboardInterrupt:
+        pass
+
+
+def first_options(words, usage):
+    """Answers --help and --version."""
+    if "--help" in words or "-h" in words:
+        print(usage)
+        sys.exit(0)
+    if "--version" in words:
+        print(f"wumsnair {VERSION}")
+        sys.exit(0)
