@@ -1,4 +1,28 @@
-"""The cases of cases/*.toml as scripts, and the lines that these print. docs/EXAMPLES.md says which keys a case has."""
+"""The cases of cases/*.toml as scripts, and the lines that these print.
+
+A case is a block of one of these files. What is between single quotes reaches the program as it is, so that a case can have a key
+twice, `1e0` or a text that is no JSON. Lines and rules are typed by hand, from docs/SCRIPTS.md and docs/DEFINITIONS.md.
+
+    [[case]]
+    name = "a value without a subscriber is gone"
+    flow = '{"kind":"shared","replay":0,"extra":0,"overflow":"suspend"}'
+    steps = [
+        ['{"do":"try_emit","value":5}', 'true'],
+        ['{"do":"cache"}', '[]', 'without replay the replay cache stays empty'],
+    ]
+
+name           what the case shows; it may be left out
+flow           the flow of a script of version 1. The case is played in version 2, too, its flow with the name f, unless it has
+               `version = 1`
+flows          in place of `flow` the flows of a script of version 2
+steps          each step, its line and, if it is to be compared, the rule that `./draw --explain` prints for it; of a script that is
+               refused the steps alone
+refused        the one line by which the script is refused
+flow_refused   the line by which its one flow is refused: all that version 1 prints
+flows_refused  the lines of the flows that are refused, which come before those of the steps
+script         in place of `flow` or `flows` and `steps` a whole text, with `refused`
+explained      what `./draw` prints about it on standard error
+"""
 import tomllib
 
 from built import top

@@ -3,6 +3,8 @@
 //! A `SharedCore` is a `MutableSharedFlow` of kotlinx.coroutines as one thread sees it. Every call has one clause,
 //! `documented`: in each state of the documented flow that the core stands for, that flow may reply so, and the core
 //! stands for the state after. The states are defined in `flow_law/specs/SharedFlow.antt`.
+//! `new` begins the chain: its core stands for the first state. `StateCore` has the same with `StateConforms`. A `drain` is
+//! a chain of what one `next` does (`DrainsBy`).
 //!
 //! # Who waits
 //! An emitter waits where some subscriber has a whole window of values still to receive. `emit` then answers `Queued`

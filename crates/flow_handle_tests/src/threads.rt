@@ -1,4 +1,5 @@
-//! Handles on several threads.
+//! Handles on several threads. What these tests count is only tested: `run_count` of flow_count proves of a state flow without
+//! a lock that no update is lost.
 use crate::compare::compare;
 use crate::state::one_more;
 use flow_law::{Config, OutOfMemory};

@@ -14,6 +14,14 @@
 //! `ask` answers an item, `Pending`, the end or a fault; after the end or a fault it answers the end, until `rewind`
 //! starts the producer anew. No operator asks ahead: an ask takes off what stands behind just what its answer needs.
 //!
+//! # What a chain promises
+//! A chain has two runs: the whole, which no call changes, and the rest. `ask` takes the first entry off the rest (clause
+//! `gives`), takes off the chains behind an operator just what its answer needs (`behind`), and can be made at most
+//! `most_asks` times before the end (`fewer`). A constructor, and a method of `Chain`, says what the operator's run is
+//! (`whole`) and what that means by lists (`meaning`). A method of `Terminal` starts the chain anew, and says what it
+//! comes to by the chain's items and its end. A fault is one that the chain answered last, or that a call of the closure
+//! answered; after the second the chain is just after the item of that call.
+//!
 //! # Closures
 //! Operators take plain closures. All that is asked of one is that it may be called. What is said of a chain's items is
 //! said for each *reading* of its closures: a function for each of them that it computes, want of memory aside

@@ -2,6 +2,10 @@
 //!
 //! `play` reads a whole script, checks it, plays it over flows for one thread, and only then writes the lines. A script
 //! that is refused writes nothing, and the refusal names the step.
+//!
+//! # What `play` promises
+//! `Plays` ties what was written to the `meaning` of the bytes that the reader had: that text at `Ok`; nothing at a
+//! refusal, which is the meaning's own fault; a first part of the text after a write that failed.
 #![tactic(auto)]
 
 mod playing;

@@ -14,6 +14,11 @@
 //! another caller is inside the flow, the turn reports `Busy`, and the next turn goes on there; over a `WordHub` no turn is
 //! busy.
 //!
+//! # What a hub promises
+//! Contracts see a hub as its flow, its two seats, the number of its emission, and what a reset sets (`SeatedHub`). Each
+//! call is one event under one of the two seats, or Busy and one lost exchange (`SharedFlowHubDoes`, `StateFlowHubDoes`,
+//! `WordHubDoes`). `law_turn_over_shared_flow` and its like say what a whole turn is then (`TurnBySeats`).
+//!
 //! # What is lost
 //! Who drops a sharing drops its hub: the hub's seats are lost, and an emission that waits stays queued or offered. So
 //! take a turn that stops the sharing first, or `cancel` through `hub_mut`.

@@ -1,9 +1,21 @@
 //! Puts flows under the calls of many threads, and tells whether all that must hold of every run held:
 //! `flow_stress SEED THREADS ROUNDS`.
 //!
-//! Each thread makes its rounds of calls, as the seed says. In turn they emit into a shared flow that suspends, read from
-//! it, emit and receive by futures over a second one that drops the oldest, and add to a state flow without a lock and to one
-//! behind a gate. docs/THREADS.md says what is looked at.
+//! Each thread makes its rounds of calls, as the seed says. A quarter of the threads does each of these:
+//! - emits, polls and cancels at a shared flow that suspends (replay 2, room for 4 more);
+//! - subscribes to that flow, reads by `next` and `next_now`, and leaves. It must receive of each emitter every value after
+//!   the first that came, in order, none twice, and never `Gone`;
+//! - emits by an `EmitFuture`, and then receives by a `NextFuture`, at a second flow, which drops the oldest. It must receive
+//!   of each emitter rising values, none twice, and a value each time;
+//! - adds 1 to a state flow without a lock, by an update or by a `compare_and_set` from what it read, subscribes, reads twice
+//!   and leaves: the value must never fall, and must rise where the thread added. Then the same by `compare_and_set` at a
+//!   state flow behind a gate, whose value must never fall.
+//!
+//! All threads begin at the same time. At the end no subscriber is left, each reader has read something, and both state flows
+//! have as much as all threads added.
+//!
+//! One part of this is proved: if callers only update a state flow without a lock, no update is lost (`run_count` of
+//! flow_count). Here each thread does other things, too, and all is tested.
 #![tactic(auto)]
 
 mod arguments;
