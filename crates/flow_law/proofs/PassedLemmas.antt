@@ -29,7 +29,7 @@ suspends_not_drops : (o : Overflow) → o ≡ Suspend → o ≢ DropOldest
 suspends_not_drops o e f = absurd (cc)
 
 module _ {T : Type 0} where
-  -- who subscribes in this state has no first values and enters at the first value of the flow
+  -- a subscription in this state has no first values and enters at the first value of the flow
   abbrev pub EntersFirst : SharedFlowState T → SharedCall T → Type 0
   EntersFirst s (call.Subscribe name first) = (first ≡ []) × (entry s ≡ 0)
   EntersFirst s _ = Unit {0}
@@ -86,9 +86,9 @@ module _ {T : Type 0} where
             ∙ accepts config h legal o kept,
       )
 
-  -- ---- where nobody subscribes any more once a value is accepted
+  -- ---- no subscription comes after the first accepted value
 
-  -- who subscribes has no first values
+  -- a subscription has no first values
   abbrev pub BringsNone : SharedCall T → Type 0
   BringsNone (call.Subscribe name first) = first ≡ []
   BringsNone _ = Unit {0}
@@ -153,7 +153,7 @@ module _ {T : Type 0} where
             (none_second (accepted_by c r) (accepted (map (λ e. e.what) es)) taken) brings.1 later,
       )
 
-  -- Nothing was accepted in the first part of a history, and nobody subscribed in the second one.
+  -- Nothing was accepted in the first part of a history, and no subscription was made in the second one.
   pub passed_on : (config : Config) (h more : History T) → IsLegal config (h ++ more) → config.overflow ≡ Suspend → 0 < config.replay + config.extra → NoneCancelled (h ++ more)
       → accepted (map (λ e. e.what) h) ≡ [] → AllByRecursion (λ e. BringsNone e.what.call) h → AllByRecursion (λ e. SubscribesNone e.what.call) more
       → (u p : ℕ) → position_of u (state_after config (h ++ more)).subscribers ≡ Some p → (rest : List T) × (received u (h ++ more) ++ rest ≡ accepted (map (λ e. e.what) (h ++ more)))

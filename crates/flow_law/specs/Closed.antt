@@ -8,7 +8,7 @@ use Rattle.flow_law.specs.Growth.{child_name, NamesOnlyMade, knowledge, child}
 use Rattle.flow_law.specs.Done.{total, said_by, done_by}
 
 module _ {E : Type 0} where
-  -- ---- who calls
+  -- ---- the tokens
 
   -- one of the tokens has the name
   abbrev pub HasName : List ℕ → List (Knowledge E) → Type 0

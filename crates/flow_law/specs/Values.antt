@@ -1,7 +1,8 @@
 -- When values that are made of others are the same, and that sameness of the parts then tells equal values from others.
 use Rattle.std.specs.Prelude.{◌≡◌, ◌↔◌, Bool, true, false, ◌&&◌, is_some, IsTrue, List, [], ◌∷◌, drop, nat_eq, Option, Some, None, slice_index_or}
 use Rattle.std.specs.Bool.{beq}
-use Rattle.std.specs.Cmp.{booleans_Decides}
+use Rattle.std.specs.Cmp.{booleans_Decides, decided, partial_equiv_from_equiv, IsEquivalence, IsPartialEquivalence}
+use Rattle.std.specs.Hash.{HashWrites, Alike, same_Alike}
 use Rattle.std.specs.List.{slice_get}
 use Rattle.std.specs.Option.{option_map_or}
 use Rattle.std.specs.Ordering.{int_eq}
@@ -87,3 +88,16 @@ module _ {A B C : Type 0} (f : A → A → Bool) (g : B → B → Bool) (h : C �
       (both (g x.1 y.1) (h x.2 y.2)).1 ((second x.1 y.1).1 (ap (λ (z : A × B × C). z.1) e), (third x.2 y.2).1 (ap (λ (z : A × B × C). z.2) e)),
     ),
   )
+
+-- ---- what an exact sameness gives: the laws of `PartialEq`, `Eq` and `Hash`
+
+module _ {T : Type 0} {same : T → T → Bool} (exact : IsExact same) where
+  pub exact_eq : IsEquivalence same
+  exact_eq = decided same exact
+
+  pub exact_partial_eq : IsPartialEquivalence same
+  exact_partial_eq = partial_equiv_from_equiv exact_eq
+
+  -- whatever is hashed of a value, the same values are hashed alike
+  pub exact_hash : (writes : T → HashWrites) → (x y : T) → IsTrue (same x y) → writes x ≡ writes y
+  exact_hash writes x y h = (same_Alike writes exact).fed x y h

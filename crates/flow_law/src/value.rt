@@ -28,7 +28,7 @@ pub trait FlowValue: Drop {
     /// nothing.
     ghost IsAlwaysCopied: { Type 0 } = { ⊥ };
 
-    /// The same value, or want of memory.
+    /// Copies the value, or fails with `OutOfMemory`.
     fn try_copy(&self) -> Result<Self, FlowFault>
         ensures copy { IfOk result (λ copy. copy ≡ self.now) }
         ensures memory { IfErr result (λ fault. fault ≡ FlowFault.OutOfMemory) }

@@ -1,9 +1,12 @@
 //! Boxed values as values of flows: each is what its box contains.
-ghost use Rattle.std.specs.Prelude.{◌≡◌};
+ghost use Rattle.std.specs.Prelude.{◌≡◌, ◌↔◌, IsTrue};
+ghost use Rattle.flow_law.specs.Values.{exact_eq, exact_partial_eq, exact_hash};
 
 use super::FlowValue;
 use crate::fault::FlowFault;
 use std::alloc::{Allocator, Global};
+use std::fmt;
+use std::hash::{Hash, Hasher};
 use std::marker::Model;
 
 /// A boxed value. Two are the same where what they contain is.
@@ -54,4 +57,47 @@ impl<T: FlowValue, A: Allocator + Copy> FlowValue for Boxed<T, A> {
     }
 
     ghost is_same_exact = { T.is_same_exact };
+}
+
+impl<T: FlowValue, A: Allocator + Copy> From<Box<T, A>> for Boxed<T, A> {
+    ghost from_gives = { λ boxed b. b ≡ boxed.value };
+
+    fn from(boxed: Box<T, A>) -> Self {
+        Boxed::new(boxed)
+    }
+}
+
+impl<T: FlowValue, A: Allocator + Copy> PartialEq for Boxed<T, A> {
+    ghost eq = { T.is_same };
+
+    ghost laws = { exact_partial_eq T.is_same_exact };
+
+    fn eq(&self, other: &Self) -> bool
+        ensures same { result ≡ T.is_same self.now other.now }
+        ensures exact { IsTrue result ↔ self.now ≡ other.now }
+    {
+        self.same(other)
+    }
+}
+
+impl<T: FlowValue, A: Allocator + Copy> Eq for Boxed<T, A> {
+    ghost laws = { exact_eq T.is_same_exact };
+}
+
+impl<T: FlowValue + Hash, A: Allocator + Copy> Hash for Boxed<T, A> {
+    ghost hash_input = { T.hash_input };
+
+    ghost respects_eq = { exact_hash T.is_same_exact T.hash_input };
+
+    fn hash<H: Hasher>(&self, state: &mut H) {
+        self.boxed.as_ref().hash(state);
+    }
+}
+
+impl<T: FlowValue + fmt::Debug, A: Allocator + Copy> fmt::Debug for Boxed<T, A> {
+    ghost debug_output = { T.debug_output };
+
+    fn fmt<W: fmt::Write>(&self, f: &mut fmt::Formatter<W>) -> fmt::Result {
+        fmt::Debug::fmt(self.boxed.as_ref(), f)
+    }
 }

@@ -1,10 +1,14 @@
 //! Lists as values of flows: each is its values in order, wherever they lie and however much room there is.
-ghost use Rattle.std.specs.Prelude.{◌≡◌, IfOk, IfErr};
-ghost use Rattle.flow_law.specs.Values.{is_same_list};
+ghost use Rattle.std.specs.Prelude.{◌≡◌, ◌↔◌, IsTrue, IfOk, IfErr};
+ghost use Rattle.std.specs.Fmt.{debug_list};
+ghost use Rattle.std.specs.Hash as fed;
+ghost use Rattle.flow_law.specs.Values.{is_same_list, list_exact, exact_eq, exact_partial_eq, exact_hash};
 
 use super::FlowValue;
 use crate::fault::FlowFault;
 use std::alloc::{Allocator, Global};
+use std::fmt;
+use std::hash::{Hash, Hasher};
 use std::marker::Model;
 
 /// A list of values. Two are the same where their values are, in order.
@@ -76,8 +80,6 @@ fn is_same_slice<T: FlowValue>(values: &[T], others: &[T]) -> bool
 }
 
 impl<T: FlowValue, A: Allocator + Copy> FlowValue for Items<T, A> {
-    ghost use Rattle.flow_law.specs.Values.{list_exact};
-
     ghost is_same = { is_same_list T.is_same };
 
     fn try_copy(&self) -> Result<Items<T, A>, FlowFault> {
@@ -90,4 +92,47 @@ impl<T: FlowValue, A: Allocator + Copy> FlowValue for Items<T, A> {
     }
 
     ghost is_same_exact = { list_exact T.is_same T.is_same_exact };
+}
+
+impl<T: FlowValue, A: Allocator + Copy> From<Vec<T, A>> for Items<T, A> {
+    ghost from_gives = { λ values list. list ≡ values.items };
+
+    fn from(values: Vec<T, A>) -> Self {
+        Items::new(values)
+    }
+}
+
+impl<T: FlowValue, A: Allocator + Copy> PartialEq for Items<T, A> {
+    ghost eq = { is_same_list T.is_same };
+
+    ghost laws = { exact_partial_eq (list_exact T.is_same T.is_same_exact) };
+
+    fn eq(&self, other: &Self) -> bool
+        ensures same { result ≡ is_same_list T.is_same self.now other.now }
+        ensures exact { IsTrue result ↔ self.now ≡ other.now }
+    {
+        self.same(other)
+    }
+}
+
+impl<T: FlowValue, A: Allocator + Copy> Eq for Items<T, A> {
+    ghost laws = { exact_eq (list_exact T.is_same T.is_same_exact) };
+}
+
+impl<T: FlowValue + Hash, A: Allocator + Copy> Hash for Items<T, A> {
+    ghost hash_input = { fed.slice T.hash_input };
+
+    ghost respects_eq = { exact_hash (list_exact T.is_same T.is_same_exact) (fed.slice T.hash_input) };
+
+    fn hash<H: Hasher>(&self, state: &mut H) {
+        self.values.as_slice().hash(state);
+    }
+}
+
+impl<T: FlowValue + fmt::Debug, A: Allocator + Copy> fmt::Debug for Items<T, A> {
+    ghost debug_output = { debug_list T.debug_output };
+
+    fn fmt<W: fmt::Write>(&self, f: &mut fmt::Formatter<W>) -> fmt::Result {
+        fmt::Debug::fmt(&self.values, f)
+    }
 }
