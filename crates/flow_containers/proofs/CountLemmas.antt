@@ -49,6 +49,22 @@ pub blocked_by_count : {T : Type 0} (w n : ℕ) (row : List ℕ) (us : List (Sub
 blocked_by_count w n row us fits =
     ap (nat_lt 0) (fits.counts ((n + 1) % (w + 1)) (mod_below (n + 1) (w + 1) (omega arith))) ∙ any_at_end w n us fits.window
 
+-- whether a subscriber stands at a position is one look, too
+pub any_at : {T : Type 0} (w n q : ℕ) (us : List (Subscriber T)) → AreWithin w n us → q ≤ n → n ≤ q + w
+    → nat_lt 0 (count_of (w + 1) (q % (w + 1)) us) ≡ list_any (λ u. u.position == q) us
+any_at w n q [] h le near = refl
+any_at w n q (u ∷ us) h le near =
+    some_more (u.position % (w + 1) == q % (w + 1)) (count_of (w + 1) (q % (w + 1)) us)
+    ∙ ap (λ t. t || nat_lt 0 (count_of (w + 1) (q % (w + 1)) us)) same
+    ∙ ap (λ t. (u.position == q) || t) (any_at w n q us h.2 le near)
+  where
+    same : (u.position % (w + 1) == q % (w + 1)) ≡ (u.position == q)
+    same =
+        elim (eqb_tells u.position q) [
+          | inl here ↦ equal _ _ (ap (λ p. p % (w + 1)) here.1) ∙ sym here.0
+          | inr there ↦ unequal _ _ (λ e. there.1 (same_place_in (w + 1) (n - w) u.position q (omega arith) (omega (arith, h.1)) (omega (arith, h.0)) (omega (arith, near)) (omega (arith, le)) e)) ∙ sym there.0
+        ]
+
 -- ---- an append where nobody is a whole window behind changes no count
 
 or_left : (a b : Bool) → (a || b) ≡ false → a ≡ false
@@ -331,6 +347,23 @@ pub fits-move_to : {T : Type 0} (w n number p q : ℕ) (row : List ℕ) (us : Li
 fits-move_to w n number p q row us fits found le near =
     fits_more w n q _ (take_out number us) (move_to number q us) (fits-take_out w n number p row us fits found)
     (within-move_to w n number q us fits.window le near) (λ r. count-move_to (w + 1) r number p q us found)
+
+-- how many others stand where one was found that goes one further
+pub others_at : {T : Type 0} (w n number p : ℕ) (row : List ℕ) (us : List (Subscriber T)) → 0 < w → CountsPositions w n row us → position_of number us ≡ Some p → p < n
+    → nat_lt 0 (get_or row (p % (w + 1)) 0 - 1) ≡ list_any (λ u. u.position == p) (move_to number (p + 1) us)
+others_at w n number p row us some fits found less =
+    let near = found_within w n number p us fits.window found in
+    let whole : count_of (w + 1) (p % (w + 1)) us ≡ suc (count_of (w + 1) (p % (w + 1)) (take_out number us)) =
+    count-take_out (w + 1) (p % (w + 1)) number p us found
+    ∙ ap (λ t. if t then suc (count_of (w + 1) (p % (w + 1)) (take_out number us)) else count_of (w + 1) (p % (w + 1)) (take_out number us)) (equal (p % (w + 1)) (p % (w + 1)) refl) in
+    let rest : count_of (w + 1) (p % (w + 1)) (move_to number (p + 1) us) ≡ count_of (w + 1) (p % (w + 1)) (take_out number us) =
+    count-move_to (w + 1) (p % (w + 1)) number p (p + 1) us found
+    ∙ ap (λ t. if t then suc (count_of (w + 1) (p % (w + 1)) (take_out number us)) else count_of (w + 1) (p % (w + 1)) (take_out number us))
+    (unequal ((p + 1) % (w + 1)) (p % (w + 1)) (λ e. apart w p some (sym e))) in
+    let counted = fits.counts (p % (w + 1)) (mod_below p (w + 1) (omega arith)) in
+    let others : get_or row (p % (w + 1)) 0 - 1 ≡ count_of (w + 1) (p % (w + 1)) (move_to number (p + 1) us) = omega (arith, whole, rest, counted) in
+    ap (nat_lt 0) others
+    ∙ any_at w n p (move_to number (p + 1) us) (within-move_to w n number (p + 1) us fits.window (omega (arith, less)) (omega (arith, near.1))) (omega (arith, less)) near.1
 
 -- ---- bounds of the counts
 

@@ -1,5 +1,5 @@
 -- Subscribers to whom nobody has subscribed yet: their fields are sound.
-use Rattle.std.proofs.Common.{◌≡◌, ℕ, ◌+◌, ◌-◌, ◌<◌, List, [], length, replicate, get_or, Option, None, refl, sym, subst, ◌∙◌, ap, arith}
+use Rattle.std.proofs.Common.{◌≡◌, ℕ, ◌+◌, ◌-◌, ◌<◌, List, [], length, replicate, get_or, Option, refl, sym, subst, ◌∙◌, ap, arith}
 use Rattle.std.proofs.lemmas.List.{length-replicate, get_or-replicate}
 use Rattle.flow_containers.specs.declared.members.Member.{Member}
 use Rattle.flow_containers.specs.declared.members.enroll.Row.{Row}

@@ -10,3 +10,4 @@ pub mod RaisedLemmas
 pub mod SubscribersLemmas
 pub mod ReceivingLemmas
 pub mod FreshLemmas
+pub mod TakingLemmas

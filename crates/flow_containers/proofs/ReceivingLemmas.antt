@@ -1,7 +1,9 @@
 -- What `receive` shows of a subscriber whose row was found: where it stands, and what the rows are after each case.
-use Rattle.std.proofs.Common.{◌≡◌, ℕ, ◌+◌, ◌-◌, ◌<◌, ◌≤◌, max, List, [], length, Some, None, sym, ap, subst, ◌∙◌, arith, zero, suc, ◌∷◌}
-use Rattle.std.specs.List.{slice_get}
+use Rattle.std.proofs.lemmas.Bool.Decides.{nat_tests}
+use Rattle.std.proofs.Common.{◌≡◌, ℕ, ◌+◌, ◌-◌, ◌<◌, ◌≤◌, ◌%◌, ◌==◌, ◌&&◌, not, nat_lt, max, List, [], length, get_or, Some, None, refl, sym, ap, subst, ◌∙◌, arith, zero, suc, ◌∷◌}
+use Rattle.std.specs.List.{slice_get, list_any}
 use Rattle.std.specs.Option.{option_map, IfSome}
+use Rattle.flow_law.specs.declared.states.Subscriber.{Subscriber}
 use Rattle.flow_law.specs.SharedFlow.{position_of, own_of, with_own, move_to}
 use Rattle.flow_containers.specs.declared.members.Member.{Member}
 use Rattle.flow_containers.specs.declared.members.enroll.Row.{Row}
@@ -10,6 +12,8 @@ use Rattle.flow_containers.specs.Members.{row_of, with_row}
 use Rattle.flow_containers.specs.Rows.{moved, left}
 use Rattle.flow_containers.specs.PositionCounts.{entered, left_at}
 use Rattle.flow_containers.specs.Subscribers.{standing_of, read, AreSound, IsSound}
+use Rattle.flow_containers.specs.Receiving.{was_last_at}
+use Rattle.flow_containers.proofs.CountLemmas.{others_at}
 use Rattle.flow_containers.proofs.MemberLemmas.{with_row_same}
 use Rattle.flow_containers.proofs.RaisedLemmas.{position_of-row, own_of-row, own_of-none, with_own-row, move_to-row}
 use Rattle.flow_containers.proofs.SubscribersLemmas.{took_own, advanced}
@@ -20,6 +24,10 @@ found_below zero [] v at = absurd (cc)
 found_below (suc k) [] v at = absurd (cc)
 found_below zero (x ∷ xs) v at = omega arith
 found_below (suc k) (x ∷ xs) v at = omega (arith, found_below k xs v at)
+
+none_left_over : (k : ℕ) → (k == 0) ≡ not (nat_lt 0 k)
+none_left_over zero = refl
+none_left_over (suc k) = grind (arith, nat_tests)
 
 module _ {T A : Type 0} (s : Inside T A) (number : ℕ) where
   abbrev pub position_in : Row T A → ℕ
@@ -40,6 +48,13 @@ module _ {T A : Type 0} (s : Inside T A) (number : ℕ) where
     pub kept_here : (first : ℕ) → IfSome (position_of number (standing_of s).list) (λ position. first ≤ position) → first ≤ position_in row
     kept_here first kept = subst (λ p. IfSome p (λ position. first ≤ position)) stands_at kept
 
+    -- the row is as it was
+    pub untouched : putting row ≡ s
+    untouched = ap (λ (members : List (Member (Row T A))). record s { members = record s.members { members = members } }) (with_row_same number row s.members.members found)
+
+    pub untouched_sound : IsSound s → IsSound (putting row)
+    untouched_sound sound = subst IsSound (sym untouched) sound
+
     pub own_left : own_of number (standing_of s).list ≡ row.own
     own_left = own_of-row s.floor number row s.members.members found
 
@@ -48,6 +63,22 @@ module _ {T A : Type 0} (s : Inside T A) (number : ℕ) where
 
     pub takes_sound : (own : List T) → IsSound s → IsSound (putting (left own row))
     takes_sound own sound = took_own s.counts.row s.counts.emitted s.floor s.members.last s.members.members sound number own row found
+
+    -- whether it was the last one at the first position that is held, by its count
+    pub was_last : IsSound s → position_in row < s.counts.emitted → (at first others : ℕ) (list : List (Subscriber T)) → at ≡ position_in row
+        → others ≡ get_or s.counts.row (at % length s.counts.row) 0 - 1 → list ≡ move_to number (position_in row + 1) (standing_of s).list
+        → ((at == first) && (others == 0)) ≡ was_last_at first (position_in row) list
+    was_last sound more at first others list here count is =
+        let w : ℕ = length s.counts.row - 1 in
+        let p : ℕ = position_in row in
+        let counted : others ≡ get_or s.counts.row (p % (w + 1)) 0 - 1 =
+        count ∙ ap (λ q. get_or s.counts.row (q % length s.counts.row) 0 - 1) here ∙ ap (λ k. get_or s.counts.row (p % k) 0 - 1) sound.fits.long in
+        ap (λ q. (q == first) && (others == 0)) here
+        ∙ ap (λ t. (p == first) && t) (
+        none_left_over others ∙ ap (λ k. not (nat_lt 0 k)) counted
+        ∙ ap not (others_at w s.counts.emitted number p s.counts.row (standing_of s).list sound.some sound.fits stands_at more)
+        ∙ ap (λ l. not (list_any (λ (u : Subscriber T). u.position == p) l)) (sym is)
+        )
 
     -- nothing of one's own was left
     module _ (own : List T) (taken : (row.own ≡ []) × (own ≡ [])) where
@@ -58,7 +89,7 @@ module _ {T A : Type 0} (s : Inside T A) (number : ℕ) where
       kept = taken.1 ∙ sym taken.0
 
       same : putting (left own row) ≡ s
-      same = ap (λ o. putting (left o row)) kept ∙ ap (λ (members : List (Member (Row T A))). record s { members = record s.members { members = members } }) (with_row_same number row s.members.members found)
+      same = ap (λ o. putting (left o row)) kept ∙ untouched
 
       pub stays : standing_of (putting (left own row)) ≡ standing_of s
       stays = ap standing_of same
@@ -66,8 +97,8 @@ module _ {T A : Type 0} (s : Inside T A) (number : ℕ) where
       pub stays_sound : IsSound s → IsSound (putting (left own row))
       stays_sound sound = subst IsSound (sym same) sound
 
-      -- it stands one further
-      module _ (sound : IsSound s) (more : position_in row < s.counts.emitted) (next : ℕ) (is : next ≡ position_in row + 1) where
+      -- it stands so much further
+      module _ (sound : IsSound s) (count : ℕ) (more : position_in row + count ≤ s.counts.emitted) (next : ℕ) (is : next ≡ position_in row + count) where
         abbrev pub going : Row T A
         going = record { own = own; position = next }
 
@@ -77,20 +108,20 @@ module _ {T A : Type 0} (s : Inside T A) (number : ℕ) where
           counts = record s.counts { row = counts };
         }
 
-        moves : going ≡ moved (position_in row + 1) row
+        moves : going ≡ moved (position_in row + count) row
         moves = ap (λ o. record { own = o; position = next }) kept ∙ ap (λ p. record { own = row.own; position = p }) is
 
         pub goes : (counts : List ℕ) → length counts ≡ length s.counts.row
-            → standing_of (gone counts) ≡ record (standing_of s) { list = move_to number (position_in row + 1) (standing_of s).list }
+            → standing_of (gone counts) ≡ record (standing_of s) { list = move_to number (position_in row + count) (standing_of s).list }
         goes counts long =
-            let above : s.floor ≤ position_in row + 1 = omega arith in
-            let list : read s.floor (with_row number going s.members.members) ≡ move_to number (position_in row + 1) (standing_of s).list =
-            ap (λ r. read s.floor (with_row number r s.members.members)) moves ∙ move_to-row s.floor number (position_in row + 1) row s.members.members above found in
+            let above : s.floor ≤ position_in row + count = omega arith in
+            let list : read s.floor (with_row number going s.members.members) ≡ move_to number (position_in row + count) (standing_of s).list =
+            ap (λ r. read s.floor (with_row number r s.members.members)) moves ∙ move_to-row s.floor number (position_in row + count) row s.members.members above found in
             ap (λ l. record (standing_of s) { list = l; window = length counts - 1 }) list
-            ∙ ap (λ k. record (standing_of s) { list = move_to number (position_in row + 1) (standing_of s).list; window = k - 1 }) long
+            ∙ ap (λ k. record (standing_of s) { list = move_to number (position_in row + count) (standing_of s).list; window = k - 1 }) long
 
-        pub goes_sound : IsSound (gone (entered (left_at s.counts.row (position_in row)) (position_in row + 1)))
+        pub goes_sound : IsSound (gone (entered (left_at s.counts.row (position_in row)) (position_in row + count)))
         goes_sound =
-            let row_after = entered (left_at s.counts.row (position_in row)) (position_in row + 1) in
+            let row_after = entered (left_at s.counts.row (position_in row)) (position_in row + count) in
             subst (λ r. AreSound (length row_after - 1) row_after s.counts.emitted s.floor (with_row number r s.members.members) s.members.last) (sym moves)
-            (advanced s.counts.row s.counts.emitted s.floor s.members.last s.members.members sound number (position_in row) stands_at row found more)
+            (advanced s.counts.row s.counts.emitted s.floor s.members.last s.members.members sound number (position_in row) stands_at (position_in row + count) row found (omega arith) more)

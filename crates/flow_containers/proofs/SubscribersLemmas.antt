@@ -174,12 +174,12 @@ module _ {T A : Type 0} (row : List ℕ) (emitted floor last : ℕ) (members : L
           | false ↦ omega (arith, shorter number members)
         ]
 
-    pub enter_again : get_or (left_at row p) ((p + 1) % length (left_at row p)) 0 + 1 < 2 ^ 64
-    enter_again =
+    pub enter_again : (q : ℕ) → get_or (left_at row p) (q % length (left_at row p)) 0 + 1 < 2 ^ 64
+    enter_again q =
         let same : length (left_at row p) ≡ w + 1 = length-set row _ _ ∙ long in
-        let counted : get_or (left_at row p) ((p + 1) % length (left_at row p)) 0 ≡ count_of (w + 1) ((p + 1) % (w + 1)) (take_out number us) =
-        ap (λ k. get_or (left_at row p) ((p + 1) % k) 0) same ∙ left_fits.counts ((p + 1) % (w + 1)) (mod_below (p + 1) (w + 1) (omega arith)) in
-        omega (arith, counted, count_bound (w + 1) ((p + 1) % (w + 1)) (take_out number us), one_less number p us found, bounded)
+        let counted : get_or (left_at row p) (q % length (left_at row p)) 0 ≡ count_of (w + 1) (q % (w + 1)) (take_out number us) =
+        ap (λ k. get_or (left_at row p) (q % k) 0) same ∙ left_fits.counts (q % (w + 1)) (mod_below q (w + 1) (omega arith)) in
+        omega (arith, counted, count_bound (w + 1) (q % (w + 1)) (take_out number us), one_less number p us found, bounded)
       where
         one_less : (number p : ℕ) (us : List (Subscriber T)) → position_of number us ≡ Some p → length (take_out number us) + 1 ≡ length us
         one_less number p [] found = absurd (cc)
@@ -195,22 +195,22 @@ module _ {T A : Type 0} (row : List ℕ) (emitted floor last : ℕ) (members : L
         let is : max r.position floor ≡ p = cc in
         omega (arith, is)
 
-    pub advanced : (r : Row T A) → row_of number members ≡ Some r → p < emitted
-        → AreSound (length (entered (left_at row p) (p + 1)) - 1) (entered (left_at row p) (p + 1)) emitted floor (with_row number (moved (p + 1) r) members) last
-    advanced r at more =
-        let kept : length (entered (left_at row p) (p + 1)) ≡ length row = length-set (left_at row p) _ _ ∙ length-set row _ _ in
-        let high : floor ≤ p + 1 = omega (arith, above_floor r at) in
+    pub advanced : (q : ℕ) (r : Row T A) → row_of number members ≡ Some r → p ≤ q → q ≤ emitted
+        → AreSound (length (entered (left_at row p) q) - 1) (entered (left_at row p) q) emitted floor (with_row number (moved q r) members) last
+    advanced q r at far more =
+        let kept : length (entered (left_at row p) q) ≡ length row = length-set (left_at row p) _ _ ∙ length-set row _ _ in
+        let high : floor ≤ q = omega (arith, above_floor r at, far) in
         let within = found_within w emitted number p us sound.fits.window found in
         let same : length (left_at row p) ≡ w + 1 = length-set row _ _ ∙ long in
-        let moves : CountsPositions w emitted (entered (left_at row p) (p + 1)) (move_to number (p + 1) us) =
-        subst (λ k. CountsPositions w emitted (set (left_at row p) ((p + 1) % k) (get_or (left_at row p) ((p + 1) % k) 0 + 1)) (move_to number (p + 1) us)) (sym same)
-        (subst (λ k. CountsPositions w emitted (set (set row (p % k) (get_or row (p % k) 0 - 1)) ((p + 1) % (w + 1)) (get_or (set row (p % k) (get_or row (p % k) 0 - 1)) ((p + 1) % (w + 1)) 0 + 1)) (move_to number (p + 1) us)) (sym long)
-        (fits-move_to w emitted number p (p + 1) row us sound.fits found (omega (arith, more)) (omega (arith, within.1)))) in
-        resized row (entered (left_at row p) (p + 1)) emitted floor last (with_row number (moved (p + 1) r) members) kept (record {
+        let moves : CountsPositions w emitted (entered (left_at row p) q) (move_to number q us) =
+        subst (λ k. CountsPositions w emitted (set (left_at row p) (q % k) (get_or (left_at row p) (q % k) 0 + 1)) (move_to number q us)) (sym same)
+        (subst (λ k. CountsPositions w emitted (set (set row (p % k) (get_or row (p % k) 0 - 1)) (q % (w + 1)) (get_or (set row (p % k) (get_or row (p % k) 0 - 1)) (q % (w + 1)) 0 + 1)) (move_to number q us)) (sym long)
+        (fits-move_to w emitted number p q row us sound.fits found more (omega (arith, within.1, far)))) in
+        resized row (entered (left_at row p) q) emitted floor last (with_row number (moved q r) members) kept (record {
           some = sound.some;
-          fits = subst (CountsPositions w emitted (entered (left_at row p) (p + 1))) (sym (move_to-row floor number (p + 1) r members high at)) moves;
+          fits = subst (CountsPositions w emitted (entered (left_at row p) q)) (sym (move_to-row floor number q r members high at)) moves;
           floor = sound.floor;
-          count = omega (arith, length-with_row number (moved (p + 1) r) members, sound.count);
+          count = omega (arith, length-with_row number (moved q r) members, sound.count);
           last = sound.last;
         })
 

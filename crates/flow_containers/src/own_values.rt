@@ -1,5 +1,5 @@
 //! A subscriber's own first values.
-ghost use Rattle.std.specs.Prelude.{◌≡◌, ◌∷◌, [], MatchOption};
+ghost use Rattle.std.specs.Prelude.{◌≡◌, ◌∷◌, [], length, MatchOption};
 
 use std::alloc::Allocator;
 use std::marker::Model;
@@ -26,6 +26,13 @@ impl<T: Drop, A: Allocator> OwnValues<T, A> {
         let mut reversed = first;
         reversed.reverse();
         OwnValues { reversed }
+    }
+
+    /// Returns how many are left.
+    pub fn len(&self) -> usize
+        ensures { result ≡ length self.now }
+    {
+        self.reversed.len()
     }
 
     /// Takes the next value out.

@@ -155,21 +155,23 @@ impl<A: Allocator> PositionCounts<A> {
         self.set_count(place, self.count(place) - 1);
     }
 
-    /// One who stands at a position, which is not the last one, goes one further. Gives where that is.
+    /// Moves one of those at a position, which is not the last one, one further. Returns how many stay there.
+    #[inline]
     pub fn move_on(&mut self, position: u64) -> u64
         requires past { position < self.old.emitted }
         requires near { self.old.emitted < position + length self.old.row }
         requires some { 0 < get_or self.old.row (position % length self.old.row) 0 }
         requires room { get_or (left_at self.old.row position) ((position + 1) % length (left_at self.old.row position)) 0 + 1 < 2 ^ 64 }
-        ensures next { result ≡ position + 1 }
+        ensures others { result ≡ get_or self.old.row (position % length self.old.row) 0 - 1 }
         ensures row { self.new.row ≡ entered (left_at self.old.row position) (position + 1) }
         ensures emitted { self.new.emitted ≡ self.old.emitted }
     {
-        let others = self.emitted - position - 1;
-        let next = self.emitted - others;
-        self.leave(position);
-        self.enter(next);
-        next
+        let place = self.place_of(position);
+        let next = self.place_after(place);
+        let others = self.count(place) - 1;
+        self.set_count(place, others);
+        self.set_count(next, self.count(next) + 1);
+        others
     }
 
     /// All who stand at a position, which is not the last one, go one further.

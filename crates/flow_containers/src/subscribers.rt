@@ -7,6 +7,7 @@ ghost use Rattle.flow_containers.specs.Members.{EntersAt, OthersStay};
 ghost use Rattle.flow_containers.specs.Subscribers.{is_full};
 
 mod receive;
+mod taking;
 
 use crate::members::{Members, Row};
 use crate::position_counts::PositionCounts;

@@ -1,22 +1,23 @@
 -- A value more: how a core whose ring lets go of the oldest covers the states after an emission.
 -- The key facts: `covers-pushed`, `covers-appended`, `covers-dropped`; `blocked_is` and `offering_is` (what is read off a core).
-use Rattle.std.proofs.Common.{inl, inr, ◌≡◌, ℕ, ◌+◌, ◌-◌, ◌≤◌, max, false, true, ◌&&◌, ◌==◌, List, [], ◌∷◌, ◌++◌, length, refl, ap, ◌∙◌, subst, arith}
+use Rattle.std.proofs.Common.{inl, inr, ◌≡◌, ℕ, ◌+◌, ◌-◌, ◌<◌, ◌≤◌, max, false, true, ◌&&◌, ◌==◌, List, [], ◌∷◌, ◌++◌, length, drop, length-append, refl, ap, ◌∙◌, subst, arith}
 use Rattle.std.specs.List.{list_any}
-use Rattle.std.proofs.lemmas.Bool.Decides.{eqb_tells}
+use Rattle.std.proofs.lemmas.Bool.Decides.{eqb_tells, leb_tells}
 use Rattle.flow_law.specs.declared.config.Overflow.TheVariants.{DropOldest}
 use Rattle.flow_law.specs.declared.states.Numbered.{Numbered}
+use Rattle.flow_law.specs.declared.states.Subscriber.{Subscriber}
 use Rattle.flow_law.specs.declared.states.SharedFlowState.{SharedFlowState}
 use Rattle.flow_law.specs.SharedFlow.{is_blocked, is_offering, capacity, window, cache_start, raise_to}
 use Rattle.flow_law.specs.EmitRule.{append, drop_oldest}
-use Rattle.flow_law.specs.Standing.{Core, least_position}
-use Rattle.flow_law.specs.Covering.{Covers}
-use Rattle.flow_law.proofs.CoveringLemmas.{covers-longer, covers-subscribers, least_position-raise_to}
-use Rattle.flow_law.proofs.HoldingLemmas.{covers-last, need_is}
+use Rattle.flow_law.specs.Standing.{Core, StandsFor, least_position}
+use Rattle.flow_law.specs.Covering.{Covers, kept_start, kept_need}
+use Rattle.flow_law.proofs.CoveringLemmas.{covers-longer, covers-subscribers, least_position-raise_to, least_position_bound, least_position_rises, needed_within}
+use Rattle.flow_law.proofs.HoldingLemmas.{covers, covers-last, need_is, held_is, held_from, tidy}
 use Rattle.flow_containers.specs.Subscribers.{is_full}
 use Rattle.flow_core.specs.SharedCore.{window_of, fields_of, AreWithin, IsSound, kept_full, pushed, dropped}
 use Rattle.flow_core.specs.declared.shared.SharedCore.TheInside.{Inside}
 use Rattle.flow_core.proofs.RingLemmas.{within-more, within-raised, full_long, offered_full}
-use Rattle.flow_core.proofs.SoundLemmas.{next_start, window_more}
+use Rattle.flow_core.proofs.SoundLemmas.{length-keep_last, next_start, window_more}
 
 module _ {T : Type 0} where
   -- ---- what is read off a core
@@ -72,6 +73,36 @@ module _ {T : Type 0} where
   covers-appended core s v h stands near =
       subst (λ t. Covers (pushed v (core.issued + 1) (record core { issued = core.issued + 1 })) t) (appended_is core s v stands)
       (covers-pushed core s (record { value = v; number = core.issued + 1 }) core.queue (core.issued + 1) h stands near)
+
+  least_position-beyond : (a b : ℕ) (us : List (Subscriber T)) → a ≤ b → least_position a us < a → least_position b us ≡ least_position a us
+  least_position-beyond a b [] le less = absurd (omega (arith, less))
+  least_position-beyond a b (u ∷ us) le less =
+      elim (leb_tells a (least_position a us)) [
+        | inl whole ↦ omega (arith, less, whole.1, least_position_rises a b us le)
+        | inr more ↦ omega (arith, least_position-beyond a b us le more.1)
+      ]
+
+  -- where a subscriber is the bound, and not the cache, a value more leaves none that nobody may ask for
+  pub stands-appended : (core : Core T) (s : SharedFlowState T) (v : T) → core.reset_mark ≤ core.appended → StandsFor core s
+      → (core.appended - length core.held == kept_start core) ≡ false
+      → Covers (pushed v (core.issued + 1) (record core { issued = core.issued + 1 })) (append v s)
+      → StandsFor (pushed v (core.issued + 1) (record core { issued = core.issued + 1 })) (append v s)
+  stands-appended core s v marked stands bound grown =
+      let after = pushed v (core.issued + 1) (record core { issued = core.issued + 1 }) in
+      let all = core.held ++ v ∷ [] in
+      let covered = covers core s stands in
+      let need = need_is core s covered in
+      let from = held_from core s stands marked in
+      let less : kept_need core < kept_start core = elim (eqb_tells (core.appended - length core.held) (kept_start core)) [
+        | inl same ↦ absurd (cc (same.0, bound))
+        | inr other ↦ omega (arith, from, need, other.1, least_position_bound (kept_start core) core.subscribers)
+      ] in
+      let stays : kept_need after ≡ kept_need core = least_position-beyond (kept_start core) (kept_start after) core.subscribers (omega arith) less in
+      let kept = length-keep_last (window_of core.config) all in
+      let long = length-append core.held (v ∷ []) in
+      let none : length after.held + kept_need after - after.appended ≡ 0 =
+      omega (arith, stays, kept, long, need, held_is core s stands, stands.appended, needed_within core s covered marked) in
+      subst (λ k. StandsFor (record after { held = drop k after.held }) (append v s)) none (tidy after (append v s) grown (omega (arith, marked)))
 
   -- the first queued value was emitted
   pub covers-admitted : (core : Core T) (s : SharedFlowState T) (e : Numbered T) (q : List (Numbered T)) → core.reset_mark ≤ core.appended → Covers core s

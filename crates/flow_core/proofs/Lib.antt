@@ -4,3 +4,4 @@ pub mod EmissionLemmas
 pub mod CallLemmas
 pub mod StateLemmas
 pub mod DrainSteps
+pub mod TakingLemmas

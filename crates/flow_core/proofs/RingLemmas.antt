@@ -1,17 +1,21 @@
 -- Lists that a ring keeps the end of, and subscribers who stand within a window.
 -- The key facts: `copied_more`, `within_least` (nobody asks for a value before the window), `within-more`, `offered_full`.
-use Rattle.std.proofs.Common.{inl, inr, ◌≡◌, ◌≢◌, ℕ, zero, suc, ◌+◌, ◌-◌, ◌≤◌, ◌<◌, true, false, not, ◌||◌, ◌==◌, nat_le, List, [], ◌∷◌, ◌++◌, length, map, take, drop, Some, Result, Ok, Err, OnErr, refl, sym, ap, ◌∙◌, subst, arith}
+use Rattle.std.proofs.Common.{inl, inr, ◌≡◌, ◌≢◌, ℕ, zero, suc, ◌+◌, ◌-◌, ◌≤◌, ◌<◌, min, Bool, true, false, not, ◌&&◌, ◌||◌, ◌==◌, if◌then◌else◌, nat_le, List, [], ◌∷◌, ◌++◌, length, map, take, drop, Some, Result, Ok, Err, OnErr, refl, sym, ap, ◌∙◌, subst, arith}
 use Rattle.std.specs.List.{list_any, slice_get}
 use Rattle.std.specs.Option.{IfSome}
 use Rattle.std.proofs.lemmas.Bool.{or_parts}
 use Rattle.std.proofs.lemmas.Bool.Decides.{leb_tells, eqb_tells}
 use Rattle.std.proofs.lemmas.List.{drop-drop, length-drop, take_all}
+use Rattle.flow_law.specs.declared.states.SharedFlowState.{SharedFlowState}
 use Rattle.flow_law.specs.declared.states.Subscriber.{Subscriber}
-use Rattle.flow_law.specs.SharedFlow.{position_of, raise_to, stand_at, move_to, without, with_own}
-use Rattle.flow_law.specs.Standing.{least_position}
+use Rattle.flow_law.specs.SharedStep.{advance}
+use Rattle.flow_law.specs.SharedFlow.{cache_start, position_of, raise_to, stand_at, move_to, without, with_own}
+use Rattle.flow_law.specs.Standing.{Core, StandsFor, least_position}
+use Rattle.flow_law.proofs.HoldingLemmas.{held_from, stands-subscribers}
 use Rattle.flow_law.proofs.CoveringLemmas.{slice_get-drop, least_position_offered, least_position-position_of}
 use Rattle.flow_law.proofs.Rows.{every_snoc, every_filter, every_move, every_with_own, position_holds}
 use Rattle.flow_containers.specs.Subscribers.{is_full}
+use Rattle.flow_containers.specs.Receiving.{was_last_at}
 use Rattle.flow_core.specs.SharedCore.{AreWithin}
 
 -- ---- lists
@@ -141,3 +145,53 @@ module _ {T : Type 0} where
 
   pub least_at : (b number p : ℕ) (us : List (Subscriber T)) → position_of number us ≡ Some p → least_position b us ≤ p
   least_at b number p us at = subst (λ o. IfSome o (λ q. least_position b us ≤ q)) at (least_position-position_of b number us)
+
+  -- ---- one subscriber moves on
+
+  -- the others and where it stood have the least position that there was
+  pub least_position-moved : (b number p q : ℕ) (us : List (Subscriber T)) → position_of number us ≡ Some p → p ≤ q
+      → least_position b us ≡ min p (least_position b (move_to number q us))
+  least_position-moved b number p q [] at le = absurd (cc)
+  least_position-moved b number p q (u ∷ us) at le =
+      elim (u.number == number) as (λ t. (if t then Some u.position else position_of number us) ≡ Some p
+      → min u.position (least_position b us) ≡ min p (least_position b (if t then stand_at q u ∷ us else u ∷ move_to number q us))) [
+        | true ↦ λ here. let same : u.position ≡ p = cc in omega (arith, same, le)
+        | false ↦ λ there. omega (arith, least_position-moved b number p q us there le)
+      ] at
+
+  least_position_any : (b p : ℕ) (us : List (Subscriber T)) → list_any (λ u. u.position == p) us ≡ true → least_position b us ≤ p
+  least_position_any b p [] some = absurd (cc)
+  least_position_any b p (u ∷ us) some =
+      elim (eqb_tells u.position p) [
+        | inl here ↦ omega (arith, here.1)
+        | inr there ↦ omega (arith, least_position_any b p us (subst (λ t. (t || list_any (λ v. v.position == p) us) ≡ true) there.0 some))
+      ]
+
+  -- unless it was the last one at the first position that is held, the least position stays
+  pub least_stays : (b number p : ℕ) (us : List (Subscriber T)) → position_of number us ≡ Some p
+      → was_last_at (least_position b us) p (move_to number (p + 1) us) ≡ false → least_position b us ≡ least_position b (move_to number (p + 1) us)
+  least_stays b number p us at not_last =
+      let moved = least_position-moved b number p (p + 1) us at (omega arith) in
+      elim (eqb_tells p (least_position b us)) [
+        | inl here ↦
+            let some : not (list_any (λ u. u.position == p) (move_to number (p + 1) us)) ≡ false =
+            subst (λ t. (t && not (list_any (λ u. u.position == p) (move_to number (p + 1) us))) ≡ false) here.0 not_last in
+            omega (arith, moved, least_position_any b p (move_to number (p + 1) us) (is_true _ some))
+        | inr there ↦ omega (arith, moved, there.1)
+      ]
+    where
+      is_true : (t : Bool) → not t ≡ false → t ≡ true
+      is_true true e = refl
+      is_true false e = absurd (cc)
+
+  -- and a core that held what may be asked for still does
+  pub stays_tidy : (core : Core T) (s : SharedFlowState T) (number p : ℕ) → StandsFor core s → core.reset_mark ≤ core.appended → position_of number core.subscribers ≡ Some p
+      → was_last_at (core.appended - length core.held) p (move_to number (p + 1) core.subscribers) ≡ false
+      → StandsFor (record core { subscribers = move_to number (p + 1) core.subscribers }) (advance number (p + 1) s)
+  stays_tidy core s number p stands marked at not_last =
+      let here : position_of number s.subscribers ≡ Some p = sym (ap (position_of number) stands.subscribers) ∙ at in
+      let not_first : was_last_at (least_position (cache_start s) s.subscribers) p (move_to number (p + 1) s.subscribers) ≡ false =
+      sym (ap (λ n. was_last_at n p (move_to number (p + 1) s.subscribers)) (held_from core s stands marked))
+      ∙ sym (ap (λ us. was_last_at (core.appended - length core.held) p (move_to number (p + 1) us)) stands.subscribers) ∙ not_last in
+      stands-subscribers core s (move_to number (p + 1) core.subscribers) (move_to number (p + 1) s.subscribers) core.issued s.issued stands
+      (ap (move_to number (p + 1)) stands.subscribers) stands.issued (least_stays (cache_start s) number p s.subscribers here not_first)

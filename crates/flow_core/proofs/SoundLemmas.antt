@@ -14,7 +14,7 @@ use Rattle.flow_core.specs.SharedCore.{window_of, fields_of, AreWithin, IsSound}
 use Rattle.flow_core.specs.declared.shared.SharedCore.TheInside.{Inside}
 use Rattle.flow_core.proofs.RingLemmas.{within_least}
 
-length-keep_last : {X : Type 0} (n : ℕ) (xs : List X) → length (keep_last n xs) ≡ length xs - (length xs - n)
+pub length-keep_last : {X : Type 0} (n : ℕ) (xs : List X) → length (keep_last n xs) ≡ length xs - (length xs - n)
 length-keep_last n xs = length-drop (length xs - n) xs
 
 module _ {T A : Type 0} where

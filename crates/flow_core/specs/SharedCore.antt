@@ -126,6 +126,10 @@ RefusedFor Exhausted core = core.issued ≡ core.config.limit
 RefusedFor OutOfMemory core = core.issued ≡ core.config.limit → ⊥
 RefusedFor _ core = ⊥
 
+-- in each state that the core covers, no queued value may be emitted
+abbrev pub IsSettled : {T : Type 0} → Core T → Type 0
+IsSettled {T} core = (s : SharedFlowState T) → Covers core s → settle s ≡ s
+
 -- from each state that the old core covers, this step leads to one that the new core covers
 abbrev pub Leads : {T : Type 0} → Core T → (SharedFlowState T → SharedFlowState T) → Core T → Type 0
 Leads {T} old step new = (s : SharedFlowState T) → Covers old s → Covers new (step s)

@@ -86,7 +86,8 @@ impl<T: FlowValue, A: Allocator + Copy> SharedCore<T, A> {
             self.old values.old.items result values.new.items self.new }
         ensures full { T.IsAlwaysCopied → OnErr result (IsFull values.new) }
     {
-        take_all(self, id, most, values)
+        let taken = self.take_held(id, most, values);
+        take_all(self, id, most - taken, values)
     }
 }
 

@@ -4,16 +4,18 @@ ghost use Rattle.std.specs.Bool.{OnTrue, OnFalse};
 ghost use Rattle.flow_law.specs.SharedFlow as flow;
 ghost use Rattle.flow_law.specs.SharedStep as step;
 ghost use Rattle.flow_law.specs.Standing.{StandsFor, Conforms};
-ghost use Rattle.flow_law.specs.Covering.{kept_start, kept_need};
+ghost use Rattle.flow_law.specs.Covering.{Covers, kept_start, kept_need};
+ghost use Rattle.flow_law.specs.declared.states.SharedFlowState.{SharedFlowState};
 ghost use Rattle.flow_law.specs.declared.call.SharedCall.TheVariants as call;
 ghost use Rattle.flow_law.specs.declared.call.SharedReply.TheVariants as reply;
 ghost use Rattle.flow_core.specs.SubId.{number_of};
-ghost use Rattle.flow_core.specs.SharedCore.{next_reply, cache_reply, window_of, kept_full, pushed, Shows, Leads, Reaches, Admits};
+ghost use Rattle.flow_core.specs.SharedCore.{next_reply, cache_reply, window_of, kept_full, pushed, Shows, Leads, Reaches, Admits, IsSettled};
 
 mod counts;
 mod emission;
 mod kind;
 mod subscribe;
+mod taking;
 
 use crate::copies::copies;
 use crate::sub_id::SubId;
@@ -177,6 +179,18 @@ impl<T: FlowValue, A: Allocator + Copy> SharedCore<T, A> {
         self.values.truncate_front(count as usize);
     }
 
+    /// Lets go of values after an emission, if the cache was the bound of those that are held.
+    #[inline]
+    fn trim_after(&mut self, by_cache: bool)
+        ensures { (s : SharedFlowState T) → Covers self.old s → OnFalse by_cache (StandsFor self.old s)
+            → StandsFor self.new s }
+    {
+        if !by_cache {
+            return;
+        }
+        self.trim();
+    }
+
     /// Adds a value to those that were emitted, where nobody is blocked.
     fn push(&mut self, value: T, number: u64)
         requires free { kept_full self.old ≡ false }
@@ -186,6 +200,17 @@ impl<T: FlowValue, A: Allocator + Copy> SharedCore<T, A> {
         let _oldest = self.values.push_back(value);
         self.subscribers.add();
         self.newest = number;
+    }
+
+    /// Returns whether a value is queued and the flow is not blocked.
+    fn may_admit(&self) -> bool
+        ensures settled { OnFalse result (IsSettled self.now) }
+    {
+        if self.queue.len() > 0 {
+            !self.is_blocked()
+        } else {
+            false
+        }
     }
 
     /// Emits the first queued value, if there is one and the flow is not blocked.
@@ -216,6 +241,19 @@ impl<T: FlowValue, A: Allocator + Copy> SharedCore<T, A> {
         self.trim();
     }
 
+    /// Settles after a subscriber moved on. If it was not the last one at the first value, the ring is settled already,
+    /// unless a queued value may be emitted.
+    #[inline]
+    fn settle_after(&mut self, was_last: bool)
+        ensures { (s : SharedFlowState T) → Covers self.old s → OnFalse was_last (StandsFor self.old s)
+            → StandsFor self.new (step.settle s) }
+    {
+        if !was_last && !self.may_admit() {
+            return;
+        }
+        self.settle();
+    }
+
     /// Where the replay cache begins among the emitted values.
     fn cache_start(&self) -> u64
         ensures start { result ≡ kept_start self.now }
@@ -243,14 +281,15 @@ impl<T: FlowValue, A: Allocator + Copy> SharedCore<T, A> {
     ///
     /// An emitted value that is received makes room, so queued values may be emitted by it. `Err` is want of memory for a
     /// copy of the value: a later call gives that value.
+    #[inline]
     pub fn next(&mut self, id: SubId) -> Result<Next<T>, FlowFault>
         ensures documented { Conforms self.old (call.TakeNext (number_of id)) (next_reply result) self.new }
         ensures given { T.IsAlwaysCopied → IsOk result }
     {
         match self.subscribers.receive(id.number, id.key, &self.values) {
             Ok(Received::Own(value)) => Ok(Next::Value(value)),
-            Ok(Received::Emitted(value)) => {
-                self.settle();
+            Ok(Received::Emitted(value, was_last)) => {
+                self.settle_after(was_last);
                 Ok(Next::Value(value))
             }
             Ok(Received::Empty) => Ok(Next::Empty),

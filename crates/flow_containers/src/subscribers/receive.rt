@@ -15,14 +15,16 @@ pub enum Received<T> {
     Gone,
     /// The first of its own values.
     Own(T),
-    /// A copy of an emitted value, and the subscriber stands behind it now.
-    Emitted(T),
+    /// A copy of an emitted value, and the subscriber stands behind it now. The flag says whether the value is the first
+    /// that is held and no other subscriber has it still to receive.
+    Emitted(T, bool),
     /// Nothing yet.
     Empty,
 }
 
 impl<T: FlowValue, A: Allocator> Subscribers<T, A> {
     /// Gives a subscriber what it is to receive next. The values are the last that were emitted.
+    #[inline]
     pub fn receive(
         &mut self,
         number: u64,
@@ -48,8 +50,9 @@ impl<T: FlowValue, A: Allocator> Subscribers<T, A> {
         };
         match value.try_copy() {
             Ok(copy) => {
-                row.position = self.counts.move_on(position);
-                Ok(Received::Emitted(copy))
+                let others = self.counts.move_on(position);
+                row.position = position + 1;
+                Ok(Received::Emitted(copy, (position == first) & (others == 0)))
             }
             Err(fault) => Err(fault),
         }

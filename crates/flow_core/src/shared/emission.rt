@@ -47,10 +47,11 @@ impl<T: FlowValue, A: Allocator + Copy> SharedCore<T, A> {
     }
 
     /// Emits a value now, where nobody is blocked, and answers its number.
+    #[inline]
     fn append(&mut self, value: T) -> Result<u64, Refused<T>>
         requires free { kept_full self.old ≡ false }
         ensures { MatchResult result
-            (λ number. (number ≡ self.old.issued + 1) × (self.old.issued ≢ self.old.config.limit) × Reaches self.old (rule.append value) self.new)
+            (λ number. (number ≡ self.old.issued + 1) × (self.old.issued ≢ self.old.config.limit) × Keeps self.old (rule.append value) self.new)
             (λ refused. (refused.value ≡ value) × (self.new ≡ self.old) × IsExhausted refused.fault self.old) }
     {
         if self.issued == self.config.limit {
@@ -59,10 +60,11 @@ impl<T: FlowValue, A: Allocator + Copy> SharedCore<T, A> {
                 fault: FlowFault::Exhausted,
             });
         }
+        let by_cache = self.held_from() == self.cache_start();
         let number = self.issued + 1;
         self.issued = number;
         self.push(value, number);
-        self.trim();
+        self.trim_after(by_cache);
         Ok(number)
     }
 
@@ -126,6 +128,7 @@ impl<T: FlowValue, A: Allocator + Copy> SharedCore<T, A> {
     ///
     /// At `false` an `emit` would wait. The value is dropped then, and nothing has changed. It takes no memory, and is
     /// refused as `Exhausted` alone.
+    #[inline]
     pub fn try_emit(&mut self, value: T) -> Result<bool, Refused<T>>
         ensures documented { Conforms self.old (call.TryEmit value) (try_emit_reply result) self.new }
         ensures handed_back { IfErr result (λ refused. refused.value ≡ value) }
@@ -149,6 +152,7 @@ impl<T: FlowValue, A: Allocator + Copy> SharedCore<T, A> {
     /// At `Queued` the emitter is to wait: `poll` tells by the number for how long, and `cancel` ends the wait. An
     /// emission that is neither polled nor cancelled stays, and is emitted when room comes. Memory is taken only for a
     /// value that is put into the queue. A refusal, `Exhausted` before want of memory, hands the value back.
+    #[inline]
     pub fn emit(&mut self, value: T) -> Result<Emit, Refused<T>>
         ensures documented { Conforms self.old (call.Emit value) (emit_reply result) self.new }
         ensures handed_back { IfErr result (λ refused. refused.value ≡ value) }

@@ -1,4 +1,4 @@
-use Rattle.std.proofs.Common.{◌≡◌, ◌+◌, ◌-◌, ◌<◌, ◌≤◌, ◌%◌, ◌^◌, length, get_or, Some, None, refl, sym, ap, subst, ◌∙◌, arith}
+use Rattle.std.proofs.Common.{◌≡◌, ◌+◌, ◌-◌, ◌<◌, ◌≤◌, ◌%◌, ◌^◌, ◌==◌, ◌&&◌, length, get_or, Some, None, refl, sym, ap, subst, ◌∙◌, arith}
 use Rattle.std.specs.List.{slice_get}
 use Rattle.std.specs.Option.{IfSome}
 use Rattle.std.specs.Prelude.{Ok, Err}
@@ -11,7 +11,7 @@ use Rattle.flow_containers.specs.PositionCounts.{entered, left_at}
 use Rattle.flow_containers.specs.Subscribers.{Standing, standing_of, AreSound}
 use Rattle.flow_containers.specs.Receiving.{Receives}
 use Rattle.flow_containers.proofs.SubscribersLemmas.{found_near, leave_some, enter_again}
-use Rattle.flow_containers.proofs.ReceivingLemmas.{found_below, position_in, putting, gone, own_left, nobody, stands_at, kept_here, takes, takes_sound, none_left, stays, stays_sound, goes, goes_sound}
+use Rattle.flow_containers.proofs.ReceivingLemmas.{found_below, position_in, putting, gone, own_left, nobody, stands_at, kept_here, was_last, takes, takes_sound, none_left, stays, stays_sound, goes, goes_sound}
 use Rattle.flow_containers.proofs.subscribers.Subscribers.receive.Goals as goal
 
 pub returns-in_default-clause-receives : goal.returns-in_default-clause-receives
@@ -82,8 +82,8 @@ returns-in-Err-clause-receives g c =
     subst (λ (v : Standing _). Receives number items v (Err c.in-Err.fault) (standing_of (putting s number (left own row)))) c.self.view_is
     (position_in s number row, c.in-Some-get.value.now, (none_left s number row found own c.in_default-pop_front.ensures, stands_at s number row found, ap (slice_get items) (sym at) ∙ sym c.in-Some-get.ensures), c.in-Err.ensures.memory, stays s number row found own c.in_default-pop_front.ensures)
 
-pub move_on-row-requires-clause-past : goal.move_on-row-requires-clause-past
-move_on-row-requires-clause-past g c =
+pub move_on-others-requires-clause-past : goal.move_on-others-requires-clause-past
+move_on-others-requires-clause-past g c =
     let s = c.self.inside in
     let number = c.args.number in
     let row = c.in-Some.row.now in
@@ -95,8 +95,8 @@ move_on-row-requires-clause-past g c =
     let below = found_below _ items c.in-Some-get.value.now (sym c.in-Some-get.ensures) in
     omega (arith, below, kept, held, c.max-position.ensures, c.emitted.ensures, c.len.ensures.len)
 
-pub move_on-row-requires-clause-near : goal.move_on-row-requires-clause-near
-move_on-row-requires-clause-near g c =
+pub move_on-others-requires-clause-near : goal.move_on-others-requires-clause-near
+move_on-others-requires-clause-near g c =
     let s = c.self.inside in
     let number = c.args.number in
     let row = c.in-Some.row.now in
@@ -104,8 +104,8 @@ move_on-row-requires-clause-near g c =
     let near = found_near s.counts.row s.counts.emitted s.floor s.members.last s.members.members c.self.invariant number (position_in s number row) (stands_at s number row found) in
     omega (arith, near.1, c.max-position.ensures)
 
-pub move_on-row-requires-clause-some : goal.move_on-row-requires-clause-some
-move_on-row-requires-clause-some g c =
+pub move_on-others-requires-clause-some : goal.move_on-others-requires-clause-some
+move_on-others-requires-clause-some g c =
     let s = c.self.inside in
     let number = c.args.number in
     let row = c.in-Some.row.now in
@@ -113,14 +113,14 @@ move_on-row-requires-clause-some g c =
     subst (λ p. 0 < get_or s.counts.row (p % length s.counts.row) 0) (sym c.max-position.ensures)
     (leave_some s.counts.row s.counts.emitted s.floor s.members.last s.members.members c.self.invariant number (position_in s number row) (stands_at s number row found))
 
-pub move_on-row-requires-clause-room : goal.move_on-row-requires-clause-room
-move_on-row-requires-clause-room g c =
+pub move_on-others-requires-clause-room : goal.move_on-others-requires-clause-room
+move_on-others-requires-clause-room g c =
     let s = c.self.inside in
     let number = c.args.number in
     let row = c.in-Some.row.now in
     let found : row_of number s.members.members ≡ Some row = sym c.in-Some.ensures.value in
     subst (λ p. get_or (left_at s.counts.row p) ((p + 1) % length (left_at s.counts.row p)) 0 + 1 < 2 ^ 64) (sym c.max-position.ensures)
-    (enter_again s.counts.row s.counts.emitted s.floor s.members.last s.members.members c.self.invariant number (position_in s number row) (stands_at s number row found))
+    (enter_again s.counts.row s.counts.emitted s.floor s.members.last s.members.members c.self.invariant number (position_in s number row) (stands_at s number row found) (position_in s number row + 1))
 
 pub invariant_of-self-in-Ok : goal.invariant_of-self-in-Ok
 invariant_of-self-in-Ok g c =
@@ -135,11 +135,11 @@ invariant_of-self-in-Ok g c =
     let below = found_below _ items c.in-Some-get.value.now (sym c.in-Some-get.ensures) in
     let more : position_in s number row < s.counts.emitted = omega (arith, below, kept, held, c.max-position.ensures, c.emitted.ensures, c.len.ensures.len) in
     let own = c.pop_front.new.self in
-    let next = c.move_on-row.result in
-    let counts = c.move_on-row.ensures.row ∙ ap (λ p. entered (left_at s.counts.row p) (p + 1)) c.max-position.ensures in
-    subst (λ e. AreSound (length c.move_on-row.new.self.row - 1) c.move_on-row.new.self.row e s.floor (with_row number (record { own = own; position = next }) s.members.members) s.members.last) (sym c.move_on-row.ensures.emitted)
+    let next = c.max-position.result + 1 in
+    let counts = c.move_on-others.ensures.row ∙ ap (λ p. entered (left_at s.counts.row p) (p + 1)) c.max-position.ensures in
+    subst (λ e. AreSound (length c.move_on-others.new.self.row - 1) c.move_on-others.new.self.row e s.floor (with_row number (record { own = own; position = next }) s.members.members) s.members.last) (sym c.move_on-others.ensures.emitted)
     (subst (λ r. AreSound (length r - 1) r s.counts.emitted s.floor (with_row number (record { own = own; position = next }) s.members.members) s.members.last) (sym counts)
-    (goes_sound s number row found own c.in_default-pop_front.ensures c.self.invariant more next (c.move_on-row.ensures.next ∙ ap (λ p. p + 1) c.max-position.ensures)))
+    (goes_sound s number row found own c.in_default-pop_front.ensures c.self.invariant 1 (omega (arith, more)) next (ap (λ p. p + 1) c.max-position.ensures)))
 
 pub returns-in-Ok-clause-receives : goal.returns-in-Ok-clause-receives
 returns-in-Ok-clause-receives g c =
@@ -156,13 +156,20 @@ returns-in-Ok-clause-receives g c =
     let at : c.max-position.result - (c.emitted.result - c.len.result) ≡ position_in s number row - (s.counts.emitted - length items) =
     cc (c.max-position.ensures, c.emitted.ensures, c.len.ensures.len) in
     let own = c.pop_front.new.self in
-    let next = c.move_on-row.result in
-    let is = c.move_on-row.ensures.next ∙ ap (λ p. p + 1) c.max-position.ensures in
-    let counts = c.move_on-row.new.self.row in
-    let long : length counts ≡ length s.counts.row = ap length c.move_on-row.ensures.row ∙ length-set (left_at s.counts.row c.max-position.result) _ _ ∙ length-set s.counts.row _ _ in
-    let after = gone s number row found own c.in_default-pop_front.ensures c.self.invariant more next is counts in
-    subst (λ (v : Standing _). Receives number items v (Ok (Emitted c.in-Ok.copy)) (record (standing_of after) { emitted = c.move_on-row.new.self.emitted })) c.self.view_is (
+    let next = c.max-position.result + 1 in
+    let is = ap (λ p. p + 1) c.max-position.ensures in
+    let counts = c.move_on-others.new.self.row in
+    let long : length counts ≡ length s.counts.row = ap length c.move_on-others.ensures.row ∙ length-set (left_at s.counts.row c.max-position.result) _ _ ∙ length-set s.counts.row _ _ in
+    let after = gone s number row found own c.in_default-pop_front.ensures c.self.invariant 1 (omega (arith, more)) next is counts in
+    let moved = goes s number row found own c.in_default-pop_front.ensures c.self.invariant 1 (omega (arith, more)) next is counts long in
+    let from : c.emitted.result - c.len.result ≡ s.counts.emitted - length items = cc (c.emitted.ensures, c.len.ensures.len) in
+    let flag = (c.max-position.result == (c.emitted.result - c.len.result)) && (c.move_on-others.result == 0) in
+    let last = ap (λ f. (c.max-position.result == f) && (c.move_on-others.result == 0)) from
+    ∙ was_last s number row found c.self.invariant more c.max-position.result (s.counts.emitted - length items) c.move_on-others.result (standing_of after).list
+    c.max-position.ensures c.move_on-others.ensures.others (ap (λ (v : Standing _). v.list) moved) in
+    subst (λ (v : Standing _). Receives number items v (Ok (Emitted c.in-Ok.copy flag)) (record (standing_of after) { emitted = c.move_on-others.new.self.emitted })) c.self.view_is (
       position_in s number row,
       (none_left s number row found own c.in_default-pop_front.ensures, stands_at s number row found, ap (slice_get items) (sym at) ∙ sym c.in-Some-get.ensures ∙ ap Some (sym c.in-Ok.ensures.copy)),
-      ap (λ e. record (standing_of after) { emitted = e }) c.move_on-row.ensures.emitted ∙ goes s number row found own c.in_default-pop_front.ensures c.self.invariant more next is counts long,
+      ap (λ e. record (standing_of after) { emitted = e }) c.move_on-others.ensures.emitted ∙ moved,
+      last,
     )

@@ -16,7 +16,7 @@ returns-in-Ok-clause-documented g c = (
       let covered = covers c.args.self.now s stands in
       took_number reply.Emitted c.args.self.now c.append.new.self s (append c.args.value s) (emit c.args.value s) Done covered c.in-Ok.ensures.1
       (emits_in c.args.value s appends (sym (c.in-Appends.ensures.shown s covered)))
-      (c.in-Ok.ensures.2 s covered),
+      (c.in-Ok.ensures.2 s stands),
   tt,
 )
 
@@ -35,7 +35,7 @@ returns-in-Ok-append-clause-documented g c = (
       let covered = covers c.args.self.now s stands in
       took_number reply.Emitted c.args.self.now c.append-in-Offers.new.self s (append c.args.value s) (emit c.args.value s) (Queued c.in-Ok-append.number) covered c.in-Ok-append.ensures.1
       (emits_in c.args.value s offers (sym (c.in-Offers.ensures.shown s covered)) ∙ ap (λ n. issuing s (answer (Queued n) (append c.args.value s))) (sym (c.in-Ok-append.ensures.0 ∙ ap (λ n. n + 1) stands.issued)))
-      (c.in-Ok-append.ensures.2 s covered),
+      (c.in-Ok-append.ensures.2 s stands),
   tt,
 )
 

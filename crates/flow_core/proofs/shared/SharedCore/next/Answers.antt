@@ -1,6 +1,7 @@
-use Rattle.std.proofs.Common.{◌≡◌, ◌<◌, ◌≤◌, ◌-◌, ◌+◌, ◌∷◌, [], length, None, Some, sym, ap, ◌∙◌, subst, refl, arith}
+use Rattle.std.proofs.Common.{true, false, ◌≡◌, ◌<◌, ◌≤◌, ◌-◌, ◌+◌, ◌∷◌, [], length, None, Some, sym, ap, ◌∙◌, subst, refl, arith}
 use Rattle.std.specs.List.{slice_get}
 use Rattle.std.specs.Option.{IfSome}
+use Rattle.std.specs.Bool.{OnFalse}
 use Rattle.flow_law.specs.declared.call.SharedReply.TheVariants as reply
 use Rattle.flow_law.specs.SharedFlow.{own_of, position_of, values, with_own, move_to, cache_start}
 use Rattle.flow_law.specs.SharedStep.{advance, keep_own, settle}
@@ -10,11 +11,11 @@ use Rattle.flow_law.specs.Covering.{Covers, kept_start}
 use Rattle.flow_law.proofs.CoveringLemmas.{covers-subscribers, least_position-move_to, least_position-with_own}
 use Rattle.flow_law.proofs.HoldingLemmas.{covers, same_value, stands-own}
 use Rattle.std.specs.Prelude.{Ok}
-use Rattle.flow_containers.specs.Receiving.{Receives}
+use Rattle.flow_containers.specs.Receiving.{Receives, was_last_at}
 use Rattle.flow_core.specs.SharedCore.{window_of, fields_of, IsSound}
 use Rattle.flow_core.proofs.CallLemmas.{next_own, next_gone, next_value, next_empty, next_wants_memory}
 use Rattle.flow_containers.proofs.ReceivingLemmas.{found_below}
-use Rattle.flow_core.proofs.RingLemmas.{least_at, within_at, within-moved, within-with_own}
+use Rattle.flow_core.proofs.RingLemmas.{least_at, within_at, within-moved, within-with_own, stays_tidy}
 use Rattle.flow_core.proofs.SoundLemmas.{sound_subscribers}
 use Rattle.flow_core.proofs.shared.SharedCore.next.Goals as goal
 
@@ -109,8 +110,17 @@ returns-in-Ok-Emitted-clause-documented g c = (
       let later : IfSome (position_of number s.subscribers) (λ q. q ≤ p + 1) = rw here (omega arith) in
       let moved = covers-subscribers (fields_of i) s (move_to number (p + 1) i.subscribers.list) (move_to number (p + 1) s.subscribers) i.issued s.issued covered
       (ap (move_to number (p + 1)) within.subscribers) within.issued (least_position-move_to (cache_start s) number (p + 1) s.subscribers later) in
-      let settled = c.settle.ensures (advance number (p + 1) s) (subst (λ u. Covers (fields_of (record i { subscribers = u })) (advance number (p + 1) s)) (sym given.2) moved) in
-      (sym (ap (λ a. reply_by reply.Received a.reply) all), subst (λ t. StandsFor c.settle.new.self t) (sym (ap (λ a. a.after) all)) settled),
+      let covers_after = subst (λ u. Covers (fields_of (record i { subscribers = u })) (advance number (p + 1) s)) (sym given.2) moved in
+      let flag = c.in-Ok-Emitted.was_last in
+      let tidy_after : OnFalse flag (StandsFor (fields_of (record i { subscribers = c.receive.new.self })) (advance number (p + 1) s)) =
+      subst (λ u. OnFalse flag (StandsFor (fields_of (record i { subscribers = u })) (advance number (p + 1) s))) (sym given.2)
+      (elim flag as (λ t. flag ≡ t → OnFalse t (StandsFor (fields_of (record i { subscribers = record i.subscribers { list = move_to number (p + 1) i.subscribers.list } })) (advance number (p + 1) s))) [
+        | true ↦ λ _. tt
+        | false ↦ λ e. stays_tidy (fields_of i) s number p within c.self.invariant.reset_mark at.1
+            (sym (ap (λ u. was_last_at (i.subscribers.emitted - length i.values.items) p u.list) given.2) ∙ sym given.3 ∙ e)
+      ] refl) in
+      let settled = c.settle_after.ensures (advance number (p + 1) s) covers_after tidy_after in
+      (sym (ap (λ a. reply_by reply.Received a.reply) all), subst (λ t. StandsFor c.settle_after.new.self t) (sym (ap (λ a. a.after) all)) settled),
   tt,
 )
 

@@ -14,7 +14,7 @@ returns-in-Ok-clause-documented g c = (
       let covered = covers c.args.self.now s stands in
       took_number reply.Tested c.args.self.now c.append.new.self s (append c.args.value s) (try_emit c.args.value s) true covered c.in-Ok.ensures.1
       (tries_in c.args.value s appends (sym (c.in-Appends.ensures.shown s covered)))
-      (c.in-Ok.ensures.2 s covered),
+      (c.in-Ok.ensures.2 s stands),
   tt,
 )
 

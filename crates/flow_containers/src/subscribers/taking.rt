@@ -1,0 +1,75 @@
+//! What a subscriber takes of several emitted values at once.
+ghost use Rattle.std.specs.Prelude.{◌≡◌, ◌+◌, ◌-◌, ◌<◌, ◌≤◌, ◌++◌, length, take, drop, IfSome};
+ghost use Rattle.flow_law.specs.SharedFlow as flow;
+ghost use Rattle.flow_containers.specs.Receiving.{TakesSome};
+
+use crate::subscribers::Subscribers;
+use circular_buffer::HeapCircularBuffer;
+use flow_law::FlowValue;
+use std::alloc::Allocator;
+
+/// Copies at most so many values, in order from this place, to the end of the list. Returns how many: fewer if there are
+/// no more or a copy is refused, and 0 if the list has no room for them.
+fn copy_to<T: FlowValue, A: Allocator, B: Allocator>(
+    values: &HeapCircularBuffer<T, A>,
+    from: usize,
+    most: usize,
+    list: &mut Vec<T, B>,
+) -> usize
+    requires { from ≤ length values.now.items }
+    ensures most { result ≤ most }
+    ensures within { from + result ≤ length values.now.items }
+    ensures copied { list.new.items ≡ list.old.items ++ take result (drop from values.now.items) }
+{
+    let count = most.min(values.len() - from);
+    if list.reserve(count).is_err() {
+        return 0;
+    }
+    for taken in 0..count {
+        let Some(value) = values.get(from + taken) else {
+            return taken;
+        };
+        match value.try_copy() {
+            Ok(copy) => list.push_reserved(copy),
+            Err(_fault) => return taken,
+        }
+    }
+    count
+}
+
+impl<T: FlowValue, A: Allocator> Subscribers<T, A> {
+    /// Gives a subscriber without own values copies of the emitted values that it is to receive next, at most so many, at
+    /// the end of the list. Returns how many. The values are the last that were emitted.
+    #[inline]
+    pub fn take<B: Allocator>(
+        &mut self,
+        number: u64,
+        key: usize,
+        most: usize,
+        values: &HeapCircularBuffer<T, A>,
+        list: &mut Vec<T, B>,
+    ) -> usize
+        requires held { length values.now.items ≤ self.old.emitted }
+        requires kept { IfSome (flow.position_of number self.old.list)
+            (λ position. self.old.emitted - length values.now.items ≤ position) }
+        ensures most { result ≤ most }
+        ensures none { result ≡ 0 → (list.new.items ≡ list.old.items) × (self.new ≡ self.old) }
+        ensures some { 0 < result → TakesSome number values.now.items self.old list.old.items result list.new.items self.new }
+    {
+        let Some(row) = self.members.get_mut(number, key) else {
+            return 0;
+        };
+        if row.own.len() > 0 {
+            return 0;
+        }
+        let position = row.position.max(self.floor);
+        let first = self.counts.emitted() - values.len() as u64;
+        let count = copy_to(values, (position - first) as usize, most, list);
+        if count > 0 {
+            self.counts.leave(position);
+            self.counts.enter(position + count as u64);
+            row.position = position + count as u64;
+        }
+        count
+    }
+}
