@@ -7,6 +7,8 @@
 #[cfg(test)]
 mod compare;
 #[cfg(test)]
+mod crowds;
+#[cfg(test)]
 mod emissions;
 #[cfg(test)]
 mod errors;
@@ -17,6 +19,12 @@ mod state;
 #[cfg(test)]
 mod threads;
 #[cfg(test)]
+mod timeouts;
+#[cfg(test)]
 mod turns;
 #[cfg(test)]
+mod waits;
+#[cfg(test)]
 mod word;
+#[cfg(test)]
+mod word_waits;

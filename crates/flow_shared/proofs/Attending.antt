@@ -1,5 +1,5 @@
 -- Who sleeps has nothing to receive: that stays so after a call, and when one more sleeps.
-use Rattle.std.proofs.Common.{inl, inr, ◌≡◌, ◌≢◌, ◌⊎◌, ℕ, ◌≤◌, ◌==◌, Bool, true, false, not, List, [], ◌∷◌, ◌++◌, length, take, drop, Option, Some, None, Result, Ok, Err, sym, ◌∙◌, subst, arith}
+use Rattle.std.proofs.Common.{inl, inr, ◌≡◌, ◌≢◌, ℕ, ◌≤◌, ◌==◌, Bool, true, false, not, List, [], ◌∷◌, take, drop, Option, Some, None, Result, Ok, Err, sym, ◌∙◌, subst, arith}
 use Rattle.std.specs.Prelude.{All, filter, nat_le, IsSomeAnd}
 use Rattle.std.proofs.lemmas.Bool.Decides.{Decides-eqb, nat_tests}
 use Rattle.std.proofs.lemmas.Bool.{not-true}

@@ -1,5 +1,5 @@
 -- From one poll of an emit future to what a whole run of it gives.
-use Rattle.std.proofs.Common.{◌≡◌, ℕ, ◌⊎◌, inl, inr, true, false, List, [], ◌∷◌, subst, arith}
+use Rattle.std.proofs.Common.{◌≡◌, ℕ, ◌⊎◌, inl, inr, true, false, List, [], ◌∷◌, subst}
 use Rattle.futures.specs.declared.task.Poll.{Poll as Polled}
 use Rattle.futures.specs.declared.task.Poll.TheVariants.{Ready, Pending}
 use Rattle.futures.specs.Poll.{IfReady, OnPending}
@@ -9,6 +9,7 @@ use Rattle.flow_law.specs.declared.call.SharedCall.TheVariants as call
 use Rattle.flow_law.specs.declared.call.SharedReply.{SharedReply}
 use Rattle.flow_law.specs.declared.call.SharedReply.TheVariants as reply
 use Rattle.flow_law.specs.declared.states.SharedFlowState.{SharedFlowState}
+use Rattle.flow_law.specs.SharedHistory.{shared_flow}
 use Rattle.flow_law.specs.Tokens.{IsBusy}
 use Rattle.flow_gate.specs.Tokens.{Origin}
 use Rattle.flow_shared.specs.declared.emit_future.EmitStage.{EmitStage}
@@ -19,14 +20,11 @@ use Rattle.flow_shared.specs.Futures.{SharedNumbered}
 use Rattle.flow_shared.specs.SharedReplies.{SharedToken, Calls, CallsAtOnce}
 use Rattle.flow_shared.specs.EmitFutures.{Emitting, EmitPolls, IsRefusedIfDue, EndsAfter, Ends, EmitsOnce, Sends, GivesSent, sent_token}
 use Rattle.flow_shared.proofs.Refusals.{emit_fault}
+use Rattle.flow_shared.proofs.Waits as waits
 
 module _ {T : Type 0} (flow : Origin (SharedFlowState T)) where
-  -- an exchange that was lost before a call is one that the call lost
   pub called_later : (t u w : SharedToken T) (c : SharedCall T) (r : SharedReply T) → IsBusy t u → Calls flow u c r w → Calls flow t c r w
-  called_later t u w c r busy called = let a = subst (λ (z : SharedToken T). Calls flow z c r w) busy called in (
-    a.0,
-    record { name = a.1.name; made = a.1.made; lost = omega (arith, a.1.lost); history = a.1.history; grows = a.1.grows; names = a.1.names },
-  )
+  called_later = waits.called_later shared_flow flow
 
   ends_by : (us : List (SharedToken T)) (e : ℕ) (t u w : SharedToken T) → IsBusy t u → EndsAfter flow us e u w → EndsAfter flow us e t w
   ends_by [] e t u w busy h = called_later t u w (call.Poll e) (reply.Tested false) busy h

@@ -9,3 +9,5 @@ pub mod Rounds
 pub mod DrainEnds
 pub mod Yields
 pub mod Attending
+pub mod Waits
+pub mod PollRuns

@@ -1,5 +1,5 @@
 -- What the gate of a flow guards: a core, and the tasks that sleep until it has something for them. Begin with `AttendedAs`.
-use Rattle.std.specs.Prelude.{◌≡◌, ◌⊎◌, ℕ, nat_le, ◌==◌, Bool, true, false, not, List, [], All, filter, Option, Some, None, Result, Ok, Err}
+use Rattle.std.specs.Prelude.{◌≡◌, ◌⊎◌, ℕ, nat_le, ◌==◌, Bool, true, false, not, List, [], All, filter, Option, Some, None, Result, Ok}
 use Rattle.flow_law.specs.declared.fault.FlowFault.{FlowFault}
 use Rattle.flow_law.specs.declared.fault.Refused.{Refused}
 use Rattle.flow_law.specs.declared.outcome.Emit.{Emit}

@@ -8,5 +8,8 @@ pub mod EmitCounts
 pub mod Futures
 pub mod EmitFutures
 pub mod NextFutures
+pub mod Receiving
+pub mod Polling
+pub mod Sending
 pub mod BoundEmissions
 pub mod BoundReplies

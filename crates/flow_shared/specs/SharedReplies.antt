@@ -101,6 +101,10 @@ module _ {T A : Type 0} where
   EmitIsWait (emitted.Done t) = ⊥
   EmitIsWait _ = ⊤
 
+  abbrev pub IsStillWaiting : Polled T A → Type 0
+  IsStillWaiting (polled.Done t) = ⊥
+  IsStillWaiting (polled.Waiting e) = ⊤
+
   abbrev pub PollIsWait : PolledNow T A → Type 0
   PollIsWait (polled_now.Done t) = ⊥
   PollIsWait _ = ⊤

@@ -41,6 +41,15 @@ pub enum Emitted<T: FlowValue, A: Allocator + Copy = Global> {
     Refused(FlowSeat<SharedCore<T, A>, A>, T, FlowFault),
 }
 
+/// How a `send_timeout` ended.
+#[derive(Clone, Copy, Debug, PartialEq, Eq)]
+pub enum SendEnd {
+    /// The emission is done.
+    Done,
+    /// The time was up first, and the emission was cancelled.
+    Cancelled,
+}
+
 /// What `poll_emit` answers.
 #[derive(Drop)]
 pub enum Polled<T: FlowValue, A: Allocator + Copy = Global> {

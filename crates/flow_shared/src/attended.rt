@@ -1,9 +1,8 @@
-//! What the gate of a flow guards: the core, and the tasks that sleep until the core has something for them.
+//! What the gate of a flow guards: the core, and the callers that sleep until the core has something for them.
 ghost use Rattle.std.specs.Prelude.{◌≡◌, ℕ, List, [], IsOk};
 ghost use Rattle.std.specs.Bool.{OnTrue};
 ghost use Rattle.flow_law.specs.History.{replied};
 ghost use Rattle.flow_law.specs.Standing.{Documents};
-ghost use Rattle.futures.specs.Task.{IsArmed, Keeps};
 ghost use Rattle.flow_core.specs.SubId.{number_of};
 ghost use Rattle.flow_shared.specs.Attended.{AttendedAs, attended_stands, Rests, Lasts, without, IsWait};
 
@@ -11,11 +10,11 @@ use crate::core_call::CoreCall;
 use crate::subscriber::TakeNext;
 use flow_core::{FlowCore, SubId};
 use flow_law::{FlowFault, Guarded, Next, Said};
-use flow_sleepers::{Sleepers, Woken};
-use futures::task::{Context, Poll};
+use flow_sleepers::{Sleepers, Waiter, Woken};
+use futures::task::Poll;
 use std::alloc::{Allocator, Global};
 
-/// A core, and the tasks that sleep: readers, under their subscribers' numbers, and emitters, under the numbers of their
+/// A core, and the callers that sleep: readers, under their subscribers' numbers, and emitters, under the numbers of their
 /// emissions. Who sleeps has nothing yet: a call that gives readers something or ends an emission takes those out, and they
 /// are woken.
 pub struct Attended<S: FlowCore, A: Allocator + Copy = Global> {
@@ -169,33 +168,33 @@ impl<S: FlowCore, A: Allocator + Copy> Attended<S, A> {
         answer
     }
 
-    /// Calls `next` of the core. If there is nothing to receive, the task that asks sleeps.
-    pub(crate) fn next_or_sleep(
+    /// Calls `next` of the core. If there is nothing to receive, the caller sleeps.
+    pub(crate) fn next_or_sleep<W: Waiter<A>>(
         &mut self,
-        cx: &mut Context<'_>,
+        waiter: &mut W,
         id: SubId,
     ) -> Result<Next<S::Item>, FlowFault>
         ensures documented { Documents S.kind (AttendedAs S.sleeping S.stands_as)
             self.old (S.kind.take_next (number_of id)) (replied S.kind S.kind.received result) self.new }
         ensures given { S.Item.IsAlwaysCopied → IsOk result }
-        ensures armed { IsWait result → IsArmed cx.new }
-        ensures kept { Keeps cx.old cx.new }
+        ensures armed { IsWait result → W.is_armed waiter.new }
+        ensures kept { W.keeps waiter.old waiter.new }
     {
         let next = match self.call(TakeNext { id }) {
             Ok(next) => next,
             Err(fault) => {
-                let _again: Poll<()> = cx.yield_now();
+                waiter.ask_again();
                 return Err(fault);
             }
         };
         match next {
             Next::Value(value) => Ok(Next::Value(value)),
             Next::Empty => {
-                let _asleep: Poll<()> = self.readers.sleep(cx, id.number());
+                let _asleep: Poll<()> = self.readers.sleep(waiter, id.number());
                 Ok(Next::Empty)
             }
             Next::Gone => {
-                let _again: Poll<()> = cx.yield_now();
+                waiter.ask_again();
                 Ok(Next::Gone)
             }
         }

@@ -3,7 +3,6 @@ ghost use Rattle.std.specs.Prelude.{◌≡◌, ℕ, List};
 ghost use Rattle.flow_law.specs.History.{MayCall};
 ghost use Rattle.flow_law.specs.Standing.{Documents};
 ghost use Rattle.flow_shared.specs.Attended.{AttendedAs, attended_stands};
-ghost use Rattle.futures.specs.Task.{IsArmed, Keeps};
 ghost use Rattle.flow_law.specs.Growth.{adds};
 ghost use Rattle.flow_gate.specs.Tokens.{StandsWith};
 ghost use Rattle.flow_law.specs.Tokens.{subscription_name, knowing};
@@ -13,7 +12,7 @@ use crate::attended::Attended;
 use flow_core::FlowCore;
 use flow_gate::{Adds, Held, Seat};
 use flow_law::Said;
-use futures::task::Context;
+use flow_sleepers::Waiter;
 use std::alloc::Allocator;
 use std::marker::Brand;
 use std::snapshot::Snapshot;
@@ -69,20 +68,25 @@ pub(crate) trait SleepingCall<S: FlowCore, A: Allocator + Copy>: CoreCall<S> {
     /// The answer tells the caller to wait.
     ghost is_wait: { Self.Answer → Type 0 };
 
-    /// Makes the call. If the answer is to wait, the task that is polled sleeps, or it asks to be polled again.
-    fn run_or_sleep(self, state: &mut Attended<S, A>, cx: &mut Context<'_>) -> Self::Answer
+    /// Makes the call. If the answer is to wait, the caller sleeps, or it asks again.
+    fn run_or_sleep<W: Waiter<A>>(self, state: &mut Attended<S, A>, waiter: &mut W) -> Self::Answer
         ensures documented { (name : List ℕ) → Documents S.kind (AttendedAs S.sleeping S.stands_as)
             state.old (Self.call self name) (Self.reply result) state.new }
         ensures also { Self.also self result }
-        ensures armed { is_wait result → IsArmed cx.new }
-        ensures kept { Keeps cx.old cx.new };
+        ensures armed { is_wait result → W.is_armed waiter.new }
+        ensures kept { W.keeps waiter.old waiter.new };
 }
 
 /// As `call_core`, for a caller that sleeps if it is told to wait.
-pub(crate) fn call_core_or_sleep<S: FlowCore, A: Allocator + Copy, C: SleepingCall<S, A>>(
+pub(crate) fn call_core_or_sleep<
+    S: FlowCore,
+    A: Allocator + Copy,
+    C: SleepingCall<S, A>,
+    W: Waiter<A>,
+>(
     held: Held<'_, Attended<S, A>, A>,
     call: C,
-    cx: &mut Context<'_>,
+    waiter: &mut W,
 ) -> (Seat<Attended<S, A>, A>, C::Answer)
     requires stood { attended_stands S.sleeping S.first S.stands_as held.first held.state held.token.knows.seen }
     requires may { MayCall S.kind (C.call call (subscription_name held.token.knows))
@@ -90,12 +94,12 @@ pub(crate) fn call_core_or_sleep<S: FlowCore, A: Allocator + Copy, C: SleepingCa
     ensures said { SaysIn S.kind (S.first held.entry.first.core) held.entry
         (C.call call (subscription_name held.entry.token.knows)) (C.reply result.1) result.0 }
     ensures also { C.also call result.1 }
-    ensures armed { C.is_wait result.1 → IsArmed cx.new }
-    ensures kept { Keeps cx.old cx.new }
+    ensures armed { C.is_wait result.1 → W.is_armed waiter.new }
+    ensures kept { W.keeps waiter.old waiter.new }
 {
     let mut held = held;
     let named = Snapshot::of(&call);
-    let answer = call.run_or_sleep(held.state(), cx);
+    let answer = call.run_or_sleep(held.state(), waiter);
     let seat = leave_and_wake::<S, A, Brand, _>(held, &(named, &answer));
     (seat, answer)
 }

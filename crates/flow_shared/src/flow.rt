@@ -11,6 +11,7 @@ use crate::core_call::{CoreCall, SleepingCall, call_core, call_core_or_sleep};
 use crate::token::{FlowSeat, FlowSubscription};
 use flow_core::FlowCore;
 use flow_gate::Gate;
+use flow_sleepers::Waiter;
 use futures::task::{Context, Poll};
 use std::alloc::{Allocator, Global};
 use std::marker::Model;
@@ -105,6 +106,26 @@ impl<S: FlowCore + Drop, A: Allocator + Copy> Flow<S, A> {
         }
     }
 
+    /// As `call_by`, for a caller that sleeps if it is told to wait.
+    pub(crate) fn call_by_asleep<R: Wait, C: SleepingCall<S, A>, W: Waiter<A>>(
+        &self,
+        rt: &R,
+        seat: flow_gate::Seat<Attended<S, A>, A>,
+        call: C,
+        waiter: &mut W,
+    ) -> (flow_gate::Seat<Attended<S, A>, A>, C::Answer)
+        requires flow { seat.table_id ≡ self.now.table_id }
+        requires may { MayCall S.kind (C.call call (subscription_name seat.knows))
+            seat.knows.name seat.knows.seen }
+        ensures called { Calls S.kind self.now seat (C.call call (subscription_name seat.knows))
+            (C.reply result.1) result.0 }
+        ensures also { C.also call result.1 }
+        ensures armed { C.is_wait result.1 → W.is_armed waiter.new }
+    {
+        let held = self.gate.enter(rt, seat);
+        call_core_or_sleep(held, call, waiter)
+    }
+
     /// A call through a seat.
     pub(crate) fn call<R: Wait, C: CoreCall<S>>(
         &self,
@@ -121,6 +142,28 @@ impl<S: FlowCore + Drop, A: Allocator + Copy> Flow<S, A> {
     {
         let own = seat.seat.take().unwrap();
         let (own, answer) = self.call_by(rt, own, call);
+        seat.seat = Some(own);
+        answer
+    }
+
+    /// As `call`, for a caller that sleeps if it is told to wait.
+    pub(crate) fn call_asleep<R: Wait, C: SleepingCall<S, A>, W: Waiter<A>>(
+        &self,
+        rt: &R,
+        seat: &mut FlowSeat<S, A>,
+        call: C,
+        waiter: &mut W,
+    ) -> C::Answer
+        requires flow { seat.old.table_id ≡ self.now.table_id }
+        requires may { MayCall S.kind (C.call call (subscription_name seat.old.knows))
+            seat.old.knows.name seat.old.knows.seen }
+        ensures called { Calls S.kind self.now seat.old (C.call call (subscription_name seat.old.knows))
+            (C.reply result) seat.new }
+        ensures also { C.also call result }
+        ensures armed { C.is_wait result → W.is_armed waiter.new }
+    {
+        let own = seat.seat.take().unwrap();
+        let (own, answer) = self.call_by_asleep(rt, own, call, waiter);
         seat.seat = Some(own);
         answer
     }

@@ -4,17 +4,27 @@
 //! The plain name is the flow's own call: it takes `rt`, and waits while another caller is inside the flow. A name that
 //! begins with `try_` is the same call without `rt`: it answers at once, and may be Busy. One name is the documentation's:
 //! `try_emit` takes `rt` and never waits for room. The emission that waits for nobody at all is `emit_now`.
+//!
+//! `receive`, `changed` and `send` wait for a value and for room: the thread sleeps until another call wakes it.
+mod awaiting;
 mod caller;
 mod emission;
 mod emitter;
 mod errors;
+mod many;
 mod reader;
 mod reader_laws;
+mod receiving;
+mod sending;
 mod setter;
+mod timeouts;
 mod updates;
+mod values;
+mod wait_for;
 
 pub use caller::FlowCaller;
 pub use emission::{BoundEmission, EmitAnswer, PollAnswer};
 pub use emitter::Emitter;
 pub use reader::{DrainEnd, FlowReader, Reader, StateReader};
 pub use setter::Setter;
+pub use values::FlowValues;

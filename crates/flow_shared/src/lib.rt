@@ -15,8 +15,8 @@
 //!
 //! # Waiting
 //! A call that takes `rt` waits while another caller is inside the flow. A call whose name ends in `_now` does not: it
-//! answers `FlowFault::Busy` there, and has done nothing. No call waits for room or for a value: `emit` answers `Queued`,
-//! and `next` answers `Empty`.
+//! answers `FlowFault::Busy` there, and has done nothing. Neither waits for room or for a value: `emit` answers `Queued`,
+//! and `next` answers `Empty`. Three calls of handles do, `send`, `receive` and `changed`: the thread sleeps meanwhile.
 //!
 //! # What is lost
 //! A seat that is dropped is lost. A subscription that is dropped stays, and may block emitters for good. An emission that
@@ -38,12 +38,12 @@ mod state;
 mod subscriber;
 mod token;
 
-pub use answers::{Emission, Emitted, Polled, PolledNow};
+pub use answers::{Emission, Emitted, Polled, PolledNow, SendEnd};
 pub use emit_future::{EmitFuture, EmitStage, Sent};
 pub use flow::Flow;
 pub use handles::{
-    BoundEmission, DrainEnd, EmitAnswer, Emitter, FlowCaller, FlowReader, PollAnswer, Reader,
-    Setter, StateReader,
+    BoundEmission, DrainEnd, EmitAnswer, Emitter, FlowCaller, FlowReader, FlowValues, PollAnswer,
+    Reader, Setter, StateReader,
 };
 pub use next_future::{NextFuture, Received};
 pub use receive_future::ReceiveFuture;

@@ -22,6 +22,8 @@ mod calls;
 mod emission;
 mod now;
 mod seen;
+mod sending;
+mod sending_in_time;
 mod subscribe;
 
 use calls::{ReplayCache, ResetReplayCache};

@@ -14,6 +14,7 @@ use crate::flow::Flow;
 use crate::token::{FlowSeat, FlowSubscription};
 use flow_core::{FlowCore, SubId};
 use flow_law::{FlowFault, Next};
+use flow_sleepers::Waiter;
 use futures::task::Context;
 use std::alloc::Allocator;
 use std::sync::Wait;
@@ -81,12 +82,12 @@ impl<S: FlowCore> CoreCall<S> for TakeNext {
 impl<S: FlowCore, A: Allocator + Copy> SleepingCall<S, A> for TakeNext {
     ghost is_wait = { λ answer. IsWait answer };
 
-    fn run_or_sleep(
+    fn run_or_sleep<W: Waiter<A>>(
         self,
         state: &mut Attended<S, A>,
-        cx: &mut Context<'_>,
+        waiter: &mut W,
     ) -> Result<Next<S::Item>, FlowFault> {
-        state.next_or_sleep(cx, self.id)
+        state.next_or_sleep(waiter, self.id)
     }
 }
 
@@ -206,6 +207,25 @@ impl<S: FlowCore + Drop, A: Allocator + Copy> Flow<S, A> {
             Ok(answer) => answer,
             Err(_call) => Err(FlowFault::Busy),
         }
+    }
+
+    /// As `next`, for a caller that sleeps if it receives nothing.
+    pub(crate) fn next_asleep<R: Wait, W: Waiter<A>>(
+        &self,
+        rt: &R,
+        subscription: &mut FlowSubscription<S, A>,
+        waiter: &mut W,
+    ) -> Result<Next<S::Item>, FlowFault>
+        requires { subscription.old.token.table_id ≡ self.now.table_id }
+        ensures called { Nexts S.kind self.now subscription.old result subscription.new }
+        ensures number { subscription.new.number ≡ subscription.old.number }
+        ensures live { result ≢ Ok Gone }
+        ensures refused { IfErr result (λ fault. fault ≡ OutOfMemory) }
+        ensures given { S.Item.IsAlwaysCopied → IsOk result }
+        ensures armed { IsWait result → W.is_armed waiter.new }
+    {
+        let id = subscription.id;
+        self.call_asleep(rt, &mut subscription.seat, TakeNext { id }, waiter)
     }
 
     /// As `next_now`, for a caller that sleeps where it receives nothing. If another caller is inside, the task that is

@@ -1,1 +1,2 @@
 pub mod Sleepers
+pub mod Waiters

@@ -1,8 +1,8 @@
--- The list as contracts see it: the numbers of the tasks that sleep.
+-- The list as contracts see it: the numbers of the callers that sleep.
 use Rattle.std.specs.Prelude.{◌≡◌, ◌⊎◌, ℕ, List, map, insert}
 use Rattle.flow_sleepers.specs.declared.sleepers.Sleeper.{Sleeper}
 
-abbrev pub numbers_of : List Sleeper → List ℕ
+abbrev pub numbers_of : {A : Type 0} → List (Sleeper A) → List ℕ
 numbers_of list = map (λ s. s.number) list
 
 -- the number is in the list already, or no waker was kept, or it comes to the others

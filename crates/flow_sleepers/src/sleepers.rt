@@ -1,26 +1,26 @@
-//! The wakers of tasks, each under a number.
+//! The wakers of callers that sleep, each under a number.
 ghost use Rattle.std.specs.Prelude.{◌≡◌, ◌<◌, nat_le, ◌↔◌, ◌==◌, not, filter, length, [], IsTrue, IfSome};
 ghost use Rattle.std.specs.Bool.{OnTrue};
 ghost use Rattle.std.specs.Vec.{vec_len};
-ghost use Rattle.futures.specs.Task.{IsArmed, Keeps};
 ghost use Rattle.flow_sleepers.specs.Sleepers.{Adds, numbers_of};
 
-use futures::task::{Context, Poll, Source, Waker};
+use crate::waiter::{Waiter, Wakers};
+use futures::task::Poll;
 use std::alloc::{Allocator, Global};
 use std::marker::Model;
 use std::mem;
 
-/// A task that sleeps, under its number.
+/// A caller that sleeps, under its number.
 #[derive(Drop)]
-struct Sleeper {
+struct Sleeper<A: Allocator = Global> {
     number: u64,
-    waker: Option<Waker>,
+    wakers: Wakers<A>,
 }
 
-/// Tasks that sleep, each under a number, in the order of the numbers.
+/// Callers that sleep, each under a number, in the order of the numbers.
 #[derive(Drop)]
 pub struct Sleepers<A: Allocator = Global> {
-    list: Vec<Sleeper, A>,
+    list: Vec<Sleeper<A>, A>,
 }
 
 impl<A: Allocator> Model for Sleepers<A> {
@@ -33,14 +33,14 @@ impl<A: Allocator> Model for Sleepers<A> {
     ghost view = { λ s. numbers_of s.list.items };
 }
 
-/// Tasks that sleep no more. Each is woken when this is dropped.
+/// Callers that sleep no more. Each is woken when this is dropped.
 #[derive(Drop)]
 pub struct Woken<A: Allocator = Global> {
-    list: Vec<Sleeper, A>,
+    list: Vec<Sleeper<A>, A>,
 }
 
 /// Whether the sleeper at this place has this number.
-fn is_at(list: &[Sleeper], place: usize, number: u64) -> bool
+fn is_at<A: Allocator>(list: &[Sleeper<A>], place: usize, number: u64) -> bool
     ensures { OnTrue result (place < length list.now) }
 {
     match list.get(place) {
@@ -50,7 +50,7 @@ fn is_at(list: &[Sleeper], place: usize, number: u64) -> bool
 }
 
 /// The place of the sleeper of this number, which is made if there is none. `None` is want of memory.
-fn place_in<A: Allocator>(list: &mut Vec<Sleeper, A>, number: u64) -> Option<usize>
+fn place_in<A: Allocator>(list: &mut Vec<Sleeper<A>, A>, number: u64) -> Option<usize>
     ensures within { IfSome result (λ place. place < vec_len list.new) }
     ensures adds { Adds number (numbers_of list.old.items) (numbers_of list.new.items) }
 {
@@ -60,7 +60,7 @@ fn place_in<A: Allocator>(list: &mut Vec<Sleeper, A>, number: u64) -> Option<usi
     }
     let sleeper = Sleeper {
         number,
-        waker: None,
+        wakers: Wakers::none(),
     };
     match list.insert(place, sleeper) {
         Ok(()) => Some(place),
@@ -107,20 +107,21 @@ impl<A: Allocator + Copy> Sleepers<A> {
         self.list.is_empty()
     }
 
-    /// Leaves the waker of the task that is polled under this number. If no waker can be kept, for want of memory, the
-    /// task asks to be polled again.
-    pub fn sleep<T>(&mut self, cx: &mut Context<'_>, number: u64) -> Poll<T>
+    /// Leaves the waker of a caller under this number. If no waker can be kept, because of memory, the caller asks again.
+    pub fn sleep<W: Waiter<A>, T>(&mut self, waiter: &mut W, number: u64) -> Poll<T>
         ensures pending { result ≡ Poll.Pending }
-        ensures armed { IsArmed cx.new }
-        ensures kept { Keeps cx.old cx.new }
+        ensures armed { W.is_armed waiter.new }
+        ensures kept { W.keeps waiter.old waiter.new }
         ensures adds { Adds number self.old self.new }
     {
+        let alloc = *self.list.allocator();
         let Some(place) = place_in(&mut self.list, number) else {
-            return cx.yield_now();
+            waiter.ask_again();
+            return Poll::Pending;
         };
-        let source = Source::new();
         let sleeper = &mut self.list[place];
-        cx.register(&source, &mut sleeper.waker)
+        waiter.leave_waker(alloc, &mut sleeper.wakers);
+        Poll::Pending
     }
 
     /// Takes the sleepers of this number out, and wakes them.

@@ -26,7 +26,6 @@
 mod calls;
 mod changed_future;
 mod handles;
-mod limit;
 mod meeting;
 mod plays;
 mod rule;

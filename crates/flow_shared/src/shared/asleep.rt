@@ -20,62 +20,63 @@ use crate::flow::Flow;
 use crate::token::FlowSeat;
 use flow_core::SharedCore;
 use flow_law::{Emit, FlowFault, FlowValue, Refused};
+use flow_sleepers::Waiter;
 use futures::task::{Context, Poll};
 use std::alloc::Allocator;
 
 impl<T: FlowValue, A: Allocator + Copy> Attended<SharedCore<T, A>, A> {
-    /// Leaves the waker of the task that is polled, if the emission of this number waits.
-    fn sleep_while_waiting(&mut self, cx: &mut Context<'_>, number: u64)
+    /// Leaves the waker of the caller, if the emission of this number waits.
+    fn sleep_while_waiting<W: Waiter<A>>(&mut self, waiter: &mut W, number: u64)
         ensures core { self.new.core ≡ self.old.core }
         ensures readers { self.new.readers ≡ self.old.readers }
         ensures emitters { AddsWaiting shared_sleeping StandsFor self.old.core number self.old.emitters self.new.emitters }
-        ensures armed { IsArmed cx.new }
-        ensures kept { Keeps cx.old cx.new }
+        ensures armed { W.is_armed waiter.new }
+        ensures kept { W.keeps waiter.old waiter.new }
     {
         if self.core.poll(number) {
-            let _asleep: Poll<()> = self.emitters.sleep(cx, number);
+            let _asleep: Poll<()> = self.emitters.sleep(waiter, number);
         } else {
-            let _again: Poll<()> = cx.yield_now();
+            waiter.ask_again();
         }
     }
 
-    /// Emits a value. If the emitter is to wait, the task that is polled sleeps.
-    pub(crate) fn emit_or_sleep(
+    /// Emits a value. If the emitter is to wait, the caller sleeps.
+    pub(crate) fn emit_or_sleep<W: Waiter<A>>(
         &mut self,
-        cx: &mut Context<'_>,
+        waiter: &mut W,
         value: T,
     ) -> Result<Emit, Refused<T>>
         ensures documented { Documents shared_flow (AttendedAs shared_sleeping StandsFor)
             self.old (call.Emit value) (emit_reply result) self.new }
         ensures handed_back { IfErr result (λ refused. refused.value ≡ value) }
-        ensures armed { IsUndone result → IsArmed cx.new }
-        ensures kept { Keeps cx.old cx.new }
+        ensures armed { IsUndone result → W.is_armed waiter.new }
+        ensures kept { W.keeps waiter.old waiter.new }
     {
         let emission = match self.call(EmitCall { value }) {
             Ok(emission) => emission,
             Err(refused) => {
-                let _again: Poll<()> = cx.yield_now();
+                waiter.ask_again();
                 return Err(refused);
             }
         };
         match emission {
             Emit::Done => Ok(Emit::Done),
             Emit::Queued(number) => {
-                self.sleep_while_waiting(cx, number);
+                self.sleep_while_waiting(waiter, number);
                 Ok(Emit::Queued(number))
             }
         }
     }
 
-    /// Returns whether the emission still waits. If it does, the task that is polled sleeps.
-    pub(crate) fn poll_or_sleep(&mut self, cx: &mut Context<'_>, number: u64) -> bool
+    /// Returns whether the emission still waits. If it does, the caller sleeps.
+    pub(crate) fn poll_or_sleep<W: Waiter<A>>(&mut self, waiter: &mut W, number: u64) -> bool
         ensures documented { Documents shared_flow (AttendedAs shared_sleeping StandsFor)
             self.old (call.Poll number) (reply.Tested result) self.new }
-        ensures armed { (result ≡ true) → IsArmed cx.new }
-        ensures kept { Keeps cx.old cx.new }
+        ensures armed { (result ≡ true) → W.is_armed waiter.new }
+        ensures kept { W.keeps waiter.old waiter.new }
     {
         if self.call(PollCall { number }) {
-            self.sleep_while_waiting(cx, number);
+            self.sleep_while_waiting(waiter, number);
             true
         } else {
             false
@@ -86,21 +87,25 @@ impl<T: FlowValue, A: Allocator + Copy> Attended<SharedCore<T, A>, A> {
 impl<T: FlowValue, A: Allocator + Copy> SleepingCall<SharedCore<T, A>, A> for EmitCall<T> {
     ghost is_wait = { λ answer. IsUndone answer };
 
-    fn run_or_sleep(
+    fn run_or_sleep<W: Waiter<A>>(
         self,
         state: &mut Attended<SharedCore<T, A>, A>,
-        cx: &mut Context<'_>,
+        waiter: &mut W,
     ) -> Result<Emit, Refused<T>> {
         let EmitCall { value } = self;
-        state.emit_or_sleep(cx, value)
+        state.emit_or_sleep(waiter, value)
     }
 }
 
 impl<T: FlowValue, A: Allocator + Copy> SleepingCall<SharedCore<T, A>, A> for PollCall {
     ghost is_wait = { λ waits. waits ≡ true };
 
-    fn run_or_sleep(self, state: &mut Attended<SharedCore<T, A>, A>, cx: &mut Context<'_>) -> bool {
-        state.poll_or_sleep(cx, self.number)
+    fn run_or_sleep<W: Waiter<A>>(
+        self,
+        state: &mut Attended<SharedCore<T, A>, A>,
+        waiter: &mut W,
+    ) -> bool {
+        state.poll_or_sleep(waiter, self.number)
     }
 }
 

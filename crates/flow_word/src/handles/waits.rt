@@ -6,8 +6,8 @@ ghost use Rattle.flow_law.specs.StateFlow.{state_flow};
 ghost use Rattle.flow_word.specs.Receiving.{Receives, ReceivesInTime, ReceivesIf, ReceivesIfInTime};
 
 use super::reader::WordReader;
-use crate::limit::Limit;
 use flow_law::Packed;
+use flow_sleepers::Limit;
 use futures::task::Context;
 use std::sync::Wait;
 use std::time::{Clock, Duration};

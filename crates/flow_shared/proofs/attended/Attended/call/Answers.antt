@@ -1,4 +1,4 @@
-use Rattle.std.proofs.Common.{◌≡◌, true, ℕ, List, sym, ◌∙◌, subst}
+use Rattle.std.proofs.Common.{◌≡◌, true, ℕ, sym, ◌∙◌, subst}
 use Rattle.std.specs.Prelude.{All}
 use Rattle.flow_law.specs.Sleeping.{FindsNothing}
 use Rattle.flow_shared.specs.Attended.{Rests, Lasts}

@@ -1,4 +1,4 @@
-use Rattle.std.proofs.Common.{◌≡◌, ◌==◌, not, filter, ap, ◌∙◌, rules}
+use Rattle.std.proofs.Common.{◌==◌, not, filter, ap, ◌∙◌, rules}
 use Rattle.std.proofs.lemmas.Fn.{filter_same}
 use Rattle.flow_sleepers.specs.Sleepers.{numbers_of}
 use Rattle.flow_sleepers.proofs.Numbers.{numbers-filter}

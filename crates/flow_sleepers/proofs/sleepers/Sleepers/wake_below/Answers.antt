@@ -1,4 +1,4 @@
-use Rattle.std.proofs.Common.{◌≡◌, filter, ap, ◌∙◌, rules}
+use Rattle.std.proofs.Common.{filter, ap, ◌∙◌, rules}
 use Rattle.std.specs.Prelude.{nat_le}
 use Rattle.std.proofs.lemmas.Fn.{filter_same}
 use Rattle.flow_sleepers.specs.Sleepers.{numbers_of}

@@ -3,13 +3,14 @@ use std::time::{Clock, Duration, Instant};
 
 /// A time limit, from the moment at which it was made.
 #[derive(Clone, Copy)]
-pub(crate) struct Limit {
+pub struct Limit {
     /// `None` if the clock could not be read.
     start: Option<Instant>,
     most: Duration,
 }
 
 impl Limit {
+    /// Returns a limit that ends when `most` has passed from now.
     pub fn new<C: Clock>(clock: &C, most: Duration) -> Limit {
         Limit {
             start: Instant::now(clock).ok(),

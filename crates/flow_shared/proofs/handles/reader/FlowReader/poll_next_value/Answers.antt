@@ -1,0 +1,19 @@
+use Rattle.std.proofs.Common.{sym, subst}
+use Rattle.futures.specs.Poll.{OnPending}
+use Rattle.futures.specs.Task.{IsArmed}
+use Rattle.flow_shared.specs.Polling.{PollsNext}
+use Rattle.flow_shared.proofs.PollRuns.{armed_by, polls_next}
+use Rattle.flow_shared.proofs.handles.reader.FlowReader.poll_next_value.Goals as goal
+
+pub returns-clause-polls : goal.returns-clause-polls
+returns-clause-polls g c =
+    let kind = g.S.FlowCore.kind in
+    let new = c.next_or_sleep-answer.new.subscription in
+    let polled = subst (λ p. PollsNext kind c.self.inside.flow.now c.self.inside.subscription p new) (sym c.polled.ensures)
+    (polls_next kind g.met.S.FlowCore.lawful c.self.inside.flow.now c.self.inside.subscription new c.next_or_sleep-answer.result c.next_or_sleep-answer.ensures.called) in
+    subst (λ r. PollsNext kind r.flow r.subscription c.polled.result new) c.self.view_is polled
+
+pub returns-clause-armed : goal.returns-clause-armed
+returns-clause-armed g c =
+    subst (λ p. OnPending p (IsArmed c.next_or_sleep-answer.new.cx)) (sym c.polled.ensures)
+    (armed_by c.next_or_sleep-answer.result (IsArmed c.next_or_sleep-answer.new.cx) c.next_or_sleep-answer.ensures.armed)

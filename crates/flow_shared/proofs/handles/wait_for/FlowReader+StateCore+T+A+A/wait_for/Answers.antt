@@ -1,0 +1,26 @@
+use Rattle.std.proofs.Common.{refl, Ok, Err, ◌∙◌, subst}
+use Rattle.flow_law.specs.HandleFaults.{memory_fault}
+use Rattle.flow_law.specs.StateFlow.{state_flow}
+use Rattle.flow_shared.specs.Receiving.{Receives, none_failed, one_failed}
+use Rattle.flow_shared.proofs.handles.wait_for.FlowReader+StateCore+T+A+A.wait_for.Goals as goal
+
+pub loop-init : goal.loop-init
+loop-init g c = (tt, tt, refl, none_failed)
+
+pub loop-preserved : goal.loop-preserved
+loop-preserved g c =
+    let now = c.loop.self.subscription in let new = c.changed.new.self.subscription in
+    let given = subst (λ f. Receives state_flow f now (Ok c.in-Ok.value) new) c.loop.invariant.2 c.in-Ok.ensures.received in
+    (tt, tt, c.in-Ok.ensures.flow ∙ c.loop.invariant.2, one_failed c.loop.invariant.3 given (record { shown = _; shows = refl; says = record { met = c.if-test.ensures } }))
+
+pub returns-then-test-clause-received : goal.returns-then-test-clause-received
+returns-then-test-clause-received g c =
+    let now = c.loop.self.subscription in let new = c.changed.new.self.subscription in
+    let given = subst (λ f. Receives state_flow f now (Ok c.in-Ok.value) new) c.loop.invariant.2 c.in-Ok.ensures.received in
+    record { between = now; failed = c.loop.invariant.3; last = given; passes = record { shown = _; shows = refl; says = record { met = c.if-test.ensures } } }
+
+pub returns-in-Err-clause-received : goal.returns-in-Err-clause-received
+returns-in-Err-clause-received g c =
+    let now = c.loop.self.subscription in let new = c.changed.new.self.subscription in
+    let refused = subst (λ f. Receives state_flow f now (Err (memory_fault c.in-Err.refused)) new) c.loop.invariant.2 c.in-Err.ensures.received in
+    record { between = now; failed = c.loop.invariant.3; last = refused; passes = tt }

@@ -1,0 +1,36 @@
+-- What the polls of a reader do, one by one and as a whole run. Begin with `PollsNext`. `flow` is the flow: which one, and the
+-- state that it began with.
+use Rattle.std.specs.Prelude.{◌≡◌, ◌⊎◌, List, [], ◌∷◌, Option, Some, None, Result, Ok, Err}
+use Rattle.futures.specs.declared.task.Poll.{Poll as Polled}
+use Rattle.futures.specs.declared.task.Poll.TheVariants.{Ready, Pending}
+use Rattle.flow_law.specs.declared.errors.OutOfMemory.{OutOfMemory as MemoryError}
+use Rattle.flow_law.specs.declared.fault.FlowFault.{FlowFault}
+use Rattle.flow_law.specs.declared.fault.FlowFault.TheVariants.{Busy}
+use Rattle.flow_law.specs.declared.history.Said.{Said}
+use Rattle.flow_law.specs.declared.outcome.Next.{Next}
+use Rattle.flow_law.specs.declared.outcome.Next.TheVariants.{Value, Empty}
+use Rattle.flow_law.specs.HandleFaults.{answer_by, memory_fault}
+use Rattle.flow_law.specs.History.{Kind}
+use Rattle.flow_law.specs.Tokens.{IsBusy}
+use Rattle.flow_gate.specs.Tokens.{Origin}
+use Rattle.flow_shared.specs.Calls.{NumberedToken, NextsOf}
+use Rattle.flow_shared.specs.Receiving.{Receives, taken}
+
+-- what a poll answers to the answer of the flow
+abbrev pub polled_by : {T : Type 0} → Result (Next T) FlowFault → Polled (Result T MemoryError)
+polled_by (Ok (Value v)) = Ready (Ok v)
+polled_by (Ok _) = Pending
+polled_by (Err Busy) = Pending
+polled_by (Err fault) = Ready (Err (record {}))
+
+module _ {T S C R : Type 0} (kind : Kind T S C R) (flow : Origin S) where
+  -- One poll: it was busy, and one exchange was lost, or it made one call of `next`, and is ready with what that gave.
+  abbrev pub PollsNext : NumberedToken (Said C R) → Polled (Result T MemoryError) → NumberedToken (Said C R) → Type 0
+  PollsNext old Pending new = ((new.number ≡ old.number) × IsBusy old.token new.token) ⊎ NextsOf kind flow old (Ok Empty) new
+  PollsNext old (Ready given) new = NextsOf kind flow old (taken (answer_by memory_fault given)) new
+
+  -- each item is what `receive` may give at its turn, by calls of `next` in their order; there is no end
+  abbrev pub Yields : NumberedToken (Said C R) → List (Result T MemoryError) → Option (Result T MemoryError) → Type 0
+  Yields old [] (Some x) = (u : NumberedToken (Said C R)) × Receives kind flow old (answer_by memory_fault x) u
+  Yields old [] None = ⊥
+  Yields old (x ∷ xs) next = (u : NumberedToken (Said C R)) × Receives kind flow old (answer_by memory_fault x) u × Yields u xs next

@@ -1,0 +1,33 @@
+//! Futures of handles: a value on its way, and the next value of a reader. Both are woken.
+ghost use Rattle.std.specs.Prelude.{◌≡◌, Some};
+ghost use Rattle.flow_shared.specs.declared.emit_future.EmitStage.TheVariants.{Fresh};
+ghost use Rattle.flow_shared.specs.EmitFutures.{emitting};
+ghost use Rattle.flow_shared.specs.NextFutures.{receiving};
+
+use super::caller::FlowCaller;
+use super::reader::FlowReader;
+use crate::receive_future::ReceiveFuture;
+use crate::send_future::SendFuture;
+use flow_core::SharedCore;
+use flow_law::FlowValue;
+use std::alloc::Allocator;
+
+impl<'a, T: FlowValue, A: Allocator + Copy> FlowCaller<'a, SharedCore<T, A>, A> {
+    /// Returns a future that emits a value, and is woken when its emission is done. Nothing is emitted before it is polled.
+    pub fn into_send(self, value: T) -> SendFuture<'a, T, A>
+        ensures { result ≡ emitting self.entry.flow (Fresh self.entry.token value) }
+    {
+        let FlowCaller { flow, seat } = self;
+        SendFuture::new(flow, seat, value)
+    }
+}
+
+impl<'a, T: FlowValue, A: Allocator + Copy> FlowReader<'a, SharedCore<T, A>, A> {
+    /// Returns a future that waits for the next value, and is woken when there is one. Nothing is received before it is polled.
+    pub fn into_receive(self) -> ReceiveFuture<'a, T, A>
+        ensures { result ≡ receiving self.entry.flow (Some self.entry.subscription) }
+    {
+        let FlowReader { flow, subscription } = self;
+        ReceiveFuture::new(flow, subscription)
+    }
+}

@@ -1,0 +1,8 @@
+-- What contracts see of a thread that may sleep.
+use Rattle.std.specs.Prelude.{◌≢◌}
+use Rattle.flow_sleepers.specs.declared.waiter.ThreadWaiter.{ThreadWaiter}
+use Rattle.flow_sleepers.specs.declared.waiter.Rest.TheVariants as rest
+
+-- the thread has left its waker, or asks again
+abbrev pub IsToldToWait : {A : Type 0} → ThreadWaiter A → Type 0
+IsToldToWait w = w.rest ≢ rest.None

@@ -1,0 +1,180 @@
+//! The callers that can sleep: a task that is polled, and a thread.
+ghost use Rattle.std.specs.Prelude.{◌≡◌, ◌≢◌, ◌⊎◌, ⊤, IsSome};
+ghost use Rattle.futures.specs.Task.{IsArmed, Keeps};
+ghost use Rattle.flow_sleepers.specs.Waiters.{IsToldToWait};
+
+use crate::limit::Limit;
+use futures::task::{Context, Poll, Source, Waker};
+use std::alloc::{AllocError, Allocator, Global};
+use std::sync::{Arc, Wait};
+use std::thread::Parker;
+use std::time::Clock;
+use std::{mem, thread};
+
+/// The wakers of a sleeper: that of its task, or of its thread. Dropping them wakes it.
+#[derive(Drop)]
+pub struct Wakers<A: Allocator = Global> {
+    task: Option<Waker>,
+    thread: Option<ThreadWaker<A>>,
+}
+
+impl<A: Allocator> Wakers<A> {
+    pub(crate) fn none() -> Self {
+        Wakers {
+            task: None,
+            thread: None,
+        }
+    }
+}
+
+/// A caller that can sleep.
+pub trait Waiter<A: Allocator> {
+    /// Its waker was left, or it asks again.
+    ghost is_armed: { Self → Type 0 };
+
+    /// What leaving a waker keeps of the caller.
+    ghost keeps: { Self → Self → Type 0 };
+
+    /// Leaves the caller's waker. If none can be kept, because of memory, the caller asks again.
+    fn leave_waker(&mut self, alloc: A, wakers: &mut Wakers<A>)
+        ensures armed { is_armed self.new }
+        ensures kept { keeps self.old self.new };
+
+    /// Lets the caller ask again.
+    fn ask_again(&mut self)
+        ensures armed { is_armed self.new }
+        ensures kept { keeps self.old self.new };
+
+    /// A caller that was left alone is kept.
+    ghost keeps_same: { (w : Self) → keeps w w };
+}
+
+impl<'a, A: Allocator> Waiter<A> for Context<'a> {
+    ghost is_armed = { λ cx. IsArmed cx };
+
+    ghost keeps = { λ old new. Keeps old new };
+
+    ghost keeps_same = { λ cx fact holds. holds };
+
+    fn leave_waker(&mut self, _alloc: A, wakers: &mut Wakers<A>) {
+        let source = Source::new();
+        let _asleep: Poll<()> = self.register(&source, &mut wakers.task);
+    }
+
+    fn ask_again(&mut self) {
+        let _again: Poll<()> = self.yield_now();
+    }
+}
+
+/// Wakes one thread when it is dropped.
+struct ThreadWaker<A: Allocator = Global> {
+    parker: Arc<Parker, A>,
+}
+
+impl<A: Allocator> Drop for ThreadWaker<A> {
+    fn drop(self) {
+        let Self { parker } = self;
+        parker.unpark();
+    }
+}
+
+/// How a thread is to wait.
+#[derive(Drop)]
+enum Rest {
+    /// It was not told to wait.
+    None,
+    /// Until the waker that it left is dropped.
+    Asleep,
+    /// It asks again, when other threads had their turn.
+    Again,
+}
+
+/// The calling thread, which sleeps until a waker of it is dropped. One waiter serves one wait, under one number.
+#[derive(Drop)]
+pub struct ThreadWaiter<A: Allocator = Global> {
+    /// Made when the thread first leaves a waker.
+    parker: Option<Arc<Parker, A>>,
+    rest: Rest,
+}
+
+impl<A: Allocator + Copy> ThreadWaiter<A> {
+    /// Returns a thread that has left no waker. It takes no memory.
+    pub fn new() -> Self {
+        ThreadWaiter {
+            parker: None,
+            rest: Rest::None,
+        }
+    }
+
+    fn waker(&mut self, alloc: A) -> Result<ThreadWaker<A>, AllocError>
+        ensures { self.new.rest ≡ self.old.rest }
+    {
+        if let Some(parker) = &self.parker {
+            return Ok(ThreadWaker {
+                parker: Arc::try_clone(parker)?,
+            });
+        }
+        let parker = Arc::new(alloc, Parker::new())?;
+        let waker = ThreadWaker {
+            parker: Arc::try_clone(&parker)?,
+        };
+        self.parker = Some(parker);
+        Ok(waker)
+    }
+
+    /// Sleeps until the waker that was left is dropped, or lets other threads go first if the thread asks again.
+    pub fn wait<R: Wait>(&mut self, rt: &R)
+        requires { IsToldToWait self.old }
+    {
+        match (mem::replace(&mut self.rest, Rest::None), &self.parker) {
+            (Rest::Asleep, Some(parker)) => parker.park(rt),
+            _ => thread::yield_now(),
+        }
+    }
+
+    /// Sleeps as `wait` does, but no longer than the limit allows; it may return early. Returns `false` at once if no time is
+    /// left.
+    pub fn wait_within<R: Wait + Clock>(&mut self, rt: &R, limit: &Limit) -> bool
+        requires { IsToldToWait self.old }
+    {
+        let Some(left) = limit.left(rt) else {
+            return false;
+        };
+        match (mem::replace(&mut self.rest, Rest::None), &self.parker) {
+            (Rest::Asleep, Some(parker)) => parker.park_timeout(rt, left),
+            _ => thread::yield_now(),
+        }
+        true
+    }
+}
+
+impl<A: Allocator + Copy> Waiter<A> for ThreadWaiter<A> {
+    ghost is_armed = { λ w. IsToldToWait w };
+
+    ghost keeps = { λ old new. ⊤ };
+
+    ghost keeps_same = { λ w. tt };
+
+    fn leave_waker(&mut self, alloc: A, wakers: &mut Wakers<A>)
+        ensures left { (self.new.rest ≡ Rest.Again) ⊎ IsSome wakers.new.thread }
+        // The trait's own clauses.
+        ensures armed { IsToldToWait self.new }
+        ensures kept { ⊤ }
+    {
+        // Replacing its own waker would wake the thread at once.
+        if self.parker.is_some() && wakers.thread.is_some() {
+            self.rest = Rest::Asleep;
+            return;
+        }
+        let Ok(waker) = self.waker(alloc) else {
+            self.rest = Rest::Again;
+            return;
+        };
+        self.rest = Rest::Asleep;
+        wakers.thread = Some(waker);
+    }
+
+    fn ask_again(&mut self) {
+        self.rest = Rest::Again;
+    }
+}
