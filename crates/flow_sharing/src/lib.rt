@@ -5,8 +5,8 @@
 //! page of crate `flow_turns` tells what a turn does, when the chain starts and stops, and how a sharing ends.
 //!
 //! # Which hub
-//! `share_in` and `state_in` make a sharing with a flow for one thread of its own (`CoreHub`, `StateHub`). A
-//! `SharedFlowHub`, `StateFlowHub` or `WordHub` stands for a flow for several threads that is lent: others subscribe to it,
+//! `share_in` and `state_in` make a sharing with a flow for one thread of its own (`CoreHub`, `StateHub`); subscribers use
+//! `subscribe`, `next` and `unsubscribe` of the sharing. A `SharedFlowHub`, `StateFlowHub` or `WordHub` stands for a flow for several threads that is lent: others subscribe to it,
 //! and emit into it, while the sharing runs.
 //!
 //! # A flow that others use
@@ -29,13 +29,15 @@ mod sender;
 mod shared_flow_hub;
 mod state_flow_hub;
 mod word_hub;
+mod word_stop;
 
 pub use flow_turns::{
-    Asked, Backwards, ChainFault, Cold, Command, CoreHub, End, Event, Hub, NEVER, Policy, Report,
-    ShareFault, Sharing, SharingObservation, Started, StateHub, law_turn_over_core,
-    law_turn_over_state_core, share_in, state_in,
+    Asked, Backwards, ChainFault, Cold, Command, CoreHub, End, Event, Hub, HubWatch, NEVER, Policy,
+    Report, ShareFault, Sharing, SharingObservation, Started, StateHub, StopSignal, WatchedHub,
+    law_turn_over_core, law_turn_over_state_core, share_in, state_in,
 };
 pub use laws::{law_turn_over_shared_flow, law_turn_over_state_flow, law_turn_over_word_state};
 pub use shared_flow_hub::SharedFlowHub;
 pub use state_flow_hub::StateFlowHub;
 pub use word_hub::WordHub;
+pub use word_stop::{WordStop, WordWatch};

@@ -60,6 +60,10 @@ impl<'a, T: Packed> WordHub<'a, T> {
             initial: initial.pack(),
         }
     }
+
+    pub(crate) fn flow(&self) -> &'a WordState<T> {
+        self.flow
+    }
 }
 
 impl<'a, T: Packed> Hub for WordHub<'a, T> {

@@ -102,15 +102,12 @@ module _ {T H : Type 0} (does : (c : TurnCall T) → ChainAndHub T H → TurnAns
         → Takes does (reset_if_due command seen s) old r new
     resets-hub mid a due told h = if-true (λ steps. Takes does steps old r new) s.reset_due _ _ due (a, mid, told, h)
 
-    pub resets-nothing : s.reset_due ≡ false → Takes does (collect_while_running command seen s) old r new → Takes does (reset_if_due command seen s) old r new
-    resets-nothing none h = if-false (λ steps. Takes does steps old r new) s.reset_due _ _ none h
-
     pub cancels-hub : (mid : ChainAndHub T H) (a : Result Bool FlowFault) → (s.cancel_due || s.reset_due) ≡ true → does (to_hub cancels) old a mid → Takes does (after_cancel command seen s a) mid r new
         → Takes does (work command seen s) old r new
     cancels-hub mid a due told h = if-true (λ steps. Takes does steps old r new) (s.cancel_due || s.reset_due) _ _ due (a, mid, told, h)
 
-    pub cancels-nothing : (s.cancel_due || s.reset_due) ≡ false → Takes does (collect_while_running command seen s) old r new → Takes does (work command seen s) old r new
-    cancels-nothing none h = if-false (λ steps. Takes does steps old r new) (s.cancel_due || s.reset_due) _ _ none h
+    pub works-on : (ran : Bool) → s.runs ≡ ran → Takes does (work command seen s) old r new → Takes does (work command seen (record s { runs = ran })) old r new
+    works-on ran is h = subst (λ runs. Takes does (work command seen (record s { runs = runs })) old r new) is h
 
   module _ (started : Started) (now : ℕ) (seen : List SharingObservation) (s : SharingState T) where
     pub counts-hub : (mid : ChainAndHub T H) (a : Result ℕ FlowFault) → s.ended ≡ false → does (to_hub counts) old a mid → Takes does (after_count started now seen s a) mid r new

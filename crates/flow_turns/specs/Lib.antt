@@ -10,3 +10,5 @@ pub mod SharingViews
 pub mod StateHub
 pub mod StateLending
 pub mod TurnClauses
+pub mod TurnParts
+pub mod WithCore

@@ -6,16 +6,14 @@ use Rattle.flow_law.specs.declared.chain.ChainFault.{ChainFault}
 use Rattle.flow_law.specs.declared.sharing.Started.{Started}
 use Rattle.flow_law.specs.declared.sharing.Command.{Command}
 use Rattle.flow_law.specs.declared.sharing.SharingObservation.{SharingObservation}
-use Rattle.flow_law.specs.declared.report.Event.{Event}
 use Rattle.flow_law.specs.declared.report.Event.TheVariants.{Idle}
 use Rattle.flow_law.specs.declared.report.Report.{Report}
 use Rattle.flow_law.specs.declared.report.ShareFault.{ShareFault}
 use Rattle.flow_law.specs.declared.report.ShareFault.TheVariants.{Chain}
 use Rattle.flow_law.specs.ChainRun.{ChainRun}
-use Rattle.flow_law.specs.Sharing.{runs_after}
 use Rattle.flow_law.specs.Steps.{Takes}
-use Rattle.flow_law.specs.SharingCalls.{HubCall, HubAnswer, to_hub, CallDoes, HubStep}
-use Rattle.flow_law.specs.SharingTurn.{SharingState, TurnSteps, reported, begin, turn_steps}
+use Rattle.flow_law.specs.SharingCalls.{HubCall, HubAnswer, CallDoes, HubStep}
+use Rattle.flow_law.specs.SharingTurn.{reported, turn_steps}
 use Rattle.flow_law.specs.TurnMeaning.{HasAccount, BetweenTurns, IsQuiet, IsCommand, TurnMeans, TurnResets}
 use Rattle.flow_turns.specs.declared.sharing.Sharing.{Sharing}
 use Rattle.flow_turns.specs.SharingViews.{state_of, chain_and_hub, hub_of, HasObserved}
@@ -36,25 +34,6 @@ module _ {C H T : Type 0} (whole rest : C → ChainRun T) (does : (c : HubCall T
       (started : Started) (seen : List SharingObservation) (accepted : List T) → HasObserved started old seen →
       BetweenTurns (state_of old) (chain_and_hub whole rest old) → HasAccount accepted (state_of old) (chain_and_hub whole rest old) →
       TurnMeans (HubStep does waits) accepted (state_of old) (chain_and_hub whole rest old) result (state_of new) (chain_and_hub whole rest new)
-
-  -- a call of the hub answers so, and nothing else changes
-  abbrev pub CallsHub : (c : HubCall T) → Sharing C H T → HubAnswer c → Sharing C H T → Type 0
-  CallsHub call old answer new =
-      CallDoes (HubStep does waits) (to_hub call) (chain_and_hub whole rest old) answer (chain_and_hub whole rest new)
-
-  -- these steps of a turn, what follows its command, come to this outcome, whatever the command and the observations
-  abbrev pub ComesTo : (Command → List SharingObservation → SharingState T → TurnSteps T) → Sharing C H T → Result Event ShareFault → Sharing C H T → Type 0
-  ComesTo steps old outcome new =
-      (command : Command) (seen : List SharingObservation) →
-      Takes (CallDoes (HubStep does waits)) (steps command seen (state_of old)) (chain_and_hub whole rest old)
-      (record { answer = reported command outcome; seen = seen; state = state_of new }) (chain_and_hub whole rest new)
-
-  -- a command and what follows it come to this outcome, whatever the observations, where the policy runs as the command says
-  abbrev pub CommandComesTo : Command → Sharing C H T → Result Event ShareFault → Sharing C H T → Type 0
-  CommandComesTo command old outcome new =
-      (all : List SharingObservation) (ran : Bool) → (state_of old).runs ≡ runs_after command ran →
-      Takes (CallDoes (HubStep does waits)) (begin all command (record (state_of old) { runs = ran })) (chain_and_hub whole rest old)
-      (record { answer = reported command outcome; seen = all; state = state_of new }) (chain_and_hub whole rest new)
 
 module _ {C H T : Type 0} where
   -- the turn's command is the one of the observations

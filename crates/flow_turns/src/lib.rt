@@ -3,8 +3,9 @@
 //! Programs take these names from crate `flow_sharing`, which adds the hubs of flows for several threads.
 //!
 //! A `Sharing` has a chain, a policy that says when the chain is collected (`SharingStarted`), and a hub: the hot flow
-//! that the chain's items go into. `share_in` and `state_in` make one with a flow of its own. Nothing runs by itself: the
-//! caller drives it by `turn`, and hands in the moment.
+//! that the chain's items go into. `share_in` and `state_in` make one with a flow of its own, to which callers subscribe by
+//! `subscribe`, `next` and `unsubscribe` of the sharing. Nothing runs by itself: the caller drives it by `turn`, and hands
+//! in the moment.
 //!
 //! # A turn
 //! The subscribers are counted and the count is observed. While the sharing runs, one item at most is emitted: an emission
@@ -36,8 +37,11 @@
 #![tactic(auto)]
 
 mod answers;
+mod collect;
 mod core_hub;
 mod core_lend;
+mod core_subscribers;
+mod due;
 mod hub;
 mod laws;
 mod lend;
@@ -47,6 +51,7 @@ mod share;
 mod sharing;
 mod state_hub;
 mod state_lend;
+mod state_subscribers;
 mod turn;
 
 pub use core_hub::CoreHub;

@@ -62,8 +62,8 @@ impl<C: Cold, H: WatchedHub<Item = C::Item>> Sharing<C, H> {
         watch: Option<H::Watch>,
     ) -> Option<H::Watch> {
         match event {
-            Event::Put | Event::Pending => None,
-            Event::Busy => {
+            Event::Put => None,
+            Event::Pending | Event::Busy => {
                 yield_now();
                 None
             }

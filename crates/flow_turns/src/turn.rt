@@ -1,34 +1,23 @@
-//! Turns of a sharing: the caller drives them, and hands in the moment. Each method here is one part of `turn_steps` of
-//! flow_law, in its order.
-ghost use Rattle.std.specs.Prelude.{◌≡◌, ◌≢◌, [], None, IfOk, MatchResult, ◌||◌, false, IsTrue, ◌↔◌, Err};
+//! Turns of a sharing: the caller drives them, and hands in the moment.
+//!
+//! A turn takes the steps of `turn_steps` of flow_law in their order: count, observe, obey the command, cancel, reset,
+//! collect.
+ghost use Rattle.std.specs.Prelude.{◌≡◌, ◌≢◌, [], false, IsTrue, ◌↔◌, Err};
 ghost use Rattle.flow_law.specs.declared.chain.End.{End};
-ghost use Rattle.flow_law.specs.SharingCalls.{counts, polls, cancels, resets};
-ghost use Rattle.flow_law.specs.SharingTurn as steps;
+ghost use Rattle.flow_law.specs.SharingCalls.{counts};
 ghost use Rattle.flow_law.specs.SharingTurn.{at_rest};
 ghost use Rattle.flow_law.specs.TurnMeaning.{BetweenTurns, IsQuiet};
-ghost use Rattle.flow_operators.specs.Asking.{AskGives, OnEnd};
 ghost use Rattle.flow_turns.specs.SharingViews.{state_of, chain_and_hub, chain_of, hub_of, CanRun, HasObserved, has_ended};
-ghost use Rattle.flow_turns.specs.TurnClauses.{CallsHub, ComesTo, CommandComesTo, TakesTurn, MeansAnswer, HandlesReset, StaysBetween, StaysQuiet, OnChainFault, ended_after};
+ghost use Rattle.flow_turns.specs.TurnClauses.{TakesTurn, MeansAnswer, HandlesReset, StaysBetween, StaysQuiet, OnChainFault, ended_after};
+ghost use Rattle.flow_turns.specs.TurnParts.{CallsHub, CommandComesTo};
 
 use crate::answers::{refusal_of, report_of};
 use crate::hub::Hub;
 use crate::policy::Policy;
 use crate::sharing::Sharing;
-use flow_cold::{Asked, Cold};
+use flow_cold::Cold;
 use flow_law::report::{Event, Report, ShareFault};
-use flow_law::{Command, FlowFault, Refused, Started};
-
-/// Asks the chain, once in a turn. The answer is the chain's own, also where it is out of memory.
-fn ask_chain<C: Cold>(chain: &mut C) -> Asked<C::Item>
-    requires { C.CanAsk chain.old }
-    ensures callable { C.CanAsk chain.new }
-    ensures reads { (m : C.Reading) → C.Reads chain.old m → C.Reads chain.new m }
-    ensures whole { (m : C.Reading) → C.whole chain.new m ≡ C.whole chain.old m }
-    ensures gives { (m : C.Reading) → C.Reads chain.old m → AskGives (C.rest chain.old m) result (C.rest chain.new m) }
-    ensures answered { OnEnd result (C.HasAnswered chain.new) }
-{
-    chain.ask()
-}
+use flow_law::{Command, FlowFault, Started};
 
 impl<C: Cold, H: Hub<Item = C::Item>> Sharing<C, H> {
     /// A sharing that has not observed anything. The hub has no emission that waits.
@@ -57,203 +46,21 @@ impl<C: Cold, H: Hub<Item = C::Item>> Sharing<C, H> {
         }
     }
 
-    /// Puts an item, which is kept where the hub refuses it.
-    fn put(&mut self, item: C::Item) -> Result<Event, ShareFault>
-        requires callable { CanRun C.CanAsk self.old }
-        requires free { H.waits self.old.hub ≡ false }
-        requires empty { self.old.kept ≡ None }
-        ensures callable { CanRun C.CanAsk self.new }
-        ensures reads { (m : C.Reading) → C.Reads (chain_of self.old) m → C.Reads (chain_of self.new) m }
-        ensures policy { self.new.policy ≡ self.old.policy }
-        ensures ended { has_ended self.new ≡ ended_after result (has_ended self.old) }
-        ensures not_ended { result ≢ Err ShareFault.Ended }
-        ensures answered { OnChainFault result
-            (λ fault. C.HasAnswered (chain_of self.new) (End.Failed fault)) }
-        ensures steps { (m : C.Reading) → C.Reads (chain_of self.old) m
-            → ComesTo (λ c. C.whole c m) (λ c. C.rest c m) H.does H.waits
-            (λ command seen. steps.put command seen item) self.old result self.new }
-    {
-        match self.hub.put(item) {
-            Ok(waits) => {
-                if waits {
-                    Ok(Event::Queued)
-                } else {
-                    Ok(Event::Put)
-                }
-            }
-            Err(refused) => {
-                let Refused { value, fault } = refused;
-                self.kept = Some(value);
-                refusal_of(fault)
-            }
-        }
-    }
-
-    /// Puts the kept item, or the chain's next one.
-    fn send(&mut self) -> Result<Event, ShareFault>
-        requires callable { CanRun C.CanAsk self.old }
-        requires free { H.waits self.old.hub ≡ false }
-        ensures callable { CanRun C.CanAsk self.new }
-        ensures reads { (m : C.Reading) → C.Reads (chain_of self.old) m → C.Reads (chain_of self.new) m }
-        ensures policy { self.new.policy ≡ self.old.policy }
-        ensures ended { has_ended self.new ≡ ended_after result (has_ended self.old) }
-        ensures not_ended { result ≢ Err ShareFault.Ended }
-        ensures answered { OnChainFault result
-            (λ fault. C.HasAnswered (chain_of self.new) (End.Failed fault)) }
-        ensures steps { (m : C.Reading) → C.Reads (chain_of self.old) m
-            → ComesTo (λ c. C.whole c m) (λ c. C.rest c m) H.does H.waits
-            (λ command seen s. steps.send command seen s.kept s) self.old result self.new }
-    {
-        if let Some(item) = self.kept.take() {
-            return self.put(item);
-        }
-        match ask_chain(&mut self.chain) {
-            Asked::Item(item) => self.put(item),
-            Asked::Pending => Ok(Event::Pending),
-            Asked::End => {
-                self.completed = true;
-                Ok(Event::Completed)
-            }
-            Asked::Fault(fault) => {
-                self.ended = true;
-                Err(ShareFault::Chain(fault))
-            }
-        }
-    }
-
-    /// Whether an emission waits.
-    fn is_waiting(&mut self) -> Result<bool, FlowFault>
+    /// How many subscribers there are.
+    fn counted(&mut self) -> Result<u64, FlowFault>
         requires { CanRun C.CanAsk self.old }
         ensures callable { CanRun C.CanAsk self.new }
         ensures reads { (m : C.Reading) → C.Reads (chain_of self.old) m → C.Reads (chain_of self.new) m }
         ensures policy { self.new.policy ≡ self.old.policy }
         ensures state { state_of self.new ≡ state_of self.old }
-        ensures polls { (m : C.Reading) → CallsHub (λ c. C.whole c m) (λ c. C.rest c m) H.does H.waits polls self.old result self.new }
-        ensures waits { MatchResult result
-            (λ waits. H.waits self.new.hub ≡ waits)
-            (λ _. H.waits self.new.hub ≡ H.waits self.old.hub) }
+        ensures counts { (m : C.Reading) → CallsHub (λ c. C.whole c m) (λ c. C.rest c m) H.does H.waits counts self.old result self.new }
     {
-        self.hub.poll()
+        self.hub.count()
     }
 
-    /// While it runs, polls an emission that waits, and else sends the next item.
-    fn collect(&mut self) -> Result<Event, ShareFault>
-        requires { CanRun C.CanAsk self.old }
-        ensures callable { CanRun C.CanAsk self.new }
-        ensures reads { (m : C.Reading) → C.Reads (chain_of self.old) m → C.Reads (chain_of self.new) m }
-        ensures policy { self.new.policy ≡ self.old.policy }
-        ensures ended { has_ended self.new ≡ ended_after result (has_ended self.old) }
-        ensures not_ended { result ≢ Err ShareFault.Ended }
-        ensures answered { OnChainFault result
-            (λ fault. C.HasAnswered (chain_of self.new) (End.Failed fault)) }
-        ensures steps { (m : C.Reading) → C.Reads (chain_of self.old) m
-            → ComesTo (λ c. C.whole c m) (λ c. C.rest c m) H.does H.waits
-            steps.collect_while_running self.old result self.new }
-    {
-        if !self.policy.is_running() {
-            return Ok(Event::Idle);
-        }
-        if self.completed {
-            return Ok(Event::Completed);
-        }
-        let waiting = match self.is_waiting() {
-            Ok(waiting) => waiting,
-            Err(fault) => return refusal_of(fault),
-        };
-        if waiting {
-            return Ok(Event::Waiting);
-        }
-        self.send()
-    }
-
-    /// Takes the hub's emission back. The cancel stays due where the hub refuses it.
-    fn cancel(&mut self) -> Result<bool, FlowFault>
-        requires { CanRun C.CanAsk self.old }
-        ensures callable { CanRun C.CanAsk self.new }
-        ensures reads { (m : C.Reading) → C.Reads (chain_of self.old) m → C.Reads (chain_of self.new) m }
-        ensures policy { self.new.policy ≡ self.old.policy }
-        ensures state { MatchResult result
-            (λ _. state_of self.new ≡ record (state_of self.old) { cancel_due = false })
-            (λ _. state_of self.new ≡ state_of self.old) }
-        ensures cancels { (m : C.Reading) → CallsHub (λ c. C.whole c m) (λ c. C.rest c m) H.does H.waits cancels self.old result self.new }
-        ensures free { IfOk result (λ _. H.waits self.new.hub ≡ false) }
-    {
-        let waited = self.hub.cancel()?;
-        self.cancel_due = false;
-        Ok(waited)
-    }
-
-    /// Makes the flow forget what it replays. The reset stays due where the hub refuses it.
-    fn reset(&mut self) -> Result<(), FlowFault>
-        requires callable { CanRun C.CanAsk self.old }
-        requires free { H.waits self.old.hub ≡ false }
-        ensures callable { CanRun C.CanAsk self.new }
-        ensures reads { (m : C.Reading) → C.Reads (chain_of self.old) m → C.Reads (chain_of self.new) m }
-        ensures policy { self.new.policy ≡ self.old.policy }
-        ensures state { MatchResult result
-            (λ _. state_of self.new ≡ record (state_of self.old) { reset_due = false })
-            (λ _. state_of self.new ≡ state_of self.old) }
-        ensures resets { (m : C.Reading) → CallsHub (λ c. C.whole c m) (λ c. C.rest c m) H.does H.waits resets self.old result self.new }
-    {
-        self.hub.reset()?;
-        self.reset_due = false;
-        Ok(())
-    }
-
-    /// What a turn does after a cancel: the reset first, where it is due.
-    fn reset_if_due(&mut self) -> Result<Event, ShareFault>
-        requires callable { CanRun C.CanAsk self.old }
-        requires free { H.waits self.old.hub ≡ false }
-        ensures callable { CanRun C.CanAsk self.new }
-        ensures reads { (m : C.Reading) → C.Reads (chain_of self.old) m → C.Reads (chain_of self.new) m }
-        ensures policy { self.new.policy ≡ self.old.policy }
-        ensures ended { has_ended self.new ≡ ended_after result (has_ended self.old) }
-        ensures not_ended { result ≢ Err ShareFault.Ended }
-        ensures answered { OnChainFault result
-            (λ fault. C.HasAnswered (chain_of self.new) (End.Failed fault)) }
-        ensures steps { (m : C.Reading) → C.Reads (chain_of self.old) m
-            → ComesTo (λ c. C.whole c m) (λ c. C.rest c m) H.does H.waits steps.reset_if_due self.old result self.new }
-    {
-        if !self.reset_due {
-            return self.collect();
-        }
-        match self.reset() {
-            Ok(()) => self.collect(),
-            Err(fault) => refusal_of(fault),
-        }
-    }
-
-    /// Whether a cancel or a reset is due.
-    fn is_work_due(&self) -> bool
-        ensures { result ≡ (self.now.cancel_due || self.now.reset_due) }
-    {
-        self.cancel_due || self.reset_due
-    }
-
-    /// What a turn does after its command: what is due first, the cancel and then the reset.
-    fn work(&mut self) -> Result<Event, ShareFault>
-        requires { CanRun C.CanAsk self.old }
-        ensures callable { CanRun C.CanAsk self.new }
-        ensures reads { (m : C.Reading) → C.Reads (chain_of self.old) m → C.Reads (chain_of self.new) m }
-        ensures policy { self.new.policy ≡ self.old.policy }
-        ensures ended { has_ended self.new ≡ ended_after result (has_ended self.old) }
-        ensures not_ended { result ≢ Err ShareFault.Ended }
-        ensures answered { OnChainFault result
-            (λ fault. C.HasAnswered (chain_of self.new) (End.Failed fault)) }
-        ensures steps { (m : C.Reading) → C.Reads (chain_of self.old) m
-            → ComesTo (λ c. C.whole c m) (λ c. C.rest c m) H.does H.waits steps.work self.old result self.new }
-    {
-        if !self.is_work_due() {
-            return self.collect();
-        }
-        match self.cancel() {
-            Ok(_) => self.reset_if_due(),
-            Err(fault) => refusal_of(fault),
-        }
-    }
-
-    /// Does what the command asks of the chain, and what follows it.
-    fn begin(&mut self, command: Command) -> Result<Event, ShareFault>
+    /// The steps of a turn that follow its command: the chain is started or stopped, what is due is done, and then an item
+    /// goes into the flow.
+    fn carry_out(&mut self, command: Command) -> Result<Event, ShareFault>
         requires { CanRun C.CanAsk self.old }
         ensures callable { CanRun C.CanAsk self.new }
         ensures reads { (m : C.Reading) → C.Reads (chain_of self.old) m → C.Reads (chain_of self.new) m }
@@ -265,37 +72,14 @@ impl<C: Cold, H: Hub<Item = C::Item>> Sharing<C, H> {
         ensures steps { (m : C.Reading) → C.Reads (chain_of self.old) m
             → CommandComesTo (λ c. C.whole c m) (λ c. C.rest c m) H.does H.waits command self.old result self.new }
     {
-        match command {
-            Command::Start => {
-                self.chain.rewind();
-                self.completed = false;
-                self.work()
-            }
-            Command::Stop => {
-                self.kept = None;
-                self.cancel_due = true;
-                self.work()
-            }
-            Command::StopAndReset => {
-                self.kept = None;
-                self.cancel_due = true;
-                self.reset_due = true;
-                self.work()
-            }
-            Command::Keep => self.work(),
+        self.obey(command);
+        if let Err(fault) = self.cancel_if_due() {
+            return refusal_of(fault);
         }
-    }
-
-    /// How many subscribers there are.
-    fn counted(&mut self) -> Result<u64, FlowFault>
-        requires { CanRun C.CanAsk self.old }
-        ensures callable { CanRun C.CanAsk self.new }
-        ensures reads { (m : C.Reading) → C.Reads (chain_of self.old) m → C.Reads (chain_of self.new) m }
-        ensures policy { self.new.policy ≡ self.old.policy }
-        ensures state { state_of self.new ≡ state_of self.old }
-        ensures counts { (m : C.Reading) → CallsHub (λ c. C.whole c m) (λ c. C.rest c m) H.does H.waits counts self.old result self.new }
-    {
-        self.hub.count()
+        if let Err(fault) = self.reset_if_due() {
+            return refusal_of(fault);
+        }
+        self.collect()
     }
 
     /// One turn at the moment `now`, in milliseconds: the subscribers are counted, the chain is started or stopped as the
@@ -341,7 +125,7 @@ impl<C: Cold, H: Hub<Item = C::Item>> Sharing<C, H> {
             Ok(command) => command,
             Err(backwards) => return Err(ShareFault::Backwards(backwards.last)),
         };
-        let outcome = self.begin(command);
+        let outcome = self.carry_out(command);
         report_of(command, outcome)
     }
 }

@@ -54,7 +54,7 @@ fn put_again<A: Allocator + Copy>(
     sharing: &mut Sharing<Scripted<i64>, CoreHub<i64, A>>,
     refusing: &Refusing<Global>,
 ) {
-    let subscribed = sharing.hub_mut().core_mut().subscribe();
+    let subscribed = sharing.subscribe();
     let id = subscribed.expect(rt, "a subscription");
     compare(rt, 1, sharing.hub().core().subscription_count(), 1);
     turn(rt, sharing, 1, Turn(0, Start, Put));
@@ -64,7 +64,7 @@ fn put_again<A: Allocator + Copy>(
     turn(rt, sharing, 4, Turn(65, Keep, Queued));
     turn(rt, sharing, 5, Turn(66, Keep, Waiting));
     for number in 1..66 {
-        let next = sharing.hub_mut().core_mut().next(id);
+        let next = sharing.next(id);
         compare(rt, 6, next, Ok(Next::Value(number)));
     }
 }

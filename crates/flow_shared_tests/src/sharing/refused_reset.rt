@@ -67,15 +67,15 @@ fn a_refused_reset_stays_due_and_a_refused_chain_ends(rt: HostRuntime) {
     let Ok(mut sharing) = share(&rt, rt.alloc(), &copies) else {
         panic!(rt; "a sharing")
     };
-    let subscribed = sharing.hub_mut().core_mut().subscribe();
+    let subscribed = sharing.subscribe();
     let id = subscribed.expect(&rt, "a subscription");
     turns(&rt, &mut sharing, 0, Ok(STARTS), 3);
-    compare(&rt, 2, sharing.hub_mut().core_mut().unsubscribe(id), true);
+    compare(&rt, 2, sharing.unsubscribe(id), true);
     copies.set(1);
     turns(&rt, &mut sharing, 1, Err(OUT_OF_MEMORY), 3);
     turns(&rt, &mut sharing, 2, Ok(RESTS), 0);
     turns(&rt, &mut sharing, 3, Ok(RESTS), 0);
-    assert!(rt; sharing.hub_mut().core_mut().subscribe().is_ok());
+    assert!(rt; sharing.subscribe().is_ok());
     copies.set(1);
     let refused = ShareFault::Chain(ChainFault::OutOfMemory);
     turns(&rt, &mut sharing, 4, Err(refused), 0);

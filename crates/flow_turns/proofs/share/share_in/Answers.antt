@@ -2,7 +2,6 @@ use Rattle.std.proofs.Common.{◌≡◌, ℕ, ◌-◌, None, refl, sym, ap, ◌�
 use Rattle.flow_law.specs.declared.config.Config.{Config}
 use Rattle.flow_law.specs.declared.config.Overflow.TheVariants.{Suspend}
 use Rattle.flow_law.specs.SharedFlow.{NoFlow, config_fault, first_state}
-use Rattle.flow_law.specs.SharingCalls.{ChainAndHub}
 use Rattle.flow_law.specs.Standing.{Core, StandsFor}
 use Rattle.flow_turns.specs.CoreHub.{core_of}
 use Rattle.flow_turns.specs.declared.core_hub.CoreHub.{CoreHub}

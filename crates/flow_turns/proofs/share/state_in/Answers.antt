@@ -1,6 +1,5 @@
 use Rattle.std.proofs.Common.{sym, ap, ◌∙◌}
 use Rattle.flow_law.specs.declared.report.ShareFault.TheVariants.{Flow}
-use Rattle.flow_law.specs.SharingCalls.{ChainAndHub}
 use Rattle.flow_law.specs.StateFlow.{first_state_flow}
 use Rattle.flow_turns.specs.StateHub.{state_core_of, initial_of}
 use Rattle.flow_turns.specs.declared.state_hub.StateHub.{StateHub}

@@ -1,48 +1,22 @@
-use Rattle.std.proofs.Common.{Ok, Err, refl, sym, ap, ◌∙◌, subst}
-use Rattle.flow_law.specs.Steps.{Takes}
-use Rattle.flow_law.specs.SharingCalls.{CallDoes, HubStep}
-use Rattle.flow_law.specs.SharingTurn.{SharingState, reported, collect_while_running}
+use Rattle.std.proofs.Common.{◌≡◌, false, Ok, Err, refl, sym, ap, ◌∙◌, subst}
+use Rattle.std.proofs.lemmas.Result.{err_from_is_err_and}
+use Rattle.flow_law.specs.SharingTurn.{collect_while_running, reset_if_due}
 use Rattle.flow_turns.specs.SharingViews.{state_of, chain_and_hub}
-use Rattle.flow_turns.proofs.StepLemmas.{same-end, goes-on, resets-hub, resets-nothing, refused-answered}
+use Rattle.flow_turns.specs.TurnParts.{GoesOn}
+use Rattle.flow_turns.proofs.StepLemmas.{resets-hub}
 use Rattle.flow_turns.proofs.sharing.Sharing.reset_if_due.Goals as goal
 
-pub returns-then-not-self-clause-steps : goal.returns-then-not-self-clause-steps
-returns-then-not-self-clause-steps g c = λ m r command seen.
-    resets-nothing _ _ _ _ command seen (state_of c.args.self.now) c.if-not-self.true (c.collect.ensures.steps m r command seen)
+pub returns-in_err-reset-clause-steps : goal.returns-in_err-reset-clause-steps
+returns-in_err-reset-clause-steps g c = λ m.
+    let new = record c.args.self.now { hub = c.reset.new.self } in
+    let given = err_from_is_err_and c.from_residual.result c.from_residual.ensures.1 in
+    let same : c.from_residual.result ≡ Err c.in_err-reset.field-0.0 = given.1 ∙ ap Err given.2 in
+    subst (λ r. GoesOn (λ x. g.C.Cold.whole x m) (λ x. g.C.Cold.rest x m) g.H.Hub.does g.H.Hub.waits reset_if_due collect_while_running c.args.self.now r new) (sym same)
+    (λ command seen. resets-hub _ _ _ _ command seen (state_of c.args.self.now) (chain_and_hub (λ x. g.C.Cold.whole x m) (λ x. g.C.Cold.rest x m) new) (Err c.in_err-reset.field-0.0)
+    c.if-not-self.false (c.in_err-reset.ensures, refl) (refl, refl))
 
-pub returns-in-Ok-clause-steps : goal.returns-in-Ok-clause-steps
-returns-in-Ok-clause-steps g c = λ m r command seen.
-    let P : SharingState g.row.C-Item.Denot → Type 0 = λ s.
-    Takes (CallDoes (HubStep g.H.Hub.does g.H.Hub.waits)) (collect_while_running command seen s) (chain_and_hub (λ x. g.C.Cold.whole x m) (λ x. g.C.Cold.rest x m) c.reset.new.self)
-    (record { answer = reported command c.collect-in-Ok.result; seen = seen; state = state_of c.collect-in-Ok.new.self }) (chain_and_hub (λ x. g.C.Cold.whole x m) (λ x. g.C.Cold.rest x m) c.collect-in-Ok.new.self) in
-    resets-hub _ _ _ _ command seen (state_of c.args.self.now) (chain_and_hub (λ x. g.C.Cold.whole x m) (λ x. g.C.Cold.rest x m) c.reset.new.self) (Ok tt)
-    c.if-not-self.false (c.in-Ok.ensures.resets m)
-    (subst P c.in-Ok.ensures.state (c.collect-in-Ok.ensures.steps m (c.reset.ensures.reads m r) command seen))
-
-pub returns-in-Err-clause-steps : goal.returns-in-Err-clause-steps
-returns-in-Err-clause-steps g c = λ m r command seen.
-    resets-hub _ _ _ _ command seen (state_of c.args.self.now) (chain_and_hub (λ x. g.C.Cold.whole x m) (λ x. g.C.Cold.rest x m) c.reset.new.self) (Err c.in-Err.fault)
-    c.if-not-self.false (c.in-Err.ensures.resets m)
-    (same-end seen _ _ _ _ (ap (reported command) c.refusal_of.ensures) c.in-Err.ensures.state, refl)
-
-pub returns-in-Err-clause-ended : goal.returns-in-Err-clause-ended
-returns-in-Err-clause-ended g c =
-    ap (λ (s : SharingState g.row.C-Item.Denot). s.ended) c.in-Err.ensures.state ∙ sym ((goes-on c.refusal_of.result c.in-Err.fault c.refusal_of.ensures).1 c.args.self.now.ended)
-
-pub returns-in-Err-clause-not_ended : goal.returns-in-Err-clause-not_ended
-returns-in-Err-clause-not_ended g c = (goes-on c.refusal_of.result c.in-Err.fault c.refusal_of.ensures).0
-
-pub returns-then-not-self-clause-not_ended : goal.returns-then-not-self-clause-not_ended
-returns-then-not-self-clause-not_ended g c = c.collect.ensures.not_ended
-
-pub returns-in-Ok-clause-not_ended : goal.returns-in-Ok-clause-not_ended
-returns-in-Ok-clause-not_ended g c = c.collect-in-Ok.ensures.not_ended
-
-pub returns-then-not-self-clause-answered : goal.returns-then-not-self-clause-answered
-returns-then-not-self-clause-answered g c = c.collect.ensures.answered
-
-pub returns-in-Ok-clause-answered : goal.returns-in-Ok-clause-answered
-returns-in-Ok-clause-answered g c = c.collect-in-Ok.ensures.answered
-
-pub returns-in-Err-clause-answered : goal.returns-in-Err-clause-answered
-returns-in-Err-clause-answered g c = refused-answered _ c.refusal_of.result c.in-Err.fault c.refusal_of.ensures
+pub returns-clause-steps : goal.returns-clause-steps
+returns-clause-steps g c = λ m command seen turned last h.
+    let new = record c.args.self.now { hub = c.reset.new.self; reset_due = false } in
+    resets-hub _ _ _ _ command seen (state_of c.args.self.now) (chain_and_hub (λ x. g.C.Cold.whole x m) (λ x. g.C.Cold.rest x m) new) (Ok tt)
+    c.if-not-self.false (c.in_ok-reset.ensures, refl) h

@@ -54,16 +54,16 @@ returns-clause-turn g c = λ m r started seen stands.
     let told = c.in-Ok-observe.ensures.observes started seen held in
     let all : List SharingObservation = record { moment = c.args.now; count = c.in-Ok.count } ∷ seen in
     let mid = chain_and_hub (λ x. g.C.Cold.whole x m) (λ x. g.C.Cold.rest x m) c.counted.new.self in
-    let last = chain_and_hub (λ x. g.C.Cold.whole x m) (λ x. g.C.Cold.rest x m) c.begin-outcome.new.self in
+    let last = chain_and_hub (λ x. g.C.Cold.whole x m) (λ x. g.C.Cold.rest x m) c.carry_out-outcome.new.self in
     let D = CallDoes (HubStep g.H.Hub.does g.H.Hub.waits) in
     let P : SharingState g.row.C-Item.Denot → Type 0 = λ s.
-    Takes D (begin all c.in-Ok-observe.command s) mid (record { answer = reported c.in-Ok-observe.command c.begin-outcome.result; seen = all; state = state_of c.begin-outcome.new.self }) last in
+    Takes D (begin all c.in-Ok-observe.command s) mid (record { answer = reported c.in-Ok-observe.command c.carry_out-outcome.result; seen = all; state = state_of c.carry_out-outcome.new.self }) last in
     let Q : Command → Type 0 = λ command.
-    Takes D (begin all command (state_of c.args.self.now)) mid (record { answer = reported c.in-Ok-observe.command c.begin-outcome.result; seen = all; state = state_of c.begin-outcome.new.self }) last in
+    Takes D (begin all command (state_of c.args.self.now)) mid (record { answer = reported c.in-Ok-observe.command c.carry_out-outcome.result; seen = all; state = state_of c.carry_out-outcome.new.self }) last in
     let R : Turned g.row.C-Item.Denot → Type 0 = λ r. Takes D (begin all (newest_command started all) (state_of c.args.self.now)) mid r last in
-    let begun : P (state_of c.counted.new.self) = c.begin-outcome.ensures.steps m (c.counted.ensures.reads m r) all c.counted.new.self.policy.running c.in-Ok-observe.ensures.runs in (
+    let begun : P (state_of c.counted.new.self) = c.carry_out-outcome.ensures.steps m (c.counted.ensures.reads m r) all c.counted.new.self.policy.running c.in-Ok-observe.ensures.runs in (
       all,
-      rw c.begin-outcome.ensures.policy told.2,
+      rw c.carry_out-outcome.ensures.policy told.2,
       counts-hub _ _ _ _ started c.args.now seen (state_of c.args.self.now) mid (Ok c.in-Ok.count)
           c.if-self.false (c.in-Ok.ensures.counts m)
           (observes-count D mid last _ started c.args.now seen (state_of c.args.self.now) c.in-Ok.count told.0
@@ -88,22 +88,22 @@ pub returns-clause-resets : goal.returns-clause-resets
 returns-clause-resets g c = λ m r.
     let D = HubStep g.H.Hub.does g.H.Hub.waits in
     let mid = chain_and_hub (λ x. g.C.Cold.whole x m) (λ x. g.C.Cold.rest x m) c.counted.new.self in
-    let last = chain_and_hub (λ x. g.C.Cold.whole x m) (λ x. g.C.Cold.rest x m) c.begin-outcome.new.self in
-    let Is : Command → Type 0 = WasCommanded c.args.self.now c.begin-outcome.new.self in
+    let last = chain_and_hub (λ x. g.C.Cold.whole x m) (λ x. g.C.Cold.rest x m) c.carry_out-outcome.new.self in
+    let Is : Command → Type 0 = WasCommanded c.args.self.now c.carry_out-outcome.new.self in
     let is : Is c.in-Ok-observe.command = λ started seen stands.
     let held : HasSeen started c.counted.new.self.policy seen = rw c.counted.ensures.policy stands in
     let told = c.in-Ok-observe.ensures.observes started seen held in
     let o : SharingObservation = record { moment = c.args.now; count = c.in-Ok.count } in
-    (o ∷ seen, rw c.begin-outcome.ensures.policy told.2, inr (o, refl, told.1)) in
+    (o ∷ seen, rw c.carry_out-outcome.ensures.policy told.2, inr (o, refl, told.1)) in
     let P : SharingState g.row.C-Item.Denot → Type 0 = λ s.
-    TurnResets D Is s c.args.self.now.hub (reported c.in-Ok-observe.command c.begin-outcome.result) (state_of c.begin-outcome.new.self) c.begin-outcome.new.self.hub in
+    TurnResets D Is s c.args.self.now.hub (reported c.in-Ok-observe.command c.carry_out-outcome.result) (state_of c.carry_out-outcome.new.self) c.carry_out-outcome.new.self.hub in
     let Q : Result Report ShareFault → Type 0 = λ answer.
-    TurnResets D Is (state_of c.args.self.now) c.args.self.now.hub answer (state_of c.begin-outcome.new.self) c.begin-outcome.new.self.hub in
+    TurnResets D Is (state_of c.args.self.now) c.args.self.now.hub answer (state_of c.carry_out-outcome.new.self) c.carry_out-outcome.new.self.hub in
     subst Q (sym c.report_of-2.ensures) (subst P c.in-Ok.ensures.state
     (begun-resets D c.args.self.now.hub (state_of c.counted.new.self) Is [] c.in-Ok-observe.command mid last
-    (record { answer = reported c.in-Ok-observe.command c.begin-outcome.result; seen = []; state = state_of c.begin-outcome.new.self })
+    (record { answer = reported c.in-Ok-observe.command c.carry_out-outcome.result; seen = []; state = state_of c.carry_out-outcome.new.self })
     is (c.in-Ok.count, (c.in-Ok.ensures.counts m).0)
-    (c.begin-outcome.ensures.steps m (c.counted.ensures.reads m r) [] c.counted.new.self.policy.running c.in-Ok-observe.ensures.runs)))
+    (c.carry_out-outcome.ensures.steps m (c.counted.ensures.reads m r) [] c.counted.new.self.policy.running c.in-Ok-observe.ensures.runs)))
 
 pub returns-then-self-clause-means : goal.returns-then-self-clause-means
 returns-then-self-clause-means g c = λ m r started seen accepted stands between held. (c.if-self.true, refl, refl)
@@ -179,4 +179,4 @@ pub returns-in-Err-clause-answered : goal.returns-in-Err-clause-answered
 returns-in-Err-clause-answered g c = report-answered _ Keep c.refusal_of.result _ c.report_of.ensures (refused-answered _ c.refusal_of.result c.in-Err.fault c.refusal_of.ensures)
 
 pub returns-clause-answered : goal.returns-clause-answered
-returns-clause-answered g c = report-answered _ c.in-Ok-observe.command c.begin-outcome.result _ c.report_of-2.ensures c.begin-outcome.ensures.answered
+returns-clause-answered g c = report-answered _ c.in-Ok-observe.command c.carry_out-outcome.result _ c.report_of-2.ensures c.carry_out-outcome.ensures.answered

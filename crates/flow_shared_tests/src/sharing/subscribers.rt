@@ -1,0 +1,53 @@
+//! Subscribers of sharings on one thread, by the calls of the sharing itself.
+use crate::compare::compare;
+use flow_cold::OfRange;
+use flow_law::Command::{Keep, Start};
+use flow_law::report::Event::Put;
+use flow_law::report::Report;
+use flow_law::{Next, Started};
+use flow_sharing::{share_in, state_in};
+
+/// The chain is started, and puts its first item.
+const STARTS: Report = Report {
+    command: Start,
+    event: Put,
+};
+
+/// The chain puts its next item.
+const PUTS: Report = Report {
+    command: Keep,
+    event: Put,
+};
+
+/// Without a replay a subscriber gets the items that are put after it came.
+#[test]
+fn a_subscriber_gets_each_item_of_a_shared_chain(rt: HostRuntime) {
+    let shared = share_in(rt.alloc(), OfRange::new(1, 3), Started::Lazily, 0, u64::MAX);
+    let mut sharing = shared.expect(&rt, "a sharing");
+    let id = sharing.subscribe().expect(&rt, "a subscription");
+    compare(&rt, 1, sharing.next(id), Ok(Next::Empty));
+    compare(&rt, 2, sharing.turn(0), Ok(STARTS));
+    compare(&rt, 3, sharing.turn(1), Ok(PUTS));
+    compare(&rt, 4, sharing.next(id), Ok(Next::Value(1)));
+    compare(&rt, 5, sharing.next(id), Ok(Next::Value(2)));
+    compare(&rt, 6, sharing.next(id), Ok(Next::Empty));
+    compare(&rt, 7, sharing.unsubscribe(id), true);
+    compare(&rt, 8, sharing.next(id), Ok(Next::Gone));
+    compare(&rt, 9, sharing.unsubscribe(id), false);
+}
+
+/// A subscriber of a state gets the initial value, and then the most recent one only.
+#[test]
+fn a_subscriber_of_a_state_skips_to_the_last_item(rt: HostRuntime) {
+    let shared = state_in(rt.alloc(), OfRange::new(1, 3), Started::Lazily, 0, u64::MAX);
+    let mut sharing = shared.expect(&rt, "a sharing");
+    let id = sharing.subscribe().expect(&rt, "a subscription");
+    compare(&rt, 1, sharing.next(id), Ok(Next::Value(0)));
+    compare(&rt, 2, sharing.turn(0), Ok(STARTS));
+    compare(&rt, 3, sharing.turn(1), Ok(PUTS));
+    compare(&rt, 4, sharing.next(id), Ok(Next::Value(2)));
+    compare(&rt, 5, sharing.next(id), Ok(Next::Empty));
+    compare(&rt, 6, sharing.unsubscribe(id), true);
+    compare(&rt, 7, sharing.next(id), Ok(Next::Gone));
+    compare(&rt, 8, sharing.unsubscribe(id), false);
+}
