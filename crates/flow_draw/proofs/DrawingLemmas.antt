@@ -2,11 +2,11 @@
 use Rattle.std.proofs.Common.{◌≡◌, ◌⊎◌, ℕ, ◌≤◌, Bool, List, length, take, Option, Some, None, Result, Ok, Err, sym, subst, ◌∙◌, inl, inr}
 use Rattle.std.specs.Prelude.{IfErr, OnOk, OnErr}
 use Rattle.std.specs.Io.KnownBytes.{Consumes, Appends, IsAtEnd}
-use Rattle.flow_chain_format.specs.declared.fault.ScriptFault.{ScriptFault}
-use Rattle.flow_chain_format.specs.declared.fault.ScriptFault.TheVariants.{OutOfMemory, ReadFailed, WriteFailed, NotJson, BadVersion, BadShape, UnknownName, DuplicateName, TooLarge}
-use Rattle.flow_chain_format.specs.Results.{Gives}
-use Rattle.flow_format.specs.Checks.{most_bytes}
-use Rattle.flow_lines.specs.ScriptMeaning.{meaning}
+use Rattle.script_chain_format.specs.declared.reading.fault.ScriptFault.{ScriptFault}
+use Rattle.script_chain_format.specs.declared.reading.fault.ScriptFault.TheVariants.{OutOfMemory, ReadFailed, WriteFailed, NotJson, BadVersion, BadShape, UnknownName, DuplicateName, TooLarge}
+use Rattle.script_chain_format.specs.Results.{Gives}
+use Rattle.script_format.specs.Checks.{most_bytes}
+use Rattle.flow_script.specs.ScriptMeaning.{meaning}
 use Rattle.flow_script.specs.Playing.{read_failed}
 use Rattle.flow_script.specs.Telling.{IsRefusal, TellsFault}
 use Rattle.flow_script.proofs.MeaningLemmas.{same_meaning, plays_refused}

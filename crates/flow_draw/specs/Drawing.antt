@@ -3,10 +3,10 @@ use Rattle.std.specs.Prelude.{◌≡◌, ◌==◌, ◌++◌, ℕ, List, [], ◌�
 use Rattle.std.specs.List.{slice_split}
 use Rattle.std.specs.Io.KnownBytes.{Appends}
 use Rattle.std.specs.declared.alloc.Global.{Global}
-use Rattle.flow_chain_format.specs.declared.fault.ScriptFault.{ScriptFault}
-use Rattle.flow_chain_format.specs.declared.fault.ScriptFault.TheVariants.{WriteFailed}
-use Rattle.flow_chain_format.specs.Results.{Gives}
-use Rattle.flow_lines.specs.ScriptMeaning.{meaning}
+use Rattle.script_chain_format.specs.declared.reading.fault.ScriptFault.{ScriptFault}
+use Rattle.script_chain_format.specs.declared.reading.fault.ScriptFault.TheVariants.{WriteFailed}
+use Rattle.script_chain_format.specs.Results.{Gives}
+use Rattle.flow_script.specs.ScriptMeaning.{meaning}
 use Rattle.flow_script.specs.Playing.{Plays}
 
 -- ---- lines

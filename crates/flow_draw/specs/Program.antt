@@ -1,7 +1,7 @@
 -- What the program draws or tells, and its status. Begin with `RunsDrawing`.
 use Rattle.std.specs.Prelude.{◌≡◌, ℕ, Bool, cond, List, [], ◌∷◌, Option, Some, None, Result, String, codes, string_bytes, bytes_eq}
-use Rattle.flow_chain_format.specs.declared.fault.ScriptFault.{ScriptFault}
-use Rattle.flow_answers.specs.Lines.{lined}
+use Rattle.script_chain_format.specs.declared.reading.fault.ScriptFault.{ScriptFault}
+use Rattle.flow_script.specs.Lines.{lined}
 use Rattle.flow_script.specs.Playing.{is_read_failed}
 use Rattle.flow_script.specs.Telling.{Ends}
 use Rattle.flow_draw.specs.declared.drawing.Form.{Form}

@@ -1,13 +1,14 @@
 //! What is drawn of a script.
 ghost use Rattle.std.specs.Prelude.{IfOk, string_bytes};
-ghost use Rattle.flow_lines.specs.ScriptMeaning.{meaning};
+ghost use Rattle.flow_script.specs.Said.{said};
+ghost use Rattle.flow_script.specs.ScriptMeaning.{meaning, text_of};
 ghost use Rattle.flow_draw.specs.Drawing.{Pictures, TellsInOrder, TellsLines};
 ghost use Rattle.flow_draw.specs.Listing.{told};
 
 use crate::lines::split_lines;
 use crate::listing::add_listing;
-use flow_picture::{Frame, Played, explained_frame, items_of, svg_frame, text_frame};
-use flow_script::{Observed, ScriptFault, observed_of};
+use flow_script::{Answers, ScriptFault, answers_of, text_of};
+use script_picture::{Frame, Played, explained_frame, items_of, svg_frame, text_frame};
 use serde_json::Value;
 use std::alloc::{AllocError, Global};
 
@@ -51,28 +52,21 @@ fn framed(
     Ok(drawn)
 }
 
-/// What is drawn of the script of these bytes, by what was observed of it.
-fn drawn(
-    alloc: Global,
-    form: Form,
-    bytes: &[u8],
-    observed: &Observed,
-) -> Result<String, ScriptFault>
-    ensures { IfOk result (λ drawn. TellsLines (string_bytes observed.now.text) (string_bytes drawn)) }
+/// What is drawn of the script of these bytes, by its answers.
+fn drawn(alloc: Global, form: Form, bytes: &[u8], answers: &Answers) -> Result<String, ScriptFault>
+    ensures { IfOk result (λ drawn. TellsLines (text_of (said answers.now)) (string_bytes drawn)) }
 {
     // The reader took these bytes: only memory can be wanting.
     let Ok(script) = Value::from_slice(alloc, bytes) else {
         return Err(ScriptFault::OutOfMemory);
     };
-    let lines = split_lines(alloc, observed.text.as_str())?;
+    let text = text_of(alloc, answers)?;
+    let lines = split_lines(alloc, text.as_str())?;
     let steps = items_of(&script, "steps");
     let played = Played {
-        steps: steps.get(..observed.lags.len()).unwrap_or(&[]),
+        steps: steps.get(..answers.steps.len()).unwrap_or(&[]),
+        answers,
         lines: lines.as_slice(),
-        refused: observed.refused,
-        emitted: observed.emitted.as_slice(),
-        lags: observed.lags.as_slice(),
-        last_lags: observed.last_lags.as_slice(),
     };
     let frame = frame_of(alloc, form, &script, played)?;
     let rules = match form {
@@ -89,11 +83,11 @@ fn drawn(
 pub fn drawing_of(alloc: Global, form: Form, bytes: &[u8]) -> Result<String, ScriptFault>
     ensures { Pictures (meaning bytes.now) result }
 {
-    let observed = match observed_of(alloc, bytes) {
-        Ok(observed) => observed,
+    let answers = match answers_of(alloc, bytes) {
+        Ok(answers) => answers,
         Err(fault) => return Err(fault),
     };
-    match drawn(alloc, form, bytes, &observed) {
+    match drawn(alloc, form, bytes, &answers) {
         Ok(drawn) => Ok(drawn),
         Err(_) => Err(ScriptFault::OutOfMemory),
     }

@@ -2,9 +2,26 @@
 ghost use Rattle.std.specs.Prelude.{OnOk, string_bytes};
 ghost use Rattle.flow_draw.specs.Listing.{AddsLast, AddsLines, told};
 
-use flow_picture::Played;
+use script_explain::rule_of;
+use script_picture::Played;
 use serde_json::Value;
 use std::alloc::{AllocError, Global};
+
+/// The flow of a script that a step is about.
+fn flow_of<'a>(script: &'a Value, step: &Value) -> Option<&'a Value> {
+    match script.get("flows") {
+        Some(flows) => flows.get(step.get("flow")?.as_str()?),
+        None => script.get("flow"),
+    }
+}
+
+/// The rule of the step that wrote the line before that of a place. A line without a step has none.
+fn rule_before(script: &Value, played: Played<'_>, place: usize) -> &'static str {
+    match played.step_before(place) {
+        Some((step, answer)) => rule_of(flow_of(script, step), step, answer),
+        None => "",
+    }
+}
 
 /// A line of the script, after what stands before it.
 fn add_entry(listing: &mut String, words: &str, line: &str) -> Result<(), AllocError>
@@ -28,7 +45,11 @@ pub fn add_listing(
     let mut words = String::new(alloc);
     for (place, line) in lines.iter().enumerate() {
         words.clear();
-        played.add_words_before(&mut words, place, rules)?;
+        let rule = match rules {
+            Some(script) => rule_before(script, played, place),
+            None => "",
+        };
+        played.add_words_before(&mut words, place, rule)?;
         add_entry(listing, words.as_str(), line)?;
     }
     Ok(())

@@ -3,15 +3,15 @@ ghost use Rattle.std.specs.Prelude.{◌≡◌, ◌≢◌, false, IfSome, None};
 ghost use Rattle.flow_script.specs.Playing.{TakesWithin, is_read_failed, is_write_failed};
 ghost use Rattle.flow_script.specs.Telling.{Tells, memory_line};
 ghost use Rattle.flow_script.specs.Watching.{inner_of, has_failed};
-ghost use Rattle.flow_lines.specs.ScriptMeaning.{meaning};
+ghost use Rattle.flow_script.specs.ScriptMeaning.{meaning};
 ghost use Rattle.flow_draw.specs.Drawing.{Draws, Pictures};
 ghost use Rattle.flow_draw.specs.Program.{RunsDrawing, form_of, usage_line};
 
 use crate::drawing::{Form, drawing_of};
-use flow_explain::explain_refusal;
 use flow_script::{
     REFUSED, ScriptFault, Watched, read_all, tell, tell_fault, tell_memory, write_all,
 };
+use script_explain::explain_refusal;
 use std::alloc::Global;
 use std::io::{ErrorKind, Read, Write};
 

@@ -1,3 +1,11 @@
+pub mod AnswerLemmas
 pub mod ByteLemmas
+pub mod CallLemmas
 pub mod MeaningLemmas
+pub mod PlayLemmas
+pub mod RowLemmas
+pub mod SharingLemmas
+pub mod StateLemmas
 pub mod TellingLemmas
+pub mod TextLemmas
+pub mod WorkedScripts

@@ -3,11 +3,11 @@ use Rattle.std.proofs.Common.{◌≡◌, ℕ, ◌<◌, ◌≤◌, true, false, n
 use Rattle.std.specs.Prelude.{IfSome, IfErr, OnOk, OnErr}
 use Rattle.std.specs.Io.KnownBytes.{Consumes, Appends, Keeps, IsAtEnd}
 use Rattle.std.proofs.lemmas.Bool.Decides.{nat_tests}
-use Rattle.flow_chain_format.specs.declared.fault.ScriptFault.{ScriptFault}
-use Rattle.flow_chain_format.specs.declared.fault.ScriptFault.TheVariants.{OutOfMemory, ReadFailed, WriteFailed, NotJson, BadVersion, BadShape, UnknownName, DuplicateName, TooLarge}
-use Rattle.flow_chain_format.specs.Results.{Gives, result_map, result_then}
-use Rattle.flow_format.specs.Checks.{most_bytes, read_script, script_of, json_of}
-use Rattle.flow_lines.specs.ScriptMeaning.{meaning, text_of}
+use Rattle.script_chain_format.specs.declared.reading.fault.ScriptFault.{ScriptFault}
+use Rattle.script_chain_format.specs.declared.reading.fault.ScriptFault.TheVariants.{OutOfMemory, ReadFailed, WriteFailed, NotJson, BadVersion, BadShape, UnknownName, DuplicateName, TooLarge}
+use Rattle.script_chain_format.specs.Results.{Gives, result_map, result_then}
+use Rattle.script_format.specs.Checks.{most_bytes, read_script, script_of, json_of}
+use Rattle.flow_script.specs.ScriptMeaning.{answers_of, meaning, text_of}
 use Rattle.flow_script.specs.Playing.{Plays}
 
 below : (n : ℕ) → most_bytes < n → nat_lt most_bytes n ≡ true
@@ -32,7 +32,7 @@ same_script input bytes rest whole end =
 pub same_meaning : (input : List ℕ) (left : Option (List ℕ)) (bytes : List ℕ) → Consumes (Some input) left bytes → (length bytes ≤ most_bytes → IsAtEnd left)
     → meaning input ≡ meaning bytes
 same_meaning input None bytes taken end = absurd taken
-same_meaning input (Some rest) bytes taken end = ap (λ r. result_map (λ script. text_of script.flows script.steps) r) (same_script input bytes rest taken end)
+same_meaning input (Some rest) bytes taken end = ap (λ r. result_map text_of (result_map (λ script. answers_of script.flows script.steps) r)) (same_script input bytes rest taken end)
 
 pub meant : (known left : Option (List ℕ)) (bytes : List ℕ) (r : Result (List ℕ) ScriptFault) → Consumes known left bytes → (length bytes ≤ most_bytes → IsAtEnd left)
     → meaning bytes ≡ r → IfSome known (λ input. meaning input ≡ r)

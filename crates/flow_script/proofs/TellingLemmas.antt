@@ -1,7 +1,7 @@
 -- How a fault is told.
 use Rattle.std.proofs.Common.{◌≡◌, ◌≢◌, ◌⊎◌, ℕ, Bool, false, List, Option, Err, refl, inl, inr}
-use Rattle.flow_chain_format.specs.declared.fault.ScriptFault.{ScriptFault}
-use Rattle.flow_chain_format.specs.declared.fault.ScriptFault.TheVariants.{OutOfMemory, ReadFailed, WriteFailed, NotJson, BadVersion, BadShape, UnknownName, DuplicateName, TooLarge}
+use Rattle.script_chain_format.specs.declared.reading.fault.ScriptFault.{ScriptFault}
+use Rattle.script_chain_format.specs.declared.reading.fault.ScriptFault.TheVariants.{OutOfMemory, ReadFailed, WriteFailed, NotJson, BadVersion, BadShape, UnknownName, DuplicateName, TooLarge}
 use Rattle.flow_script.specs.Playing.{Plays, read_failed}
 use Rattle.flow_script.specs.Telling.{IsRefusal, Tells, TellsFault, fault_line, memory_line}
 

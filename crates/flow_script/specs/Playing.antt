@@ -3,12 +3,13 @@
 use Rattle.std.specs.Prelude.{◌≡◌, ◌⊎◌, ◌≤◌, ◌+◌, ℕ, Bool, true, false, not, ◌&&◌, ◌==◌, List, length, take, Option, Result, Ok, Err, IfSome, String, string_bytes}
 use Rattle.std.specs.declared.alloc.Global.{Global}
 use Rattle.std.specs.Io.KnownBytes.{Appends, Keeps, Consumes}
-use Rattle.flow_chain_format.specs.declared.fault.ScriptFault.{ScriptFault}
-use Rattle.flow_chain_format.specs.declared.fault.ScriptFault.TheVariants.{OutOfMemory, ReadFailed, WriteFailed, NotJson, BadVersion, BadShape, UnknownName, DuplicateName, TooLarge}
-use Rattle.flow_chain_format.specs.Results.{result_map}
-use Rattle.flow_format.specs.Checks.{most_bytes}
-use Rattle.flow_lines.specs.declared.observing.Observed.{Observed}
-use Rattle.flow_lines.specs.ScriptMeaning.{meaning}
+use Rattle.script_chain_format.specs.declared.reading.fault.ScriptFault.{ScriptFault}
+use Rattle.script_chain_format.specs.declared.reading.fault.ScriptFault.TheVariants.{OutOfMemory, ReadFailed, WriteFailed, NotJson, BadVersion, BadShape, UnknownName, DuplicateName, TooLarge}
+use Rattle.script_chain_format.specs.Results.{result_map}
+use Rattle.script_format.specs.Checks.{most_bytes}
+use Rattle.flow_script.specs.declared.answer.Answers.{Answers as Kept}
+use Rattle.flow_script.specs.Said.{said}
+use Rattle.flow_script.specs.ScriptMeaning.{Answers, meaning}
 
 -- ---- readers and writers that failed
 
@@ -41,8 +42,8 @@ is_write_failed (Err fault) = write_failed fault
 abbrev pub text_result : Result (String Global) ScriptFault → Result (List ℕ) ScriptFault
 text_result r = result_map string_bytes r
 
-abbrev pub observed_result : Result Observed ScriptFault → Result (List ℕ) ScriptFault
-observed_result r = result_map (λ observed. string_bytes observed.text) r
+abbrev pub answers_result : Result Kept ScriptFault → Result Answers ScriptFault
+answers_result r = result_map said r
 
 -- the bytes that were taken off a reader are at most one more than a script may have
 abbrev pub TakesWithin : Option (List ℕ) → Option (List ℕ) → Type 0

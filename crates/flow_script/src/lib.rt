@@ -6,18 +6,48 @@
 //! # What `play` promises
 //! `Plays` ties what was written to the `meaning` of the bytes that the reader had: that text at `Ok`; nothing at a
 //! refusal, which is the meaning's own fault; a first part of the text after a write that failed.
+//!
+//! # Playing
+//! A `Player` is what the steps on one flow are played on: `flow_steps` has the steps that every kind of flow has, `shared_calls`,
+//! `state_calls` and `sharing_steps` those of one kind. `row` plays a step on the flow at its place, `collecting` collects a chain.
+//!
+//! Each step has one `Answer`, and beside it what is seen of its flow (`Seen`). A call that was out of memory has none: it ends the
+//! script as `ScriptFault::OutOfMemory`.
+//!
+//! # Lines
+//! The text of a script has a line for each answer (`text_of`): `lines` has those of flows, `chain_lines` those of collections,
+//! `share_lines` those of turns.
 #![tactic(auto)]
 
+mod answer;
+mod chain_lines;
+mod collecting;
+mod flow_steps;
+mod lines;
+mod memory;
+mod numbers;
+mod observing;
+mod player;
 mod playing;
+mod refusal;
+mod row;
+mod script_core;
+mod script_hub;
+mod script_text;
+mod share_lines;
+mod shared_calls;
+mod sharing_steps;
+mod state_calls;
 mod telling;
 mod transfer;
 mod watched;
 
-pub use flow_format::{
+pub use answer::{Answer, Answers, NotMade, Seen, Subscriber, Told};
+pub use playing::{answers_of, lines_of, play, played};
+pub use script_format::{
     Build, FlowStep, NamedFlow, Script, ScriptFault, ScriptFlow, Step, read_script,
 };
-pub use flow_lines::{Observed, ScriptLines};
-pub use playing::{lines_of, observed_of, play};
+pub use script_text::{add_answer, text_of};
 pub use telling::{OUT_OF_MEMORY, REFUSED, TRANSFER_FAILED, tell, tell_fault, tell_memory};
 pub use transfer::{read_all, write_all};
 pub use watched::Watched;

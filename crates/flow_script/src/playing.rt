@@ -1,41 +1,87 @@
 //! Playing a script from a reader to a writer.
-ghost use Rattle.std.specs.Prelude.{◌≡◌, false};
-ghost use Rattle.flow_chain_format.specs.Results.{Gives};
-ghost use Rattle.flow_lines.specs.ScriptMeaning.{meaning};
-ghost use Rattle.flow_script.specs.Playing.{Plays, TakesWithin, text_result, observed_result, is_read_failed, is_write_failed};
+ghost use Rattle.std.specs.Prelude.{◌≡◌, false, IfOk, IfErr};
+ghost use Rattle.script_chain_format.specs.Results.{Gives};
+ghost use Rattle.script_format.specs.Actions.{actions_of, heads_of};
+ghost use Rattle.flow_script.specs.ScriptMeaning.{answered, answers_of, meaning};
+ghost use Rattle.flow_script.specs.Playing.{Plays, TakesWithin, answers_result, text_result, is_read_failed, is_write_failed};
+ghost use Rattle.flow_script.specs.Rows.{FollowsSteps};
+ghost use Rattle.flow_script.specs.Said.{said};
 ghost use Rattle.flow_script.specs.Watching.{inner_of, has_failed};
 
+use crate::answer::{Answers, Told};
+use crate::observing::{last_lags, seen_step};
+use crate::row::{PlayedFlow, begin};
+use crate::script_text::text_of;
 use crate::transfer::{read_all, write_all};
 use crate::watched::Watched;
-use flow_format::{ScriptFault, read_script};
-use flow_lines::{Observed, ScriptLines};
+use script_format::{Script, ScriptFault, Step, read_script};
 use std::alloc::Global;
 use std::io::{Read, Write};
 
-/// The lines that the script of these bytes writes, or why it is refused.
-pub fn lines_of(alloc: Global, bytes: &[u8]) -> Result<String, ScriptFault>
-    ensures { Gives (meaning bytes.now) (text_result result) }
+/// Plays the steps of a script one after the other.
+fn play_steps(
+    alloc: Global,
+    row: &mut Vec<Option<PlayedFlow>>,
+    steps: Vec<Step>,
+) -> Result<Vec<Told>, ScriptFault>
+    ensures plays { IfOk result (λ told. FollowsSteps (actions_of steps.items) row.old.items told.items) }
+    ensures fault { IfErr result (λ fault. fault ≡ ScriptFault.OutOfMemory) }
+{
+    let mut told = Vec::new(alloc);
+    for step in steps {
+        told.push(seen_step(alloc, row, step)?)?;
+    }
+    Ok(told)
+}
+
+/// Plays a script that was read: its flows are made, and then its steps are played on them.
+pub fn played(alloc: Global, script: Script) -> Result<Answers, ScriptFault>
+    ensures answers { IfOk result (λ answers.
+        said answers ≡ answers_of (heads_of script.flows.items) (actions_of script.steps.items)) }
+    ensures fault { IfErr result (λ fault. fault ≡ ScriptFault.OutOfMemory) }
+{
+    let Script { flows, steps } = script;
+    let mut not_made = Vec::new(alloc);
+    let Some(mut row) = begin(alloc, &mut not_made, flows)? else {
+        return Ok(Answers {
+            not_made,
+            steps: Vec::new(alloc),
+            last_lags: Vec::new(alloc),
+        });
+    };
+    let steps = play_steps(alloc, &mut row, steps)?;
+    let last_lags = last_lags(alloc, row.as_slice(), steps.as_slice())?;
+    Ok(Answers {
+        not_made,
+        steps,
+        last_lags,
+    })
+}
+
+/// Reads a script and plays it.
+pub fn answers_of(alloc: Global, bytes: &[u8]) -> Result<Answers, ScriptFault>
+    ensures { Gives (answered bytes.now) (answers_result result) }
 {
     let script = match read_script(alloc, bytes) {
         Ok(script) => script,
         Err(fault) => return Err(fault),
     };
-    match script.lines(alloc) {
-        Ok(text) => Ok(text),
+    match played(alloc, script) {
+        Ok(answers) => Ok(answers),
         Err(_) => Err(ScriptFault::OutOfMemory),
     }
 }
 
-/// The same lines, and what is seen of the flows beside them, or why the script is refused.
-pub fn observed_of(alloc: Global, bytes: &[u8]) -> Result<Observed, ScriptFault>
-    ensures { Gives (meaning bytes.now) (observed_result result) }
+/// Returns the lines that the script of these bytes writes, or why the script is refused.
+pub fn lines_of(alloc: Global, bytes: &[u8]) -> Result<String, ScriptFault>
+    ensures { Gives (meaning bytes.now) (text_result result) }
 {
-    let script = match read_script(alloc, bytes) {
-        Ok(script) => script,
+    let answers = match answers_of(alloc, bytes) {
+        Ok(answers) => answers,
         Err(fault) => return Err(fault),
     };
-    match script.observed(alloc) {
-        Ok(observed) => Ok(observed),
+    match text_of(alloc, &answers) {
+        Ok(text) => Ok(text),
         Err(_) => Err(ScriptFault::OutOfMemory),
     }
 }

@@ -6,7 +6,7 @@ ghost use Rattle.flow_script.specs.Telling.{Tells, TellsFault, fault_line, memor
 
 use crate::transfer::write_all;
 use crate::watched::Watched;
-use flow_format::ScriptFault;
+use script_format::ScriptFault;
 use std::alloc::{AllocError, Global};
 use std::io::Write;
 

@@ -1,12 +1,12 @@
 //! Reading all the bytes of a script, and writing all of a text.
 ghost use Rattle.std.specs.Prelude.{◌≡◌, ◌+◌, ◌≤◌, ◌||◌, ◌++◌, ℕ, List, IfOk, IfErr, OnOk, OnErr, is_err, length, take, vec_len};
 ghost use Rattle.std.specs.Io.KnownBytes.{Consumes, Appends, IsAtEnd};
-ghost use Rattle.flow_format.specs.Checks.{most_bytes};
+ghost use Rattle.script_format.specs.Checks.{most_bytes};
 ghost use Rattle.flow_script.specs.Playing.{IsReadFault, is_read_failed, TakesWithin};
 ghost use Rattle.flow_script.specs.Watching.{inner_of, has_failed};
 
 use crate::watched::Watched;
-use flow_format::{MOST_BYTES, ScriptFault};
+use script_format::{MOST_BYTES, ScriptFault};
 use std::alloc::Global;
 use std::io::{Read, Write};
 

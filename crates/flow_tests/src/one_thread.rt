@@ -9,4 +9,5 @@ mod own_values;
 mod shared;
 mod shared_calls;
 mod state;
+mod value_traits;
 mod values;

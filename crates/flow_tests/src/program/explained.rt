@@ -1,8 +1,7 @@
-//! What people are told of a script: the faults and the lines that no script comes to, and one of each that some do.
+//! What people are told of a script: the faults and the answers that no script comes to, and one of each that some do.
 use crate::program::Host;
-use flow_explain::explain_refusal;
-use flow_picture::rule_of;
-use flow_script::ScriptFault;
+use flow_script::{Answer, ScriptFault};
+use script_explain::{explain_refusal, rule_of};
 use serde_json::Value;
 
 const NO_STEPS: &str = r#"{"version":2,"flows":{},"steps":[]}"#;
@@ -48,39 +47,39 @@ fn a_refusal_is_told_with_its_place(rt: HostRuntime) {
     }
 }
 
-/// A flow, a step, its line, and the rule: none, where the step writes no such line.
-const RULES: &[(&str, &str, &str, &str)] = &[
+/// A flow, a step, whether the step was answered by `true`, and the rule: none, where the step has no such answer.
+const RULES: &[(&str, &str, bool, &str)] = &[
     (
         r#"{"kind":"shared","replay":0,"extra":2,"overflow":"drop_oldest"}"#,
         r#"{"do":"try_emit"}"#,
-        "true",
+        true,
         "taken: where the buffer is full its oldest value is dropped",
     ),
     (
         r#"{"kind":"shared","replay":0,"extra":2,"overflow":"drop_oldest"}"#,
         r#"{"do":"try_emit"}"#,
-        "false",
+        false,
         "",
     ),
     (
         r#"{"kind":"shared","replay":2,"extra":0,"overflow":"suspend"}"#,
         r#"{"do":"bogus"}"#,
-        "true",
+        true,
         "",
     ),
 ];
 
-/// Compares the rule of a line with the one that is wanted.
-fn expect_rule<H: Host>(rt: &H, flow: &str, step: &str, line: &str, rule: &str) {
+/// Compares the rule of an answer with the one that is wanted.
+fn expect_rule<H: Host>(rt: &H, flow: &str, step: &str, test: bool, rule: &str) {
     let flow = Value::from_str(rt.alloc(), flow).expect(rt, "a flow");
     let step = Value::from_str(rt.alloc(), step).expect(rt, "a step");
-    let told = rule_of(Some(&flow), &step, line);
-    assert_eq!(rt; told, rule, "the rule of {line}");
+    let told = rule_of(Some(&flow), &step, &Answer::Tested(test));
+    assert_eq!(rt; told, rule, "the rule of {test}");
 }
 
 #[test]
-fn a_line_has_its_rule(rt: HostRuntime) {
-    for (flow, step, line, rule) in RULES {
-        expect_rule(&rt, flow, step, line, rule);
+fn an_answer_has_its_rule(rt: HostRuntime) {
+    for (flow, step, test, rule) in RULES {
+        expect_rule(&rt, flow, step, *test, rule);
     }
 }

@@ -1,7 +1,7 @@
 //! Readers and writers that give or take little, or fail.
 use crate::program::{Host, compare, expect};
 use flow_program::run;
-use flow_script::{ScriptLines, Watched, read_script};
+use flow_script::{Watched, played, read_script, text_of};
 use std::io;
 use std::io::{Read, Write};
 
@@ -112,7 +112,8 @@ fn a_slow_reader_or_writer_changes_nothing(rt: HostRuntime) {
 #[test]
 fn a_script_that_was_read_has_the_same_lines(rt: HostRuntime) {
     let script = read_script(rt.alloc(), SCRIPT.as_bytes()).expect(&rt, "a script");
-    let lines = script.lines(rt.alloc()).expect(&rt, "lines");
+    let answers = played(rt.alloc(), script).expect(&rt, "answers");
+    let lines = text_of(rt.alloc(), &answers).expect(&rt, "lines");
     assert_eq!(rt; lines.as_str(), LINES);
 }
 

@@ -1,6 +1,6 @@
 use Rattle.std.proofs.Common.{ℕ, List, Ok, Err, sym, subst}
-use Rattle.flow_chain_format.specs.Results.{Gives}
-use Rattle.flow_lines.specs.ScriptMeaning.{meaning}
+use Rattle.script_chain_format.specs.Results.{Gives}
+use Rattle.flow_script.specs.ScriptMeaning.{meaning}
 use Rattle.flow_draw.specs.Drawing.{Pictures, TellsLines}
 use Rattle.flow_draw.proofs.DrawingLemmas.{draws_refused, draws_written}
 use Rattle.flow_draw.proofs.program.draw.Goals as goal

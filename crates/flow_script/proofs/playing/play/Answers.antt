@@ -1,6 +1,6 @@
 use Rattle.std.proofs.Common.{◌≡◌, Ok, Err, string_bytes, sym, subst}
-use Rattle.flow_chain_format.specs.Results.{Gives}
-use Rattle.flow_lines.specs.ScriptMeaning.{meaning}
+use Rattle.script_chain_format.specs.Results.{Gives}
+use Rattle.flow_script.specs.ScriptMeaning.{meaning}
 use Rattle.flow_script.proofs.MeaningLemmas.{plays_refused, plays_written}
 use Rattle.flow_script.proofs.playing.play.Goals as goal
 

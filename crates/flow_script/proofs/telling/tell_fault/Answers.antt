@@ -1,5 +1,5 @@
 use Rattle.std.proofs.Common.{refl, sym, ap, ◌∙◌, inl}
-use Rattle.flow_chain_format.specs.declared.fault.ScriptFault.TheVariants.{OutOfMemory, ReadFailed, WriteFailed}
+use Rattle.script_chain_format.specs.declared.reading.fault.ScriptFault.TheVariants.{OutOfMemory, ReadFailed, WriteFailed}
 use Rattle.flow_script.specs.Playing.{write_failed}
 use Rattle.flow_script.proofs.TellingLemmas.{refusal-is, tells-refusal}
 use Rattle.flow_script.proofs.telling.tell_fault.Goals as goal

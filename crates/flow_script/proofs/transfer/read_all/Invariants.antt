@@ -1,6 +1,6 @@
 use Rattle.std.proofs.Common.{◌≡◌, ◌+◌, ◌-◌, ◌≤◌, vec_len}
 use Rattle.std.specs.Io.KnownBytes.{Consumes}
-use Rattle.flow_format.specs.Checks.{most_bytes}
+use Rattle.script_format.specs.Checks.{most_bytes}
 use Rattle.flow_script.proofs.transfer.read_all.Given as goal
 
 abbrev pub invariant-loop-input : goal.invariant-loop-input

@@ -1,6 +1,0 @@
--- The best word so far is one of the choices.
-use Rattle.std.proofs.Common.{IfSome, Contains}
-use Rattle.flow_explain.proofs.nearest.nearest.Given as goal
-
-abbrev pub invariant-loop-choice : goal.invariant-loop-choice
-invariant-loop-choice l = IfSome l.best (Contains l.choices)

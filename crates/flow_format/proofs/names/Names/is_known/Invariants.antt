@@ -1,9 +1,0 @@
-use Rattle.std.proofs.Common.{◌≡◌, drop, map}
-use Rattle.std.specs.List.{list_any}
-use Rattle.flow_format.specs.Checks.{is_known}
-use Rattle.flow_format.specs.Names.{lists_of, row_of}
-use Rattle.flow_format.proofs.names.Names.is_known.Given as goal
-
--- the flows before have no such name
-abbrev pub invariant-loop-names : goal.invariant-loop-names
-invariant-loop-names l = list_any (is_known l.name) (map lists_of (drop l.names-index l.self.flows.items)) ≡ list_any (is_known l.name) (row_of l.self)

@@ -1,0 +1,112 @@
+-- Rows of flows that are made and played.
+use Rattle.std.proofs.Common.{◌≡◌, ℕ, zero, suc, ◌<◌, ◌≤◌, true, false, map, List, [], ◌∷◌, ◌++◌, length, get_or, Option, Some, None, Ok, Err, refl, sym, ap, subst, ◌∙◌, append_assoc, arith}
+use Rattle.std.proofs.lemmas.List.{map-append}
+use Rattle.std.proofs.Math.ListN.{set}
+use Rattle.script_format.specs.declared.script.Step.{Step}
+use Rattle.script_format.specs.Actions.{action_of, actions_of}
+use Rattle.script_format.specs.Heads.{Head, NamedHead}
+use Rattle.flow_script.specs.declared.player.Player.{Player as KeptPlayer}
+use Rattle.flow_script.specs.declared.row.PlayedFlow.{PlayedFlow as Kept}
+use Rattle.flow_script.specs.declared.refusal.Refusal.{Refusal}
+use Rattle.flow_script.specs.declared.answer.Answer.{Answer as Given}
+use Rattle.flow_script.specs.declared.answer.Told.{Told}
+use Rattle.flow_script.specs.Answers.{Answer, answer_of, no_flow}
+use Rattle.flow_script.specs.Said.{said_of}
+use Rattle.flow_script.specs.Refusals.{IsTold, refused_answer}
+use Rattle.flow_script.specs.Players.{Makes, Shows}
+use Rattle.flow_script.specs.Rows.{AddsFlow, FollowsPlace, FollowsRow, ShowsFlow, ShowsPlace, ShowsRow}
+use Rattle.flow_script.specs.ScriptMeaning.{Answers, NotMade, Play, Player, PlayedFlow, after_refusals, answers_from, first_played, flow_at, not_made_flow, only_steps, place_turn, player_of, turn, turn_at, with_flow}
+
+-- ---- places of a row
+
+shown-at : (kept : List (Option Kept)) (row : List (Option PlayedFlow)) (i : ℕ) (k : Option Kept) → ShowsRow kept row → i < length kept → k ≡ get_or kept i k → ShowsPlace k (flow_at i row)
+shown-at [] row i k shows here is = absurd (omega arith)
+shown-at (x ∷ xs) [] i k shows here is = absurd shows
+shown-at (x ∷ xs) (y ∷ ys) zero k shows here is = subst (λ p. ShowsPlace p y) (sym is) shows.0
+shown-at (x ∷ xs) (y ∷ ys) (suc i) k shows here is = shown-at xs ys i k shows.1 (omega arith) is
+
+shown-set : (kept : List (Option Kept)) (row : List (Option PlayedFlow)) (i : ℕ) (k : Option Kept) (p : Option PlayedFlow) → ShowsRow kept row → ShowsPlace k p → ShowsRow (set kept i k) (set row i p)
+shown-set [] [] i k p shows new = tt
+shown-set [] (y ∷ ys) i k p shows new = absurd shows
+shown-set (x ∷ xs) [] i k p shows new = absurd shows
+shown-set (x ∷ xs) (y ∷ ys) zero k p shows new = (new, shows.1)
+shown-set (x ∷ xs) (y ∷ ys) (suc i) k p shows new = (shows.0, shown-set xs ys i k p shows.1 new)
+
+shown-push : (kept : List (Option Kept)) (row : List (Option PlayedFlow)) (k : Option Kept) (p : Option PlayedFlow) → ShowsRow kept row → ShowsPlace k p → ShowsRow (kept ++ k ∷ []) (row ++ p ∷ [])
+shown-push [] [] k p shows new = (new, tt)
+shown-push [] (y ∷ ys) k p shows new = absurd shows
+shown-push (x ∷ xs) [] k p shows new = absurd shows
+shown-push (x ∷ xs) (y ∷ ys) k p shows new = (shows.0, shown-push xs ys k p shows.1 new)
+
+none-past : (kept : List (Option Kept)) (row : List (Option PlayedFlow)) (i : ℕ) → ShowsRow kept row → length kept ≤ i → flow_at i row ≡ None
+none-past [] [] i shows past = refl
+none-past [] (y ∷ ys) i shows past = absurd shows
+none-past (x ∷ xs) [] i shows past = absurd shows
+none-past (x ∷ xs) (y ∷ ys) zero shows past = absurd (omega arith)
+none-past (x ∷ xs) (y ∷ ys) (suc i) shows past = none-past xs ys i shows.1 (omega arith)
+
+set-past : (kept : List (Option Kept)) (row : List (Option PlayedFlow)) (i : ℕ) (p : Option PlayedFlow) → ShowsRow kept row → length kept ≤ i → set row i p ≡ row
+set-past [] [] i p shows past = refl
+set-past [] (y ∷ ys) i p shows past = absurd shows
+set-past (x ∷ xs) [] i p shows past = absurd shows
+set-past (x ∷ xs) (y ∷ ys) zero p shows past = absurd (omega arith)
+set-past (x ∷ xs) (y ∷ ys) (suc i) p shows past = ap (λ l. y ∷ l) (set-past xs ys i p shows.1 (omega arith))
+
+-- ---- steps
+
+pub follows-at : (play : Play) (i : ℕ) (kept : List (Option Kept)) (k new : Option Kept) (answer : Given)
+    → i < length kept → k ≡ get_or kept i k → FollowsPlace play k new answer → FollowsRow (turn_at i play) kept (set kept i new) answer
+follows-at play i kept k new answer here is follows row shows =
+    let done = follows (flow_at i row) (shown-at kept row i k shows here is) in
+    (shown-set kept row i new (place_turn play (flow_at i row)).after shows done.0, done.1)
+
+pub follows-past : (play : Play) (i : ℕ) (kept : List (Option Kept)) (answer : Given)
+    → length kept ≤ i → answer_of answer ≡ no_flow → FollowsRow (turn_at i play) kept kept answer
+follows-past play i kept answer past is row shows =
+    let over = λ (p : Option PlayedFlow). ShowsRow kept (set row i (place_turn play p).after) × (answer_of answer ≡ (place_turn play p).answer) in
+    subst over (sym (none-past kept row i shows past)) (subst (λ r. ShowsRow kept r) (sym (set-past kept row i None shows past)) shows, is)
+
+-- where what was answered so far and what the rest will answer is all, so it is one step later
+pub next_answers : (row : List (Option PlayedFlow)) (step : Step) (before after : List Step) (old new : List Told) (told : Told) (all : List Answer) → before ≡ step ∷ after → new ≡ old ++ told ∷ []
+    → answer_of told.answer ≡ (turn (action_of step) row).answer → map said_of old ++ answers_from row (actions_of before) ≡ all
+    → map said_of new ++ answers_from (turn (action_of step) row).after (actions_of after) ≡ all
+next_answers row step before after old new told all is pushed answered so_far =
+    let t = turn (action_of step) row in
+    let rest = answers_from t.after (actions_of after) in
+    ap (λ l. map said_of l ++ rest) pushed ∙ ap (λ l. l ++ rest) (map-append said_of old (told ∷ [])) ∙ append_assoc (map said_of old) (answer_of told.answer ∷ []) rest
+    ∙ ap (λ a. map said_of old ++ (a ∷ rest)) answered ∙ ap (λ l. map said_of old ++ answers_from row (actions_of l)) (sym is) ∙ so_far
+
+-- ---- flows that are made
+
+pub adds-made : (name : Option (List ℕ)) (head : Head) (kept new : List (Option Kept)) (player : KeptPlayer) (k : Kept) (before : List NotMade)
+    → Makes head (Ok player) → ((p : Player) → Shows player p → ShowsFlow k (first_played p)) → new ≡ kept ++ Some k ∷ []
+    → AddsFlow (record { name = name; flow = head }) true kept new before before
+adds-made name head kept new player k before made begins pushed row shows =
+    let p = made.0 in (
+      row ++ Some (first_played p) ∷ [],
+      subst (λ l. ShowsRow l (row ++ Some (first_played p) ∷ [])) (sym pushed) (shown-push kept row (Some k) (Some (first_played p)) shows (begins p made.2)),
+      λ rest. ap (λ r. after_refusals before (with_flow name r rest row)) made.1,
+    )
+
+-- refusals that come one after the other
+refusals-assoc : (before more : List NotMade) (rest : Answers) → after_refusals before (after_refusals more rest) ≡ after_refusals (before ++ more) rest
+refusals-assoc before more rest = ap (λ l. record rest { not_made = l }) (sym (append_assoc before more rest.not_made))
+
+pub adds-refused : (name : List ℕ) (head : NamedHead) (kept new : List (Option Kept)) (refused : Refusal) (before after : List NotMade)
+    → head.name ≡ Some name → Makes head.flow (Err refused) → IsTold refused → after ≡ before ++ not_made_flow (Some name) (refused_answer refused) ∷ [] → new ≡ kept ++ None ∷ []
+    → AddsFlow head true kept new before after
+adds-refused name head kept new refused before after has_name makes told ends pushed row shows =
+    let one = not_made_flow (Some name) (refused_answer refused) ∷ [] in (
+      row ++ None ∷ [],
+      subst (λ l. ShowsRow l (row ++ None ∷ [])) (sym pushed) (shown-push kept row None None shows tt),
+      λ rest. ap (λ n. after_refusals before (with_flow n (player_of head.flow) rest row)) has_name
+          ∙ ap (λ r. after_refusals before (with_flow (Some name) r rest row)) (makes told)
+          ∙ refusals-assoc before one (rest (row ++ None ∷ [])) ∙ ap (λ l. after_refusals l (rest (row ++ None ∷ []))) (sym ends),
+    )
+
+pub ends-refused : (head : NamedHead) (kept : List (Option Kept)) (refused : Refusal) (before after : List NotMade)
+    → head.name ≡ None → Makes head.flow (Err refused) → IsTold refused → after ≡ before ++ not_made_flow None (refused_answer refused) ∷ [] → AddsFlow head false kept kept before after
+ends-refused head kept refused before after unnamed makes told ends row rest =
+    let one = not_made_flow None (refused_answer refused) ∷ [] in
+    ap (λ n. after_refusals before (with_flow n (player_of head.flow) rest row)) unnamed ∙ ap (λ r. after_refusals before (with_flow None r rest row)) (makes told)
+    ∙ refusals-assoc before one (only_steps []) ∙ ap (λ l. after_refusals l (only_steps [])) (sym ends)

@@ -1,0 +1,103 @@
+-- What a script answers: each step has one answer, and so has each flow that was refused when it was made.
+-- Begin with `Answer`. The line of an answer is `line_of` in Lines.
+use Rattle.std.specs.Prelude.{ℕ, ℤ, Bool, List, Result, Ok, Err}
+use Rattle.flow_law.specs.ChainRun.{items, ending}
+use Rattle.flow_law.specs.declared.call.SharedCall.{SharedCall}
+use Rattle.flow_law.specs.declared.call.SharedCall.TheVariants.{Poll}
+use Rattle.flow_law.specs.declared.call.SharedReply.{SharedReply}
+use Rattle.flow_law.specs.declared.call.SharedReply.TheVariants.{Emitted, Tested, Subscribed, Received, Cached, Reset, Counted, Refused}
+use Rattle.flow_law.specs.declared.call.StateCall.{StateCall}
+use Rattle.flow_law.specs.declared.call.StateReply.{StateReply}
+use Rattle.flow_law.specs.declared.call.StateReply.TheVariants as state
+use Rattle.flow_law.specs.declared.chain.ChainFault.{ChainFault}
+use Rattle.flow_law.specs.declared.chain.End.{End}
+use Rattle.flow_law.specs.declared.fault.FlowFault.{FlowFault}
+use Rattle.flow_law.specs.declared.outcome.Emit.TheVariants.{Done, Queued}
+use Rattle.flow_law.specs.declared.outcome.Next.{Next}
+use Rattle.flow_law.specs.declared.report.Report.{Report}
+use Rattle.flow_law.specs.declared.report.ShareFault.{ShareFault}
+use Rattle.script_chain_format.specs.ChainFormat.{Build}
+use Rattle.flow_script.specs.declared.answer.Answer.{Answer as Given}
+use Rattle.flow_script.specs.declared.answer.Answer.TheVariants as given
+
+pub data Answer : Type 0 where
+  -- of a value that is tried, of a cancellation, of an `unsubscribe`, and of a comparison
+  tested : Bool → Answer
+  -- whether an emission still waits
+  waits : Bool → Answer
+  done : Answer
+  queued : Answer
+  subscribed : Answer
+  received : Next ℤ → Answer
+  cached : List ℤ → Answer
+  counted : ℕ → Answer
+  -- the value of a state flow
+  got : ℤ → Answer
+  set : Answer
+  reset : Answer
+  refused : FlowFault → Answer
+  turned : Report → Answer
+  -- of a turn, or of a chain that was to be shared
+  turn_refused : ShareFault → Answer
+  -- the items of a chain, and how it ended
+  collected : List ℤ → End → Answer
+  not_built : ChainFault → Answer
+  -- the flow was refused when it was made
+  no_flow : Answer
+  -- the flow does not allow the step. No script that is read has such a step
+  not_allowed : Answer
+
+-- to a call of a shared flow, by its reply
+abbrev pub shared_answer : SharedCall ℤ → SharedReply ℤ → Answer
+shared_answer call (Refused fault) = refused fault
+shared_answer (Poll e) (Tested test) = waits test
+shared_answer call (Tested test) = tested test
+shared_answer call (Emitted Done) = done
+shared_answer call (Emitted (Queued e)) = queued
+shared_answer call (Subscribed u) = subscribed
+shared_answer call (Received next) = received next
+shared_answer call (Cached values) = cached values
+shared_answer call Reset = reset
+shared_answer call (Counted count) = counted count
+
+-- to a call of a state flow, by its reply
+abbrev pub state_answer : StateCall ℤ → StateReply ℤ → Answer
+state_answer call (state.Refused fault) = refused fault
+state_answer call state.Done = set
+state_answer call (state.Got value) = got value
+state_answer call (state.Answered test) = tested test
+state_answer call (state.Subscribed u) = subscribed
+state_answer call (state.Received next) = received next
+state_answer call (state.Counted count) = counted count
+state_answer call (state.Cached values) = cached values
+
+-- to a turn of a sharing
+abbrev pub turn_answer : Result Report ShareFault → Answer
+turn_answer (Ok report) = turned report
+turn_answer (Err fault) = turn_refused fault
+
+-- what a collection gives, or why the chain could not be built
+abbrev pub collection_answer : Build → Answer
+collection_answer (Ok chain) = collected (items chain.run) (ending chain.run)
+collection_answer (Err fault) = not_built fault
+
+-- what the player's answer says
+abbrev pub answer_of : Given → Answer
+answer_of (given.Tested test) = tested test
+answer_of (given.Waits test) = waits test
+answer_of given.Done = done
+answer_of given.Queued = queued
+answer_of given.Subscribed = subscribed
+answer_of (given.Received next) = received next
+answer_of (given.Cached values) = cached values.items
+answer_of (given.Counted count) = counted count
+answer_of (given.Got value) = got value
+answer_of given.Set = set
+answer_of given.Reset = reset
+answer_of (given.Refused fault) = refused fault
+answer_of (given.Turned report) = turned report
+answer_of (given.TurnRefused fault) = turn_refused fault
+answer_of (given.Collected values end) = collected values.items end
+answer_of (given.NotBuilt fault) = not_built fault
+answer_of given.NoFlow = no_flow
+answer_of given.NotAllowed = not_allowed

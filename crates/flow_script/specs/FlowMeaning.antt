@@ -1,0 +1,105 @@
+-- The steps of a script on a documented flow, said once for every kind of flow.
+-- Begin with `flow_turn`. What is said of one kind is a `Played`: of shared flows in SharedMeaning, of state flows in StateMeaning.
+use Rattle.std.specs.Prelude.{◌≡◌, ℕ, ℤ, Bool, true, false, List, [], Option, Some, None, option_map}
+use Rattle.std.specs.Option.{option_map_or}
+use Rattle.flow_law.specs.declared.fault.FlowFault.{FlowFault}
+use Rattle.flow_law.specs.declared.outcome.Next.{Next}
+use Rattle.flow_law.specs.declared.outcome.Next.TheVariants.{Gone}
+use Rattle.flow_law.specs.History.{Kind}
+use Rattle.flow_law.specs.Lawful.{number_in}
+use Rattle.script_format.specs.declared.script.FlowStep.{FlowStep}
+use Rattle.script_format.specs.declared.script.FlowStep.TheVariants as step
+use Rattle.flow_script.specs.Answers.{Answer, waits, tested, received, subscribed, not_allowed}
+use Rattle.flow_script.specs.Answers as told
+use Rattle.flow_script.specs.Memory.{IsToldFlowFault}
+use Rattle.flow_script.specs.Numbers.{Numbers, number_at, with_emission, with_subscriber}
+
+-- a step's answer, and what is played on after it, with what the names stand for then
+pub record Turn (P : Type 0) : Type 0 where
+  pub answer : Answer
+  pub after : P
+  pub numbers : Numbers
+
+-- An emission that was done at once, or refused, waits for nobody. A subscription that was refused is gone
+abbrev pub answer_without_call : FlowStep → Answer
+answer_without_call (step.Poll place) = waits false
+answer_without_call (step.Next place) = received Gone
+answer_without_call (step.Cancel place) = tested false
+answer_without_call (step.Unsubscribe place) = tested false
+answer_without_call _ = not_allowed
+
+-- a step that makes no call
+abbrev pub without_call : {P : Type 0} → FlowStep → P → Numbers → Turn P
+without_call step p n = record { answer = answer_without_call step; after = p; numbers = n }
+
+-- a step that introduces a name gives it this number
+abbrev pub with_number : FlowStep → Option ℕ → Numbers → Numbers
+with_number (step.Emit value) number n = with_emission number n
+with_number step.Subscribe number n = with_subscriber number n
+with_number _ number n = n
+
+-- what a script says of one kind of flow
+pub record Played (S C R : Type 0) : Type 0 where
+  pub try_emit : ℤ → C
+  -- the call of a step that not every kind has, by the numbers of emissions. A name that stands for no number makes none
+  pub own_call : FlowStep → List (Option ℕ) → Option C
+  -- the documented reply, want of memory aside
+  pub reply_to : C → S → R
+  pub answer : C → R → Answer
+
+module _ {S C R : Type 0} (kind : Kind ℤ S C R) (played : Played S C R) where
+  abbrev pub after : C → S → S
+  after call s = kind.after s call (played.reply_to call s)
+
+  -- the number that a call gives
+  abbrev pub given : C → R → Option ℕ
+  given call reply = option_map (λ owner. number_in owner.number) (kind.gives [] call reply)
+
+  -- the call that a step makes. A name that stands for no number makes none
+  abbrev pub call_of : FlowStep → Numbers → Option C
+  call_of (step.TryEmit value) n = Some (played.try_emit value)
+  call_of step.Subscribe n = Some (kind.subscribe [])
+  call_of (step.Next place) n = option_map kind.take_next (number_at place n.subscribers)
+  call_of (step.Unsubscribe place) n = option_map kind.unsubscribe (number_at place n.subscribers)
+  call_of step.Cache n = Some kind.replay_cache
+  call_of step.Count n = Some kind.count
+  call_of own n = played.own_call own n.emissions
+
+  abbrev pub called : FlowStep → S → Numbers → C → Turn S
+  called step s n call = record {
+    answer = played.answer call (played.reply_to call s);
+    after = after call s;
+    numbers = with_number step (given call (played.reply_to call s)) n;
+  }
+
+  abbrev pub turn_by : Option C → FlowStep → S → Numbers → Turn S
+  turn_by call step s n = option_map_or (called step s n) call (without_call step s n)
+
+  -- a step
+  abbrev pub flow_turn : FlowStep → S → Numbers → Turn S
+  flow_turn step s n = turn_by (call_of step n) step s n
+
+  -- a step that not every kind has
+  abbrev pub own_turn : FlowStep → S → Numbers → Turn S
+  own_turn step s n = turn_by (played.own_call step n.emissions) step s n
+
+  -- this is the answer by a reply that is told
+  abbrev pub IsAnswer : (R → Bool) → C → R → Answer → Type 0
+  IsAnswer is_told call reply answer = (is_told reply ≡ true) × (played.answer call reply ≡ answer)
+
+  -- What holds of each kind that scripts play on. No clause but the law of a core cites this.
+  pub record HasAnswers : Type 0 where
+    -- it is not want of memory
+    pub is_told : R → Bool
+    -- a reply that is told is the documented one
+    pub documented : (s : S) (call : C) (reply : R) → kind.Replies s call reply → is_told reply ≡ true → reply ≡ played.reply_to call s
+    pub tried : (value : ℤ) (test : Bool) → IsAnswer is_told (played.try_emit value) (kind.tested test) (told.tested test)
+    pub welcomed : (u : ℕ) → IsAnswer is_told (kind.subscribe []) (kind.subscribed u) subscribed
+    pub gets : (u : ℕ) (next : Next ℤ) → IsAnswer is_told (kind.take_next u) (kind.received next) (received next)
+    pub left : (u : ℕ) (test : Bool) → IsAnswer is_told (kind.unsubscribe u) (kind.tested test) (told.tested test)
+    pub cached : (values : List ℤ) → IsAnswer is_told kind.replay_cache (kind.cached values) (told.cached values)
+    pub counted : (count : ℕ) → IsAnswer is_told kind.count (kind.counted count) (told.counted count)
+    pub refused : (call : C) (fault : FlowFault) → IsToldFlowFault fault → IsAnswer is_told call (kind.refused fault) (told.refused fault)
+    -- a subscription gives its number, and a refusal gives none
+    pub gives : (u : ℕ) → given (kind.subscribe []) (kind.subscribed u) ≡ Some u
+    pub refused_gives : (call : C) (fault : FlowFault) → given call (kind.refused fault) ≡ None

@@ -1,0 +1,45 @@
+-- What a player stands for, and how it is made. No public clause cites this module.
+use Rattle.std.specs.Prelude.{◌≡◌, ◌⊎◌, Result, Ok, Err}
+use Rattle.flow_law.specs.Standing.{StandsFor}
+use Rattle.flow_cold.specs.declared.script_chain.ScriptChain.{ScriptChain}
+use Rattle.flow_cold.specs.ScriptChain.{node_whole, node_rest}
+use Rattle.flow_law.specs.declared.report.ShareFault.{ShareFault}
+use Rattle.flow_law.specs.declared.report.ShareFault.TheVariants.{Chain, Flow}
+use Rattle.flow_law.specs.declared.fault.FlowFault.TheVariants.{OutOfMemory}
+use Rattle.flow_script.specs.declared.refusal.Refusal.{Refusal}
+use Rattle.flow_law.specs.declared.chain.ChainFault.{ChainFault}
+use Rattle.flow_turns.specs.OverCores.{Emits}
+use Rattle.flow_turns.specs.StateHub.{state_flow_of}
+use Rattle.flow_script.specs.declared.player.Player.{Player}
+use Rattle.flow_script.specs.declared.player.Player.TheVariants.{Shared, State, Share, StateIn}
+use Rattle.script_chain_format.specs.ChainFormat.{BuiltChain}
+use Rattle.script_chain_format.specs.Chains.{build_of}
+use Rattle.script_format.specs.Heads.{Head}
+use Rattle.flow_script.specs.Answers.{turn_refused}
+use Rattle.flow_script.specs.Refusals.{IsTold, refused_answer}
+use Rattle.flow_script.specs.ScriptMeaning.{player_of}
+use Rattle.flow_script.specs.ScriptMeaning as player
+use Rattle.flow_script.specs.Sharings.{ShowsSharing}
+
+abbrev pub Shows : Player → player.Player → Type 0
+Shows (Shared core) (player.shared s) = StandsFor core s
+Shows (State core) (player.state s) = core ≡ s
+Shows (Share sharing) (player.share p) = ShowsSharing Emits sharing p
+Shows (StateIn sharing) (player.state_in p) = ShowsSharing (λ hub s. state_flow_of hub ≡ s) sharing p
+Shows _ _ = ⊥
+
+-- the player before the first step, or why no sharing is made: want of memory is no fault of the script
+abbrev pub MakesSharing : Head → Result Player ShareFault → Type 0
+MakesSharing head (Ok made) = (p : player.Player) × (player_of head ≡ Ok p) × Shows made p
+MakesSharing head (Err fault) = (player_of head ≡ Err (turn_refused fault)) ⊎ (fault ≡ Flow OutOfMemory)
+
+-- the player before the first step, or why the flow was not made
+abbrev pub Makes : Head → Result Player Refusal → Type 0
+Makes head (Ok made) = (p : player.Player) × (player_of head ≡ Ok p) × Shows made p
+Makes head (Err refused) = IsTold refused → player_of head ≡ Err (refused_answer refused)
+
+-- the chain that was built, from its beginning, or why it was not built
+abbrev pub Rewinds : Result ScriptChain ChainFault → Result ScriptChain ShareFault → Type 0
+Rewinds build (Ok chain) =
+    (built : BuiltChain) × (build_of build ≡ Ok built) × (node_whole chain.node ≡ built.run) × (node_rest chain.node ≡ built.run)
+Rewinds build (Err fault) = (refusal : ChainFault) × (build ≡ Err refusal) × (fault ≡ Chain refusal)

@@ -1,0 +1,28 @@
+-- The answer of a flow that was not made. One that was refused for want of memory has none.
+use Rattle.flow_script.specs.declared.refusal.Refusal.{Refusal}
+use Rattle.flow_script.specs.declared.refusal.Refusal.TheVariants as refusal
+use Rattle.std.specs.Prelude.{◌≡◌}
+use Rattle.flow_law.specs.declared.fault.FlowFault.{FlowFault}
+use Rattle.flow_law.specs.declared.report.ShareFault.{ShareFault}
+use Rattle.flow_script.specs.declared.answer.Answer.{Answer as Given}
+use Rattle.flow_script.specs.Answers.{Answer, answer_of, refused, turn_refused}
+use Rattle.flow_script.specs.Memory.{IsToldFlowFault, IsToldFault}
+
+-- why a flow was not made
+abbrev pub refused_answer : Refusal → Answer
+refused_answer (refusal.Flow fault) = refused fault
+refused_answer (refusal.Sharing fault) = turn_refused fault
+
+abbrev pub IsTold : Refusal → Type 0
+IsTold (refusal.Flow fault) = IsToldFlowFault fault
+IsTold (refusal.Sharing fault) = IsToldFault fault
+
+-- this answer says why, and it was not for want of memory
+abbrev pub AnswersRefusal : FlowFault → Given → Type 0
+AnswersRefusal fault answer = IsToldFlowFault fault × (answer_of answer ≡ refused fault)
+
+abbrev pub AnswersTurn : ShareFault → Given → Type 0
+AnswersTurn fault answer = IsToldFault fault × (answer_of answer ≡ turn_refused fault)
+
+abbrev pub Answers : Refusal → Given → Type 0
+Answers why answer = IsTold why × (answer_of answer ≡ refused_answer why)

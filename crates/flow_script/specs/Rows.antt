@@ -1,0 +1,59 @@
+-- What a row of flows stands for, and what it answers while it is made and played. No public clause cites this module.
+use Rattle.std.specs.Prelude.{◌≡◌, Bool, true, false, List, [], map, Option, Some, None, Vec}
+use Rattle.std.specs.List.{AllZip}
+use Rattle.std.specs.declared.alloc.Global.{Global}
+use Rattle.script_format.specs.Actions.{Action}
+use Rattle.script_format.specs.Heads.{NamedHead}
+use Rattle.flow_script.specs.declared.row.PlayedFlow.{PlayedFlow as Kept}
+use Rattle.flow_script.specs.declared.answer.Answer.{Answer as Given}
+use Rattle.flow_script.specs.declared.answer.Told.{Told}
+use Rattle.flow_script.specs.Answers.{answer_of}
+use Rattle.flow_script.specs.Players.{Shows}
+use Rattle.flow_script.specs.ScriptMeaning.{Answers, NotMade, Play, PlayedFlow, RowTurn, after_refusals, answers_from, answers_of, only_steps, place_turn, player_of, with_flow}
+use Rattle.flow_script.specs.Said.{said_of}
+use Rattle.flow_script.specs.Shown.{numbers_of}
+
+abbrev pub ShowsFlow : Kept → PlayedFlow → Type 0
+ShowsFlow kept flow = Shows kept.player flow.player × (numbers_of kept.numbers ≡ flow.numbers)
+
+abbrev pub ShowsPlace : Option Kept → Option PlayedFlow → Type 0
+ShowsPlace (Some kept) (Some flow) = ShowsFlow kept flow
+ShowsPlace None None = Unit {0}
+ShowsPlace _ _ = ⊥
+
+abbrev pub ShowsRow : List (Option Kept) → List (Option PlayedFlow) → Type 0
+ShowsRow kept row = AllZip ShowsPlace kept row
+
+-- a step is played on what is at a place, with this answer
+abbrev pub FollowsPlace : Play → Option Kept → Option Kept → Given → Type 0
+FollowsPlace play old new answer =
+    (place : Option PlayedFlow) → ShowsPlace old place →
+    ShowsPlace new (place_turn play place).after × (answer_of answer ≡ (place_turn play place).answer)
+
+-- a step is played on a row of flows, with this answer
+abbrev pub FollowsRow : (List (Option PlayedFlow) → RowTurn) → List (Option Kept) → List (Option Kept) → Given → Type 0
+FollowsRow step old new answer =
+    (row : List (Option PlayedFlow)) → ShowsRow old row →
+    ShowsRow new (step row).after × (answer_of answer ≡ (step row).answer)
+
+-- steps are played one after the other, with these answers
+abbrev pub FollowsSteps : List Action → List (Option Kept) → List Told → Type 0
+FollowsSteps actions old told =
+    (row : List (Option PlayedFlow)) → ShowsRow old row → map said_of told ≡ answers_from row actions
+
+-- One flow more is made. Where the script goes on, what its rest answers follows the refusals so far; else these are all
+abbrev pub AddsFlow : NamedHead → Bool → List (Option Kept) → List (Option Kept) → List NotMade → List NotMade → Type 0
+AddsFlow named true old new before after =
+    (row : List (Option PlayedFlow)) → ShowsRow old row →
+    (later : List (Option PlayedFlow)) × ShowsRow new later
+    × ((rest : List (Option PlayedFlow) → Answers) → after_refusals before (with_flow named.name (player_of named.flow) rest row) ≡ after_refusals after (rest later))
+AddsFlow named false old new before after =
+    (row : List (Option PlayedFlow)) (rest : List (Option PlayedFlow) → Answers)
+    → after_refusals before (with_flow named.name (player_of named.flow) rest row) ≡ after_refusals after (only_steps [])
+
+-- the flows before the first step, or none where a refusal ends the script
+abbrev pub Begins : List NamedHead → List NotMade → List NotMade → Option (Vec (Option Kept) Global) → Type 0
+Begins flows before after (Some made) =
+    (row : List (Option PlayedFlow)) × ShowsRow made.items row
+    × ((steps : List Action) → after_refusals before (answers_of flows steps) ≡ after_refusals after (only_steps (answers_from row steps)))
+Begins flows before after None = (steps : List Action) → after_refusals before (answers_of flows steps) ≡ after_refusals after (only_steps [])

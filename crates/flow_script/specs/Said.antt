@@ -1,0 +1,21 @@
+-- What a played script says, in the definitions' terms. Begin with `said`.
+use Rattle.std.specs.Prelude.{List, map, option_map, string_bytes}
+use Rattle.flow_script.specs.Answers.{Answer, answer_of}
+use Rattle.flow_script.specs.ScriptMeaning.{Answers, NotMade}
+use Rattle.flow_script.specs.declared.answer.Answers.{Answers as Kept}
+use Rattle.flow_script.specs.declared.answer.NotMade.{NotMade as KeptNotMade}
+use Rattle.flow_script.specs.declared.answer.Told.{Told}
+
+abbrev pub not_made_of : KeptNotMade → NotMade
+not_made_of flow = record { name = option_map string_bytes flow.name; answer = answer_of flow.answer }
+
+abbrev pub all_not_made : List KeptNotMade → List NotMade
+all_not_made flows = map not_made_of flows
+
+-- the answer of a step
+abbrev pub said_of : Told → Answer
+said_of told = answer_of told.answer
+
+-- all that a script answers
+abbrev pub said : Kept → Answers
+said answers = record { not_made = all_not_made answers.not_made.items; steps = map said_of answers.steps.items }

@@ -1,0 +1,76 @@
+-- The steps of a script on a chain that is shared (`shareIn`, `stateIn`), by whichever kind of flow.
+-- Begin with `sharing_step`. A turn is the one of flow_law's SharingFlows, any other step one on the flow that reads it.
+use Rattle.std.specs.Prelude.{ℕ, ℤ, Bool, true, false, if◌then◌else◌, List, []}
+use Rattle.flow_law.specs.declared.sharing.Started.{Started}
+use Rattle.flow_law.specs.declared.sharing.SharingObservation.{SharingObservation}
+use Rattle.flow_law.specs.declared.states.EmittingFlow.{EmittingFlow}
+use Rattle.flow_law.specs.declared.states.SharedFlowState.{SharedFlowState}
+use Rattle.flow_law.specs.declared.states.StateAndInitial.{StateAndInitial}
+use Rattle.flow_law.specs.declared.states.StateFlowState.{StateFlowState}
+use Rattle.flow_law.specs.ChainRun.{ChainRun}
+use Rattle.flow_law.specs.SharingCalls.{HubCall, HubAnswer, ChainAndHub, with_hub}
+use Rattle.flow_law.specs.SharingFlows as sharing
+use Rattle.flow_law.specs.SharingTurn.{SharingState, at_rest}
+use Rattle.flow_law.specs.Steps.{After}
+use Rattle.script_format.specs.declared.script.FlowStep.{FlowStep}
+use Rattle.script_format.specs.declared.script.FlowStep.TheVariants as step
+use Rattle.flow_script.specs.FlowMeaning.{Turn, without_call}
+use Rattle.flow_script.specs.Answers.{turn_answer}
+use Rattle.flow_script.specs.Numbers.{Numbers}
+
+pub record SharingPlay (F : Type 0) : Type 0 where
+  pub started : Started
+  -- the observations, the newest one first
+  pub seen : List SharingObservation
+  pub state : SharingState ℤ
+  -- the chain, and the flow into which it is shared
+  pub both : ChainAndHub ℤ F
+
+-- before any turn
+abbrev pub first_sharing : {F : Type 0} → ChainRun ℤ → Started → F → SharingPlay F
+first_sharing whole started f = record { started = started; seen = []; state = at_rest; both = record { whole = whole; rest = whole; hub = f } }
+
+-- a step on a shared flow into which a chain is shared: the sharing's own emission is none of the script's
+abbrev pub beside_emission : (FlowStep → SharedFlowState ℤ → Numbers → Turn (SharedFlowState ℤ)) → FlowStep → EmittingFlow ℤ → Numbers → Turn (EmittingFlow ℤ)
+beside_emission flow step f n =
+    let t = flow step f.flow n in
+    record { answer = t.answer; after = record f { flow = t.after }; numbers = t.numbers }
+
+-- a step on a state flow into which a chain is shared: no step changes its initial value
+abbrev pub beside_initial : (FlowStep → StateFlowState ℤ → Numbers → Turn (StateFlowState ℤ)) → FlowStep → StateAndInitial ℤ → Numbers → Turn (StateAndInitial ℤ)
+beside_initial flow step f n =
+    let t = flow step f.flow n in
+    record { answer = t.answer; after = record f { flow = t.after }; numbers = t.numbers }
+
+-- who shares a chain only reads its flow
+abbrev pub is_reading : FlowStep → Bool
+is_reading step.Subscribe = true
+is_reading (step.Next place) = true
+is_reading (step.Unsubscribe place) = true
+is_reading step.Cache = true
+is_reading step.Count = true
+is_reading step.Value = true
+is_reading _ = false
+
+-- `flow` says what a step does on the flow
+module _ {F : Type 0} (flow : FlowStep → F → Numbers → Turn F) where
+  abbrev pub on_flow : Turn F → SharingPlay F → Turn (SharingPlay F)
+  on_flow t p = record { answer = t.answer; after = record p { both = with_hub p.both t.after }; numbers = t.numbers }
+
+  abbrev pub reading : FlowStep → SharingPlay F → Numbers → Turn (SharingPlay F)
+  reading step p n = if is_reading step then on_flow (flow step p.both.hub n) p else without_call step p n
+
+-- `reply` says what the flow answers the sharing
+module _ {F : Type 0} (reply : (c : HubCall ℤ) → F → After (HubAnswer c) F) where
+  abbrev pub turn_at : ℕ → SharingPlay F → Numbers → Turn (SharingPlay F)
+  turn_at now p n =
+      let t = sharing.flow_turn reply p.started now p.seen p.state p.both in
+      record {
+        answer = turn_answer t.result.answer;
+        after = record p { seen = t.result.seen; state = t.result.state; both = t.state };
+        numbers = n;
+      }
+
+abbrev pub sharing_step : {F : Type 0} → (FlowStep → F → Numbers → Turn F) → ((c : HubCall ℤ) → F → After (HubAnswer c) F) → FlowStep → SharingPlay F → Numbers → Turn (SharingPlay F)
+sharing_step flow reply (step.Turn now) p n = turn_at reply now p n
+sharing_step flow reply other p n = reading flow other p n

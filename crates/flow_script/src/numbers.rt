@@ -1,0 +1,67 @@
+//! What the names of a script stand for.
+ghost use Rattle.std.specs.Prelude.{◌≡◌, OnOk, IfErr, option_map};
+ghost use Rattle.flow_core.specs.SubId.{number_of};
+ghost use Rattle.flow_script.specs.Numbers.{no_numbers, number_at, with_emission, with_subscriber};
+ghost use Rattle.flow_script.specs.Shown.{numbers_of};
+
+use flow_core::SubId;
+use script_format::ScriptFault;
+use std::alloc::Global;
+
+/// What the names of a script stand for, each kind in the order of introduction.
+#[derive(Drop)]
+pub struct Numbers {
+    /// The number of each emission that waited at first.
+    emissions: Vec<Option<u64>>,
+    /// Each subscription that was not refused.
+    subscribers: Vec<Option<SubId>>,
+}
+
+impl Numbers {
+    pub fn new(alloc: Global) -> Self
+        ensures { numbers_of result ≡ no_numbers }
+    {
+        Numbers {
+            emissions: Vec::new(alloc),
+            subscribers: Vec::new(alloc),
+        }
+    }
+
+    pub fn emission_at(&self, place: usize) -> Option<u64>
+        ensures { result ≡ number_at place (numbers_of self.now).emissions }
+    {
+        *self.emissions.get(place)?
+    }
+
+    pub fn subscriber_at(&self, place: usize) -> Option<SubId>
+        ensures { option_map number_of result ≡ number_at place (numbers_of self.now).subscribers }
+    {
+        *self.subscribers.get(place)?
+    }
+
+    /// How many names of subscribers were introduced.
+    pub fn subscribers(&self) -> usize {
+        self.subscribers.len()
+    }
+
+    /// The next name of an emission, and its number where it waits.
+    pub fn add_emission(&mut self, number: Option<u64>) -> Result<(), ScriptFault>
+        ensures added { OnOk result (numbers_of self.new ≡ with_emission number (numbers_of self.old)) }
+        ensures fault { IfErr result (λ fault. fault ≡ ScriptFault.OutOfMemory) }
+    {
+        self.emissions
+            .push(number)
+            .map_err(|_| ScriptFault::OutOfMemory)
+    }
+
+    /// The next name of a subscriber, unless its subscription was refused.
+    pub fn add_subscriber(&mut self, id: Option<SubId>) -> Result<(), ScriptFault>
+        ensures added { OnOk result (
+            numbers_of self.new ≡ with_subscriber (option_map number_of id) (numbers_of self.old)) }
+        ensures fault { IfErr result (λ fault. fault ≡ ScriptFault.OutOfMemory) }
+    {
+        self.subscribers
+            .push(id)
+            .map_err(|_| ScriptFault::OutOfMemory)
+    }
+}

@@ -1,0 +1,236 @@
+//! The flows of a script in a row, as its steps are played on them.
+ghost use Rattle.std.specs.Prelude.{◌≡◌, ◌++◌, [], ◌∷◌, List, Option, Some, None, Ok, Err, OnOk, IfOk, IfErr, option_map, string_bytes};
+ghost use Rattle.script_format.specs.Actions.{action_of, heads_of, named_head};
+ghost use Rattle.script_format.specs.Heads.{NamedHead};
+ghost use Rattle.flow_script.specs.declared.row.PlayedFlow.{PlayedFlow as Kept};
+ghost use Rattle.flow_script.specs.Players.{Makes, Shows};
+ghost use Rattle.flow_script.specs.Refusals.{IsTold, refused_answer};
+ghost use Rattle.flow_script.specs.Rows.{AddsFlow, Begins, FollowsPlace, FollowsRow, ShowsFlow};
+ghost use Rattle.flow_script.specs.Said.{all_not_made};
+ghost use Rattle.flow_script.specs.ScriptMeaning as meaning;
+
+use crate::answer::{Answer, NotMade};
+use crate::collecting::collect;
+use crate::numbers::Numbers;
+use crate::player::Player;
+use crate::refusal::Refusal;
+use script_format::{FlowStep, NamedFlow, ScriptFault, Step};
+use std::alloc::Global;
+
+/// A flow that was made, and what the names of its steps stand for.
+#[derive(Drop)]
+pub struct PlayedFlow {
+    player: Player,
+    numbers: Numbers,
+}
+
+impl PlayedFlow {
+    /// Before the first step on it.
+    fn new(alloc: Global, player: Player) -> Self
+        ensures { (p : meaning.Player) → Shows player p → ShowsFlow result (meaning.first_played p) }
+    {
+        PlayedFlow {
+            player,
+            numbers: Numbers::new(alloc),
+        }
+    }
+
+    /// How many values it has emitted, where it is a shared flow.
+    pub fn emission_count(&self) -> Option<u64> {
+        Some(self.player.shared_core()?.emission_count())
+    }
+
+    /// How many names of subscribers were introduced.
+    pub fn subscribers(&self) -> usize {
+        self.numbers.subscribers()
+    }
+
+    /// How many values the subscriber of the name at a place has still to receive.
+    pub fn lag(&self, place: usize) -> Option<u64> {
+        let id = self.numbers.subscriber_at(place)?;
+        self.player.shared_core()?.lag(id)
+    }
+}
+
+fn add_place(
+    row: &mut Vec<Option<PlayedFlow>>,
+    place: Option<PlayedFlow>,
+) -> Result<(), ScriptFault>
+    ensures added { OnOk result (row.new.items ≡ row.old.items ++ place ∷ []) }
+    ensures fault { IfErr result (λ fault. fault ≡ ScriptFault.OutOfMemory) }
+{
+    row.push(place).map_err(|_| ScriptFault::OutOfMemory)
+}
+
+/// Adds a flow that was refused to those that were refused before it.
+fn add_refused(
+    not_made: &mut Vec<NotMade>,
+    name: Option<String>,
+    refused: Refusal,
+) -> Result<(), ScriptFault>
+    ensures told { OnOk result (IsTold refused) }
+    ensures added { OnOk result (all_not_made not_made.new.items ≡ all_not_made not_made.old.items
+        ++ meaning.not_made_flow (option_map string_bytes name) (refused_answer refused) ∷ []) }
+    ensures fault { IfErr result (λ fault. fault ≡ ScriptFault.OutOfMemory) }
+{
+    let answer = refused.answer()?;
+    not_made.push(NotMade { name, answer })?;
+    Ok(())
+}
+
+/// A flow that was made takes its place before the first step, and the script goes on.
+fn add_made(
+    alloc: Global,
+    row: &mut Vec<Option<PlayedFlow>>,
+    player: Player,
+) -> Result<bool, ScriptFault>
+    ensures adds { (named : NamedHead) (refused : List meaning.NotMade) → Makes named.flow (Ok player)
+        → IfOk result (λ goes_on. AddsFlow named goes_on row.old.items row.new.items refused refused) }
+    ensures fault { IfErr result (λ fault. fault ≡ ScriptFault.OutOfMemory) }
+{
+    add_place(row, Some(PlayedFlow::new(alloc, player)))?;
+    Ok(true)
+}
+
+/// A flow with a name that was not made leaves its place empty, and the script goes on.
+fn add_not_made(
+    row: &mut Vec<Option<PlayedFlow>>,
+    not_made: &mut Vec<NotMade>,
+    name: String,
+    refused: Refusal,
+) -> Result<bool, ScriptFault>
+    ensures adds { (named : NamedHead) → named.name ≡ Some (string_bytes name)
+        → Makes named.flow (Err refused)
+        → IfOk result (λ goes_on. AddsFlow named goes_on row.old.items row.new.items
+        (all_not_made not_made.old.items) (all_not_made not_made.new.items)) }
+    ensures fault { IfErr result (λ fault. fault ≡ ScriptFault.OutOfMemory) }
+{
+    add_refused(not_made, Some(name), refused)?;
+    add_place(row, None)?;
+    Ok(true)
+}
+
+/// A flow without a name that was not made ends the script.
+fn end_not_made(not_made: &mut Vec<NotMade>, refused: Refusal) -> Result<bool, ScriptFault>
+    ensures ends { (named : NamedHead) (row : List (Option Kept)) → named.name ≡ None
+        → Makes named.flow (Err refused)
+        → IfOk result (λ goes_on. AddsFlow named goes_on row row
+        (all_not_made not_made.old.items) (all_not_made not_made.new.items)) }
+    ensures fault { IfErr result (λ fault. fault ≡ ScriptFault.OutOfMemory) }
+{
+    add_refused(not_made, None, refused)?;
+    Ok(false)
+}
+
+/// Makes one flow more, and returns whether the script goes on: it ends if a flow without a name is refused.
+fn add_flow(
+    alloc: Global,
+    row: &mut Vec<Option<PlayedFlow>>,
+    not_made: &mut Vec<NotMade>,
+    named: NamedFlow,
+) -> Result<bool, ScriptFault>
+    ensures adds { IfOk result (λ goes_on. AddsFlow (named_head named) goes_on row.old.items row.new.items
+        (all_not_made not_made.old.items) (all_not_made not_made.new.items)) }
+    ensures fault { IfErr result (λ fault. fault ≡ ScriptFault.OutOfMemory) }
+{
+    let NamedFlow { name, flow } = named;
+    match Player::new(alloc, flow) {
+        Ok(player) => add_made(alloc, row, player),
+        Err(refused) => match name {
+            Some(name) => add_not_made(row, not_made, name, refused),
+            None => end_not_made(not_made, refused),
+        },
+    }
+}
+
+/// Makes the flows in their order, before the first step. Returns `None` if a refusal ends the script.
+pub fn begin(
+    alloc: Global,
+    not_made: &mut Vec<NotMade>,
+    flows: Vec<NamedFlow>,
+) -> Result<Option<Vec<Option<PlayedFlow>>>, ScriptFault>
+    ensures begins { IfOk result (Begins (heads_of flows.items)
+        (all_not_made not_made.old.items) (all_not_made not_made.new.items)) }
+    ensures fault { IfErr result (λ fault. fault ≡ ScriptFault.OutOfMemory) }
+{
+    let mut row = Vec::new(alloc);
+    for named in flows {
+        if !add_flow(alloc, &mut row, not_made, named)? {
+            return Ok(None);
+        }
+    }
+    Ok(Some(row))
+}
+
+/// Plays a step on what is at a place: a flow, or nothing if it was refused when it was made.
+fn place_step(place: &mut Option<PlayedFlow>, step: FlowStep) -> Result<Answer, ScriptFault>
+    ensures plays { IfOk result (FollowsPlace (meaning.player_turn step) place.old place.new) }
+    ensures fault { IfErr result (λ fault. fault ≡ ScriptFault.OutOfMemory) }
+{
+    match place {
+        Some(flow) => flow.player.flow_step(&mut flow.numbers, step),
+        None => Ok(Answer::NoFlow),
+    }
+}
+
+/// Plays a step on the flow at a place.
+fn step_at(
+    row: &mut [Option<PlayedFlow>],
+    place: usize,
+    step: FlowStep,
+) -> Result<Answer, ScriptFault>
+    ensures plays { IfOk result
+        (FollowsRow (meaning.turn_at place (meaning.player_turn step)) row.old row.new) }
+    ensures fault { IfErr result (λ fault. fault ≡ ScriptFault.OutOfMemory) }
+{
+    if place < row.len() {
+        return place_step(&mut row[place], step);
+    }
+    Ok(Answer::NoFlow)
+}
+
+/// Subscribes to what is at a place, with first values of the subscriber's own.
+fn place_subscribe(place: &mut Option<PlayedFlow>, first: Vec<i64>) -> Result<Answer, ScriptFault>
+    ensures plays { IfOk result
+        (FollowsPlace (meaning.player_subscribes_with first.items) place.old place.new) }
+    ensures fault { IfErr result (λ fault. fault ≡ ScriptFault.OutOfMemory) }
+{
+    match place {
+        Some(flow) => flow.player.subscribe_with(&mut flow.numbers, first),
+        None => Ok(Answer::NoFlow),
+    }
+}
+
+/// Subscribes to the flow at a place, with first values of the subscriber's own.
+fn subscribe_at(
+    row: &mut [Option<PlayedFlow>],
+    place: usize,
+    first: Vec<i64>,
+) -> Result<Answer, ScriptFault>
+    ensures plays { IfOk result
+        (FollowsRow (meaning.turn_at place (meaning.player_subscribes_with first.items))
+        row.old row.new) }
+    ensures fault { IfErr result (λ fault. fault ≡ ScriptFault.OutOfMemory) }
+{
+    if place < row.len() {
+        return place_subscribe(&mut row[place], first);
+    }
+    Ok(Answer::NoFlow)
+}
+
+/// Plays a step of a script.
+pub fn row_step(
+    alloc: Global,
+    row: &mut Vec<Option<PlayedFlow>>,
+    step: Step,
+) -> Result<Answer, ScriptFault>
+    ensures plays { IfOk result (FollowsRow (meaning.turn (action_of step))
+        row.old.items row.new.items) }
+    ensures fault { IfErr result (λ fault. fault ≡ ScriptFault.OutOfMemory) }
+{
+    match step {
+        Step::Flow(place, step) => step_at(row.as_mut_slice(), place, step),
+        Step::SubscribeWith(place, first) => subscribe_at(row.as_mut_slice(), place, first),
+        Step::Collect(build) => collect(alloc, build),
+    }
+}

@@ -1,0 +1,256 @@
+-- What the JSON text of a chain says, and what the chain gives.
+-- Begin with `chain_in`. A chain of the right form within its limits may still be refused when it is built: that is no
+-- fault of the script, but what its collection tells.
+use Rattle.std.specs.Prelude.{ℕ, zero, suc, ◌+◌, Bool, false, ◌==◌, nat_lt, max, if◌then◌else◌, ℤ, List, [], ◌∷◌, Option, Some, None, option_map, option_and_then, Result, Ok, Err, codes}
+use Rattle.std.specs.Option.{option_map_or}
+use Rattle.std.specs.Ordering.{int_eq}
+use Rattle.std.specs.Str.{bytes_eq}
+use Rattle.serde_json.specs.Data.{Data, Items, no_items, item}
+use Rattle.serde_json.specs.Find.{get, as_array}
+use Rattle.flow_law.specs.declared.chain.ChainFault.{ChainFault}
+use Rattle.flow_law.specs.declared.chain.ChainFault.TheVariants.{NotPositive, TooDeep}
+use Rattle.flow_law.specs.ChainRun.{ChainRun, gives}
+use Rattle.flow_law.specs.OperatorRuns.{map_run, filter_run, take_while_run, transform_run, take_run, drop_run, drop_while_run, scan_run, running_reduce_run, flat_map_run, zip_run, distinct_run}
+use Rattle.flow_cold.specs.declared.script_chain.op.Arithmetic.{Arithmetic}
+use Rattle.flow_cold.specs.declared.script_chain.op.Arithmetic.TheVariants as arithmetic
+use Rattle.flow_cold.specs.declared.script_chain.op.Joining.{Joining}
+use Rattle.flow_cold.specs.declared.script_chain.op.Joining.TheVariants as joining
+use Rattle.flow_cold.specs.declared.script_chain.op.Spread.{Spread}
+use Rattle.flow_cold.specs.declared.script_chain.op.Spread.TheVariants as spread
+use Rattle.flow_cold.specs.declared.script_chain.op.Test.{Test}
+use Rattle.flow_cold.specs.declared.script_chain.op.Test.TheVariants as test
+use Rattle.flow_cold.specs.Numbers.{computed, joined, passes, sums, spread_run}
+use Rattle.script_chain_format.specs.declared.reading.fault.ScriptFault.{ScriptFault}
+use Rattle.script_chain_format.specs.declared.reading.fault.ScriptFault.TheVariants.{BadShape}
+use Rattle.script_chain_format.specs.declared.chain_words.OpName.{OpName}
+use Rattle.script_chain_format.specs.declared.chain_words.OpName.TheVariants.{Map, Filter, TakeWhile, Transform, Take, DropFirst, DropWhile, Scan, RunningReduce, FlatMap, Zip, Distinct}
+use Rattle.script_chain_format.specs.declared.reading.version.Version.{Version}
+use Rattle.script_chain_format.specs.declared.reading.version.Version.TheVariants.{One, Two}
+use Rattle.script_chain_format.specs.Members.{u64_at, i64_at, text_at, has_only, where_true}
+use Rattle.script_chain_format.specs.Results.{result_then, result_map, or_fault, first_fault}
+use Rattle.script_chain_format.specs.SourceFormat.{within, numbers_in, source_in}
+
+-- ---- limits
+
+abbrev pub most_added : ℕ
+most_added = 16
+
+abbrev pub most_spread : ℕ
+most_spread = 1000
+
+-- ---- words
+
+-- the operators of version 2 alone
+abbrev pub later_op_named : Version → List ℕ → Option OpName
+later_op_named One text = None
+later_op_named Two text = if bytes_eq text (codes "drop_while") then Some DropWhile else (if bytes_eq text (codes "running_reduce") then Some RunningReduce else None)
+
+abbrev pub op_named : Version → List ℕ → Option OpName
+op_named version text =
+    if bytes_eq text (codes "map") then Some Map
+    else (if bytes_eq text (codes "filter") then Some Filter
+    else (if bytes_eq text (codes "take_while") then Some TakeWhile
+    else (if bytes_eq text (codes "transform") then Some Transform
+    else (if bytes_eq text (codes "take") then Some Take
+    else (if bytes_eq text (codes "drop") then Some DropFirst
+    else (if bytes_eq text (codes "scan") then Some Scan
+    else (if bytes_eq text (codes "flat_map") then Some FlatMap
+    else (if bytes_eq text (codes "zip") then Some Zip
+    else (if bytes_eq text (codes "distinct") then Some Distinct else later_op_named version text)))))))))
+
+abbrev pub op_name_of : Version → Data → Option OpName
+op_name_of version d = option_and_then (op_named version) (text_at (codes "op") d)
+
+abbrev pub arithmetic_named : List ℕ → Option Arithmetic
+arithmetic_named text = if bytes_eq text (codes "add") then Some arithmetic.Add else (if bytes_eq text (codes "mul") then Some arithmetic.Mul else None)
+
+abbrev pub arithmetic_at : Data → Option Arithmetic
+arithmetic_at d = option_and_then arithmetic_named (text_at (codes "by") d)
+
+abbrev pub joining_named : List ℕ → Option Joining
+joining_named text =
+    if bytes_eq text (codes "add") then Some joining.Add
+    else (if bytes_eq text (codes "mul") then Some joining.Mul
+    else (if bytes_eq text (codes "left") then Some joining.Left
+    else (if bytes_eq text (codes "right") then Some joining.Right else None)))
+
+abbrev pub joining_at : Data → Option Joining
+joining_at d = option_and_then joining_named (text_at (codes "by") d)
+
+abbrev pub spread_named : List ℕ → Option Spread
+spread_named text = if bytes_eq text (codes "range") then Some spread.Range else (if bytes_eq text (codes "repeat") then Some spread.Repeat else None)
+
+abbrev pub spread_at : Data → Option Spread
+spread_at d = option_and_then spread_named (text_at (codes "to") d)
+
+abbrev pub compared_with : Data → Option ℤ
+compared_with d = where_true (has_only (codes "op" ∷ codes "by" ∷ codes "k" ∷ []) d) (i64_at (codes "k") d)
+
+-- even and odd stand alone, the others have a number beside them
+abbrev pub test_named : List ℕ → Data → Option Test
+test_named text d =
+    if bytes_eq text (codes "even") then where_true (has_only (codes "op" ∷ codes "by" ∷ []) d) (Some test.Even)
+    else (if bytes_eq text (codes "odd") then where_true (has_only (codes "op" ∷ codes "by" ∷ []) d) (Some test.Odd)
+    else (if bytes_eq text (codes "lt") then option_map test.Less (compared_with d)
+    else (if bytes_eq text (codes "gt") then option_map test.Greater (compared_with d)
+    else (if bytes_eq text (codes "ne") then option_map test.NotEqual (compared_with d) else None))))
+
+abbrev pub test_of : Data → Option Test
+test_of d = option_and_then (λ text. test_named text d) (text_at (codes "by") d)
+
+-- ---- operators
+
+-- a chain that was built: how deep it is, and what it gives
+pub record BuiltChain : Type 0 where
+  pub depth : ℕ
+  pub run : ChainRun ℤ
+
+pub record Operator : Type 0 where
+  -- a take of nothing
+  pub takes_none : Bool
+  -- how deep a chain is with it
+  pub depth : ℕ → ℕ
+  pub run : ChainRun ℤ → ChainRun ℤ
+
+abbrev pub one_deeper : (ChainRun ℤ → ChainRun ℤ) → Operator
+one_deeper run = record { takes_none = false; depth = λ depth. depth + 1; run = run }
+
+abbrev pub take_operator : ℕ → Operator
+take_operator count = record { takes_none = count == 0; depth = λ depth. depth + 1; run = take_run count }
+
+abbrev pub zip_operator : Joining → BuiltChain → Operator
+zip_operator by with = record { takes_none = false; depth = λ depth. max depth with.depth + 1; run = λ r. zip_run (joined by) r with.run }
+
+abbrev pub map_of : Data → Option Operator
+map_of d = where_true (has_only (codes "op" ∷ codes "by" ∷ codes "k" ∷ []) d) (option_and_then (λ by. option_map (λ k. one_deeper (map_run (λ x. computed by (x, k)))) (i64_at (codes "k") d)) (arithmetic_at d))
+
+abbrev pub filter_of : Data → Option Operator
+filter_of d = option_map (λ test. one_deeper (filter_run (passes test))) (test_of d)
+
+abbrev pub take_while_of : Data → Option Operator
+take_while_of d = option_map (λ test. one_deeper (take_while_run (passes test))) (test_of d)
+
+abbrev pub drop_while_of : Data → Option Operator
+drop_while_of d = option_map (λ test. one_deeper (drop_while_run (passes test))) (test_of d)
+
+abbrev pub take_of : Data → Option Operator
+take_of d = where_true (has_only (codes "op" ∷ codes "n" ∷ []) d) (option_map take_operator (u64_at (codes "n") d))
+
+abbrev pub drop_of : Data → Option Operator
+drop_of d = where_true (has_only (codes "op" ∷ codes "n" ∷ []) d) (option_map (λ n. one_deeper (λ r. drop_run r n)) (u64_at (codes "n") d))
+
+abbrev pub scan_of : Data → Option Operator
+scan_of d = where_true (has_only (codes "op" ∷ codes "by" ∷ codes "from" ∷ []) d) (option_and_then (λ by. option_map (λ from. one_deeper (λ r. gives from (scan_run (computed by) from r))) (i64_at (codes "from") d)) (arithmetic_at d))
+
+abbrev pub running_reduce_of : Data → Option Operator
+running_reduce_of d = where_true (has_only (codes "op" ∷ codes "by" ∷ []) d) (option_map (λ by. one_deeper (running_reduce_run (computed by) None)) (arithmetic_at d))
+
+abbrev pub distinct_of : Data → Option Operator
+distinct_of d = where_true (has_only (codes "op" ∷ []) d) (Some (one_deeper (distinct_run int_eq None)))
+
+abbrev pub transform_in : ℕ → Data → Result Operator ScriptFault
+transform_in at d = result_map (λ entries. one_deeper (transform_run (sums entries)))
+    (result_then (numbers_in at most_added) (or_fault (BadShape at) (where_true (has_only (codes "op" ∷ codes "add" ∷ []) d) (get (codes "add") d))))
+
+abbrev pub flat_map_of : Data → Option (Spread × ℕ)
+flat_map_of d = where_true (has_only (codes "op" ∷ codes "to" ∷ codes "n" ∷ []) d) (option_and_then (λ to. option_map (λ n. (to, n)) (u64_at (codes "n") d)) (spread_at d))
+
+abbrev pub flat_map_in : ℕ → Data → Result Operator ScriptFault
+flat_map_in at d = result_then (λ f. within at most_spread f.1 (one_deeper (flat_map_run (spread_run f.0 f.1)))) (or_fault (BadShape at) (flat_map_of d))
+
+-- how a zip joins, and the chain that it joins with
+abbrev pub zip_of : Data → Option (Joining × Data)
+zip_of d = where_true (has_only (codes "op" ∷ codes "by" ∷ codes "with" ∷ []) d) (option_and_then (λ by. option_map (λ with. (by, with)) (get (codes "with") d)) (joining_at d))
+
+-- an operator that is no zip
+abbrev pub operator_named : OpName → ℕ → Data → Result Operator ScriptFault
+operator_named Map at d = or_fault (BadShape at) (map_of d)
+operator_named Filter at d = or_fault (BadShape at) (filter_of d)
+operator_named TakeWhile at d = or_fault (BadShape at) (take_while_of d)
+operator_named Transform at d = transform_in at d
+operator_named Take at d = or_fault (BadShape at) (take_of d)
+operator_named DropFirst at d = or_fault (BadShape at) (drop_of d)
+operator_named DropWhile at d = or_fault (BadShape at) (drop_while_of d)
+operator_named Scan at d = or_fault (BadShape at) (scan_of d)
+operator_named RunningReduce at d = or_fault (BadShape at) (running_reduce_of d)
+operator_named FlatMap at d = flat_map_in at d
+operator_named Zip at d = Err (BadShape at)
+operator_named Distinct at d = or_fault (BadShape at) (distinct_of d)
+
+abbrev pub operator_in : Version → ℕ → Data → Result Operator ScriptFault
+operator_in version at d = result_then (λ name. operator_named name at d) (or_fault (BadShape at) (op_name_of version d))
+
+-- the joining and the other chain of an operator that is a zip
+abbrev pub zip_by : OpName → Data → Option (Joining × Data)
+zip_by Zip d = zip_of d
+zip_by _ d = None
+
+abbrev pub zip_parts : Version → Data → Option (Joining × Data)
+zip_parts version d = option_and_then (λ name. zip_by name d) (op_name_of version d)
+
+-- ---- building
+
+-- a chain, or why it could not be built
+abbrev pub Build : Type 0
+Build = Result BuiltChain ChainFault
+
+abbrev pub deepest : ℕ
+deepest = 64
+
+-- a take of nothing is refused first, then a chain that would be too deep
+abbrev pub with_operator : Operator → BuiltChain → Build
+with_operator o chain =
+    if o.takes_none then Err NotPositive
+    else (if nat_lt deepest (o.depth chain.depth) then Err TooDeep else Ok (record { depth = o.depth chain.depth; run = o.run chain.run }))
+
+-- the first refusal is the chain's: what stands before the operator comes first, then the other chain of a zip
+abbrev pub built_on : Build → Result Operator ChainFault → Build
+built_on (Err fault) o = Err fault
+built_on (Ok chain) (Err fault) = Err fault
+built_on (Ok chain) (Ok o) = with_operator o chain
+
+-- a bad form anywhere in the chain comes before a limit
+abbrev pub joined_to : Result Build ScriptFault → Result (Result Operator ChainFault) ScriptFault → Result Build ScriptFault
+joined_to (Ok chain) o = result_map (built_on chain) o
+joined_to (Err fault) o = Err (first_fault fault o)
+
+abbrev pub zip_with : Joining → Build → Result Operator ChainFault
+zip_with by (Ok with) = Ok (zip_operator by with)
+zip_with by (Err fault) = Err fault
+
+abbrev pub start_of : Result (ChainRun ℤ) ScriptFault → Result Build ScriptFault
+start_of r = result_map (λ run. Ok (record { depth = 1; run = run })) r
+
+-- the source and the operators of a chain
+abbrev pub parts_of : Data → Option (Data × Items)
+parts_of d = where_true (has_only (codes "from" ∷ codes "ops" ∷ []) d) (option_and_then (λ from. option_map (λ ops. (from, ops)) (option_and_then as_array (get (codes "ops") d))) (get (codes "from") d))
+
+abbrev pub zipped : Joining → Result Build ScriptFault → Result (Result Operator ChainFault) ScriptFault
+zipped by r = result_map (zip_with by) r
+
+abbrev pub plain : Result Operator ScriptFault → Result (Result Operator ChainFault) ScriptFault
+plain r = result_map (λ o. Ok o) r
+
+-- an operator, where `chain_by` reads the other chain of a zip
+abbrev pub operator_where : (Data → Result Build ScriptFault) → Version → ℕ → Data → Result (Result Operator ChainFault) ScriptFault
+operator_where chain_by version at d = option_map_or (λ zip. zipped zip.0 (chain_by zip.1)) (zip_parts version d) (plain (operator_in version at d))
+
+abbrev pub ops_on : (Data → Result (Result Operator ChainFault) ScriptFault) → Result Build ScriptFault → Items → Result Build ScriptFault
+ops_on operator_by chain no_items = chain
+ops_on operator_by chain (item d ds) = ops_on operator_by (joined_to chain (operator_by d)) ds
+
+-- the chain of a text, where zips may nest so deep in it
+abbrev pub chain_at : Version → ℕ → ℕ → Data → Result Build ScriptFault
+chain_at version zero at d = Err (BadShape at)
+chain_at version (suc levels) at d =
+    result_then (λ parts. ops_on (operator_where (chain_at version levels at) version at) (start_of (source_in at parts.0)) parts.1) (or_fault (BadShape at) (parts_of d))
+
+abbrev pub operator_at : Version → ℕ → ℕ → Data → Result (Result Operator ChainFault) ScriptFault
+operator_at version levels at d = operator_where (chain_at version levels at) version at d
+
+-- more than any text nests: JSON nests at most 127 deep, and three deeper with each zip
+unfoldable pub most_levels : ℕ
+most_levels = 127
+
+abbrev pub chain_in : Version → ℕ → Data → Result Build ScriptFault
+chain_in version at d = chain_at version most_levels at d

@@ -1,0 +1,51 @@
+-- What the reader's numbers, operators and chains are in the definitions' terms.
+use Rattle.std.specs.Prelude.{◌==◌, ℤ, Bool, false, List, Result, Ok, Err, Vec}
+use Rattle.std.specs.declared.alloc.Global.{Global}
+use Rattle.flow_law.specs.declared.chain.ChainFault.{ChainFault}
+use Rattle.flow_law.specs.ChainRun.{ChainRun}
+use Rattle.flow_operators.specs.declared.sources.scripted.Entry.{Entry}
+use Rattle.flow_cold.specs.declared.script_chain.op.Source.{Source}
+use Rattle.flow_cold.specs.declared.script_chain.op.Op.{Op}
+use Rattle.flow_cold.specs.declared.script_chain.op.Op.TheVariants.{Take}
+use Rattle.flow_cold.specs.declared.script_chain.ScriptChain.{ScriptChain}
+use Rattle.flow_cold.specs.Build.{depth_of, op_depth, op_whole, source_whole}
+use Rattle.flow_cold.specs.ScriptChain.{node_whole}
+use Rattle.script_chain_format.specs.declared.reading.fault.ScriptFault.{ScriptFault}
+use Rattle.script_chain_format.specs.Results.{result_map}
+use Rattle.script_chain_format.specs.ChainFormat.{BuiltChain, Build, Operator}
+
+abbrev pub numbers_result : Result (Vec ℤ Global) ScriptFault → Result (List ℤ) ScriptFault
+numbers_result r = result_map (λ numbers. numbers.items) r
+
+abbrev pub entries_result : Result (Vec (Entry ℤ) Global) ScriptFault → Result (List (Entry ℤ)) ScriptFault
+entries_result r = result_map (λ entries. entries.items) r
+
+abbrev pub source_result : Result Source ScriptFault → Result (ChainRun ℤ) ScriptFault
+source_result r = result_map source_whole r
+
+abbrev pub built_of : ScriptChain → BuiltChain
+built_of chain = record { depth = depth_of chain; run = node_whole chain.node }
+
+abbrev pub build_of : Result ScriptChain ChainFault → Build
+build_of (Ok chain) = Ok (built_of chain)
+build_of (Err fault) = Err fault
+
+abbrev pub takes_none : Op → Bool
+takes_none (Take count) = count == 0
+takes_none _ = false
+
+abbrev pub operator_of : Op → Operator
+operator_of o = record { takes_none = takes_none o; depth = op_depth o; run = op_whole o }
+
+abbrev pub operator_build : Result Op ChainFault → Result Operator ChainFault
+operator_build (Ok o) = Ok (operator_of o)
+operator_build (Err fault) = Err fault
+
+abbrev pub operator_result : Result Op ScriptFault → Result Operator ScriptFault
+operator_result r = result_map operator_of r
+
+abbrev pub build_result : Result (Result ScriptChain ChainFault) ScriptFault → Result Build ScriptFault
+build_result r = result_map build_of r
+
+abbrev pub operator_build_result : Result (Result Op ChainFault) ScriptFault → Result (Result Operator ChainFault) ScriptFault
+operator_build_result r = result_map operator_build r

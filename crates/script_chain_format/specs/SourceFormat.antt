@@ -1,0 +1,81 @@
+-- What the JSON text of a source says: a list, a range, or a script of items, turns that pend and faults.
+-- Begin with `source_in`.
+use Rattle.std.specs.Prelude.{ℕ, Bool, nat_lt, if◌then◌else◌, ℤ, List, [], ◌∷◌, length, Option, Some, None, option_map, option_and_then, Result, Ok, Err, codes}
+use Rattle.std.specs.Option.{option_map_or}
+use Rattle.std.specs.Str.{bytes_eq}
+use Rattle.serde_json.specs.Data.{Data, Items, no_items, item}
+use Rattle.serde_json.specs.Find.{as_number, as_i64, as_str, as_array}
+use Rattle.flow_law.specs.ChainRun.{ChainRun, list_run}
+use Rattle.flow_operators.specs.declared.sources.scripted.Entry.{Entry}
+use Rattle.flow_operators.specs.declared.sources.scripted.Entry.TheVariants as entry
+use Rattle.flow_operators.specs.Sources.{range_run, scripted_run, span}
+use Rattle.script_chain_format.specs.declared.reading.fault.ScriptFault.{ScriptFault}
+use Rattle.script_chain_format.specs.declared.reading.fault.ScriptFault.TheVariants.{BadShape, TooLarge}
+use Rattle.script_chain_format.specs.Members.{u32_at, has_only, only_at, where_true}
+use Rattle.script_chain_format.specs.Results.{result_then, result_map, or_fault}
+
+-- ---- limits
+
+-- of a list, a scripted source, and the numbers of a range
+abbrev pub most_items : ℕ
+most_items = 10000
+
+abbrev pub within : {A : Type 0} → ℕ → ℕ → ℕ → A → Result A ScriptFault
+within at most count a = if nat_lt most count then Err (TooLarge at) else Ok a
+
+abbrev pub whole_number : Data → Option ℤ
+whole_number d = option_and_then as_i64 (as_number d)
+
+-- what each of the values gives, if each gives something
+abbrev pub all_of : {X : Type 0} → (Data → Option X) → Items → Option (List X)
+all_of f no_items = Some []
+all_of f (item d ds) = option_and_then (λ x. option_map (λ xs. x ∷ xs) (all_of f ds)) (f d)
+
+abbrev pub whole_numbers : Items → Option (List ℤ)
+whole_numbers ds = all_of whole_number ds
+
+-- an item, one turn that pends, or a fault
+abbrev pub entry_of : Data → Option (Entry ℤ)
+entry_of d =
+    option_map_or (λ x. Some (entry.Item x)) (whole_number d)
+    (option_map_or (λ text. where_true (bytes_eq text (codes "pending")) (Some entry.Pending)) (as_str d)
+    (where_true (has_only (codes "fault" ∷ []) d) (option_map entry.Fault (u32_at (codes "fault") d))))
+
+abbrev pub entries_of : Items → Option (List (Entry ℤ))
+entries_of ds = all_of entry_of ds
+
+-- these whole numbers, at most so many
+abbrev pub numbers_of : ℕ → ℕ → Items → Result (List ℤ) ScriptFault
+numbers_of at most ds = result_then (λ xs. within at most (length xs) xs) (or_fault (BadShape at) (whole_numbers ds))
+
+-- a list of whole numbers, at most so many
+abbrev pub numbers_in : ℕ → ℕ → Data → Result (List ℤ) ScriptFault
+numbers_in at most d = result_then (numbers_of at most) (or_fault (BadShape at) (as_array d))
+
+abbrev pub list_source : ℕ → Data → Result (ChainRun ℤ) ScriptFault
+list_source at d = result_map list_run (numbers_in at most_items d)
+
+-- the first and the last number
+abbrev pub bounds_of : Items → Option (ℤ × ℤ)
+bounds_of (item first (item last no_items)) = option_and_then (λ a. option_map (λ b. (a, b)) (whole_number last)) (whole_number first)
+bounds_of _ = None
+
+abbrev pub is_too_long : ℤ → ℤ → Bool
+is_too_long first last = nat_lt most_items (span first last)
+
+abbrev pub range_source : ℕ → Data → Result (ChainRun ℤ) ScriptFault
+range_source at d = result_then (λ b. if is_too_long b.0 b.1 then Err (TooLarge at) else Ok (range_run b.0 b.1)) (or_fault (BadShape at) (option_and_then bounds_of (as_array d)))
+
+-- no more entries than a source may have
+abbrev pub entries_in : ℕ → Items → Result (List (Entry ℤ)) ScriptFault
+entries_in at ds = result_then (λ es. within at most_items (length es) es) (or_fault (BadShape at) (entries_of ds))
+
+abbrev pub scripted_source : ℕ → Data → Result (ChainRun ℤ) ScriptFault
+scripted_source at d = result_map scripted_run (result_then (entries_in at) (or_fault (BadShape at) (as_array d)))
+
+-- an object with one key, which says what kind of source it is
+abbrev pub source_in : ℕ → Data → Result (ChainRun ℤ) ScriptFault
+source_in at d =
+    option_map_or (list_source at) (only_at (codes "of") d)
+    (option_map_or (range_source at) (only_at (codes "range") d)
+    (option_map_or (scripted_source at) (only_at (codes "script") d) (Err (BadShape at))))

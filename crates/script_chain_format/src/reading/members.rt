@@ -1,0 +1,82 @@
+//! The members of a JSON object, each in the form that the format asks for.
+ghost use Rattle.std.specs.Prelude.{◌≡◌, ◌<◌, ◌^◌, ◌==◌, ◌&&◌, option_map, map};
+ghost use Rattle.std.specs.List.{list_any};
+ghost use Rattle.std.specs.Str.{bytes_eq};
+ghost use Rattle.serde_json.specs.Find.{get, as_u64, as_i64, as_str, as_object};
+ghost use Rattle.serde_json.specs.View.{view, members_view};
+ghost use Rattle.script_chain_format.specs.Members as members;
+
+use serde_json::{Map, Value};
+
+/// The number of a key, if that is a whole number from 0 to 2^64 - 1. `None` where the value is no object, where it has no such
+/// key, and where that has another value; so it is for each function here that looks for a key.
+pub fn u64_at(value: &Value, key: &str) -> Option<u64>
+    ensures { result ≡ members.u64_at key.now (view value.now) }
+{
+    value.get(key)?.as_u64()
+}
+
+/// The number of a key, if that is a whole number from 0 to 2^32 - 1.
+pub fn u32_at(value: &Value, key: &str) -> Option<u32>
+    ensures { result ≡ members.u32_at key.now (view value.now) }
+{
+    let number = u64_at(value, key)?;
+    if number > u32::MAX as u64 {
+        return None;
+    }
+    Some(number as u32)
+}
+
+/// The number of a key, if that is a whole number from -2^63 to 2^63 - 1.
+pub fn i64_at(value: &Value, key: &str) -> Option<i64>
+    ensures { result ≡ members.i64_at key.now (view value.now) }
+{
+    value.get(key)?.as_i64()
+}
+
+/// The text of a key.
+pub fn text_at<'a>(value: &'a Value, key: &str) -> Option<&'a str>
+    ensures { option_map (λ t. t.now) result ≡ members.text_at key.now (view value.now) }
+{
+    value.get(key)?.as_str()
+}
+
+/// Whether this is one of the keys.
+fn is_among(name: &str, keys: &[&str]) -> bool
+    ensures { result ≡ list_any (λ key. bytes_eq name.now key.now) keys.now }
+{
+    keys.iter().any(|key| name == *key)
+}
+
+/// Whether each member has one of the keys.
+fn are_among(object: &Map<String, Value>, keys: &[&str]) -> bool
+    ensures { result ≡ members.are_among (map (λ key. key.now) keys.now) (members_view object.now.entries) }
+{
+    for (name, _value) in object.iter() {
+        if !is_among(name.as_str(), keys) {
+            return false;
+        }
+    }
+    true
+}
+
+/// Whether it is an object that has no keys except these.
+pub fn has_only(value: &Value, keys: &[&str]) -> bool
+    ensures { result ≡ members.has_only (map (λ key. key.now) keys.now) (view value.now) }
+{
+    match value.as_object() {
+        Some(object) => are_among(object, keys),
+        None => false,
+    }
+}
+
+/// The value of the key, if the object has no other.
+pub fn only_at<'a>(value: &'a Value, key: &str) -> Option<&'a Value>
+    ensures { option_map (λ v. view v.now) result ≡ members.only_at key.now (view value.now) }
+{
+    if has_only(value, &[key]) {
+        value.get(key)
+    } else {
+        None
+    }
+}

@@ -1,0 +1,79 @@
+//! A script that was read as JSON: its version, its steps and its flows.
+
+use crate::words::Version;
+use json_places::{Spot, Text};
+use serde_json::Value;
+use std::alloc::AllocError;
+
+/// The text of a member, or none.
+pub fn text_at<'a>(value: &'a Value, key: &str) -> &'a str {
+    match value.get(key) {
+        Some(member) => member.as_str().unwrap_or(""),
+        None => "",
+    }
+}
+
+/// The number of a member, or 0.
+pub fn number_at(value: &Value, key: &str) -> i64 {
+    match value.get(key) {
+        Some(member) => member.as_i64().unwrap_or(0),
+        None => 0,
+    }
+}
+
+/// The items of a list, or none.
+pub fn items_of(value: &Value) -> &[Value] {
+    match value.as_array() {
+        Some(items) => items.as_slice(),
+        None => &[],
+    }
+}
+
+/// A script whose text is JSON.
+#[derive(Clone, Copy)]
+pub struct Script<'a> {
+    pub text: Text<'a>,
+    pub version: Version,
+    pub root: Spot<'a>,
+}
+
+impl<'a> Script<'a> {
+    /// The script of a text, and its value.
+    pub fn new(text: Text<'a>, value: &'a Value) -> Self {
+        Script {
+            text,
+            version: match value.get("version") {
+                Some(version) if version.as_u64() == Some(1) => Version::One,
+                _ => Version::Two,
+            },
+            root: Spot {
+                value,
+                at: text.part_from(0).unwrap_or(0),
+            },
+        }
+    }
+
+    /// The steps before the one at an index, where the first one has the index 0.
+    pub fn steps_before(self, index: usize) -> &'a [Value] {
+        let Some(steps) = self.root.value.get("steps") else {
+            return &[];
+        };
+        items_of(steps).get(..index).unwrap_or(&[])
+    }
+
+    /// A step, where the first one has the index 0.
+    pub fn step(self, index: usize) -> Result<Option<Spot<'a>>, AllocError> {
+        match self.text.member(self.root, "steps")? {
+            Some(steps) => Ok(self.text.item(steps, index)),
+            None => Ok(None),
+        }
+    }
+
+    /// The flow that a step is about.
+    pub fn flow_of(self, step: &Value) -> Option<&'a Value> {
+        match self.version {
+            Version::One => self.root.value.get("flow"),
+            Version::Two => self.root.value.get("flows")?.get(text_at(step, "flow")),
+        }
+    }
+}

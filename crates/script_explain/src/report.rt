@@ -1,0 +1,203 @@
+//! What is told of what is wrong in a script, and where.
+
+use crate::choices::Choices;
+use crate::words::{Form, Key};
+use json_places::{Place, Spot, Text};
+use std::alloc::{AllocError, Global};
+
+/// Where in a script a value stands.
+#[derive(Clone, Copy)]
+pub enum Owner {
+    /// It is the script.
+    Script,
+    /// It is the value of a key.
+    Member(&'static str),
+    /// It is an item of the list of a key.
+    Item(&'static str),
+    /// It is a key that is the name of a flow.
+    FlowName,
+}
+
+impl Owner {
+    /// Where the items stand of a list that stands here.
+    pub fn of_items(self) -> Self {
+        match self {
+            Owner::Member(key) => Owner::Item(key),
+            other => other,
+        }
+    }
+
+    /// What is said, after a value, of one that should not stand here.
+    fn denied(self) -> [&'static str; 3] {
+        match self {
+            Owner::Script => [" is no script", "", ""],
+            Owner::FlowName => [" is no name of a flow", "", ""],
+            Owner::Member(key) => [" is no value of \"", key, "\""],
+            Owner::Item(key) => [" is no item of \"", key, "\""],
+        }
+    }
+}
+
+/// Why a look at a part of a script ended before all of it was looked at.
+#[derive(Clone, Copy)]
+pub enum Ended {
+    /// What is wrong was told.
+    Told,
+    OutOfMemory,
+}
+
+impl From<AllocError> for Ended {
+    fn from(_error: AllocError) -> Ended {
+        Ended::OutOfMemory
+    }
+}
+
+/// A look at a part of a script: `Ok` where nothing is wrong.
+pub type Looked = Result<(), Ended>;
+
+/// What stands before what was expected.
+pub const EXPECTED: &str = "\n  expected: ";
+
+/// What is told of a script. It begins with the place of what is wrong, or with the key or the value that stands there, and ends with
+/// `end` or `end_near`. Where memory is wanting something is left out, and the end says so.
+#[derive(Drop)]
+pub struct Report {
+    /// The part of the script that is told of, if it is known: 0 is the head, and steps count from 1.
+    pub part: Option<u64>,
+    pub lines: String,
+    pub is_out_of_memory: bool,
+}
+
+impl Report {
+    /// Remembers whether memory was wanting.
+    pub fn note(&mut self, added: Result<(), AllocError>) {
+        if added.is_err() {
+            self.is_out_of_memory = true;
+        }
+    }
+
+    /// Adds some words, one after the other.
+    pub fn add(&mut self, words: &[&str]) {
+        for word in words {
+            let added = self.lines.push_str(word);
+            self.note(added);
+        }
+    }
+
+    pub fn add_number(&mut self, number: u64) {
+        let added = write!(self.lines, "{number}");
+        self.note(added);
+    }
+
+    /// A place as a reader counts it.
+    pub fn add_place(&mut self, text: Text<'_>, at: usize) {
+        let place = Place::at(text.bytes, at);
+        let added = write!(self.lines, "{place}");
+        self.note(added);
+    }
+
+    /// Begins with the place of an offset, and the part of the script where it is.
+    pub fn begin(&mut self, text: Text<'_>, at: usize) {
+        self.add_place(text, at);
+        match self.part {
+            Some(0) => self.add(&[": head: "]),
+            Some(step) => {
+                self.add(&[": step "]);
+                self.add_number(step);
+                self.add(&[": "]);
+            }
+            None => self.add(&[": "]),
+        }
+    }
+
+    /// Begins with the key or the value at an offset.
+    pub fn begin_value(&mut self, text: Text<'_>, at: usize) {
+        self.begin(text, at);
+        let (told, after) = text.told(at);
+        match String::from_utf8_lossy(text.alloc, told) {
+            Ok(told) => self.add(&[told.as_str(), after]),
+            Err(_) => self.is_out_of_memory = true,
+        }
+    }
+
+    /// Words between quotes, as they are listed in a sentence.
+    pub fn add_choices(&mut self, choices: Choices<'_>) {
+        let mut opening = "\"";
+        for index in 0..usize::MAX {
+            let Some((word, is_right)) = choices.at(index) else {
+                break;
+            };
+            if is_right {
+                self.add(&[opening, word, "\""]);
+                opening = ", \"";
+            }
+        }
+    }
+
+    /// What a value of a form is.
+    fn add_form(&mut self, form: Form) {
+        match form {
+            Form::OneOf(words) => {
+                self.add(&["one of "]);
+                self.add_choices(Choices::Words(words));
+            }
+            _ => self.add(&[form.words()]),
+        }
+    }
+
+    /// A key that is missing, and what its value is.
+    pub fn add_key(&mut self, key: Key) {
+        self.add(&["\"", key.word, "\", "]);
+        self.add_form(key.form);
+    }
+
+    /// Ends the last line.
+    pub fn end(&mut self) -> Looked {
+        self.add(&["\n"]);
+        if self.is_out_of_memory {
+            Err(Ended::OutOfMemory)
+        } else {
+            Err(Ended::Told)
+        }
+    }
+
+    /// Ends with the choice that is nearest to a word, if one is near.
+    pub fn end_near(&mut self, alloc: Global, word: &str, choices: Choices<'_>) -> Looked {
+        match choices.nearest_to(alloc, word) {
+            Ok(Some(near)) => self.add(&["\n  nearest: \"", near, "\""]),
+            Ok(None) => {}
+            Err(_) => self.is_out_of_memory = true,
+        }
+        self.end()
+    }
+
+    /// The object of a name that begins at an offset lacks a key.
+    pub fn tell_missing(
+        &mut self,
+        text: Text<'_>,
+        at: usize,
+        name: &'static str,
+        key: Key,
+    ) -> Looked {
+        self.begin(text, at);
+        self.add(&[name, " has no \"", key.word, "\"", EXPECTED]);
+        self.add_key(key);
+        self.end()
+    }
+
+    /// A value has not the form that is asked for.
+    pub fn tell_form(
+        &mut self,
+        text: Text<'_>,
+        owner: Owner,
+        found: Spot<'_>,
+        form: Form,
+    ) -> Looked {
+        self.begin_value(text, found.at);
+        self.add(&owner.denied());
+        self.add(&[EXPECTED]);
+        self.add_form(form);
+        let word = found.value.as_str().unwrap_or("");
+        self.end_near(text.alloc, word, Choices::Words(form.choices()))
+    }
+}

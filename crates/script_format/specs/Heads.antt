@@ -1,0 +1,134 @@
+-- What a script says of one flow.
+-- Begin with `flow_in`. A bad form anywhere in a flow comes before a limit of its chain. The flows of a script are in Flows.
+use Rattle.std.specs.Prelude.{ℕ, if◌then◌else◌, ℤ, List, [], ◌∷◌, slice_get, Option, Some, None, option_map, option_and_then, Result, Err, codes}
+use Rattle.std.specs.Option.{option_map_or}
+use Rattle.std.specs.Str.{bytes_eq}
+use Rattle.serde_json.specs.Data.{Data}
+use Rattle.serde_json.specs.Find.{get, as_number, as_u64, as_str}
+use Rattle.flow_law.specs.declared.config.Config.{Config}
+use Rattle.flow_law.specs.Sharing.{never}
+use Rattle.flow_law.specs.declared.sharing.Started.{Started}
+use Rattle.flow_law.specs.declared.sharing.Started.TheVariants.{Eagerly, Lazily, WhileSubscribed}
+use Rattle.script_chain_format.specs.declared.reading.fault.ScriptFault.{ScriptFault}
+use Rattle.script_chain_format.specs.declared.reading.fault.ScriptFault.TheVariants.{BadShape}
+use Rattle.script_chain_format.specs.declared.reading.version.Version.{Version}
+use Rattle.script_chain_format.specs.declared.reading.version.Version.TheVariants.{One, Two}
+use Rattle.script_format.specs.declared.verb.Kind.{Kind}
+use Rattle.script_format.specs.declared.verb.Kind.TheVariants as kind
+use Rattle.script_chain_format.specs.Results.{result_then, result_map, or_fault}
+use Rattle.script_chain_format.specs.Members.{u64_at, u32_at, i64_at, text_at, has_only, where_true}
+use Rattle.script_format.specs.Format.{limit_at, config_of}
+use Rattle.script_chain_format.specs.ChainFormat.{Build, chain_in}
+
+-- what a head says of a flow
+pub data Head : Type 0 where
+  shared_flow : Config → Head
+  -- with the first value, and the most numbers that it issues
+  state_flow : ℤ → ℕ → Head
+  -- with the chain, when it runs, how many values are replayed, and the most numbers
+  shared_chain : Build → Started → ℕ → ℕ → Head
+  -- with the chain, when it runs, the first value, and the most numbers
+  state_chain : Build → Started → ℤ → ℕ → Head
+
+-- a flow, and its name where it has one
+pub record NamedHead : Type 0 where
+  pub name : Option (List ℕ)
+  pub flow : Head
+
+abbrev pub kind_of : Head → Kind
+kind_of (shared_flow config) = kind.Shared
+kind_of (state_flow initial limit) = kind.State
+kind_of (shared_chain build started replay limit) = kind.Share
+kind_of (state_chain build started initial limit) = kind.StateIn
+
+-- the kind of the flow at a place, where there is one
+abbrev pub kind_at : ℕ → List NamedHead → Kind
+kind_at place flows = option_map_or (λ named. kind_of named.flow) (slice_get flows place) kind.Absent
+
+abbrev pub state_of : Data → Option Head
+state_of d = option_and_then (λ initial. option_and_then (λ limit. where_true (has_only (codes "kind" ∷ codes "initial" ∷ codes "limit" ∷ []) d) (Some (state_flow initial limit)))
+    (limit_at d)) (i64_at (codes "initial") d)
+
+abbrev pub started_named : List ℕ → Option Started
+started_named text = if bytes_eq text (codes "eagerly") then Some Eagerly else (if bytes_eq text (codes "lazily") then Some Lazily else None)
+
+-- the key `expire` is known from version 2 on
+abbrev pub started_keys : Version → List (List ℕ)
+started_keys One = codes "stop" ∷ []
+started_keys Two = codes "stop" ∷ codes "expire" ∷ []
+
+-- how long after its stop a flow forgets what it replays; without the key nothing is forgotten
+abbrev pub expire_at : Data → Option ℕ
+expire_at d = option_map_or (λ expire. option_and_then as_u64 (as_number expire)) (get (codes "expire") d) (Some never)
+
+abbrev pub while_subscribed : Version → Data → Option Started
+while_subscribed version d =
+    where_true (has_only (started_keys version) d) (option_and_then (λ stop. option_map (λ expire. WhileSubscribed stop expire) (expire_at d)) (u64_at (codes "stop") d))
+
+-- a word, or an object
+abbrev pub started_of : Version → Data → Option Started
+started_of version d = option_map_or started_named (as_str d) (while_subscribed version d)
+
+abbrev pub started_at : Version → Data → Option Started
+started_at version d = option_and_then (started_of version) (get (codes "started") d)
+
+pub record ShareParts : Type 0 where
+  pub chain : Data
+  pub started : Started
+  pub replay : ℕ
+  pub limit : ℕ
+
+abbrev pub share_keys : List (List ℕ)
+share_keys = codes "kind" ∷ codes "chain" ∷ codes "started" ∷ codes "replay" ∷ codes "limit" ∷ []
+
+abbrev pub share_parts : Version → Data → Option ShareParts
+share_parts version d =
+    option_and_then (λ chain. option_and_then (λ started. option_and_then (λ replay. option_and_then (λ limit.
+    where_true (has_only share_keys d) (Some (record { chain = chain; started = started; replay = replay; limit = limit })))
+    (limit_at d)) (u32_at (codes "replay") d)) (started_at version d)) (get (codes "chain") d)
+
+abbrev pub share_in : Version → Data → Result Head ScriptFault
+share_in version d = result_then (λ parts. result_map (λ build. shared_chain build parts.started parts.replay parts.limit) (chain_in version 0 parts.chain)) (or_fault (BadShape 0) (share_parts version d))
+
+pub record StateInParts : Type 0 where
+  pub chain : Data
+  pub started : Started
+  pub initial : ℤ
+  pub limit : ℕ
+
+abbrev pub state_in_keys : List (List ℕ)
+state_in_keys = codes "kind" ∷ codes "chain" ∷ codes "started" ∷ codes "initial" ∷ codes "limit" ∷ []
+
+abbrev pub state_in_parts : Version → Data → Option StateInParts
+state_in_parts version d =
+    option_and_then (λ chain. option_and_then (λ started. option_and_then (λ initial. option_and_then (λ limit.
+    where_true (has_only state_in_keys d) (Some (record { chain = chain; started = started; initial = initial; limit = limit })))
+    (limit_at d)) (i64_at (codes "initial") d)) (started_at version d)) (get (codes "chain") d)
+
+abbrev pub state_in : Version → Data → Result Head ScriptFault
+state_in version d = result_then (λ parts. result_map (λ build. state_chain build parts.started parts.initial parts.limit) (chain_in version 0 parts.chain)) (or_fault (BadShape 0) (state_in_parts version d))
+
+abbrev pub flow_named : Version → List ℕ → Data → Result Head ScriptFault
+flow_named version kind d =
+    if bytes_eq kind (codes "shared") then or_fault (BadShape 0) (option_map shared_flow (config_of d))
+    else (if bytes_eq kind (codes "state") then or_fault (BadShape 0) (state_of d)
+    else (if bytes_eq kind (codes "share") then share_in version d
+    else (if bytes_eq kind (codes "state_in") then state_in version d else Err (BadShape 0))))
+
+-- a flow of a script of this version
+abbrev pub flow_in : Version → Data → Result Head ScriptFault
+flow_in version d = result_then (λ kind. flow_named version kind d) (or_fault (BadShape 0) (text_at (codes "kind") d))
+
+abbrev pub no_flows : Data → Result (List NamedHead) ScriptFault
+no_flows d = or_fault (BadShape 0) (where_true (has_only (codes "kind" ∷ []) d) (Some []))
+
+-- one flow, which needs no name
+abbrev pub only : Head → List NamedHead
+only flow = record { name = None; flow = flow } ∷ []
+
+abbrev pub only_named : List ℕ → Data → Result (List NamedHead) ScriptFault
+only_named kind d = if bytes_eq kind (codes "none") then no_flows d else result_map only (flow_named One kind d)
+
+-- a row of the only flow of a script of version 1, or of none
+abbrev pub only_in : Data → Result (List NamedHead) ScriptFault
+only_in d = result_then (λ kind. only_named kind d) (or_fault (BadShape 0) (text_at (codes "kind") d))

@@ -1,0 +1,25 @@
+-- What the reader's names and steps are in the definitions' terms. No public clause cites this module.
+use Rattle.std.specs.Prelude.{List, map}
+use Rattle.serde_json.specs.View.{items_view}
+use Rattle.script_format.specs.declared.names.FlowNames.{FlowNames}
+use Rattle.script_format.specs.declared.names.Names.{Names}
+use Rattle.script_format.specs.declared.written.Written.{Written}
+use Rattle.script_format.specs.declared.written.Written.TheVariants as kept
+use Rattle.script_format.specs.Checks.{NameLists, plain, emit, poll, cancel, subscribe, subscribe_with, next, unsubscribe}
+use Rattle.script_format.specs.Checks as checks
+
+abbrev pub lists_of : FlowNames → NameLists
+lists_of names = record { emissions = map (λ k. k.now) names.emissions.keys; subscribers = map (λ k. k.now) names.subscribers.keys }
+
+abbrev pub row_of : Names → List NameLists
+row_of names = map lists_of names.flows.items
+
+abbrev pub written_of : Written → checks.Written
+written_of (kept.Plain step) = plain step
+written_of (kept.Emit name value) = emit name.now value
+written_of (kept.Poll name) = poll name.now
+written_of (kept.Cancel name) = cancel name.now
+written_of (kept.Subscribe name) = subscribe name.now
+written_of (kept.SubscribeWith name values) = subscribe_with name.now (items_view values.now)
+written_of (kept.Next name) = next name.now
+written_of (kept.Unsubscribe name) = unsubscribe name.now

@@ -1,0 +1,21 @@
+//! JSON flow scripts: a text that was read is a `Script`, or the first fault that it has.
+//!
+//! `read_script` checks all of a text before it answers. `ScriptFault` says which step a refusal is about.
+#![tactic(auto)]
+
+mod name_form;
+mod names;
+mod read;
+mod read_config;
+mod read_flows;
+mod read_head;
+mod read_place;
+mod read_share;
+mod read_step;
+mod script;
+mod verb;
+mod written;
+
+pub use read::{MOST_BYTES, read_script};
+pub use script::{FlowStep, NamedFlow, Script, ScriptFlow, Step};
+pub use script_chain_format::{Build, ScriptFault};

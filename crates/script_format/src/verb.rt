@@ -1,0 +1,211 @@
+//! What a step does, by the text of its key `do`.
+ghost use Rattle.std.specs.Prelude.{◌≡◌, ◌∷◌, codes, drop, map};
+ghost use Rattle.script_format.specs.Format as format;
+
+use script_chain_format::Version;
+
+/// What kind of flow a step is about.
+#[derive(Clone, Copy)]
+pub enum Kind {
+    /// There is no flow.
+    Absent,
+    Shared,
+    State,
+    Share,
+    StateIn,
+}
+
+/// What a step does on a flow.
+#[derive(Clone, Copy)]
+pub enum FlowVerb {
+    TryEmit,
+    Emit,
+    Poll,
+    Cancel,
+    Subscribe,
+    /// With first values of its own.
+    SubscribeWith,
+    Next,
+    Unsubscribe,
+    Cache,
+    Count,
+    Reset,
+    Value,
+    Set,
+    CompareAndSet,
+    Turn,
+}
+
+/// What a step does.
+#[derive(Clone, Copy)]
+pub enum Verb {
+    Flow(FlowVerb),
+    Collect,
+}
+
+/// A subscription, which may have first values of its own.
+fn subscription(has_first: bool) -> FlowVerb
+    ensures { result ≡ format.subscription has_first }
+{
+    if has_first {
+        FlowVerb::SubscribeWith
+    } else {
+        FlowVerb::Subscribe
+    }
+}
+
+/// What a step does, by the text of its key `do`, and whether it has first values of its own.
+pub fn verb_named(text: &str, has_first: bool) -> Option<Verb>
+    ensures { result ≡ format.verb_named text.now has_first }
+{
+    match text {
+        "try_emit" => Some(Verb::Flow(FlowVerb::TryEmit)),
+        "emit" => Some(Verb::Flow(FlowVerb::Emit)),
+        "poll" => Some(Verb::Flow(FlowVerb::Poll)),
+        "cancel" => Some(Verb::Flow(FlowVerb::Cancel)),
+        "subscribe" => Some(Verb::Flow(subscription(has_first))),
+        "next" => Some(Verb::Flow(FlowVerb::Next)),
+        "unsubscribe" => Some(Verb::Flow(FlowVerb::Unsubscribe)),
+        "cache" => Some(Verb::Flow(FlowVerb::Cache)),
+        "count" => Some(Verb::Flow(FlowVerb::Count)),
+        "reset" => Some(Verb::Flow(FlowVerb::Reset)),
+        "value" => Some(Verb::Flow(FlowVerb::Value)),
+        "set" => Some(Verb::Flow(FlowVerb::Set)),
+        "compare_and_set" => Some(Verb::Flow(FlowVerb::CompareAndSet)),
+        "turn" => Some(Verb::Flow(FlowVerb::Turn)),
+        "collect" => Some(Verb::Collect),
+        _ => None,
+    }
+}
+
+impl FlowVerb {
+    /// The keys of such a step, first the one that names its flow.
+    fn keys(self) -> &'static [&'static str]
+        ensures { map (λ key. key.now) result.now ≡ codes "flow" ∷ format.keys_of self }
+    {
+        match self {
+            FlowVerb::TryEmit => &["flow", "do", "value"],
+            FlowVerb::Emit => &["flow", "do", "name", "value"],
+            FlowVerb::Poll => &["flow", "do", "name"],
+            FlowVerb::Cancel => &["flow", "do", "name"],
+            FlowVerb::Subscribe => &["flow", "do", "name"],
+            FlowVerb::SubscribeWith => &["flow", "do", "name", "first"],
+            FlowVerb::Next => &["flow", "do", "name"],
+            FlowVerb::Unsubscribe => &["flow", "do", "name"],
+            FlowVerb::Cache => &["flow", "do"],
+            FlowVerb::Count => &["flow", "do"],
+            FlowVerb::Reset => &["flow", "do"],
+            FlowVerb::Value => &["flow", "do"],
+            FlowVerb::Set => &["flow", "do", "value"],
+            FlowVerb::CompareAndSet => &["flow", "do", "expect", "update"],
+            FlowVerb::Turn => &["flow", "do", "at"],
+        }
+    }
+}
+
+impl Verb {
+    /// The keys of such a step. In version 1 a step does not name its flow.
+    pub fn keys(self, version: Version) -> &'static [&'static str]
+        ensures { map (λ key. key.now) result.now ≡ format.keys_in version self }
+    {
+        match self {
+            Verb::Flow(verb) => match version {
+                Version::One => behind_first(verb.keys()),
+                Version::Two => verb.keys(),
+            },
+            Verb::Collect => &["do", "chain"],
+        }
+    }
+}
+
+/// All but the first.
+fn behind_first(keys: &'static [&'static str]) -> &'static [&'static str]
+    ensures { map (λ key. key.now) result.now ≡ drop 1 (map (λ key. key.now) keys.now) }
+{
+    let Some((_first, rest)) = keys.split_first() else {
+        return &[];
+    };
+    rest
+}
+
+impl Kind {
+    /// Whether a flow of this kind has such a step.
+    pub fn allows(self, verb: FlowVerb) -> bool
+        ensures { result ≡ format.allows verb self }
+    {
+        match verb {
+            FlowVerb::TryEmit => self.is_mutable(),
+            FlowVerb::Emit => self.is_shared(),
+            FlowVerb::Poll => self.is_shared(),
+            FlowVerb::Cancel => self.is_shared(),
+            FlowVerb::Subscribe => self.is_flow(),
+            FlowVerb::SubscribeWith => self.is_shared(),
+            FlowVerb::Next => self.is_flow(),
+            FlowVerb::Unsubscribe => self.is_flow(),
+            FlowVerb::Cache => self.is_flow(),
+            FlowVerb::Count => self.is_flow(),
+            FlowVerb::Reset => self.is_mutable(),
+            FlowVerb::Value => self.has_value(),
+            FlowVerb::Set => self.is_state(),
+            FlowVerb::CompareAndSet => self.is_state(),
+            FlowVerb::Turn => self.is_sharing(),
+        }
+    }
+
+    fn is_flow(self) -> bool
+        ensures { result ≡ format.is_flow self }
+    {
+        match self {
+            Kind::Absent => false,
+            _ => true,
+        }
+    }
+
+    /// A flow into which the script emits.
+    fn is_mutable(self) -> bool
+        ensures { result ≡ format.is_mutable self }
+    {
+        match self {
+            Kind::Shared | Kind::State => true,
+            _ => false,
+        }
+    }
+
+    fn is_shared(self) -> bool
+        ensures { result ≡ format.is_shared self }
+    {
+        match self {
+            Kind::Shared => true,
+            _ => false,
+        }
+    }
+
+    fn is_state(self) -> bool
+        ensures { result ≡ format.is_state self }
+    {
+        match self {
+            Kind::State => true,
+            _ => false,
+        }
+    }
+
+    /// A flow with one current value.
+    fn has_value(self) -> bool
+        ensures { result ≡ format.has_value self }
+    {
+        match self {
+            Kind::State | Kind::StateIn => true,
+            _ => false,
+        }
+    }
+
+    /// A flow into which a chain is shared.
+    fn is_sharing(self) -> bool
+        ensures { result ≡ format.is_sharing self }
+    {
+        match self {
+            Kind::Share | Kind::StateIn => true,
+            _ => false,
+        }
+    }
+}

@@ -1,0 +1,270 @@
+//! Where the marks of a picture stand: columns of a width in characters, in bands that are at most 100 wide.
+
+use crate::picture::{Lane, Mark, Picture};
+use crate::widths::{NAME_WIDTH, mark_width};
+use serde_json::Value;
+use std::alloc::{AllocError, Global};
+
+/// The most characters in a line of a band.
+pub const MOST_WIDTH: usize = 100;
+
+/// The least width of a column.
+const LEAST_COLUMN: usize = 6;
+
+/// A column of a lane.
+#[derive(Clone, Copy)]
+pub struct Cell<'a> {
+    pub width: usize,
+    pub mark: Option<Mark<'a>>,
+    /// Whether the lane is there in this column.
+    pub has_line: bool,
+    /// Whether its line comes from the column before.
+    pub comes: bool,
+    /// Whether its line goes on to the next column.
+    pub goes_on: bool,
+    /// Whether an emitter waits there.
+    pub waits: bool,
+}
+
+/// The step of a column.
+#[derive(Clone, Copy)]
+pub struct Numbered<'a> {
+    /// The number of the step, from 1.
+    pub number: usize,
+    pub step: &'a Value,
+    /// The width of the column.
+    pub width: usize,
+}
+
+/// A part of a picture. They come from left to right, line by line.
+#[derive(Clone, Copy)]
+pub enum Part<'a> {
+    /// A line begins that has the steps' numbers.
+    Numbers,
+    Number(Numbered<'a>),
+    EndNumbers,
+    /// A lane begins, with its name.
+    Name(&'a str),
+    Cell(Cell<'a>),
+    EndLane,
+    /// A band ends that is so wide with the names before it.
+    EndBand(usize),
+    /// The picture of a collection comes: the number of its step, and its chain.
+    Collection(usize, &'a Value),
+}
+
+/// The parts of pictures so far.
+#[derive(Drop)]
+pub struct Parts<'a> {
+    parts: Vec<Part<'a>>,
+    /// Whether there was no memory for a part.
+    failed: bool,
+}
+
+impl<'a> Parts<'a> {
+    pub fn new(alloc: Global) -> Self {
+        Parts {
+            parts: Vec::new(alloc),
+            failed: false,
+        }
+    }
+
+    pub fn push(&mut self, part: Part<'a>) {
+        self.failed = self.failed || self.parts.push(part).is_err();
+    }
+
+    /// There was no memory for something that belongs to the parts.
+    pub fn fail(&mut self) {
+        self.failed = true;
+    }
+
+    /// The parts, where there was memory for all of them.
+    pub fn finish(self) -> Result<Vec<Part<'a>>, AllocError> {
+        if self.failed {
+            return Err(AllocError);
+        }
+        Ok(self.parts)
+    }
+}
+
+/// Columns that stand beside each other.
+#[derive(Clone, Copy)]
+struct Band<'p, 'a> {
+    /// The first column.
+    from: usize,
+    widths: &'p [usize],
+    /// The marks in these columns.
+    marks: &'p [Mark<'a>],
+}
+
+/// How wide each column is: as its marks need.
+fn widths_of(alloc: Global, picture: &Picture<'_>) -> Result<Vec<usize>, AllocError> {
+    let mut widths = vec![in alloc; LEAST_COLUMN; picture.columns]?;
+    for mark in &picture.marks {
+        let width = mark_width(*mark).saturating_add(3);
+        if mark.column < widths.len() {
+            let least = widths[mark.column];
+            widths[mark.column] = least.max(width);
+        }
+    }
+    Ok(widths)
+}
+
+/// The column after the last that stands beside this one.
+fn band_end(widths: &[usize], from: usize) -> usize {
+    let mut width = NAME_WIDTH;
+    for column in from..widths.len() {
+        width = width.saturating_add(widths[column]);
+        if width > MOST_WIDTH && column > from {
+            return column;
+        }
+    }
+    widths.len()
+}
+
+/// The place of the first mark from `first` on that is not before a column.
+fn marks_before(marks: &[Mark<'_>], first: usize, column: usize) -> usize {
+    for place in first..marks.len() {
+        if marks[place].column >= column {
+            return place;
+        }
+    }
+    marks.len()
+}
+
+/// The lanes that these marks are on, in their order.
+fn lanes_of(alloc: Global, marks: &[Mark<'_>]) -> Result<Vec<usize>, AllocError> {
+    let mut lanes = Vec::new(alloc);
+    for mark in marks {
+        lanes.push(mark.lane)?;
+    }
+    lanes.sort_unstable();
+    lanes.dedup();
+    Ok(lanes)
+}
+
+impl<'a> Band<'_, 'a> {
+    /// The mark of a lane in a column.
+    fn mark_at(&self, lane: usize, column: usize) -> Option<Mark<'a>> {
+        for mark in self.marks {
+            if mark.lane == lane && mark.column == column {
+                return Some(*mark);
+            }
+        }
+        None
+    }
+
+    /// How wide it is, with the names before it.
+    fn width(&self) -> usize {
+        let mut total = NAME_WIDTH;
+        for width in self.widths {
+            total = total.saturating_add(*width);
+        }
+        total
+    }
+
+    /// The numbers of the steps above their columns.
+    fn add_numbers(&self, parts: &mut Parts<'a>, steps: &'a [Value]) {
+        parts.push(Part::Numbers);
+        let mut number = self.from;
+        for width in self.widths {
+            let step = steps.get(number);
+            number = number.saturating_add(1);
+            if let Some(step) = step {
+                parts.push(Part::Number(Numbered {
+                    number,
+                    step,
+                    width: *width,
+                }));
+            }
+        }
+        parts.push(Part::EndNumbers);
+    }
+
+    /// A column of a lane, which has this place in the picture.
+    fn cell(&self, place: usize, lane: Lane<'a>, column: usize, width: usize) -> Cell<'a> {
+        let Lane { begins, ends, .. } = lane;
+        Cell {
+            width,
+            mark: self.mark_at(place, column),
+            has_line: begins <= column && column <= ends,
+            comes: begins < column && column <= ends,
+            goes_on: begins <= column && column < ends,
+            waits: lane.waits.is_some(),
+        }
+    }
+
+    /// A lane, which has this place in the picture.
+    fn add_lane(&self, parts: &mut Parts<'a>, place: usize, lane: Lane<'a>) {
+        parts.push(Part::Name(lane.name));
+        let mut column = self.from;
+        for width in self.widths {
+            parts.push(Part::Cell(self.cell(place, lane, column, *width)));
+            column = column.saturating_add(1);
+        }
+        parts.push(Part::EndLane);
+    }
+
+    /// The lanes at these places.
+    fn add_lanes(&self, parts: &mut Parts<'a>, places: &[usize], lanes: &[Lane<'a>]) {
+        for place in places {
+            if let Some(lane) = lanes.get(*place) {
+                self.add_lane(parts, *place, *lane);
+            }
+        }
+    }
+
+    /// The numbers of the columns, if there are steps, and the lanes that the band has marks on.
+    fn add_to(&self, alloc: Global, parts: &mut Parts<'a>, lanes: &[Lane<'a>], steps: &'a [Value]) {
+        if !steps.is_empty() {
+            self.add_numbers(parts, steps);
+        }
+        match lanes_of(alloc, self.marks) {
+            Ok(places) => self.add_lanes(parts, places.as_slice(), lanes),
+            Err(_) => parts.fail(),
+        }
+        parts.push(Part::EndBand(self.width()));
+    }
+}
+
+/// Adds the bands of a picture whose columns have these widths. A band without marks is left out.
+fn add_bands<'a>(
+    alloc: Global,
+    parts: &mut Parts<'a>,
+    picture: &Picture<'a>,
+    steps: &'a [Value],
+    widths: &[usize],
+) {
+    let mut from = 0;
+    let mut first = 0;
+    for _ in 0..widths.len() {
+        let to = band_end(widths, from);
+        let last = marks_before(picture.marks.as_slice(), first, to);
+        if last > first {
+            let band = Band {
+                from,
+                widths: widths.get(from..to).unwrap_or(&[]),
+                marks: picture.marks.get(first..last).unwrap_or(&[]),
+            };
+            band.add_to(alloc, parts, picture.lanes.as_slice(), steps);
+        }
+        from = to;
+        first = last;
+        if from >= widths.len() {
+            break;
+        }
+    }
+}
+
+/// Adds the parts of a picture, with these steps above their columns.
+pub fn add_parts<'a>(
+    alloc: Global,
+    parts: &mut Parts<'a>,
+    picture: &Picture<'a>,
+    steps: &'a [Value],
+) {
+    match widths_of(alloc, picture) {
+        Ok(widths) => add_bands(alloc, parts, picture, steps, widths.as_slice()),
+        Err(_) => parts.fail(),
+    }
+}

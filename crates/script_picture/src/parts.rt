@@ -1,0 +1,46 @@
+//! The parts of all pictures of a script.
+
+use crate::collection::collection_picture;
+use crate::layout::{Part, Parts, add_parts};
+use crate::picture::Picture;
+use crate::played::Played;
+use crate::steps::steps_picture;
+use serde_json::Value;
+use std::alloc::{AllocError, Global};
+
+/// A picture, where there was memory for it, with these steps above its columns.
+fn add_picture<'a>(
+    alloc: Global,
+    parts: &mut Parts<'a>,
+    picture: Result<Picture<'a>, AllocError>,
+    steps: &'a [Value],
+) {
+    match picture {
+        Ok(picture) => add_parts(alloc, parts, &picture, steps),
+        Err(_) => parts.fail(),
+    }
+}
+
+/// The pictures of the collections.
+fn add_collections<'a>(alloc: Global, parts: &mut Parts<'a>, played: Played<'a>) {
+    for (place, step) in played.steps.iter().enumerate() {
+        if let (Some(chain), Some(told)) = (step.get("chain"), played.told(place)) {
+            parts.push(Part::Collection(place.saturating_add(1), chain));
+            let picture = collection_picture(alloc, chain, &told.answer, played.line(place));
+            add_picture(alloc, parts, picture, &[]);
+        }
+    }
+}
+
+/// The parts of the pictures of a script that was played: that of its steps, and those of its collections.
+pub fn parts_of<'a>(
+    alloc: Global,
+    script: &'a Value,
+    played: Played<'a>,
+) -> Result<Vec<Part<'a>>, AllocError> {
+    let mut parts = Parts::new(alloc);
+    let picture = steps_picture(alloc, script, played);
+    add_picture(alloc, &mut parts, picture, played.steps);
+    add_collections(alloc, &mut parts, played);
+    parts.finish()
+}

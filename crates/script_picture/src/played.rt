@@ -1,0 +1,86 @@
+//! The steps of a script that was played, with their lines.
+
+use crate::page::Page;
+use crate::script_words::add_step;
+use flow_script::{Answer, Answers, Told};
+use serde_json::Value;
+use std::alloc::AllocError;
+
+/// A script that was played. What is missing here has no words: a line that is not there is empty.
+#[derive(Clone, Copy)]
+pub struct Played<'a> {
+    /// The steps that were played, as the script has them.
+    pub steps: &'a [Value],
+    pub answers: &'a Answers,
+    /// The parts of the text between its line feeds: a line for each flow that was refused, and then one for each step.
+    pub lines: &'a [&'a str],
+}
+
+impl<'a> Played<'a> {
+    /// How many lines come before that of the first step, one for each flow that was refused.
+    pub(crate) fn refused(&self) -> usize {
+        self.answers.not_made.len()
+    }
+
+    /// The line of the step at a place: the first step has the place 0.
+    pub(crate) fn line(&self, step: usize) -> &'a str {
+        match self.lines.get(step.saturating_add(self.refused())) {
+            Some(line) => line,
+            None => "",
+        }
+    }
+
+    /// The answer of the step at a place, and what was seen beside it.
+    pub(crate) fn told(&self, step: usize) -> Option<&'a Told> {
+        self.answers.steps.get(step)
+    }
+
+    /// How far behind the subscriber is in the end that a step introduced: 0, where it introduced none.
+    pub(crate) fn last_lag(&self, step: usize) -> u64 {
+        match self.answers.last_lags.get(step) {
+            Some(lag) => lag.unwrap_or(0),
+            None => 0,
+        }
+    }
+
+    /// The step that wrote the line at a place, and how many came before it. A flow that was refused wrote its line itself.
+    fn step_at(&self, place: usize) -> Option<(usize, &'a Value)> {
+        let step = place.checked_sub(self.refused())?;
+        Some((step, self.steps.get(step)?))
+    }
+
+    /// The step that wrote the line at a place, in words.
+    fn begin_line(&self, page: &mut Page, place: usize) {
+        if let Some((before, step)) = self.step_at(place) {
+            write!(page, "{:>5}  ", before.saturating_add(1));
+            add_step(page, step);
+            page.push_str(": ");
+        }
+    }
+
+    /// The step that wrote the line before that of a place, and its answer, where there is such a step.
+    pub fn step_before(&self, place: usize) -> Option<(&'a Value, &'a Answer)> {
+        let (before, step) = self.step_at(place.checked_sub(1)?)?;
+        Some((step, &self.told(before)?.answer))
+    }
+
+    /// Adds to `words` what stands before the line at a place: the end of the line before it, with its rule unless that is empty,
+    /// and the step that wrote the line, in words. The error says that memory was refused.
+    pub fn add_words_before(
+        &self,
+        words: &mut String,
+        place: usize,
+        rule: &str,
+    ) -> Result<(), AllocError> {
+        let mut page = Page::new(*words.allocator());
+        if !rule.is_empty() {
+            page.push_str("  -- ");
+            page.push_str(rule);
+        }
+        if place > 0 {
+            page.push('\n');
+        }
+        self.begin_line(&mut page, place);
+        words.push_str(page.finish()?.as_str())
+    }
+}

@@ -1,0 +1,79 @@
+//! The picture of a script's steps, and its flows in words.
+
+use crate::drawing::Drawing;
+use crate::page::Page;
+use crate::picture::Picture;
+use crate::played::Played;
+use crate::script_words::{add_flow, text_of};
+use serde_json::Value;
+use std::alloc::{AllocError, Global};
+
+/// The flow of a script that names none, unless its steps only collect chains.
+fn single_flow(script: &Value) -> Option<&Value> {
+    let flow = script.get("flow")?;
+    if text_of(flow, "kind") == "none" {
+        None
+    } else {
+        Some(flow)
+    }
+}
+
+/// The lanes of the flows.
+fn add_lanes<'a>(drawing: &mut Drawing<'a>, script: &'a Value) {
+    if single_flow(script).is_some() {
+        drawing.add_flow("flow");
+    } else if let Some(Value::Object(flows)) = script.get("flows") {
+        for (name, _) in flows {
+            drawing.add_flow(name.as_str());
+        }
+    }
+}
+
+fn add_steps<'a>(drawing: &mut Drawing<'a>, played: Played<'a>) {
+    for (place, step) in played.steps.iter().enumerate() {
+        if let Some(told) = played.told(place) {
+            drawing.add_step(step, told, played.line(place));
+        }
+    }
+}
+
+/// How far behind the subscribers are in the end. Who has received all has no mark.
+fn add_last_lags<'a>(drawing: &mut Drawing<'a>, played: Played<'a>) {
+    for (place, step) in played.steps.iter().enumerate() {
+        drawing.add_last_lag(step, played.last_lag(place));
+    }
+}
+
+/// The picture of a script's steps: a lane for each flow, subscriber and emission, a column for each step that was played, and one more
+/// where subscribers are behind in the end. The error says that memory was wanting.
+pub fn steps_picture<'a>(
+    alloc: Global,
+    script: &'a Value,
+    played: Played<'a>,
+) -> Result<Picture<'a>, AllocError> {
+    let mut drawing = Drawing::new(alloc);
+    add_lanes(&mut drawing, script);
+    add_steps(&mut drawing, played);
+    add_last_lags(&mut drawing, played);
+    drawing.finish()
+}
+
+/// What the flows of a script are, a line for each, which ends with a line feed. Of a script whose steps only collect chains it is nothing.
+pub fn add_heads(page: &mut Page, script: &Value) {
+    if let Some(flow) = single_flow(script) {
+        add_flow(page, "flow", flow);
+    } else if let Some(Value::Object(flows)) = script.get("flows") {
+        for (name, flow) in flows {
+            add_flow(page, name.as_str(), flow);
+        }
+    }
+}
+
+/// What the flows of a script are, a line for each, and then the lines of those that were refused.
+pub fn add_all_heads(page: &mut Page, script: &Value, played: Played<'_>) {
+    add_heads(page, script);
+    for line in played.lines.iter().take(played.refused()) {
+        page.push_str(line);
+        page.push('\n');
+    }
+}

@@ -1,0 +1,215 @@
+//! A picture as SVG.
+
+use crate::frame::Frame;
+use crate::layout::{Cell, Numbered, Part};
+use crate::page::Page;
+use crate::parts::parts_of;
+use crate::played::Played;
+use crate::script_words::{add_collection, text_of};
+use crate::steps::{add_all_heads, add_heads};
+use crate::style::{LEAST_WIDTH, LEGEND, LEGEND_HEIGHT, STYLE};
+use crate::svg_marks::{END_TEXT, add_attribute, add_cell, begin_text, pixels};
+use crate::widths::{NAME_WIDTH, add_cut};
+use serde_json::Value;
+use std::alloc::{AllocError, Global};
+
+/// What is left free on the right: the last step's word rises there.
+const MARGIN: usize = 48;
+
+/// How high a lane is.
+const LANE: usize = 38;
+
+/// The height of the steps' numbers and words above their columns.
+const HEADER: usize = 62;
+
+/// The number of a step above its column, and what it does, in a word that rises to the right from `y` on.
+fn add_step_head(page: &mut Page, numbered: Numbered<'_>, x: usize, y: usize) {
+    begin_text(page, "h", x, y.saturating_add(14));
+    page.push_number(numbered.number);
+    page.push_str(END_TEXT);
+    page.push_str("<text class=\"h\" transform=\"translate(");
+    page.push_number(x);
+    page.push(' ');
+    page.push_number(y);
+    page.push_str(") rotate(-24)\">");
+    page.push_str(text_of(numbered.step, "do"));
+    page.push_str(END_TEXT);
+}
+
+/// What the marks mean, from `y` on, and the end of the picture.
+fn add_legend(page: &mut Page, y: usize) {
+    page.push_str("<g transform=\"translate(0 ");
+    page.push_number(y);
+    page.push_str(")\">\n");
+    page.push_str(LEGEND);
+    page.push_str("</svg>\n");
+}
+
+/// What stands before the lines of a script: they are a part of the description in words, after the flows.
+fn add_front(page: &mut Page, script: &Value, width: usize, height: usize) {
+    page.push_str("<svg xmlns=\"http://www.w3.org/2000/svg\" viewBox=\"0 0 ");
+    page.push_number(width);
+    page.push(' ');
+    page.push_number(height);
+    page.push('"');
+    add_attribute(page, "width", width);
+    add_attribute(page, "height", height);
+    page.push_str(TITLE);
+    add_heads(page, script);
+}
+
+/// What follows the lines of a script: the end of the description, and the elements that were drawn so far. They go so far right
+/// and down.
+#[derive(Drop)]
+struct Canvas {
+    alloc: Global,
+    page: Page,
+    width: usize,
+    height: usize,
+    /// Where the next column begins.
+    x: usize,
+}
+
+impl Canvas {
+    /// A line of words. It has no character that SVG reads otherwise.
+    fn add_words(&mut self, words: &str) {
+        let y = self.height.saturating_add(22);
+        let width = words.len().saturating_mul(8).saturating_add(16);
+        self.width = self.width.max(width);
+        self.height = y.saturating_add(8);
+        begin_text(&mut self.page, "a", 8, y);
+        self.page.push_str(words);
+        self.page.push_str(END_TEXT);
+    }
+
+    /// What the flows are, and the lines of those that were refused.
+    fn add_heads(&mut self, script: &Value, played: Played<'_>) {
+        let mut heads = Page::new(self.alloc);
+        add_all_heads(&mut heads, script, played);
+        match heads.finish() {
+            Ok(heads) => {
+                for head in heads.as_str().lines() {
+                    self.add_words(head);
+                }
+            }
+            Err(_) => self.page.fail(),
+        }
+    }
+
+    /// The number of a step above its column, and what it does, in a word that rises to the right.
+    fn add_number(&mut self, numbered: Numbered<'_>) {
+        let x = pixels(1).saturating_add(self.x);
+        let y = self.height.saturating_add(40);
+        self.x = self.x.saturating_add(pixels(numbered.width));
+        add_step_head(&mut self.page, numbered, x, y);
+    }
+
+    /// A collection in words.
+    fn add_collection(&mut self, step: usize, chain: &Value) {
+        let mut words = Page::new(self.alloc);
+        add_collection(&mut words, step, chain);
+        match words.finish() {
+            Ok(words) => self.add_words(words.as_str()),
+            Err(_) => self.page.fail(),
+        }
+    }
+
+    /// The name of a lane.
+    fn add_name(&mut self, name: &str) {
+        let y = self.height.saturating_add(LANE / 2 + 5);
+        self.x = pixels(NAME_WIDTH);
+        begin_text(&mut self.page, "a", 8, y);
+        add_cut(&mut self.page, name, NAME_WIDTH - 2);
+        self.page.push_str(END_TEXT);
+    }
+
+    /// A column of a lane.
+    fn add_cell(&mut self, cell: Cell<'_>) {
+        let x = self.x;
+        self.x = x.saturating_add(pixels(cell.width));
+        add_cell(
+            &mut self.page,
+            cell,
+            x,
+            self.height.saturating_add(LANE / 2),
+        );
+    }
+
+    fn add_part(&mut self, part: Part<'_>) {
+        match part {
+            Part::Numbers => self.x = pixels(NAME_WIDTH),
+            Part::Number(numbered) => self.add_number(numbered),
+            Part::EndNumbers => self.height = self.height.saturating_add(HEADER),
+            Part::Name(name) => self.add_name(name),
+            Part::Cell(cell) => self.add_cell(cell),
+            Part::EndLane => self.height = self.height.saturating_add(LANE),
+            Part::EndBand(width) => {
+                self.width = self.width.max(pixels(width).saturating_add(MARGIN));
+            }
+            Part::Collection(step, chain) => self.add_collection(step, chain),
+        }
+    }
+
+    /// The parts, where there was memory for them.
+    fn add_parts(&mut self, parts: Result<Vec<Part<'_>>, AllocError>) {
+        match parts {
+            Ok(parts) => {
+                for part in parts.as_slice() {
+                    self.add_part(*part);
+                }
+            }
+            Err(_) => self.page.fail(),
+        }
+    }
+
+    /// The end of what is drawn.
+    fn add_legend(&mut self) {
+        let y = self.height.saturating_add(10);
+        self.height = y.saturating_add(LEGEND_HEIGHT);
+        add_legend(&mut self.page, y);
+    }
+
+    /// All that is drawn of a script.
+    fn add_all(&mut self, script: &Value, played: Played<'_>) {
+        self.page.push_str(STYLE);
+        self.add_heads(script, played);
+        self.add_parts(parts_of(self.alloc, script, played));
+        self.add_legend();
+    }
+
+    /// What stands before the lines of a script, and after them.
+    fn frame(self, script: &Value) -> Result<Frame, AllocError> {
+        let Canvas {
+            alloc,
+            page,
+            width,
+            height,
+            ..
+        } = self;
+        let mut front = Page::new(alloc);
+        add_front(&mut front, script, width, height);
+        let (Ok(before), Ok(after)) = (front.finish(), page.finish()) else {
+            return Err(AllocError);
+        };
+        Ok(Frame { before, after })
+    }
+}
+
+/// The title, and the beginning of the description.
+const TITLE: &str = " \
+role=\"img\" aria-labelledby=\"title lines\">
+<title id=\"title\">A flow script, step by step</title>
+<desc id=\"lines\">";
+
+/// The pictures of a script, around its lines.
+pub fn svg_frame(alloc: Global, script: &Value, played: Played<'_>) -> Result<Frame, AllocError> {
+    let mut canvas = Canvas {
+        alloc,
+        page: Page::new(alloc),
+        width: LEAST_WIDTH,
+        height: 12,
+        x: 0,
+    };
+    canvas.add_all(script, played);
+    canvas.frame(script)
+}

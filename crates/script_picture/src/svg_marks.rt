@@ -1,0 +1,152 @@
+//! The marks of a lane and its line as SVG.
+
+use crate::layout::Cell;
+use crate::page::Page;
+use crate::picture::{Mark, Sign, Words};
+use crate::widths::{add_lag, add_words, words_width};
+
+/// How wide a character is, in pixels.
+const CHARACTER: usize = 9;
+
+/// So many characters in pixels.
+pub fn pixels(characters: usize) -> usize {
+    characters.saturating_mul(CHARACTER)
+}
+
+/// The end of a text.
+pub const END_TEXT: &str = "</text>\n";
+
+/// The end of an element that has nothing in it.
+const END_ELEMENT: &str = "/>\n";
+
+/// The beginning of an element of a class.
+fn begin_element(page: &mut Page, element: &str, class: &str) {
+    page.push_str(element);
+    page.push_str(" class=\"");
+    page.push_str(class);
+    page.push('"');
+}
+
+/// An attribute that is a number.
+pub fn add_attribute(page: &mut Page, name: &str, number: usize) {
+    page.push(' ');
+    page.push_str(name);
+    page.push_str("=\"");
+    page.push_number(number);
+    page.push('"');
+}
+
+/// The beginning of a text of a class at a place.
+pub fn begin_text(page: &mut Page, class: &str, x: usize, y: usize) {
+    begin_element(page, "<text", class);
+    add_attribute(page, "x", x);
+    add_attribute(page, "y", y);
+    page.push('>');
+}
+
+/// How a mark looks: the class of its box, the class of its words, and the radius of the box's corners.
+type Look = (&'static str, &'static str, usize);
+
+/// The classes of values, so that one value has one colour.
+const COLOURS: [&str; 6] = ["m c0", "m c1", "m c2", "m c3", "m c4", "m c5"];
+
+fn look_of(mark: Mark<'_>) -> Look {
+    match mark.sign {
+        Sign::Value => {
+            let colour = match mark.words {
+                Words::Number(number) => number.unsigned_abs() % 6,
+                _ => 0,
+            };
+            (COLOURS[colour as usize], "n k", 13)
+        }
+        Sign::Waits => ("m w", "n", 13),
+        Sign::Lost => ("m l", "n s", 13),
+        Sign::Nothing => ("m e", "n", 5),
+        Sign::Begins | Sign::Ends | Sign::Over => ("b", "n", 0),
+        Sign::Told => ("t", "n", 3),
+        Sign::Refused => ("r", "n f", 3),
+    }
+}
+
+/// The width and the height of a mark's box.
+fn size_of(mark: Mark<'_>) -> (usize, usize) {
+    match mark.sign {
+        Sign::Begins | Sign::Ends => (4, 24),
+        Sign::Over => (0, 0),
+        Sign::Nothing => (10, 10),
+        _ => {
+            let width = pixels(words_width(mark.words)).saturating_add(12);
+            (width.max(26), 26)
+        }
+    }
+}
+
+/// The box of a mark, whose left side is at `x` and whose middle is at `y`.
+fn add_box(
+    page: &mut Page,
+    (shape, corner): (&str, usize),
+    (width, height): (usize, usize),
+    x: usize,
+    y: usize,
+) {
+    begin_element(page, "<rect", shape);
+    add_attribute(page, "x", x);
+    add_attribute(page, "y", y.saturating_sub(height / 2));
+    add_attribute(page, "width", width);
+    add_attribute(page, "height", height);
+    add_attribute(page, "rx", corner);
+    page.push_str(END_ELEMENT);
+}
+
+/// A mark whose box begins at `x`, on the line at `y`.
+fn add_mark(page: &mut Page, mark: Mark<'_>, x: usize, y: usize) {
+    let (shape, class, corner) = look_of(mark);
+    let (width, height) = size_of(mark);
+    add_box(page, (shape, corner), (width, height), x, y);
+    begin_text(
+        page,
+        class,
+        x.saturating_add(width / 2),
+        y.saturating_add(5),
+    );
+    add_words(page, mark.words);
+    page.push_str(END_TEXT);
+    add_lag_at(page, mark.lag, x.saturating_add(width), y);
+}
+
+/// How many values more are there for a subscriber, to the right of its mark.
+fn add_lag_at(page: &mut Page, lag: u64, x: usize, y: usize) {
+    if lag > 0 {
+        begin_text(page, "h", x.saturating_add(3), y.saturating_sub(5));
+        add_lag(page, lag);
+        page.push_str(END_TEXT);
+    }
+}
+
+/// The line of a lane through a column from `x` on, whose mark has its middle there.
+fn add_line(page: &mut Page, cell: Cell<'_>, x: usize, middle: usize, y: usize) {
+    let end = x.saturating_add(pixels(cell.width));
+    let from = if cell.comes { x } else { middle };
+    let to = if cell.goes_on { end } else { middle };
+    begin_element(page, "<line", if cell.waits { "x d" } else { "x" });
+    add_attribute(page, "x1", from);
+    add_attribute(page, "y1", y);
+    add_attribute(page, "x2", to);
+    add_attribute(page, "y2", y);
+    page.push_str(END_ELEMENT);
+}
+
+/// A column of a lane from `x` on: its line, and the mark there.
+pub fn add_cell(page: &mut Page, cell: Cell<'_>, x: usize, y: usize) {
+    let begin = x.saturating_add(CHARACTER);
+    if cell.has_line {
+        let middle = match cell.mark {
+            Some(mark) => begin.saturating_add(size_of(mark).0 / 2),
+            None => begin,
+        };
+        add_line(page, cell, x, middle, y);
+    }
+    if let Some(mark) = cell.mark {
+        add_mark(page, mark, begin, y);
+    }
+}
