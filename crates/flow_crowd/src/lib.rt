@@ -1,5 +1,5 @@
 //! A crowd at one shared flow: several threads emit into it, and several subscribers, each in a thread of its own, read all
-//! that was emitted. And threads that count by one state flow without a lock (`run_count`).
+//! that was emitted.
 //!
 //! # What a crowd shows
 //! Under `BufferOverflow.SUSPEND` no subscriber loses a value, and the values of one emitter come in the order in which it
@@ -11,14 +11,12 @@
 #![tactic(auto)]
 
 mod caller;
-mod count;
 mod crowd;
 mod order;
 mod reader;
 mod size;
 mod worker;
 
-pub use count::{CountSize, run_count};
 pub use crowd::run_crowd;
 pub use order::Order;
 pub use reader::Received;

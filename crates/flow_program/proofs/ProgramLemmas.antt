@@ -1,7 +1,7 @@
 -- How the program ends.
 use Rattle.std.proofs.Common.{◌≡◌, ◌⊎◌, ℕ, Bool, List, Option, Err, subst, ◌∙◌, inl, inr}
-use Rattle.flow_chain_format.specs.declared.fault.ScriptFault.{ScriptFault}
-use Rattle.flow_chain_format.specs.declared.fault.ScriptFault.TheVariants.{OutOfMemory}
+use Rattle.script_chain_format.specs.declared.reading.fault.ScriptFault.{ScriptFault}
+use Rattle.script_chain_format.specs.declared.reading.fault.ScriptFault.TheVariants.{OutOfMemory}
 use Rattle.flow_script.specs.Playing.{Plays, read_failed}
 use Rattle.flow_script.proofs.TellingLemmas.{memory-plays, not-read}
 use Rattle.flow_script.specs.Telling.{IsRefusal, TellsFault}

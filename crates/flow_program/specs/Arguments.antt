@@ -1,36 +1,46 @@
 -- What the program's arguments say.
 use Rattle.std.specs.Prelude.{ℕ, leb, ◌&&◌, cond, List, [], ◌∷◌, length, Option, Some, None, option_map, String, codes, string_bytes, bytes_eq}
+use Rattle.std.specs.Option.{option_or}
 use Rattle.std.specs.Str.{all_ascii_digits}
 use Rattle.std.specs.Str.Parse.{digits_value}
-use Rattle.flow_crowd.specs.Sizes.{crowd_size, count_size}
-use Rattle.flow_program.specs.declared.command.Command.{Command}
-use Rattle.flow_program.specs.declared.command.Command.TheVariants.{Crowd, Count}
+use Rattle.flow_count.specs.Counting.{Counting, count_size}
+use Rattle.flow_crowd.specs.Sizes.{crowd_size}
+use Rattle.flow_crowd.specs.declared.size.CrowdSize.{CrowdSize}
 
 -- the number that one to five ASCII digits write
 abbrev pub number_in : List ℕ → Option ℕ
 number_in text = cond (leb 1 (length text) && (leb (length text) 5 && all_ascii_digits text)) (Some (digits_value 10 text)) None
 
--- a crowd of three numbers: emitters, subscribers, and values of each emitter
-abbrev pub sized : Option ℕ → Option ℕ → Option ℕ → Option Command
-sized (Some emitters) (Some subscribers) (Some values) = option_map Crowd (crowd_size emitters subscribers values)
-sized _ _ _ = None
+-- what the program is to do in place of playing a script
+pub data Command : Type 0 where
+  Crowd : CrowdSize → Command
+  Count : Counting → Command
 
-abbrev pub crowd_of : List ℕ → List ℕ → List ℕ → Option Command
-crowd_of emitters subscribers values = sized (number_in emitters) (number_in subscribers) (number_in values)
+-- a crowd of three numbers: emitters, subscribers, and values of each emitter
+abbrev pub crowd_sized : Option ℕ → Option ℕ → Option ℕ → Option CrowdSize
+crowd_sized (Some emitters) (Some subscribers) (Some values) = crowd_size emitters subscribers values
+crowd_sized _ _ _ = None
 
 -- a count of two numbers: threads, and updates of each thread
-abbrev pub counted : Option ℕ → Option ℕ → Option Command
-counted (Some threads) (Some updates) = option_map Count (count_size threads updates)
-counted _ _ = None
+abbrev pub count_sized : Option ℕ → Option ℕ → Option Counting
+count_sized (Some threads) (Some updates) = count_size threads updates
+count_sized _ _ = None
 
-abbrev pub count_of : List ℕ → List ℕ → Option Command
-count_of threads updates = counted (number_in threads) (number_in updates)
+module _ {A : Type 0} where
+  -- `crowd` and three numbers
+  abbrev pub crowd_of : List (String A) → Option CrowdSize
+  crowd_of (command ∷ emitters ∷ subscribers ∷ values ∷ []) =
+      cond (bytes_eq (string_bytes command) (codes "crowd"))
+      (crowd_sized (number_in (string_bytes emitters)) (number_in (string_bytes subscribers)) (number_in (string_bytes values))) None
+  crowd_of _ = None
 
--- `crowd` and three numbers, or `count` and two
-abbrev pub command_of : {A : Type 0} → List (String A) → Option Command
-command_of (command ∷ emitters ∷ subscribers ∷ values ∷ []) =
-    cond (bytes_eq (string_bytes command) (codes "crowd"))
-    (crowd_of (string_bytes emitters) (string_bytes subscribers) (string_bytes values)) None
-command_of (command ∷ threads ∷ updates ∷ []) =
-    cond (bytes_eq (string_bytes command) (codes "count")) (count_of (string_bytes threads) (string_bytes updates)) None
-command_of _ = None
+  -- `count` and two numbers
+  abbrev pub count_of : List (String A) → Option Counting
+  count_of (command ∷ threads ∷ updates ∷ []) =
+      cond (bytes_eq (string_bytes command) (codes "count"))
+      (count_sized (number_in (string_bytes threads)) (number_in (string_bytes updates))) None
+  count_of _ = None
+
+  -- a crowd or a count; no arguments name both
+  abbrev pub command_of : List (String A) → Option Command
+  command_of args = option_or (option_map Crowd (crowd_of args)) (option_map Count (count_of args))

@@ -1,12 +1,12 @@
 -- The lines that a crowd or a count prints, and how the program then ends. Begin with `Runs`.
-use Rattle.std.specs.Prelude.{◌≡◌, ◌⊎◌, ℕ, ℤ, ◌+◌, ◌*◌, Bool, true, false, List, [], ◌∷◌, ◌++◌, Option, String, codes, decimal, string_bytes}
-use Rattle.std.specs.Fmt.{signed_decimal}
+use Rattle.std.specs.Prelude.{◌≡◌, ◌⊎◌, ℕ, ℤ, pos, ◌+◌, ◌*◌, Bool, true, false, List, [], ◌∷◌, ◌++◌, Option, String, codes, decimal, string_bytes}
 use Rattle.flow_crowd.specs.declared.reader.Received.{Received}
+use Rattle.std.specs.Fmt.{signed_decimal}
+use Rattle.flow_count.specs.Counting.{Counting}
 use Rattle.flow_crowd.specs.declared.size.CrowdSize.{CrowdSize}
-use Rattle.flow_answers.specs.Lines.{lined}
+use Rattle.flow_script.specs.Lines.{lined}
 use Rattle.flow_script.specs.Telling.{Tells, memory_line}
-use Rattle.flow_program.specs.declared.command.Command.{Command}
-use Rattle.flow_program.specs.declared.command.Command.TheVariants.{Crowd, Count}
+use Rattle.flow_program.specs.Arguments.{Command, Crowd, Count}
 
 -- what the subscriber of this number got
 abbrev pub subscriber_line : ℕ → ℕ → Bool → List ℕ
@@ -31,17 +31,19 @@ RunsCrowd size failed old new answered =
     ((received : List Received) × Tells failed old new (crowd_lines size received) 0 answered)
     ⊎ Tells failed old new memory_line 4 answered
 
--- the value that the threads left
-abbrev pub count_line : ℤ → List ℕ
-count_line value = lined (codes "value " ++ signed_decimal value)
+-- the line of this value
+abbrev pub value_line : ℤ → List ℕ
+value_line value = lined (codes "value " ++ signed_decimal value)
 
-abbrev pub IsCountText : {A : Type 0} → String A → Type 0
-IsCountText text = (value : ℤ) × (string_bytes text ≡ count_line value)
+-- the line of a count: how many updates all threads made
+abbrev pub count_line : Counting → List ℕ
+count_line size = value_line (pos (size.threads * size.updates))
 
--- The line of a value was printed, with status 0; or want of memory was told.
-abbrev pub RunsCount : Bool → Option (List ℕ) → Option (List ℕ) → ℕ → Type 0
-RunsCount failed old new answered = ((value : ℤ) × Tells failed old new (count_line value) 0 answered) ⊎ Tells failed old new memory_line 4 answered
+-- The line of the count was printed, with status 0; or want of memory was told.
+abbrev pub RunsCount : Counting → Bool → Option (List ℕ) → Option (List ℕ) → ℕ → Type 0
+RunsCount size failed old new answered =
+    Tells failed old new (count_line size) 0 answered ⊎ Tells failed old new memory_line 4 answered
 
 abbrev pub Runs : Command → Bool → Option (List ℕ) → Option (List ℕ) → ℕ → Type 0
 Runs (Crowd size) failed old new answered = RunsCrowd size failed old new answered
-Runs (Count size) failed old new answered = RunsCount failed old new answered
+Runs (Count size) failed old new answered = RunsCount size failed old new answered

@@ -1,7 +1,7 @@
 -- What the program prints beside a script's lines, and its status. Begin with `RunsScript`.
 use Rattle.std.specs.Prelude.{◌≡◌, ℕ, Bool, List, Option, Result, codes}
-use Rattle.flow_chain_format.specs.declared.fault.ScriptFault.{ScriptFault}
-use Rattle.flow_answers.specs.Lines.{lined}
+use Rattle.script_chain_format.specs.declared.reading.fault.ScriptFault.{ScriptFault}
+use Rattle.flow_script.specs.Lines.{lined}
 use Rattle.flow_script.specs.Playing.{Plays, is_read_failed}
 use Rattle.flow_script.specs.Telling.{Ends}
 

@@ -2,48 +2,52 @@
 ghost use Rattle.std.specs.Prelude.{◌≡◌, ◌<◌, ◌≤◌, true, length, Some};
 ghost use Rattle.std.specs.Str.{all_ascii_digits};
 ghost use Rattle.std.specs.Str.Parse.{digits_value};
-ghost use Rattle.flow_program.specs.Arguments.{command_of, count_of, crowd_of, number_in};
+ghost use Rattle.flow_program.specs.Arguments.{count_of, count_sized, crowd_of, crowd_sized, number_in};
 
-use flow_crowd::{CountSize, CrowdSize};
+use flow_count::CountSize;
+use flow_crowd::CrowdSize;
 
-/// What the program is to do in place of playing a script.
-#[derive(Clone, Copy)]
-pub enum Command {
-    Crowd(CrowdSize),
-    Count(CountSize),
-}
-
-/// The word `crowd`, and how many emitters, subscribers, and values of each emitter; or the word `count`, and how many
-/// threads, and updates of each thread. `None` for other arguments, or where a number is out of its range.
-pub fn command_of(args: &[String]) -> Option<Command>
-    ensures { result ≡ command_of args.now }
+/// Returns the crowd that the arguments name: the word `crowd`, and how many emitters, subscribers, and values of each
+/// emitter. `None` for other arguments, or if a number is out of its range.
+pub fn crowd_of(args: &[String]) -> Option<CrowdSize>
+    ensures { result ≡ crowd_of args.now }
 {
     match args {
         [command, emitters, subscribers, values] if command.as_str() == "crowd" => {
-            crowd_of(emitters.as_str(), subscribers.as_str(), values.as_str())
-        }
-        [command, threads, updates] if command.as_str() == "count" => {
-            count_of(threads.as_str(), updates.as_str())
+            crowd_sized(emitters.as_str(), subscribers.as_str(), values.as_str())
         }
         _ => None,
     }
 }
 
-fn crowd_of(emitters: &str, subscribers: &str, values: &str) -> Option<Command>
-    ensures { result ≡ crowd_of emitters.now subscribers.now values.now }
+/// Returns the count that the arguments name: the word `count`, and how many threads, and updates of each thread. `None`
+/// for other arguments, or if a number is out of its range.
+pub fn count_of(args: &[String]) -> Option<CountSize>
+    ensures { result ≡ count_of args.now }
+{
+    match args {
+        [command, threads, updates] if command.as_str() == "count" => {
+            count_sized(threads.as_str(), updates.as_str())
+        }
+        _ => None,
+    }
+}
+
+fn crowd_sized(emitters: &str, subscribers: &str, values: &str) -> Option<CrowdSize>
+    ensures { result ≡ crowd_sized (number_in emitters.now) (number_in subscribers.now) (number_in values.now) }
 {
     let emitters = number_in(emitters)?;
     let subscribers = number_in(subscribers)?;
     let values = number_in(values)?;
-    Some(Command::Crowd(CrowdSize::new(emitters, subscribers, values)?))
+    CrowdSize::new(emitters, subscribers, values)
 }
 
-fn count_of(threads: &str, updates: &str) -> Option<Command>
-    ensures { result ≡ count_of threads.now updates.now }
+fn count_sized(threads: &str, updates: &str) -> Option<CountSize>
+    ensures { result ≡ count_sized (number_in threads.now) (number_in updates.now) }
 {
     let threads = number_in(threads)?;
     let updates = number_in(updates)?;
-    Some(Command::Count(CountSize::new(threads, updates)?))
+    CountSize::new(threads, updates)
 }
 
 /// The number that a text of one to five ASCII digits writes.

@@ -3,12 +3,13 @@ ghost use Rattle.std.specs.Prelude.{◌≡◌, ◌≢◌, false, IfOk, IfSome, N
 ghost use Rattle.flow_script.specs.Telling.{Tells, memory_line};
 ghost use Rattle.flow_script.specs.Watching.{inner_of, has_failed};
 ghost use Rattle.flow_program.specs.Arguments.{command_of};
-ghost use Rattle.flow_program.specs.CrowdLines.{IsCountText, IsCrowdText, Runs, RunsCount, RunsCrowd, count_line};
+ghost use Rattle.flow_program.specs.CrowdLines.{IsCrowdText, Runs, RunsCount, RunsCrowd, count_line, value_line};
 ghost use Rattle.flow_program.specs.Program.{RunsScript, usage_line};
 
-use crate::command::{Command, command_of};
+use crate::command::{count_of, crowd_of};
 use crate::crowd_lines::crowd_text;
-use flow_crowd::{CountSize, CrowdSize, run_count, run_crowd};
+use flow_count::{CountSize, run_count};
+use flow_crowd::{CrowdSize, run_crowd};
 use flow_script::{REFUSED, Watched, play, tell, tell_fault, tell_memory};
 use std::alloc::{AllocError, AllocGlobal, Global};
 use std::io::{ErrorKind, Read, Write};
@@ -71,14 +72,14 @@ fn tell_crowd<H: Threads + Wait + Sync, W: Write>(
 
 /// The line of a count that has run. `None` for want of memory.
 fn count_line<H: Threads + Wait + Sync>(rt: &H, alloc: Global, size: CountSize) -> Option<String>
-    ensures { IfSome result IsCountText }
+    ensures { IfSome result (λ line. string_bytes line ≡ count_line size) }
 {
     let value = run_count(rt, alloc, size).ok()?;
     value_line(alloc, value).ok()
 }
 
 fn value_line(alloc: Global, value: i64) -> Result<String, AllocError>
-    ensures { IfOk result (λ line. string_bytes line ≡ count_line value) }
+    ensures { IfOk result (λ line. string_bytes line ≡ value_line value) }
 {
     let mut line = String::new(alloc);
     writeln!(line, "value {value}")?;
@@ -93,7 +94,7 @@ fn tell_count<H: Threads + Wait + Sync, W: Write>(
     size: CountSize,
 ) -> u8
     requires { has_failed output.old ≡ false }
-    ensures { RunsCount (has_failed output.new)
+    ensures { RunsCount size (has_failed output.new)
         (W.contents (inner_of output.old)) (W.contents (inner_of output.new)) result }
 {
     match count_line(rt, alloc, size) {
@@ -145,9 +146,11 @@ pub fn run<H: Threads + Wait + Sync + AllocGlobal, R: Read, W: Write>(
     if args.is_empty() {
         return play_script(rt.alloc(), input, output);
     }
-    match command_of(args) {
-        Some(Command::Crowd(size)) => tell_crowd(rt, rt.alloc(), output, size),
-        Some(Command::Count(size)) => tell_count(rt, rt.alloc(), output, size),
+    if let Some(size) = crowd_of(args) {
+        return tell_crowd(rt, rt.alloc(), output, size);
+    }
+    match count_of(args) {
+        Some(size) => tell_count(rt, rt.alloc(), output, size),
         None => tell_usage(output),
     }
 }
