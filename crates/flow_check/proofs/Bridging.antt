@@ -1,35 +1,35 @@
 -- Steps of a checker's states go through a record in an order exactly if a history explains it in that order, if each step of a
 -- state adds to the history for which the state stands. Begin with `Leads` and `Follows`.
-use Rattle.std.proofs.Common.{◌≡◌, ℕ, ◌+◌, ◌<◌, ◌≤◌, List, [], ◌∷◌, ◌++◌, length, Option, Some, sym, ◌∙◌, arith}
+use Rattle.std.proofs.Common.{ℕ, ◌+◌, ◌<◌, ◌≤◌, Bool, List, [], ◌∷◌, ◌++◌, length, Option, sym, ◌∙◌, arith}
 use Rattle.flow_law.specs.declared.history.Event.{Event}
 use Rattle.flow_law.specs.declared.history.Said.{Said}
 use Rattle.flow_law.specs.History.{Kind, IsHistory}
 use Rattle.flow_law.proofs.Owners.{history_left}
 use Rattle.flow_check.specs.Records.{Calls}
 use Rattle.flow_check.specs.Orders.{turns_of}
-use Rattle.flow_check.specs.Remaining.{placing, GoesThrough}
+use Rattle.flow_check.specs.Remaining.{placing, IsStep, GoesThrough}
 use Rattle.flow_check.proofs.Parts.{recorded_within, next_within}
 use Rattle.flow_check.proofs.Places.{Counts, counts_more, next_same}
 use Rattle.flow_check.proofs.Ordering.{Goes}
 
 -- `Stands m k h` says that the state m stands for what the history h led to in k turns
-module _ {M T S X R C : Type 0} (stepped : M → ℕ → C → Option M) (kind : Kind T S X R) (Adds : List (Event (Said X R)) → ℕ → C → List (Event (Said X R)) → Type 0)
+module _ {M T S X R C : Type 0} (stepped : M → ℕ → C → Option M) (may_skip : C → Bool) (kind : Kind T S X R) (Adds : List (Event (Said X R)) → ℕ → C → List (Event (Said X R)) → Type 0)
     (callers : Calls C) (first : S) (Stands : M → ℕ → List (Event (Said X R)) → Type 0) where
   abbrev Log : Type 0
   Log = List (Event (Said X R))
 
   -- each step of the first so many turns adds to the history
   abbrev pub Leads : ℕ → Type 0
-  Leads bound = (m after : M) (k : ℕ) (h : Log) (caller : ℕ) (call : C) → Stands m k h → IsHistory kind first h → k < bound → caller < length callers → stepped m caller call ≡ Some after
+  Leads bound = (m after : M) (k : ℕ) (h : Log) (caller : ℕ) (call : C) → Stands m k h → IsHistory kind first h → k < bound → caller < length callers → IsStep stepped may_skip m caller call after
       → (part : Log) × Adds h caller call part × IsHistory kind first (h ++ part) × Stands after (k + 1) (h ++ part)
 
   -- what is added to the history is a step
   abbrev pub Follows : Type 0
   Follows = (m : M) (k : ℕ) (h : Log) (caller : ℕ) (call : C) (part : Log) → Stands m k h → caller < length callers → Adds h caller call part → IsHistory kind first (h ++ part)
-      → (after : M) × (stepped m caller call ≡ Some after) × Stands after (k + 1) (h ++ part)
+      → (after : M) × IsStep stepped may_skip m caller call after × Stands after (k + 1) (h ++ part)
 
   pub steps_go : (bound : ℕ) → Leads bound → (order p placed : List ℕ) (k : ℕ) (m : M) (h : Log) → Counts callers placed p → k + length order ≤ bound → Stands m k h → IsHistory kind first h
-      → GoesThrough stepped callers m placed order → Goes kind Adds callers first p h order
+      → GoesThrough stepped may_skip callers m placed order → Goes kind Adds callers first p h order
   steps_go bound leads [] p placed k m h counts fits st is x = (λ other d e. x other d (next_same callers placed p other counts ∙ e), is)
   steps_go bound leads (caller ∷ order) p placed k m h counts fits st is x =
       let c = x.0 in
@@ -48,7 +48,7 @@ module _ {M T S X R C : Type 0} (stepped : M → ℕ → C → Option M) (kind :
   goes_history (caller ∷ order) p h x = history_left kind first h x.3.0 (goes_history order (p ++ caller ∷ []) (h ++ x.3.0) x.3.2)
 
   pub goes_steps : Follows → (order p placed : List ℕ) (k : ℕ) (m : M) (h : Log) → Counts callers placed p → Stands m k h
-      → Goes kind Adds callers first p h order → GoesThrough stepped callers m placed order
+      → Goes kind Adds callers first p h order → GoesThrough stepped may_skip callers m placed order
   goes_steps follows [] p placed k m h counts st x = λ other d e. x.0 other d (sym (next_same callers placed p other counts) ∙ e)
   goes_steps follows (caller ∷ order) p placed k m h counts st x =
       let c = x.0 in

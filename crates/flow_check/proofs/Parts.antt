@@ -1,11 +1,12 @@
 -- What loops over callers and over nodes keep.
-use Rattle.std.specs.Prelude.{◌≡◌, ℕ, ◌+◌, ◌<◌, ◌≤◌, false, List, [], ◌∷◌, length, slice_get, Option, Some, None, Vec}
+use Rattle.std.specs.Prelude.{◌≡◌, ℕ, ◌+◌, ◌<◌, ◌≤◌, Bool, true, false, List, [], ◌∷◌, length, map, slice_get, Option, Some, None, IfSome, ⊤, Vec}
 use Rattle.std.specs.declared.alloc.Global.{Global}
-use Rattle.std.proofs.Common.{refl, sym, ap, ◌∙◌, subst, drop, get_or, drop-cons, add-one, below_more, arith}
-use Rattle.std.proofs.lemmas.Option.{slice_get_within, same_Some}
+use Rattle.std.proofs.Common.{refl, sym, ap, ◌∙◌, subst, inl, inr, drop, get_or, drop-cons, add-one, below_more, arith}
+use Rattle.std.proofs.lemmas.Option.{slice_get_within, same_Some, MatchOption-at_some}
 use Rattle.flow_check.specs.declared.timed.Timed.{Timed}
 use Rattle.flow_check.specs.declared.node.Node.{Node}
-use Rattle.flow_check.specs.Remaining.{next_at, next_of, MayComeNext, OwesNothing, placing, GoesThrough}
+use Rattle.flow_check.specs.declared.node.Move.{Move}
+use Rattle.flow_check.specs.Remaining.{next_at, next_of, MayComeNext, OwesNothing, placing, IsStep, GoesThrough}
 use Rattle.flow_check.specs.Records.{Calls, recorded, call_in, count_in, is_over_before}
 use Rattle.flow_check.specs.Tables.{IsInTable, IsFollowedAt, IsFollowed, IsClosed}
 
@@ -36,15 +37,15 @@ module _ {C : Type 0} (callers : Calls C) where
   abbrev pub OwesNothingBelow : ℕ → List ℕ → Type 0
   OwesNothingBelow bound placed = (caller : ℕ) (d : Timed C) → caller < bound → next_of callers placed caller ≡ Some d → d.end ≡ None
 
-module _ {S C : Type 0} (stepped : S → ℕ → C → Option S) (callers : Calls C) (nodes : List (Node S)) where
+module _ {S C : Type 0} (stepped : S → ℕ → C → Option S) (may_skip : C → Bool) (callers : Calls C) (nodes : List (Node S)) where
   abbrev pub IsFollowedBelow : ℕ → Node S → Type 0
-  IsFollowedBelow bound n = (caller : ℕ) → caller < bound → IsFollowedAt stepped callers nodes n caller
+  IsFollowedBelow bound n = (caller : ℕ) → caller < bound → IsFollowedAt stepped may_skip callers nodes n caller
 
   abbrev pub IsClosedBelow : ℕ → Type 0
-  IsClosedBelow bound = (k : ℕ) → k < bound → (n : Node S) → slice_get nodes k ≡ Some n → IsFollowed stepped callers nodes n × (OwesNothing callers n.placed.items → ⊥)
+  IsClosedBelow bound = (k : ℕ) → k < bound → (n : Node S) → slice_get nodes k ≡ Some n → IsFollowed stepped may_skip callers nodes n × (OwesNothing callers n.placed.items → ⊥)
 
   -- from no node of a closed table does an order explain the rest
-  pub none_explains : IsClosed stepped callers nodes → (order : List ℕ) (s : S) (placed : List ℕ) → IsInTable nodes s placed → GoesThrough stepped callers s placed order → ⊥
+  pub none_explains : IsClosed stepped may_skip callers nodes → (order : List ℕ) (s : S) (placed : List ℕ) → IsInTable nodes s placed → GoesThrough stepped may_skip callers s placed order → ⊥
   none_explains closed [] s placed found h =
       let n = found.1.0 in
       (closed found.0 n found.1.1).1 (subst (λ (p : List ℕ). OwesNothing callers p) (sym found.1.3) h)
@@ -56,35 +57,51 @@ module _ {S C : Type 0} (stepped : S → ℕ → C → Option S) (callers : Call
       follows h.0 h.3.0
       (subst (λ (p : List ℕ). next_of callers p caller ≡ Some h.0) (sym found.1.3) h.1)
       (subst (λ (p : List ℕ). MayComeNext callers p h.0) (sym found.1.3) h.2)
-      (subst (λ (t : S). stepped t caller h.0.call ≡ Some h.3.0) (sym found.1.2) h.3.1))) h.3.2
+      (subst (λ (t : S). IsStep stepped may_skip t caller h.0.call h.3.0) (sym found.1.2) h.3.1))) h.3.2
 
-  pub followed_at : (n : Node S) (caller : ℕ) (c : Timed C) (after : S) → next_of callers n.placed.items caller ≡ Some c → stepped n.state caller c.call ≡ Some after
-      → IsInTable nodes after (placing caller n.placed.items) → IsFollowedAt stepped callers nodes n caller
-  followed_at n caller c after e f found = λ d t e' m f'.
-      let is_same = ap (λ (x : Timed C). stepped n.state caller x.call) (same_Some c d (sym e ∙ e')) in
-      subst (λ (x : S). IsInTable nodes x (placing caller n.placed.items)) (same_Some after t (sym f ∙ is_same ∙ f')) found
+  -- the table has what follows if the caller's next call is made, and if it is skipped
+  pub followed_at : (n : Node S) (caller : ℕ) (c : Timed C) → next_of callers n.placed.items caller ≡ Some c
+      → ((after : S) → stepped n.state caller c.call ≡ Some after → IsInTable nodes after (placing caller n.placed.items))
+      → (may_skip c.call ≡ true → IsInTable nodes n.state (placing caller n.placed.items)) → IsFollowedAt stepped may_skip callers nodes n caller
+  followed_at n caller c e made skipped = λ d t e' m step.
+      let is = same_Some c d (sym e ∙ e') in elim step [
+        | inl f ↦ made t (ap (λ (x : Timed C). stepped n.state caller x.call) is ∙ f)
+        | inr f ↦ subst (λ (x : S). IsInTable nodes x (placing caller n.placed.items)) (sym f.1) (skipped (ap (λ (x : Timed C). may_skip x.call) is ∙ f.0))
+      ]
 
-  pub all_followed : (n : Node S) (bound : ℕ) → length callers ≤ bound → IsFollowedBelow bound n → IsFollowed stepped callers nodes n
+  pub all_followed : (n : Node S) (bound : ℕ) → length callers ≤ bound → IsFollowedBelow bound n → IsFollowed stepped may_skip callers nodes n
   all_followed n bound upto below = λ caller c after e m f.
       let near = next_within callers n.placed.items caller c e in
       let low : caller < bound = omega arith in below caller low c after e m f
 
-  pub all_closed : (bound : ℕ) → length nodes ≤ bound → IsClosedBelow bound → IsClosed stepped callers nodes
+  pub all_closed : (bound : ℕ) → length nodes ≤ bound → IsClosedBelow bound → IsClosed stepped may_skip callers nodes
   all_closed bound upto below = λ k n e.
       let near = slice_get_within nodes k n e in
       let low : k < bound = omega arith in below k low n e
 
-  pub closed_more : (k : ℕ) (n : Node S) → IsClosedBelow k → slice_get nodes k ≡ Some n → IsFollowed stepped callers nodes n × (OwesNothing callers n.placed.items → ⊥) → IsClosedBelow (k + 1)
+  pub closed_more : (k : ℕ) (n : Node S) → IsClosedBelow k → slice_get nodes k ≡ Some n → IsFollowed stepped may_skip callers nodes n × (OwesNothing callers n.placed.items → ⊥) → IsClosedBelow (k + 1)
   closed_more k n below e here = below_more _ _ below (λ m e'.
-      subst (λ (x : Node S). IsFollowed stepped callers nodes x × (OwesNothing callers x.placed.items → ⊥)) (same_Some n m (sym e ∙ e')) here)
+      subst (λ (x : Node S). IsFollowed stepped may_skip callers nodes x × (OwesNothing callers x.placed.items → ⊥)) (same_Some n m (sym e ∙ e')) here)
 
-module _ {S C : Type 0} (stepped : S → ℕ → C → Option S) (callers : Calls C) where
-  pub explain_more : (s after : S) (placed later order : List ℕ) (i caller : ℕ) (c : Timed C) → drop i order ≡ caller ∷ drop (i + 1) order
-      → next_of callers placed caller ≡ Some c → MayComeNext callers placed c → stepped s caller c.call ≡ Some after → later ≡ placing caller placed
-      → GoesThrough stepped callers after later (drop (i + 1) order) → GoesThrough stepped callers s placed (drop i order)
-  explain_more s after placed later order i caller c e next may step grown rest =
-      subst (λ (o : List ℕ). GoesThrough stepped callers s placed o) (sym e)
-      (c, next, may, (after, step, subst (λ (p : List ℕ). GoesThrough stepped callers after p (drop (i + 1) order)) grown rest))
+module _ {S C : Type 0} (stepped : S → ℕ → C → Option S) (may_skip : C → Bool) (callers : Calls C) where
+  pub explain_more : (s after : S) (placed later order rest : List ℕ) (caller : ℕ) (c : Timed C) → order ≡ caller ∷ rest
+      → next_of callers placed caller ≡ Some c → MayComeNext callers placed c → IsStep stepped may_skip s caller c.call after → later ≡ placing caller placed
+      → GoesThrough stepped may_skip callers after later rest → GoesThrough stepped may_skip callers s placed order
+  explain_more s after placed later order rest caller c e next may step grown goes =
+      subst (λ (o : List ℕ). GoesThrough stepped may_skip callers s placed o) (sym e)
+      (c, next, may, (after, step, subst (λ (p : List ℕ). GoesThrough stepped may_skip callers after p rest) grown goes))
 
-pub drop_here : (order : List ℕ) (i : ℕ) → i < length order → drop i order ≡ get_or order i 0 ∷ drop (i + 1) order
-drop_here order i h = rw (add-one, drop-cons order i 0)
+-- what a clause says of the state after a turn, of that state
+pub step_of : {S C : Type 0} (stepped : S → ℕ → C → Option S) (may_skip : C → Bool) (s next : S) (caller : ℕ) (c : C) (o : Option S) → o ≡ Some next
+    → IfSome o (IsStep stepped may_skip s caller c) → IsStep stepped may_skip s caller c next
+step_of stepped may_skip s next caller c o e h = MatchOption-at_some ⊤ (IsStep stepped may_skip s caller c) next e h
+
+move_here : (order : List Move) (i : ℕ) (turn : Move) → i < length order → drop i order ≡ get_or order i turn ∷ drop (i + 1) order
+move_here order i turn h = rw (add-one, drop-cons order i turn)
+
+-- the caller of a turn
+abbrev pub caller_of : Move → ℕ
+caller_of turn = turn.caller
+
+pub map_here : (order : List Move) (i : ℕ) (turn : Move) → i < length order → map caller_of (drop i order) ≡ (get_or order i turn).caller ∷ map caller_of (drop (i + 1) order)
+map_here order i turn h = ap (map caller_of) (move_here order i turn h)

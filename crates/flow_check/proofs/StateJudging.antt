@@ -1,5 +1,5 @@
 -- Steps of a checker of state flows go through a record in an order exactly if a history of a state flow explains it in that order.
-use Rattle.std.proofs.Common.{◌≡◌, ◌≢◌, ℕ, suc, zero, ◌+◌, Bool, true, false, ◌==◌, cond, List, [], ◌∷◌, ◌++◌, length, Option, Some, None, refl, sym, ap, ◌∙◌, subst, inl, inr, arith}
+use Rattle.std.proofs.Common.{◌≡◌, ◌≢◌, ◌⊎◌, ℕ, suc, zero, ◌+◌, Bool, true, false, ◌==◌, cond, List, [], ◌∷◌, ◌++◌, length, Option, Some, None, refl, sym, ap, ◌∙◌, subst, inl, inr, arith}
 use Rattle.std.proofs.lemmas.List.{length-map}
 use Rattle.std.proofs.lemmas.Bool.{false≢true}
 use Rattle.std.proofs.lemmas.Bool.Decides.{eqb_tells}
@@ -25,7 +25,7 @@ use Rattle.flow_check.specs.Records.{Calls, IsWellTimed}
 use Rattle.flow_check.specs.Remaining.{none_placed, GoesThroughAll}
 use Rattle.flow_check.specs.Verdicts.{Judges}
 use Rattle.flow_check.specs.StateRecords.{name_of, call_of, IsRecorded, AddsEntry, ExplainsState}
-use Rattle.flow_check.specs.StateMachine.{Kept, reader_of, present, none_subscribed, own_answer, moved, same_answer, agrees, stepped}
+use Rattle.flow_check.specs.StateMachine.{Kept, reader_of, present, none_subscribed, own_answer, moved, same_answer, agrees, stepped, may_skip}
 use Rattle.flow_check.proofs.Places.{counts_none}
 use Rattle.flow_check.proofs.Ordering.{goes_explains, explains_goes}
 use Rattle.flow_check.proofs.Bridging.{Leads, Follows, steps_go, goes_steps}
@@ -113,10 +113,13 @@ module _ (callers : Calls StateEntry) (initial limit : ℕ) where
       subst (λ (s : StateFlowState ℕ). StandsAs (length callers) m (k + 1) s (owners_all state_flow [] (h ++ e ∷ []))) (sym (after_all-snoc state_flow first h e))
       (subst (λ (owners : List Owner). StandsAs (length callers) m (k + 1) (after (state_after_all first h) e.what.call e.what.reply) owners) (sym (owners_all-append state_flow [] h (e ∷ []))) st)
 
-  leads_history : Leads stepped state_flow (AddsEntry first) callers first Stands limit
+  made : {A B : Type 0} → A ⊎ ((false ≡ true) × B) → A
+  made x = elim x [ inl e ↦ e | inr e ↦ absurd (false≢true e.0) ]
+
+  leads_history : Leads stepped may_skip state_flow (AddsEntry first) callers first Stands limit
   leads_history m next k h caller entry st is few near step =
       let op = entry.operation in
-      let w = cond_some (agrees (own_answer caller op m) entry.answer) (moved caller op m) next step in
+      let w = cond_some (agrees (own_answer caller op m) entry.answer) (moved caller op m) next (made step) in
       let own = own_of (own_answer caller op m) entry.answer w.0 in
       let counted = is_counted limit initial h is.legal in
       let limit_is = counted.limit_is in
@@ -127,13 +130,13 @@ module _ (callers : Calls StateEntry) (initial limit : ℕ) where
       let led = leads (length callers) m k s owners st (sound h is) caller near op own.0 own.1 room in
       let e = event (name_of caller) (said (call_of caller led.0 op) led.1.0) in (
         e ∷ [],
-        record { number = led.0; given = own.0; replied = led.1.0; is_recorded = own.2; is_reply = led.1.1; is_event = refl; may_make = led.1.4 },
+        record { number = led.0; given = own.0; replied = led.1.0; is_recorded = own.2; is_reply = led.1.1; is_event = refl {a = e ∷ []}; may_make = led.1.4 },
         IsHistory-snoc state_flow first h e is led.1.2 led.1.3,
         stands_more next k h e (subst (λ (x : Kept). StandsAs (length callers) x (k + 1) (after s e.what.call e.what.reply) (with_owner (gives e.name e.what.call e.what.reply) owners)) w.1
             (moves (length callers) m k s owners st (sound h is) caller near op own.0 led.0 led.1.0 own.1 led.1.1 led.1.2 led.1.3)),
       )
 
-  follows_history : Follows stepped state_flow (AddsEntry first) callers first Stands
+  follows_history : Follows stepped may_skip state_flow (AddsEntry first) callers first Stands
   follows_history m k h caller entry part st near x is =
       let op = entry.operation in
       let s = state_after_all first h in
@@ -146,24 +149,24 @@ module _ (callers : Calls StateEntry) (initial limit : ℕ) where
       let own = only (length callers) m k s owners st (sound h before) caller near op x.given x.number x.replied x.is_reply replies speaks x.may_make in
       let agreed = own_agrees x.given (own_answer caller op m) entry.answer own x.is_recorded in (
         moved caller op m,
-        subst (λ (b : Bool). cond b (Some (moved caller op m)) None ≡ Some (moved caller op m)) (sym agreed) refl,
+        inl (subst (λ (b : Bool). cond b (Some (moved caller op m)) None ≡ Some (moved caller op m)) (sym agreed) refl),
         subst (λ (p : StateHistory ℕ). Stands (moved caller op m) (k + 1) (h ++ p)) (sym x.is_event)
             (stands_more (moved caller op m) k h e (moves (length callers) m k s owners st (sound h before) caller near op x.given x.number x.replied own x.is_reply replies speaks)),
       )
 
 -- what is judged of steps is judged of histories
 pub judged : (callers : Calls StateEntry) (initial : ℕ) (verdict : Verdict) → IsWellTimed callers
-    → Judges (GoesThroughAll stepped callers (record { value = initial; readers = none_subscribed callers })) verdict → Judges (ExplainsState callers initial) verdict
+    → Judges (GoesThroughAll stepped may_skip callers (record { value = initial; readers = none_subscribed callers })) verdict → Judges (ExplainsState callers initial) verdict
 judged callers initial (Legal order) well through =
     let limit = length order.items in
     let start = first_state_flow limit initial in (
       limit,
       goes_explains state_flow (AddsEntry start) callers start well order.items
-          (steps_go stepped state_flow (AddsEntry start) callers start (Stands callers initial limit) limit (leads_history callers initial limit) order.items [] (none_placed callers) 0
+          (steps_go stepped may_skip state_flow (AddsEntry start) callers start (Stands callers initial limit) limit (leads_history callers initial limit) order.items [] (none_placed callers) 0
           (begun callers initial limit) [] (counts_none callers) (omega arith) (stands_first callers initial limit) (history_first callers initial limit) through),
     )
 judged callers initial Illegal well refuted = λ order x.
     let start = first_state_flow x.0 initial in
-    refuted order (goes_steps stepped state_flow (AddsEntry start) callers start (Stands callers initial x.0) (follows_history callers initial x.0) order [] (none_placed callers) 0
+    refuted order (goes_steps stepped may_skip state_flow (AddsEntry start) callers start (Stands callers initial x.0) (follows_history callers initial x.0) order [] (none_placed callers) 0
     (begun callers initial x.0) [] (counts_none callers) (stands_first callers initial x.0) (explains_goes state_flow (AddsEntry start) callers start well order x.1))
 judged callers initial GaveUp well given_up = tt

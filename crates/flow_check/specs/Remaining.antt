@@ -1,6 +1,6 @@
 -- What is left of a record after some of its calls have happened, and how a checker's steps go through it.
 -- No public clause cites this module.
-use Rattle.std.specs.Prelude.{◌≡◌, ℕ, ◌+◌, false, List, [], ◌∷◌, map, slice_get, slice_set, slice_index, Option, Some, None}
+use Rattle.std.specs.Prelude.{◌≡◌, ◌⊎◌, ℕ, ◌+◌, Bool, true, false, List, [], ◌∷◌, map, slice_get, slice_set, slice_index, Option, Some, None}
 use Rattle.flow_check.specs.declared.timed.Timed.{Timed}
 use Rattle.flow_check.specs.Records.{Calls, recorded, is_over_before}
 
@@ -33,14 +33,20 @@ module _ {C : Type 0} (callers : Calls C) where
   abbrev pub OwesNothing : List ℕ → Type 0
   OwesNothing placed = (caller : ℕ) (d : Timed C) → next_of placed caller ≡ Some d → d.end ≡ None
 
--- `stepped s caller c` is the state after what was recorded of the caller's call c, if the flow may answer so in the state s
-module _ {S C : Type 0} (stepped : S → ℕ → C → Option S) (callers : Calls C) where
-  -- from a state in which so many calls have happened, this order of steps goes through the rest
-  abbrev pub GoesThrough : S → List ℕ → List ℕ → Type 0
-  GoesThrough s placed [] = OwesNothing callers placed
-  GoesThrough s placed (caller ∷ order) =
-      (c : Timed C) × (next_of callers placed caller ≡ Some c) × MayComeNext callers placed c
-      × ((after : S) × (stepped s caller c.call ≡ Some after) × GoesThrough after (placing caller placed) order)
+-- `stepped s caller c` is the state after what was recorded of the caller's call c, if the flow may answer so in the state s.
+-- `may_skip c` says that the call may have done nothing.
+module _ {S C : Type 0} (stepped : S → ℕ → C → Option S) (may_skip : C → Bool) where
+  -- the call is made, or it is skipped and changes nothing
+  abbrev pub IsStep : S → ℕ → C → S → Type 0
+  IsStep s caller c after = (stepped s caller c ≡ Some after) ⊎ ((may_skip c ≡ true) × (after ≡ s))
 
-  abbrev pub GoesThroughAll : S → List ℕ → Type 0
-  GoesThroughAll first order = GoesThrough first (none_placed callers) order
+  module _ (callers : Calls C) where
+    -- from a state in which so many calls have happened, this order of steps goes through the rest
+    abbrev pub GoesThrough : S → List ℕ → List ℕ → Type 0
+    GoesThrough s placed [] = OwesNothing callers placed
+    GoesThrough s placed (caller ∷ order) =
+        (c : Timed C) × (next_of callers placed caller ≡ Some c) × MayComeNext callers placed c
+        × ((after : S) × IsStep s caller c.call after × GoesThrough after (placing caller placed) order)
+
+    abbrev pub GoesThroughAll : S → List ℕ → Type 0
+    GoesThroughAll first order = GoesThrough first (none_placed callers) order

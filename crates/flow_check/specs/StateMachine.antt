@@ -90,3 +90,7 @@ agrees (Some own) (Some a) = same_answer own a
 abbrev pub stepped : Kept → ℕ → StateEntry → Option Kept
 stepped s caller entry =
     if agrees (own_answer caller entry.operation s) entry.answer then Some (moved caller entry.operation s) else None
+
+-- no call of a state flow is skipped
+abbrev pub may_skip : StateEntry → Bool
+may_skip entry = false

@@ -5,7 +5,7 @@ ghost use Rattle.flow_check.specs.Verdicts.{Judges};
 
 use crate::machine::Machine;
 use crate::refuting::refutes;
-use crate::replaying::goes_through;
+use crate::replaying::{callers_of, goes_through};
 use crate::search::{Found, search};
 use crate::timed::Timed;
 use crate::verdict::Verdict;
@@ -21,7 +21,7 @@ pub fn check<C: Copy, M: Machine<C>>(
     budget: u64,
 ) -> Result<Verdict, AllocError>
     ensures { IfOk result (λ verdict.
-        Judges (GoesThroughAll M.stepped callers.now first.now) verdict) }
+        Judges (GoesThroughAll M.stepped M.may_skip callers.now first.now) verdict) }
 {
     let found = search(alloc, first, callers, budget)?;
     match found {
@@ -30,7 +30,8 @@ pub fn check<C: Copy, M: Machine<C>>(
             let copy = first.try_copy(alloc)?;
             let yes = goes_through(alloc, copy, callers, order.as_slice())?;
             if yes {
-                return Ok(Verdict::Legal(order));
+                let callers = callers_of(alloc, order.as_slice())?;
+                return Ok(Verdict::Legal(callers));
             }
             Ok(Verdict::GaveUp)
         }

@@ -1,5 +1,5 @@
 //! What the checker knows of a flow.
-ghost use Rattle.std.specs.Prelude.{◌≡◌, ℕ, Option, IfOk, IsTrue};
+ghost use Rattle.std.specs.Prelude.{◌≡◌, ℕ, Bool, Option, IfOk, IsTrue};
 
 use std::alloc::{AllocError, Global};
 
@@ -8,9 +8,16 @@ pub trait Machine<C>: Drop {
     /// The state after what was recorded of a caller's call, if the flow may answer so.
     ghost stepped: { Self → ℕ → C → Option Self };
 
+    /// Whether a call may have done nothing, whatever was recorded of it.
+    ghost may_skip: { C → Bool };
+
     /// Makes the step, or returns None if the flow may not answer so.
     fn step(&self, alloc: Global, caller: usize, call: &C) -> Result<Option<Self>, AllocError>
         ensures { IfOk result (λ after. after ≡ stepped self.now caller call.now) };
+
+    /// Returns whether a call may have done nothing.
+    fn may_skip(&self, call: &C) -> bool
+        ensures { result ≡ may_skip call.now };
 
     /// Copies the state.
     fn try_copy(&self, alloc: Global) -> Result<Self, AllocError>

@@ -1,6 +1,6 @@
 //! Checks whether a table shows that no order goes through a record.
-ghost use Rattle.std.specs.Prelude.{◌≡◌, ℕ, List, IsTrue, IfOk};
-ghost use Rattle.flow_check.specs.Remaining.{GoesThroughAll, none_placed, OwesNothing};
+ghost use Rattle.std.specs.Prelude.{◌≡◌, ℕ, List, true, Some, IsTrue, IfOk};
+ghost use Rattle.flow_check.specs.Remaining.{GoesThroughAll, none_placed, placing, OwesNothing};
 ghost use Rattle.flow_check.specs.Tables.{IsInTable, IsFollowedAt, IsFollowed, IsClosed};
 
 use crate::machine::Machine;
@@ -28,7 +28,71 @@ fn is_node<C, M: Machine<C>>(
     node.placed.as_slice() == placed.as_slice()
 }
 
-/// Returns whether the table has what follows if this caller's next call happens, at the place
+/// Returns whether the table has this state after one more call of the caller, at this place.
+fn is_placed<C, M: Machine<C>>(
+    alloc: Global,
+    nodes: &[Node<M>],
+    node: &Node<M>,
+    at: usize,
+    caller: usize,
+    after: &M,
+) -> Result<bool, AllocError>
+    ensures { IfOk result (λ yes. IsTrue yes →
+        IsInTable nodes.now after.now (placing caller node.now.placed.items)) }
+{
+    let mut placed = Vec::from_slice(alloc, node.placed.as_slice())?;
+    if !place(&mut placed, caller) {
+        return Ok(false);
+    }
+    let yes = is_node(nodes, at, after, &placed);
+    Ok(yes)
+}
+
+/// Returns whether the table has what follows if this call is made, if it may be.
+fn is_made_followed<C, M: Machine<C>>(
+    alloc: Global,
+    nodes: &[Node<M>],
+    node: &Node<M>,
+    caller: usize,
+    call: &C,
+) -> Result<bool, AllocError>
+    ensures { IfOk result (λ yes. IsTrue yes →
+        (after : M) → M.stepped node.now.state caller call.now ≡ Some after →
+        IsInTable nodes.now after (placing caller node.now.placed.items)) }
+{
+    let stepped = node.state.step(alloc, caller, call)?;
+    let Some(after) = stepped else {
+        return Ok(true);
+    };
+    let Some(at) = node.edges.as_slice().get(caller) else {
+        return Ok(false);
+    };
+    let yes = is_placed(alloc, nodes, node, *at, caller, &after)?;
+    Ok(yes)
+}
+
+/// Returns whether the table has what follows if this call is skipped, if it may be.
+fn is_skip_followed<C, M: Machine<C>>(
+    alloc: Global,
+    nodes: &[Node<M>],
+    node: &Node<M>,
+    caller: usize,
+    call: &C,
+) -> Result<bool, AllocError>
+    ensures { IfOk result (λ yes. IsTrue yes → M.may_skip call.now ≡ true →
+        IsInTable nodes.now node.now.state (placing caller node.now.placed.items)) }
+{
+    if !node.state.may_skip(call) {
+        return Ok(true);
+    }
+    let Some(at) = node.skips.as_slice().get(caller) else {
+        return Ok(false);
+    };
+    let yes = is_placed(alloc, nodes, node, *at, caller, &node.state)?;
+    Ok(yes)
+}
+
+/// Returns whether the table has what follows if this caller's next call happens, at the places
 /// that the node names.
 fn is_followed_at<C: Copy, M: Machine<C>>(
     alloc: Global,
@@ -38,7 +102,7 @@ fn is_followed_at<C: Copy, M: Machine<C>>(
     caller: usize,
 ) -> Result<bool, AllocError>
     ensures { IfOk result (λ yes. IsTrue yes →
-        IsFollowedAt M.stepped callers.now nodes.now node.now caller) }
+        IsFollowedAt M.stepped M.may_skip callers.now nodes.now node.now caller) }
 {
     let Some(call) = next_call(callers, &node.placed, caller) else {
         return Ok(true);
@@ -46,19 +110,12 @@ fn is_followed_at<C: Copy, M: Machine<C>>(
     if !may_come_next(callers, &node.placed, call.begin) {
         return Ok(true);
     }
-    let stepped = node.state.step(alloc, caller, &call.call)?;
-    let Some(after) = stepped else {
-        return Ok(true);
-    };
-    if caller >= node.edges.len() {
+    let made = is_made_followed(alloc, nodes, node, caller, &call.call)?;
+    if !made {
         return Ok(false);
     }
-    let mut placed = Vec::from_slice(alloc, node.placed.as_slice())?;
-    if !place(&mut placed, caller) {
-        return Ok(false);
-    }
-    let yes = is_node(nodes, node.edges[caller], &after, &placed);
-    Ok(yes)
+    let skipped = is_skip_followed(alloc, nodes, node, caller, &call.call)?;
+    Ok(skipped)
 }
 
 /// Returns whether the table has what follows a node, and the node is no end.
@@ -69,7 +126,7 @@ fn is_followed<C: Copy, M: Machine<C>>(
     node: &Node<M>,
 ) -> Result<bool, AllocError>
     ensures { IfOk result (λ yes. IsTrue yes →
-        IsFollowed M.stepped callers.now nodes.now node.now
+        IsFollowed M.stepped M.may_skip callers.now nodes.now node.now
         × (OwesNothing callers.now node.now.placed.items → ⊥)) }
 {
     for caller in 0..callers.len() {
@@ -87,7 +144,7 @@ fn is_closed<C: Copy, M: Machine<C>>(
     callers: &[Vec<Timed<C>>],
     nodes: &[Node<M>],
 ) -> Result<bool, AllocError>
-    ensures { IfOk result (λ yes. IsTrue yes → IsClosed M.stepped callers.now nodes.now) }
+    ensures { IfOk result (λ yes. IsTrue yes → IsClosed M.stepped M.may_skip callers.now nodes.now) }
 {
     for node in nodes {
         let yes = is_followed(alloc, callers, nodes, node)?;
@@ -121,7 +178,7 @@ pub fn refutes<C: Copy, M: Machine<C>>(
     nodes: &[Node<M>],
 ) -> Result<bool, AllocError>
     ensures { IfOk result (λ yes. IsTrue yes →
-        (order : List ℕ) → GoesThroughAll M.stepped callers.now first.now order → ⊥) }
+        (order : List ℕ) → GoesThroughAll M.stepped M.may_skip callers.now first.now order → ⊥) }
 {
     let yes = begins(alloc, first, callers, nodes)?;
     if !yes {

@@ -2,7 +2,7 @@
 ghost use Rattle.std.specs.Prelude.{◌≡◌, ◌≤◌, length};
 
 use crate::machine::Machine;
-use crate::node::Node;
+use crate::node::{Move, Node};
 use crate::remaining::{next_call, none_placed, owes_nothing, place};
 use crate::timed::Timed;
 use std::alloc::{AllocError, Global};
@@ -11,7 +11,7 @@ use std::collections::HashMap;
 /// What the search found.
 #[derive(Drop)]
 pub enum Found<M> {
-    Order(Vec<usize>),
+    Order(Vec<Move>),
     /// It found no order, and went through all of these nodes.
     Table(Vec<Node<M>>),
     GaveUp,
@@ -20,7 +20,7 @@ pub enum Found<M> {
 /// A caller whose next call may come next, and the end of that call.
 #[derive(Clone, Copy)]
 struct Waiting {
-    caller: usize,
+    turn: Move,
     end: u64,
 }
 
@@ -40,7 +40,8 @@ struct Following<M> {
 
 enum Turn {
     Back,
-    Try(usize, usize),
+    /// From this node.
+    Try(usize, Move),
     End,
 }
 
@@ -64,10 +65,12 @@ fn place_of(todo: &[Waiting], end: u64) -> usize
     todo.len()
 }
 
-/// Returns the callers whose next call may come next, the latest end first.
-fn candidates<C: Copy>(
+/// Returns the turns of callers whose next call may come next, the latest end first. A call that may
+/// be skipped is made first.
+fn candidates<C: Copy, M: Machine<C>>(
     alloc: Global,
     callers: &[Vec<Timed<C>>],
+    state: &M,
     placed: &Vec<usize>,
 ) -> Result<Vec<Waiting>, AllocError> {
     let mut deadline = u64::MAX;
@@ -85,7 +88,18 @@ fn candidates<C: Copy>(
             if call.begin <= deadline {
                 let end = end_of(&call);
                 let at = place_of(todo.as_slice(), end);
-                todo.insert(at, Waiting { caller, end })?;
+                let turn = Move {
+                    caller,
+                    skips: false,
+                };
+                todo.insert(at, Waiting { turn, end })?;
+                if state.may_skip(&call.call) {
+                    let turn = Move {
+                        caller,
+                        skips: true,
+                    };
+                    todo.insert(at, Waiting { turn, end })?;
+                }
             }
         }
     }
@@ -110,42 +124,62 @@ fn take_turn(stack: &mut Vec<Frame>) -> Turn {
         None => Turn::End,
         Some(frame) => match frame.todo.pop() {
             None => Turn::Back,
-            Some(waiting) => Turn::Try(frame.node, waiting.caller),
+            Some(waiting) => Turn::Try(frame.node, waiting.turn),
         },
     }
 }
 
-/// Returns what follows a node if this caller's next call happens and may be answered so.
+/// Returns what follows a node at this turn, if the call may be answered so.
 fn advance<C: Copy, M: Machine<C>>(
     alloc: Global,
     callers: &[Vec<Timed<C>>],
     nodes: &[Node<M>],
     at: usize,
-    caller: usize,
+    turn: Move,
 ) -> Result<Option<Following<M>>, AllocError> {
     let Some(node) = nodes.get(at) else {
         return Ok(None);
     };
-    let Some(call) = next_call(callers, &node.placed, caller) else {
+    let Some(call) = next_call(callers, &node.placed, turn.caller) else {
         return Ok(None);
     };
-    let stepped = node.state.step(alloc, caller, &call.call)?;
+    let stepped = if turn.skips {
+        Some(node.state.try_copy(alloc)?)
+    } else {
+        node.state.step(alloc, turn.caller, &call.call)?
+    };
     let Some(state) = stepped else {
         return Ok(None);
     };
     let mut placed = Vec::from_slice(alloc, node.placed.as_slice())?;
-    if !place(&mut placed, caller) {
+    if !place(&mut placed, turn.caller) {
         return Ok(None);
     }
     Ok(Some(Following { state, placed }))
 }
 
-fn set_edge<M>(nodes: &mut Vec<Node<M>>, at: usize, caller: usize, next: usize) {
+/// Writes down the node to which a turn leads. A node has room for skipped calls once one is.
+fn set_edge<M>(
+    callers: usize,
+    nodes: &mut Vec<Node<M>>,
+    at: usize,
+    turn: Move,
+    next: usize,
+) -> Result<(), AllocError> {
     if let Some(node) = nodes.get_mut(at) {
-        if let Some(edge) = node.edges.get_mut(caller) {
+        if turn.skips && node.skips.is_empty() {
+            node.skips.resize(callers, usize::MAX)?;
+        }
+        let edges = if turn.skips {
+            &mut node.skips
+        } else {
+            &mut node.edges
+        };
+        if let Some(edge) = edges.get_mut(turn.caller) {
             *edge = next;
         }
     }
+    Ok(())
 }
 
 fn new_node<C, M: Machine<C>>(
@@ -162,6 +196,7 @@ fn new_node<C, M: Machine<C>>(
         state,
         placed,
         edges,
+        skips: Vec::new(alloc),
     })
 }
 
@@ -184,7 +219,7 @@ pub fn search<C: Copy, M: Machine<C>>(
     let _ = known.insert(key, 0)?;
     let mut nodes = Vec::new(alloc);
     let mut stack = Vec::new(alloc);
-    let todo = candidates(alloc, callers, &placed)?;
+    let todo = candidates(alloc, callers, &state, &placed)?;
     stack.push(Frame { node: 0, todo })?;
     nodes.push(new_node(alloc, callers, state, placed)?)?;
     for _ in 0..budget {
@@ -194,24 +229,24 @@ pub fn search<C: Copy, M: Machine<C>>(
                 let _ = stack.pop();
                 let _ = path.pop();
             }
-            Turn::Try(at, caller) => {
-                let Some(next) = advance(alloc, callers, nodes.as_slice(), at, caller)? else {
+            Turn::Try(at, turn) => {
+                let Some(next) = advance(alloc, callers, nodes.as_slice(), at, turn)? else {
                     continue;
                 };
                 let key = key_of(alloc, &next.state, &next.placed)?;
                 let seen = known.get(&key).copied();
                 if let Some(index) = seen {
-                    set_edge(&mut nodes, at, caller, index);
+                    set_edge(callers.len(), &mut nodes, at, turn, index)?;
                     continue;
                 }
                 let index = nodes.len();
                 let _ = known.insert(key, index)?;
-                set_edge(&mut nodes, at, caller, index);
-                path.push(caller)?;
+                set_edge(callers.len(), &mut nodes, at, turn, index)?;
+                path.push(turn)?;
                 if owes_nothing(callers, &next.placed) {
                     return Ok(Found::Order(path));
                 }
-                let todo = candidates(alloc, callers, &next.placed)?;
+                let todo = candidates(alloc, callers, &next.state, &next.placed)?;
                 stack.push(Frame { node: index, todo })?;
                 let Following { state, placed } = next;
                 nodes.push(new_node(alloc, callers, state, placed)?)?;

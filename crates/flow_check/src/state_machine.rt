@@ -221,9 +221,11 @@ fn is_same_list(one: &[Option<Option<u64>>], other: &[Option<Option<u64>>]) -> b
 }
 
 impl Machine<StateEntry> for StateMachine {
-    ghost use Rattle.flow_check.specs.StateMachine.{stepped};
+    ghost use Rattle.flow_check.specs.StateMachine.{stepped, may_skip};
 
     ghost stepped = { stepped };
+
+    ghost may_skip = { may_skip };
 
     fn step(
         &self,
@@ -237,6 +239,10 @@ impl Machine<StateEntry> for StateMachine {
         }
         let after = self.moved(alloc, caller, call.operation)?;
         Ok(Some(after))
+    }
+
+    fn may_skip(&self, _call: &StateEntry) -> bool {
+        false
     }
 
     fn try_copy(&self, alloc: Global) -> Result<Self, AllocError> {

@@ -5,6 +5,8 @@
 #![tactic(auto)]
 
 #[cfg(test)]
+mod dice;
+#[cfg(test)]
 mod plain;
 #[cfg(test)]
 mod random;

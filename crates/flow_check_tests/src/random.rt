@@ -1,4 +1,5 @@
 //! Random small records, most of them changed so that many are illegal.
+use crate::dice::Dice;
 use crate::plain::{CALLERS, PlainFlow, is_explained};
 use crate::records::{Outcome, judge_rows};
 use flow_check::{StateAnswer, StateEntry, StateOperation, Timed};
@@ -8,22 +9,7 @@ const RECORDS: u32 = 5_000;
 
 const TURNS: u64 = 1_000_000;
 
-/// Numbers that look random, the same in each run.
-#[derive(Drop)]
-struct Dice {
-    state: u64,
-}
-
 impl Dice {
-    /// Returns a number below this one.
-    fn below(&mut self, bound: u64) -> u64 {
-        self.state = self
-            .state
-            .wrapping_mul(6_364_136_223_846_793_005)
-            .wrapping_add(1_442_695_040_888_963_407);
-        (self.state >> 33) % bound.max(1)
-    }
-
     fn operation(&mut self) -> StateOperation {
         match self.below(12) {
             0 | 1 => StateOperation::Set(self.below(3)),
@@ -111,7 +97,7 @@ fn record(alloc: Global, dice: &mut Dice) -> Result<Vec<Vec<Timed<StateEntry>>>,
 /// The checker judges random records as the plain search does, and never gives up.
 #[test]
 fn agrees_with_a_plain_search(rt: HostRuntime) -> Result<(), AllocError> {
-    let mut dice = Dice { state: 54 };
+    let mut dice = Dice::new(54);
     let mut legal: u32 = 0;
     for place in 0..RECORDS {
         let rows = record(rt.alloc(), &mut dice)?;

@@ -2,12 +2,12 @@ use Rattle.std.proofs.Common.{subst}
 use Rattle.flow_check.specs.declared.state_calls.StateEntry.{StateEntry}
 use Rattle.flow_check.specs.Records.{Calls}
 use Rattle.flow_check.specs.Remaining.{GoesThroughAll}
-use Rattle.flow_check.specs.StateMachine.{Kept, none_subscribed, stepped}
+use Rattle.flow_check.specs.StateMachine.{Kept, none_subscribed, stepped, may_skip}
 use Rattle.flow_check.specs.Verdicts.{Judges}
 use Rattle.flow_check.proofs.StateJudging.{judged}
 use Rattle.flow_check.proofs.state_checking.check_state.Goals as goal
 
 pub returns : goal.returns
 returns c = judged c.args.calls.now c.args.initial c.in_ok-verdict.verdict c.callers-callers.ensures.well (
-    subst (λ (calls : Calls StateEntry). Judges (GoesThroughAll stepped calls (record { value = c.args.initial; readers = none_subscribed calls })) c.in_ok-verdict.verdict) c.callers-callers.ensures.same (
-    subst (λ (m : Kept). Judges (GoesThroughAll stepped c.callers-callers.result.now m) c.in_ok-verdict.verdict) c.in_ok-machine.ensures c.in_ok-verdict.ensures))
+    subst (λ (calls : Calls StateEntry). Judges (GoesThroughAll stepped may_skip calls (record { value = c.args.initial; readers = none_subscribed calls })) c.in_ok-verdict.verdict) c.callers-callers.ensures.same (
+    subst (λ (m : Kept). Judges (GoesThroughAll stepped may_skip c.callers-callers.result.now m) c.in_ok-verdict.verdict) c.in_ok-machine.ensures c.in_ok-verdict.ensures))

@@ -1,0 +1,195 @@
+//! Which calls of an illegal record are told.
+//!
+//! A *look* is a call that by its answer changed nothing. An order that explains calls also explains
+//! them without a look. So if the calls are illegal without some looks, these looks are not needed to
+//! say why.
+use crate::moments::is_illegal_by;
+use crate::order::write_call;
+use crate::words::CallWord;
+use crate::written::{Sheet, WrittenAnswer, WrittenCall};
+use std::alloc::{AllocError, Global};
+use std::io::{self, Write};
+
+/// After so many looks that are needed, all later ones are taken to be needed.
+const MOST_NEEDED: usize = 8;
+
+/// The numbers of the calls that are left out.
+#[derive(Drop)]
+pub struct LeftOut {
+    is_left_out: Vec<bool>,
+}
+
+impl LeftOut {
+    /// Leaves out no call.
+    pub fn new(alloc: Global) -> LeftOut {
+        LeftOut {
+            is_left_out: Vec::new(alloc),
+        }
+    }
+
+    pub fn has(&self, number: usize) -> bool {
+        self.is_left_out.get(number).copied().unwrap_or(false)
+    }
+
+    /// Makes room for the numbers of so many calls.
+    fn reserve(&mut self, calls: usize) -> Result<(), AllocError> {
+        for _ in self.is_left_out.len()..calls.saturating_add(1) {
+            self.is_left_out.push(false)?;
+        }
+        Ok(())
+    }
+
+    /// Leaves out these calls, or takes them back.
+    fn set(&mut self, numbers: &[usize], is_left_out: bool) {
+        for number in numbers {
+            if let Some(place) = self.is_left_out.get_mut(*number) {
+                *place = is_left_out;
+            }
+        }
+    }
+}
+
+fn is_look(call: WrittenCall) -> bool {
+    match (call.call, call.answer) {
+        (CallWord::Value | CallWord::SubscriptionCount | CallWord::ReplayCache, _) => true,
+        (CallWord::CompareAndSet, Some(WrittenAnswer::Truth(false))) => true,
+        (CallWord::Next, Some(WrittenAnswer::Empty)) => true,
+        _ => false,
+    }
+}
+
+/// Returns the numbers of the looks that began by a moment, in order.
+fn looks_by(alloc: Global, sheet: &Sheet, moment: u64) -> Result<Vec<usize>, AllocError> {
+    let mut looks = Vec::new(alloc);
+    for calls in sheet.rows.as_slice() {
+        for call in calls {
+            if call.begin <= moment && is_look(*call) {
+                looks.push(call.number)?;
+            }
+        }
+    }
+    looks.sort()?;
+    Ok(looks)
+}
+
+/// Leaves out as many of these looks as can be, the first ones first, up to one that is needed.
+/// Returns how many.
+fn leave_out(
+    alloc: Global,
+    sheet: &Sheet,
+    moment: u64,
+    left_out: &mut LeftOut,
+    looks: &[usize],
+) -> Result<usize, AllocError> {
+    let mut low = 0;
+    let mut high = looks.len();
+    for _ in 0..64 {
+        if low < high {
+            let middle = high.saturating_sub((high - low) / 2);
+            let tried = looks.get(low..middle).unwrap_or(&[]);
+            left_out.set(tried, true);
+            if is_illegal_by(alloc, sheet, moment, left_out)? == Some(true) {
+                low = middle;
+            } else {
+                left_out.set(tried, false);
+                high = middle.saturating_sub(1);
+            }
+        }
+    }
+    Ok(low)
+}
+
+/// Returns the looks without which the calls by a moment are illegal as well.
+fn not_needed(alloc: Global, sheet: &Sheet, moment: u64) -> Result<LeftOut, AllocError> {
+    let mut left_out = LeftOut::new(alloc);
+    left_out.reserve(sheet.count)?;
+    let looks = looks_by(alloc, sheet, moment)?;
+    let mut rest = looks.as_slice();
+    for _ in 0..MOST_NEEDED {
+        let count = leave_out(alloc, sheet, moment, &mut left_out, rest)?;
+        rest = rest.get(count.saturating_add(1)..).unwrap_or(&[]);
+    }
+    Ok(left_out)
+}
+
+/// Returns whether a call overlaps these moments.
+fn overlaps(call: WrittenCall, from: u64, to: u64) -> bool {
+    call.begin <= to && call.end.is_none_or(|end| from <= end)
+}
+
+/// Returns when the first look that is needed began, or the first call that ends at the moment.
+fn begin_of(sheet: &Sheet, moment: u64, left_out: &LeftOut) -> u64 {
+    let mut begin = moment;
+    for calls in sheet.rows.as_slice() {
+        for call in calls {
+            let is_needed = is_look(*call) && !left_out.has(call.number);
+            if is_needed || call.end == Some(moment) {
+                begin = begin.min(call.begin);
+            }
+        }
+    }
+    begin
+}
+
+/// Returns when the last change began that was over before a moment, or the moment if there was none.
+fn change_before(sheet: &Sheet, moment: u64) -> u64 {
+    let mut last_end = 0;
+    let mut begin = moment;
+    for calls in sheet.rows.as_slice() {
+        for call in calls {
+            if let Some(end) = call.end {
+                if !is_look(*call) && end < moment && last_end <= end {
+                    last_end = end;
+                    begin = call.begin;
+                }
+            }
+        }
+    }
+    begin
+}
+
+/// Writes a caller's calls that overlap these moments and are not left out.
+fn write_calls<W: Write>(
+    out: &mut W,
+    sheet: &Sheet,
+    caller: usize,
+    from: u64,
+    to: u64,
+    left_out: &LeftOut,
+) -> io::Result<()> {
+    let (Some(name), Some(row)) = (sheet.names.get(caller), sheet.rows.get(caller)) else {
+        return Ok(());
+    };
+    let name = name.as_str();
+    for call in row {
+        if overlaps(*call, from, to) && !left_out.has(call.number) {
+            write!(out, "  {}  {name} ", call.number)?;
+            write_call(out, sheet, *call)?;
+            match call.end {
+                Some(end) => writeln!(out, "  [{}, {end}]", call.begin)?,
+                None => writeln!(out, "  [{}, ..]", call.begin)?,
+            }
+        }
+    }
+    Ok(())
+}
+
+/// Writes the looks that are needed by a moment, and the changes from the last one on that was over
+/// before them.
+pub fn write_conflict<W: Write>(
+    alloc: Global,
+    out: &mut W,
+    sheet: &Sheet,
+    moment: u64,
+) -> io::Result<()> {
+    let left_out = not_needed(alloc, sheet, moment)?;
+    let from = change_before(sheet, begin_of(sheet, moment, &left_out));
+    writeln!(
+        out,
+        "by moment {moment} no order explains the calls; from {from} on there were:"
+    )?;
+    for caller in 0..sheet.names.len() {
+        write_calls(out, sheet, caller, from, moment, &left_out)?;
+    }
+    Ok(())
+}

@@ -1,0 +1,240 @@
+//! Explains where and why a record is refused.
+use crate::reading::{has_lines, is_blank, value_of};
+use crate::refusal::{Part, Refusal, Unread, Wrong};
+use json_places::{Place, Spot, Text, nearest, not_json};
+use serde_json::Value;
+use std::alloc::{AllocError, Global};
+
+/// Returns where a part of a record begins that is one object.
+fn part_in_whole<'a>(
+    text: Text<'a>,
+    value: &'a Value,
+    part: Part,
+) -> Result<Option<Spot<'a>>, AllocError> {
+    let at = text.part_from(0).unwrap_or(0);
+    let root = Spot { value, at };
+    match part {
+        Part::Head => Ok(Some(root)),
+        Part::Flow => text.member(root, "flow"),
+        Part::Call(number) => match text.member(root, "calls")? {
+            Some(calls) => Ok(text.item(calls, number.saturating_sub(1))),
+            None => Ok(None),
+        },
+    }
+}
+
+/// Returns where the line of this part begins, and where it ends.
+fn line_of(bytes: &[u8], part: Part) -> (usize, usize) {
+    let wanted = match part {
+        Part::Head | Part::Flow => 0,
+        Part::Call(number) => number,
+    };
+    let mut begin: usize = 0;
+    let mut lines: usize = 0;
+    for line in bytes.split(|byte| *byte == b'\n') {
+        let end = begin.saturating_add(line.len());
+        if !is_blank(line) {
+            if lines == wanted {
+                return (begin, end);
+            }
+            lines = lines.saturating_add(1);
+        }
+        begin = end.saturating_add(1);
+    }
+    (begin, begin)
+}
+
+/// What is told of a record.
+#[derive(Drop)]
+struct Report<'a> {
+    text: Text<'a>,
+    words: String,
+}
+
+impl<'a> Report<'a> {
+    fn add(&mut self, words: &[&str]) -> Result<(), AllocError> {
+        for word in words {
+            self.words.push_str(word)?;
+        }
+        Ok(())
+    }
+
+    fn add_place(&mut self, at: usize, part: Part) -> Result<(), AllocError> {
+        let place = Place::at(self.text.bytes, at);
+        write!(self.words, "{place}: ")?;
+        if let Part::Call(number) = part {
+            write!(self.words, "call {number}: ")?;
+        }
+        Ok(())
+    }
+
+    /// Adds the key or the value that begins here.
+    fn add_value(&mut self, at: usize) -> Result<(), AllocError> {
+        let (told, after) = self.text.told(at);
+        let told = String::from_utf8_lossy(self.text.alloc, told)?;
+        self.add(&[told.as_str(), after])
+    }
+
+    fn add_nearest(
+        &mut self,
+        word: &str,
+        choices: &'static [&'static str],
+    ) -> Result<(), AllocError> {
+        if let Some(near) = nearest(self.text.alloc, word, choices)? {
+            self.add(&["\n  nearest: \"", near, "\""])?;
+        }
+        Ok(())
+    }
+
+    fn add_choices(&mut self, choices: &'static [&'static str]) -> Result<(), AllocError> {
+        let mut opening = "one of \"";
+        for choice in choices {
+            self.add(&[opening, *choice, "\""])?;
+            opening = ", \"";
+        }
+        Ok(())
+    }
+
+    /// Tells of a key that the object has and should not have.
+    fn tell_key(
+        &mut self,
+        object: Spot<'_>,
+        part: Part,
+        keys: &'static [&'static str],
+    ) -> Result<(), AllocError> {
+        let mut from = object.at.saturating_add(1);
+        for _ in 0..self.text.bytes.len() {
+            let Some(member) = self.text.member_from(object, from)? else {
+                break;
+            };
+            if !keys.iter().any(|key| *key == member.name) {
+                self.add_place(member.key, part)?;
+                self.add_value(member.key)?;
+                self.add(&[" is no key here\n  expected: "])?;
+                self.add_choices(keys)?;
+                return self.add_nearest(member.name, keys);
+            }
+            from = member.end;
+        }
+        Ok(())
+    }
+
+    /// Tells why a part is refused that begins here.
+    fn tell(&mut self, refusal: Refusal, object: Spot<'_>) -> Result<(), AllocError> {
+        match refusal.wrong {
+            Wrong::Key(keys) => self.tell_key(object, refusal.part, keys),
+            Wrong::NoObject => {
+                self.add_place(object.at, refusal.part)?;
+                self.add_value(object.at)?;
+                self.add(&[" is no object\n  expected: ", refusal.expected])
+            }
+            Wrong::Missing(key) => {
+                self.add_place(object.at, refusal.part)?;
+                self.add(&["\"", key, "\" is missing\n  expected: ", refusal.expected])
+            }
+            Wrong::SharedFlow => {
+                let found = self.text.member(object, "kind")?.unwrap_or(object);
+                self.add_place(found.at, refusal.part)?;
+                self.add(&[
+                    "shared flows are not judged yet\n  expected: ",
+                    refusal.expected,
+                ])
+            }
+            Wrong::Value(words) => {
+                let key = refusal.key.unwrap_or("");
+                let found = self.text.member(object, key)?.unwrap_or(object);
+                self.add_place(found.at, refusal.part)?;
+                self.add_value(found.at)?;
+                self.add(&[
+                    " is no value of \"",
+                    key,
+                    "\"\n  expected: ",
+                    refusal.expected,
+                ])?;
+                self.add_nearest(found.value.as_str().unwrap_or(""), words)
+            }
+        }
+    }
+
+    fn tell_stop(&mut self) -> Result<(), AllocError> {
+        let Some(stop) = not_json(self.text)? else {
+            return self.add(&["the record is no JSON"]);
+        };
+        self.add_place(stop.at, Part::Head)?;
+        if stop.tells_value {
+            self.add_value(stop.at)?;
+        }
+        self.add(&[stop.what, "\n  expected: ", stop.expected])
+    }
+}
+
+/// Returns the first line that is no JSON, as a range.
+fn bad_line(alloc: Global, bytes: &[u8]) -> Result<(usize, usize), AllocError> {
+    let mut begin: usize = 0;
+    for line in bytes.split(|byte| *byte == b'\n') {
+        let end = begin.saturating_add(line.len());
+        if !is_blank(line) {
+            match value_of(alloc, line) {
+                Ok(_) => {}
+                Err(Unread::OutOfMemory) => return Err(AllocError),
+                Err(_) => return Ok((begin, end)),
+            }
+        }
+        begin = end.saturating_add(1);
+    }
+    Ok((begin, begin))
+}
+
+fn tell_refusal(
+    report: &mut Report<'_>,
+    refusal: Refusal,
+    in_lines: bool,
+) -> Result<(), AllocError> {
+    let text = report.text;
+    let (begin, end) = if in_lines {
+        line_of(text.bytes, refusal.part)
+    } else {
+        (0, text.bytes.len())
+    };
+    let Ok(value) = value_of(text.alloc, text.bytes.get(begin..end).unwrap_or(&[])) else {
+        return Err(AllocError);
+    };
+    let found = if in_lines {
+        let at = text.part_from(begin).unwrap_or(begin);
+        let root = Spot { value: &value, at };
+        match refusal.part {
+            Part::Flow => text.member(root, "flow")?,
+            Part::Head | Part::Call(_) => Some(root),
+        }
+    } else {
+        part_in_whole(text, &value, refusal.part)?
+    };
+    match found {
+        Some(object) => report.tell(refusal, object),
+        None => report.add(&["the record is refused"]),
+    }
+}
+
+/// Explains in a few lines why these bytes are no record.
+pub fn explain(alloc: Global, bytes: &[u8], unread: Unread) -> Result<String, AllocError> {
+    let in_lines = match has_lines(alloc, bytes) {
+        Ok(in_lines) => in_lines,
+        Err(_) => return Err(AllocError),
+    };
+    let mut report = Report {
+        text: Text { alloc, bytes },
+        words: String::new(alloc),
+    };
+    match unread {
+        Unread::OutOfMemory => return Err(AllocError),
+        Unread::Refused(refusal) => tell_refusal(&mut report, refusal, in_lines)?,
+        Unread::NotJson if in_lines => {
+            let (begin, _end) = bad_line(alloc, bytes)?;
+            report.add_place(begin, Part::Head)?;
+            report.add(&["this line is no JSON\n  expected: a call, an object"])?;
+        }
+        Unread::NotJson => report.tell_stop()?,
+    }
+    report.add(&["\n"])?;
+    Ok(report.words)
+}

@@ -1,0 +1,71 @@
+//! The values of the keys of an object.
+use crate::refusal::{Part, Refusal, Unread, Wrong, missing, unfit};
+use serde_json::Value;
+
+pub const WHOLE: &str = "a whole number below 2^64";
+
+const TEXT: &str = "a word";
+
+/// An object of a record.
+#[derive(Clone, Copy)]
+pub struct Fields<'a> {
+    pub value: &'a Value,
+    pub part: Part,
+}
+
+impl<'a> Fields<'a> {
+    /// Asks that it is an object whose keys are all among these.
+    pub fn has_only(self, keys: &'static [&'static str]) -> Result<(), Unread> {
+        let Some(members) = self.value.as_object() else {
+            return Err(Unread::Refused(Refusal {
+                part: self.part,
+                key: None,
+                wrong: Wrong::NoObject,
+                expected: "an object",
+            }));
+        };
+        for (name, _value) in members {
+            if !keys.iter().any(|key| *key == name.as_str()) {
+                return Err(Unread::Refused(Refusal {
+                    part: self.part,
+                    key: None,
+                    wrong: Wrong::Key(keys),
+                    expected: "",
+                }));
+            }
+        }
+        Ok(())
+    }
+
+    /// The value of a key, if it is there.
+    pub fn get(self, key: &'static str) -> Option<&'a Value> {
+        self.value.get(key)
+    }
+
+    /// The value of a key, which has to be there.
+    pub fn need(self, key: &'static str, expected: &'static str) -> Result<&'a Value, Unread> {
+        match self.value.get(key) {
+            Some(value) => Ok(value),
+            None => missing(self.part, key, expected),
+        }
+    }
+
+    pub fn whole(self, key: &'static str) -> Result<u64, Unread> {
+        match self.need(key, WHOLE)?.as_u64() {
+            Some(number) => Ok(number),
+            None => unfit(self.part, key, WHOLE, &[]),
+        }
+    }
+
+    /// The word of a key, one of `words` if there are any.
+    pub fn word(
+        self,
+        key: &'static str,
+        words: &'static [&'static str],
+    ) -> Result<&'a str, Unread> {
+        match self.need(key, TEXT)?.as_str() {
+            Some(word) => Ok(word),
+            None => unfit(self.part, key, TEXT, words),
+        }
+    }
+}

@@ -1,0 +1,128 @@
+//! Tells an order of calls in words.
+use crate::judging::parts_of;
+use crate::words::CallWord;
+use crate::written::{Range, Sheet, WrittenAnswer, WrittenCall};
+use std::alloc::{AllocError, Global};
+use std::io::{self, Write};
+
+/// Where a caller stands: at which of its calls, and at which part of that.
+#[derive(Clone, Copy)]
+struct Cursor {
+    call: usize,
+    part: usize,
+}
+
+/// Returns a call's name in words.
+pub fn word_of(call: CallWord) -> &'static str {
+    match call {
+        CallWord::Value => "value",
+        CallWord::Set => "set",
+        CallWord::CompareAndSet => "compare_and_set",
+        CallWord::Update => "update",
+        CallWord::TryEmit => "try_emit",
+        CallWord::Subscribe => "subscribe",
+        CallWord::Next => "next",
+        CallWord::Unsubscribe => "unsubscribe",
+        CallWord::First => "first",
+        CallWord::SubscriptionCount => "subscription_count",
+        CallWord::ReplayCache => "replay_cache",
+    }
+}
+
+fn write_list<W: Write>(out: &mut W, lists: &[u64], range: Range) -> io::Result<()> {
+    write!(out, "[")?;
+    for (index, value) in range.of(lists).iter().enumerate() {
+        if index > 0 {
+            write!(out, ", ")?;
+        }
+        write!(out, "{value}")?;
+    }
+    write!(out, "]")
+}
+
+fn write_answer<W: Write>(out: &mut W, lists: &[u64], call: WrittenCall) -> io::Result<()> {
+    let Some(answer) = call.answer else {
+        return write!(out, " (pending)");
+    };
+    write!(out, ": ")?;
+    match answer {
+        WrittenAnswer::Done => write!(out, "done"),
+        WrittenAnswer::Empty => write!(out, "empty"),
+        WrittenAnswer::Value(value) => write!(out, "{value}"),
+        WrittenAnswer::Truth(truth) => write!(out, "{truth}"),
+        WrittenAnswer::Number(number) => write!(out, "{number}"),
+        WrittenAnswer::Values(range) => write_list(out, lists, range),
+        WrittenAnswer::Exchange(old, new) => write!(out, "{old} to {new}"),
+    }
+}
+
+/// Writes a call with its values and its answer.
+pub fn write_call<W: Write>(out: &mut W, sheet: &Sheet, call: WrittenCall) -> io::Result<()> {
+    let word = word_of(call.call);
+    write!(out, "{word}")?;
+    match call.call {
+        CallWord::Set | CallWord::TryEmit => write!(out, " {}", call.value)?,
+        CallWord::CompareAndSet => write!(out, " {} {}", call.expect, call.value)?,
+        _ => {}
+    }
+    write_answer(out, sheet.lists.as_slice(), call)
+}
+
+/// Returns what a part of a call is, if the call has several.
+fn part_words(call: WrittenCall, part: usize) -> &'static str {
+    match (call.call, part) {
+        (CallWord::First, 0) => " (it subscribes)",
+        (CallWord::First, 1) => " (it receives)",
+        (CallWord::First, _) => " (it leaves)",
+        _ => "",
+    }
+}
+
+/// Writes a turn of this caller, and moves its cursor on.
+fn write_turn<W: Write>(
+    out: &mut W,
+    sheet: &Sheet,
+    caller: usize,
+    cursor: &mut Cursor,
+) -> io::Result<()> {
+    let (Some(name), Some(row)) = (sheet.names.get(caller), sheet.rows.get(caller)) else {
+        return Ok(());
+    };
+    let Some(call) = row.get(cursor.call).copied() else {
+        return Ok(());
+    };
+    let name = name.as_str();
+    write!(out, "  {}  {name} ", call.number)?;
+    write_call(out, sheet, call)?;
+    writeln!(out, "{}", part_words(call, cursor.part))?;
+    cursor.part = cursor.part.saturating_add(1);
+    if cursor.part >= parts_of(call) {
+        cursor.call = cursor.call.saturating_add(1);
+        cursor.part = 0;
+    }
+    Ok(())
+}
+
+fn cursors(alloc: Global, sheet: &Sheet) -> Result<Vec<Cursor>, AllocError> {
+    let mut cursors = Vec::new(alloc);
+    for _name in sheet.names.as_slice() {
+        cursors.push(Cursor { call: 0, part: 0 })?;
+    }
+    Ok(cursors)
+}
+
+/// Writes a line for each turn of an order: the number of the call, its caller, and the call.
+pub fn write_order<W: Write>(
+    alloc: Global,
+    out: &mut W,
+    sheet: &Sheet,
+    order: &[usize],
+) -> io::Result<()> {
+    let mut cursors = cursors(alloc, sheet)?;
+    for caller in order {
+        if let Some(cursor) = cursors.get_mut(*caller) {
+            write_turn(out, sheet, *caller, cursor)?;
+        }
+    }
+    Ok(())
+}

@@ -1,0 +1,91 @@
+//! A record as it is written, before it is judged.
+use crate::words::CallWord;
+use std::alloc::{AllocError, Global};
+use std::collections::HashMap;
+
+/// A list among those of a sheet.
+#[derive(Clone, Copy, Debug)]
+pub struct Range {
+    pub from: usize,
+    pub count: usize,
+}
+
+impl Range {
+    pub fn of(self, lists: &[u64]) -> &[u64] {
+        let end = self.from.saturating_add(self.count);
+        lists.get(self.from..end).unwrap_or(&[])
+    }
+}
+
+/// An answer as it is written.
+#[derive(Clone, Copy, Debug)]
+pub enum WrittenAnswer {
+    Done,
+    Empty,
+    Value(u64),
+    Truth(bool),
+    Number(u64),
+    Values(Range),
+    /// Of `update`: the old value and the new one.
+    Exchange(u64, u64),
+}
+
+/// A call as it is written, with the values that its keys have.
+#[derive(Clone, Copy, Debug)]
+pub struct WrittenCall {
+    /// Which call of the record it is, from 1.
+    pub number: usize,
+    pub call: CallWord,
+    pub value: u64,
+    pub expect: u64,
+    pub begin: u64,
+    pub end: Option<u64>,
+    pub answer: Option<WrittenAnswer>,
+}
+
+/// A record: the initial value of its flow, the names of its callers in the order in which they come
+/// up, and the calls of each.
+#[derive(Drop)]
+pub struct Sheet {
+    pub initial: u64,
+    pub names: Vec<String>,
+    places: HashMap<String, usize>,
+    pub rows: Vec<Vec<WrittenCall>>,
+    pub lists: Vec<u64>,
+    pub count: usize,
+}
+
+impl Sheet {
+    pub fn new(alloc: Global, initial: u64) -> Sheet {
+        Sheet {
+            initial,
+            names: Vec::new(alloc),
+            places: HashMap::new(alloc),
+            rows: Vec::new(alloc),
+            lists: Vec::new(alloc),
+            count: 0,
+        }
+    }
+
+    /// Returns the place of a caller, which is a new one if it has not come up yet.
+    pub fn place_of(&mut self, alloc: Global, name: &str) -> Result<usize, AllocError> {
+        let key = String::from_str(alloc, name)?;
+        if let Some(place) = self.places.get(&key).copied() {
+            return Ok(place);
+        }
+        let place = self.names.len();
+        self.names.push(String::from_str(alloc, name)?)?;
+        self.rows.push(Vec::new(alloc))?;
+        let _ = self.places.insert(key, place)?;
+        Ok(place)
+    }
+
+    /// Adds a call of the caller at this place.
+    pub fn add(&mut self, place: usize, call: WrittenCall) -> Result<(), AllocError> {
+        if let Some(row) = self.rows.get_mut(place) {
+            row.push(call)?;
+        }
+        self.count = self.count.saturating_add(1);
+        Ok(())
+    }
+}
