@@ -1,4 +1,5 @@
-//! Cold chains: one is collected, and one is shared into a flow.
+//! Cold chains: some are collected, one is shared into a flow for one thread, and one into a flow for several.
+pub mod between_threads;
 mod collected;
 mod shared;
 

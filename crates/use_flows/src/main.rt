@@ -4,16 +4,39 @@
 
 mod chains;
 mod one_thread;
+mod played;
+mod producers;
 mod readings;
+mod screen;
 mod sensor;
+mod setting;
 mod threads;
 
 use anyhow::Result;
+use flow_core::StateCore;
+use flow_law::Text;
 
 fn main(rt: HostRuntime) -> Result<()> {
     one_thread::show(&rt)?;
     chains::show(&rt)?;
     let sum = threads::add_up(&rt, rt.alloc())?;
     println!(rt; "the sum is {sum}")?;
-    sensor::show(&rt)
+    let [a, b, c] = producers::add_up(&rt, rt.alloc())?;
+    println!(rt; "the consumers have {a}, {b} and {c}")?;
+    let shared = chains::between_threads::add_up(&rt, rt.alloc())?;
+    println!(rt; "shared between threads: {shared}")?;
+    sensor::show(&rt)?;
+    let page = screen::show_page(&rt, rt.alloc(), page(&rt)?)?;
+    println!(rt; "ready: {}", page.as_str())?;
+    let mut flow = StateCore::new(rt.alloc(), 1i64, u64::MAX);
+    let read = setting::set_and_read(&mut flow, 7)?;
+    println!(rt; "set and read: {read}")?;
+    print!(rt; "{}", played::lines(rt.alloc())?)?;
+    Ok(())
+}
+
+fn page(rt: &HostRuntime) -> Result<Text> {
+    let mut name = String::new(rt.alloc());
+    name.push_str("page 1")?;
+    Ok(Text::new(name))
 }

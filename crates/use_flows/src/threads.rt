@@ -1,13 +1,13 @@
-//! A flow between two threads: one emits the numbers from 1 to 5, the other reads them and adds them up.
-use flow_law::{Config, FlowFault, OutOfMemory};
+//! A flow between two threads: one sends the numbers from 1 to 5, the other receives them and adds them up.
+use flow_law::{Config, FlowFault, NumberError, OutOfMemory, Rejected};
 use flow_shared::{Emitter, Reader, SharedFlow};
 use std::alloc::Global;
 use std::ops::Range;
 use std::sync::Wait;
-use std::thread::{Threads, join, yield_now};
+use std::thread::{Threads, join};
 
 /// What the reading thread has added up. Where no thread can be made, `join` calls its first closure last: the reader then
-/// finds all that was emitted.
+/// finds all that was sent.
 pub fn add_up<R: Wait + Threads + Sync>(rt: &R, alloc: Global) -> Result<i64, FlowFault> {
     let (flow, seat) = SharedFlow::new(alloc, Config::new().extra(16))?;
     let mut emitter = flow.emitter(seat);
@@ -21,33 +21,23 @@ pub fn add_up<R: Wait + Threads + Sync>(rt: &R, alloc: Global) -> Result<i64, Fl
     Ok(sum?)
 }
 
-/// Emits the values one after the other.
+/// Sends the values one after the other, and waits where there is no room.
 fn send<R: Wait>(
     rt: &R,
     emitter: &mut Emitter<'_, i64>,
     values: Range<i64>,
-) -> Result<(), FlowFault> {
+) -> Result<(), Rejected<i64, NumberError>> {
     for value in values {
-        emitter.try_emit(rt, value)?;
+        emitter.send(rt, value)?;
     }
     Ok(())
 }
 
-/// Adds up the next values, once so many came.
+/// Adds up the next values, so many. The thread sleeps until each is there.
 fn sum_of<R: Wait>(rt: &R, reader: &mut Reader<'_, i64>, count: u32) -> Result<i64, OutOfMemory> {
-    let mut left = count;
     let mut sum = 0i64;
-    for _ in rt.forever() {
-        if left == 0 {
-            return Ok(sum);
-        }
-        match reader.next(rt)? {
-            Some(value) => {
-                sum = sum.wrapping_add(value);
-                left -= 1;
-            }
-            None => yield_now(),
-        }
+    for _ in 0..count {
+        sum = sum.wrapping_add(reader.receive(rt)?);
     }
-    unreachable!()
+    Ok(sum)
 }

@@ -16,12 +16,12 @@ pub fn show(rt: &HostRuntime) -> Result<()> {
 }
 
 fn take_turns(rt: &HostRuntime, sharing: &mut Sharing<OfRange, CoreHub<i64>>) -> Result<()> {
-    let reader = sharing.hub_mut().core_mut().subscribe()?;
+    let reader = sharing.subscribe()?;
     for moment in 0..4 {
         print(rt, moment, sharing.turn(moment)?)?;
-        print_value(rt, sharing.hub_mut().core_mut().next(reader)?)?;
+        print_value(rt, sharing.next(reader)?)?;
     }
-    sharing.hub_mut().core_mut().unsubscribe(reader);
+    sharing.unsubscribe(reader);
     for moment in 4..8 {
         print(rt, moment, sharing.turn(moment)?)?;
     }

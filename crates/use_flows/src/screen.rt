@@ -1,0 +1,73 @@
+//! The state of a screen: one thread sets it, and another one follows it until a page is there.
+ghost use Rattle.std.proofs.Common.{rules};
+ghost use Rattle.use_flows.specs.Screens.{is_same_screen};
+
+use flow_law::{FlowFault, FlowValue, OutOfMemory, Text};
+use flow_shared::{Setter, StateFlow, StateReader};
+use std::alloc::Global;
+use std::sync::Wait;
+use std::thread::{Threads, join};
+
+#[derive(Drop)]
+pub enum Screen {
+    Loading,
+    Ready(Text),
+    Failed(u32),
+}
+
+impl FlowValue for Screen {
+    ghost is_same = { is_same_screen };
+
+    fn try_copy(&self) -> Result<Screen, FlowFault> {
+        match self {
+            Screen::Loading => Ok(Screen::Loading),
+            Screen::Ready(page) => Ok(Screen::Ready(page.try_copy()?)),
+            Screen::Failed(code) => Ok(Screen::Failed(*code)),
+        }
+    }
+
+    fn same(&self, other: &Screen) -> bool {
+        match (self, other) {
+            (Screen::Loading, Screen::Loading) => true,
+            (Screen::Ready(page), Screen::Ready(other)) => page.same(other),
+            (Screen::Failed(code), Screen::Failed(other)) => *code == *other,
+            _ => false,
+        }
+    }
+
+    ghost is_same_exact = { Prim.search rules };
+}
+
+/// Loads a page at the second try.
+fn load<R: Wait>(rt: &R, screen: &mut Setter<'_, Screen>, page: Text) {
+    screen.set(rt, Screen::Failed(503));
+    screen.set(rt, Screen::Loading);
+    screen.set(rt, Screen::Ready(page));
+}
+
+/// Waits for a page. A slow reader skips states, and always gets the most recent one.
+fn page_of<R: Wait>(rt: &R, screen: &mut StateReader<'_, Screen>) -> Result<Text, OutOfMemory> {
+    for _ in rt.forever() {
+        if let Screen::Ready(page) = screen.changed(rt)? {
+            return Ok(page);
+        }
+    }
+    unreachable!()
+}
+
+/// Returns the page that the reading thread has seen.
+pub fn show_page<R: Wait + Threads + Sync>(
+    rt: &R,
+    alloc: Global,
+    page: Text,
+) -> Result<Text, FlowFault> {
+    let (flow, seat) = StateFlow::new(alloc, Screen::Loading, u64::MAX)?;
+    let mut setter = flow.setter(seat);
+    let mut reader = setter.subscribe(rt)?;
+    let (shown, ()) = join(
+        rt,
+        || page_of(rt, &mut reader),
+        || load(rt, &mut setter, page),
+    );
+    Ok(shown?)
+}
