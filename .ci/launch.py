@@ -3,6 +3,7 @@ import contextlib
 import os
 import pathlib
 import shutil
+import signal
 import subprocess
 import sys
 import tempfile
@@ -10,6 +11,9 @@ import threading
 import time
 
 from built import sources, top
+
+# So that `./play FILE | head` ends as other commands do.
+signal.signal(signal.SIGPIPE, signal.SIG_DFL)
 
 VERSION = "0.1.0"
 # Status of the command itself. The programs use 0, 2, 3 and 4.
