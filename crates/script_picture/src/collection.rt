@@ -1,6 +1,6 @@
 //! A chain that is collected: a lane for its source, and one for what it gives.
 
-use crate::picture::{Picture, Sign, Words};
+use crate::picture::{Label, Note, Picture, Sign, Words};
 use crate::script_words::items_of;
 use flow_law::End;
 use flow_script::Answer;
@@ -111,7 +111,7 @@ fn add_content<'a>(picture: &mut Picture<'a>, lane: usize, content: Content<'a>)
     if matches!(sign, Sign::Ends | Sign::Refused) {
         picture.end_lane(lane, column);
     }
-    picture.add_mark(lane, sign, words, 0);
+    picture.add_mark(lane, sign, words, Note::None);
 }
 
 /// The marks of a collection.
@@ -136,8 +136,8 @@ pub fn collection_picture<'a>(
 ) -> Result<Picture<'a>, AllocError> {
     let source = Source::new(chain);
     let mut picture = Picture::new(alloc);
-    picture.add_lane(source.name, None);
-    picture.add_lane("result", None);
+    picture.add_lane(Label::of(source.name), None);
+    picture.add_lane(Label::of("result"), None);
     add_columns(&mut picture, source, Given::new(answer, line));
     picture.finish()
 }

@@ -1,38 +1,81 @@
 //! A picture that grows by the marks of one step after the other.
 
+use crate::buffers::Buffer;
 use crate::marks::{Marks, Named, marks_of};
-use crate::picture::{Picture, Sign, Words};
+use crate::picture::{Label, Note, Picture, Sign, Words};
 use crate::script_words::{number_of, text_of};
+use crate::turns::Asking;
+use flow_law::Command;
+use flow_law::report::{Event, Report};
 use flow_script::{Answer, Told};
-use indexmap::IndexSet;
+use indexmap::{IndexMap, IndexSet};
+use script_chain_format::Version;
 use serde_json::Value;
 use std::alloc::{AllocError, Global};
+
+/// What a picture shows of a flow beside its answers.
+#[derive(Drop)]
+struct Inside {
+    /// The chain of a sharing.
+    asking: Option<Asking>,
+    /// The buffer of a flow that drops its oldest values.
+    buffer: Option<Buffer>,
+}
 
 /// A picture that grows by a column with each step.
 #[derive(Drop)]
 pub struct Drawing<'a> {
+    alloc: Global,
+    version: Version,
     picture: Picture<'a>,
     /// The names of the flows: their lanes come first.
     flows: IndexSet<&'a str>,
-    /// The names of subscribers and emissions: their lanes come next.
-    names: IndexSet<&'a str>,
+    /// What is shown of each flow.
+    insides: Vec<Inside>,
+    /// The lanes of the subscribers and the emissions, by name. An emission that was done at once has none.
+    lanes: IndexMap<&'a str, usize>,
+}
+
+/// The command that is told beside the item of a turn.
+fn command_note(command: Command) -> Note {
+    match command {
+        Command::Start => Note::Word(" start"),
+        Command::Keep | Command::Stop | Command::StopAndReset => Note::None,
+    }
 }
 
 impl<'a> Drawing<'a> {
-    /// A picture without lanes.
-    pub fn new(alloc: Global) -> Self {
+    /// A picture without lanes, of a script of a version.
+    pub fn new(alloc: Global, version: Version) -> Self {
         Drawing {
+            alloc,
+            version,
             picture: Picture::new(alloc),
             flows: IndexSet::new(alloc),
-            names: IndexSet::new(alloc),
+            insides: Vec::new(alloc),
+            lanes: IndexMap::new(alloc),
         }
     }
 
+    /// There was no memory for something that belongs into the picture.
+    fn fail(&mut self) {
+        self.picture.failed = true;
+    }
+
     /// A lane for a flow.
-    pub fn add_flow(&mut self, name: &'a str) {
-        let is_full = self.flows.insert(name).is_err();
-        self.picture.failed = self.picture.failed || is_full;
-        self.picture.add_lane(name, None);
+    pub fn add_flow(&mut self, name: &'a str, flow: &Value) {
+        self.picture.add_lane(Label::of(name), None);
+        let Ok(asking) = Asking::new(self.alloc, self.version, flow) else {
+            self.fail();
+            return;
+        };
+        let inside = Inside {
+            asking,
+            buffer: Buffer::new(self.alloc, flow),
+        };
+        if self.flows.insert(name).is_err() || self.insides.push(inside).is_err() {
+            self.fail();
+        }
     }
 
     /// The lane of the flow that a step is about.
@@ -41,22 +84,36 @@ impl<'a> Drawing<'a> {
     }
 
     /// The lane of the subscriber or the emission that a step is about.
-    fn named_lane(&self, step: &Value) -> usize {
-        let name = self.names.get_index_of(text_of(step, "name")).unwrap_or(0);
-        name.saturating_add(self.flows.len())
+    fn named_lane(&self, step: &Value) -> Option<usize> {
+        Some(*self.lanes.get(text_of(step, "name"))?)
     }
 
-    /// A lane for the name that a step introduces.
-    fn add_name(&mut self, step: &'a Value) {
+    /// The label of a name that a step introduces.
+    fn label_of(&self, step: &'a Value) -> Label<'a> {
+        let flow = if self.flows.len() > 1 {
+            Some(text_of(step, "flow"))
+        } else {
+            None
+        };
+        Label {
+            name: text_of(step, "name"),
+            flow,
+        }
+    }
+
+    /// A lane for the name that a step introduces, unless it is that of an emission that is done at once.
+    fn add_name(&mut self, step: &'a Value, answer: &Answer) {
         let waits = match text_of(step, "do") {
-            "emit" => Some(number_of(step, "value")),
+            "emit" if !matches!(answer, Answer::Done) => Some(number_of(step, "value")),
             "subscribe" => None,
             _ => return,
         };
-        let name = text_of(step, "name");
-        let is_full = self.names.insert(name).is_err();
-        self.picture.failed = self.picture.failed || is_full;
-        self.picture.add_lane(name, waits);
+        let label = self.label_of(step);
+        let lane = self.picture.lanes.len();
+        self.picture.add_lane(label, waits);
+        if self.lanes.insert(label.name, lane).is_err() {
+            self.fail();
+        }
     }
 
     /// A mark on the lane of the flow that a step is about.
@@ -65,28 +122,38 @@ impl<'a> Drawing<'a> {
             // The lane of a flow that was refused has marks, and no line.
             self.picture.end_lane(flow, 0);
         }
-        self.picture.add_mark(flow, sign, words, 0);
+        self.picture.add_mark(flow, sign, words, Note::None);
     }
 
-    /// A mark on the lane of the subscriber or the emission that a step is about.
-    fn mark_named(&mut self, lane: usize, named: Named, words: Words<'a>, lag: u64) {
-        match named {
-            Named::Untouched => {}
-            Named::Marked(sign) => self.picture.add_mark(lane, sign, words, lag),
-            Named::Ended(sign) => {
+    /// A mark on the lane of the subscriber or the emission that a step is about. An emission that was done at once has no lane:
+    /// that a step finds nothing of it is marked on the lane of its flow.
+    fn mark_named(
+        &mut self,
+        flow: usize,
+        lane: Option<usize>,
+        named: Named,
+        words: Words<'a>,
+        lag: u64,
+    ) {
+        match (named, lane) {
+            (Named::Untouched, _) | (Named::Ended(_), None) => {}
+            (Named::Marked(sign), Some(lane)) => self
+                .picture
+                .add_mark(lane, sign, words, Note::behind(lag)),
+            (Named::Marked(sign), None) => self.picture.add_mark(flow, sign, words, Note::None),
+            (Named::Ended(sign), Some(lane)) => {
                 let column = self.picture.columns;
                 self.picture.end_lane(lane, column);
-                self.picture.add_mark(lane, sign, words, 0);
+                self.picture.add_mark(lane, sign, words, Note::None);
             }
         }
     }
 
-    /// The marks of one step more, by its answer and what was seen beside it.
-    pub fn add_step(&mut self, step: &'a Value, told: &Told, line: &'a str) {
+    /// The marks of a step on a flow, by its answer and what was seen beside it.
+    fn mark_step(&mut self, flow: usize, step: &'a Value, told: &Told, line: &'a str) {
         let Told { answer, seen, .. } = told;
-        self.add_name(step);
-        let (flow, named) = (self.flow_lane(step), self.named_lane(step));
-        let emission = self.picture.open_value(named);
+        let lane = self.named_lane(step);
+        let emission = self.picture.open_value(lane);
         let marks = marks_of(text_of(step, "do"), answer, emission.is_some());
         let Marks(on_flow, on_named, content) = marks.seen(*seen);
         let words = content.words(step, line, emission);
@@ -97,15 +164,77 @@ impl<'a> Drawing<'a> {
             }
             _ => {}
         }
-        self.mark_named(named, on_named, words, seen.lag.unwrap_or(0));
+        self.mark_named(flow, lane, on_named, words, seen.lag.unwrap_or(0));
+        self.mark_lost(flow, lane, step, told);
+    }
+
+    /// What the step takes from subscribers, if its flow drops its oldest values.
+    fn mark_lost(&mut self, flow: usize, lane: Option<usize>, step: &Value, told: &Told) {
+        let Some(
+            Inside {
+                buffer: Some(buffer),
+                ..
+            },
+        ) = self.insides.get_mut(flow)
+        else {
+            return;
+        };
+        if buffer
+            .add_step(&mut self.picture, lane, step, told)
+            .is_err()
+        {
+            self.fail();
+        }
+    }
+
+    /// The item that a flow accepted in a turn.
+    fn item_of(&mut self, flow: usize, report: Report) -> Option<i64> {
+        let asking = self.insides.get_mut(flow)?.asking.as_mut()?;
+        match asking.item(report) {
+            Ok(item) => item,
+            Err(_) => {
+                self.fail();
+                None
+            }
+        }
+    }
+
+    /// The mark of a turn: the item that the flow accepted, or what else came of it.
+    fn mark_turn(&mut self, flow: usize, report: Report, line: &'a str) {
+        let note = command_note(report.command);
+        match (report.event, self.item_of(flow, report)) {
+            (Event::Put, Some(item)) => {
+                self.picture
+                    .add_mark(flow, Sign::Value, Words::Number(item), note);
+            }
+            (Event::Queued, Some(item)) => {
+                self.picture
+                    .add_mark(flow, Sign::Waits, Words::Number(item), note);
+            }
+            _ => self
+                .picture
+                .add_mark(flow, Sign::Told, Words::Text(line), Note::None),
+        }
+    }
+
+    /// The marks of one step more.
+    pub fn add_step(&mut self, step: &'a Value, told: &Told, line: &'a str) {
+        self.add_name(step, &told.answer);
+        let flow = self.flow_lane(step);
+        match &told.answer {
+            Answer::Turned(report) => self.mark_turn(flow, *report, line),
+            _ => self.mark_step(flow, step, told, line),
+        }
         self.picture.columns = self.picture.columns.saturating_add(1);
     }
 
     /// How many values the subscriber that a step introduced has still to receive in the end, if there are some.
     pub fn add_last_lag(&mut self, step: &Value, lag: u64) {
-        if lag > 0 {
-            let lane = self.named_lane(step);
-            self.picture.add_mark(lane, Sign::Over, Words::None, lag);
+        if lag > 0
+            && let Some(lane) = self.named_lane(step)
+        {
+            self.picture
+                .add_mark(lane, Sign::Over, Words::None, Note::Behind(lag));
         }
     }
 

@@ -1,7 +1,8 @@
 //! Where the marks of a picture stand: columns of a width in characters, in bands that are at most 100 wide.
 
-use crate::picture::{Lane, Mark, Picture};
-use crate::widths::{NAME_WIDTH, mark_width};
+use crate::picture::{Label, Lane, Mark, Picture};
+use crate::widths::{head_width, labels_width, mark_width};
+use flow_script::Told;
 use serde_json::Value;
 use std::alloc::{AllocError, Global};
 
@@ -26,11 +27,37 @@ pub struct Cell<'a> {
     pub waits: bool,
 }
 
+/// The steps that the columns of a picture have from left to right, and what each came to. A collection has none.
+#[derive(Clone, Copy)]
+pub struct Axis<'a> {
+    pub steps: &'a [Value],
+    pub told: &'a [Told],
+}
+
+impl<'a> Axis<'a> {
+    /// The moment of the turn in a column.
+    fn moment(&self, column: usize) -> Option<u64> {
+        self.told.get(column)?.seen.at
+    }
+
+    /// The step of a column that is so wide.
+    fn at(&self, column: usize, width: usize) -> Option<Numbered<'a>> {
+        Some(Numbered {
+            number: column.saturating_add(1),
+            moment: self.moment(column),
+            step: self.steps.get(column)?,
+            width,
+        })
+    }
+}
+
 /// The step of a column.
 #[derive(Clone, Copy)]
 pub struct Numbered<'a> {
     /// The number of the step, from 1.
     pub number: usize,
+    /// The moment of a turn.
+    pub moment: Option<u64>,
     pub step: &'a Value,
     /// The width of the column.
     pub width: usize,
@@ -39,12 +66,12 @@ pub struct Numbered<'a> {
 /// A part of a picture. They come from left to right, line by line.
 #[derive(Clone, Copy)]
 pub enum Part<'a> {
-    /// A line begins that has the steps' numbers.
-    Numbers,
+    /// A line begins that has the steps' numbers, behind a place that is so wide.
+    Numbers(usize),
     Number(Numbered<'a>),
     EndNumbers,
-    /// A lane begins, with its name.
-    Name(&'a str),
+    /// A lane begins, with its label in a place that is so wide.
+    Name(Label<'a>, usize),
     Cell(Cell<'a>),
     EndLane,
     /// A band ends that is so wide with the names before it.
@@ -90,6 +117,8 @@ impl<'a> Parts<'a> {
 /// Columns that stand beside each other.
 #[derive(Clone, Copy)]
 struct Band<'p, 'a> {
+    /// How wide the place before the lanes is.
+    labels: usize,
     /// The first column.
     from: usize,
     widths: &'p [usize],
@@ -97,9 +126,23 @@ struct Band<'p, 'a> {
     marks: &'p [Mark<'a>],
 }
 
-/// How wide each column is: as its marks need.
-fn widths_of(alloc: Global, picture: &Picture<'_>) -> Result<Vec<usize>, AllocError> {
-    let mut widths = vec![in alloc; LEAST_COLUMN; picture.columns]?;
+/// How wide each column is at least: as its head needs.
+fn head_widths(alloc: Global, columns: usize, axis: Axis<'_>) -> Result<Vec<usize>, AllocError> {
+    let mut widths = Vec::new(alloc);
+    for column in 0..columns {
+        let head = head_width(column.saturating_add(1), axis.moment(column));
+        widths.push(head.saturating_add(2).max(LEAST_COLUMN))?;
+    }
+    Ok(widths)
+}
+
+/// How wide each column is: as its head and its marks need.
+fn widths_of(
+    alloc: Global,
+    picture: &Picture<'_>,
+    axis: Axis<'_>,
+) -> Result<Vec<usize>, AllocError> {
+    let mut widths = head_widths(alloc, picture.columns, axis)?;
     for mark in &picture.marks {
         let width = mark_width(*mark).saturating_add(3);
         if mark.column < widths.len() {
@@ -110,9 +153,9 @@ fn widths_of(alloc: Global, picture: &Picture<'_>) -> Result<Vec<usize>, AllocEr
     Ok(widths)
 }
 
-/// The column after the last that stands beside this one.
-fn band_end(widths: &[usize], from: usize) -> usize {
-    let mut width = NAME_WIDTH;
+/// The column after the last that stands beside this one, behind a place that is so wide.
+fn band_end(widths: &[usize], from: usize, labels: usize) -> usize {
+    let mut width = labels;
     for column in from..widths.len() {
         width = width.saturating_add(widths[column]);
         if width > MOST_WIDTH && column > from {
@@ -154,9 +197,9 @@ impl<'a> Band<'_, 'a> {
         None
     }
 
-    /// How wide it is, with the names before it.
+    /// How wide it is, with the labels before it.
     fn width(&self) -> usize {
-        let mut total = NAME_WIDTH;
+        let mut total = self.labels;
         for width in self.widths {
             total = total.saturating_add(*width);
         }
@@ -164,19 +207,14 @@ impl<'a> Band<'_, 'a> {
     }
 
     /// The numbers of the steps above their columns.
-    fn add_numbers(&self, parts: &mut Parts<'a>, steps: &'a [Value]) {
-        parts.push(Part::Numbers);
-        let mut number = self.from;
+    fn add_numbers(&self, parts: &mut Parts<'a>, axis: Axis<'a>) {
+        parts.push(Part::Numbers(self.labels));
+        let mut column = self.from;
         for width in self.widths {
-            let step = steps.get(number);
-            number = number.saturating_add(1);
-            if let Some(step) = step {
-                parts.push(Part::Number(Numbered {
-                    number,
-                    step,
-                    width: *width,
-                }));
+            if let Some(numbered) = axis.at(column, *width) {
+                parts.push(Part::Number(numbered));
             }
+            column = column.saturating_add(1);
         }
         parts.push(Part::EndNumbers);
     }
@@ -196,7 +234,7 @@ impl<'a> Band<'_, 'a> {
 
     /// A lane, which has this place in the picture.
     fn add_lane(&self, parts: &mut Parts<'a>, place: usize, lane: Lane<'a>) {
-        parts.push(Part::Name(lane.name));
+        parts.push(Part::Name(lane.label, self.labels));
         let mut column = self.from;
         for width in self.widths {
             parts.push(Part::Cell(self.cell(place, lane, column, *width)));
@@ -215,9 +253,9 @@ impl<'a> Band<'_, 'a> {
     }
 
     /// The numbers of the columns, if there are steps, and the lanes that the band has marks on.
-    fn add_to(&self, alloc: Global, parts: &mut Parts<'a>, lanes: &[Lane<'a>], steps: &'a [Value]) {
-        if !steps.is_empty() {
-            self.add_numbers(parts, steps);
+    fn add_to(&self, alloc: Global, parts: &mut Parts<'a>, lanes: &[Lane<'a>], axis: Axis<'a>) {
+        if !axis.steps.is_empty() {
+            self.add_numbers(parts, axis);
         }
         match lanes_of(alloc, self.marks) {
             Ok(places) => self.add_lanes(parts, places.as_slice(), lanes),
@@ -232,21 +270,23 @@ fn add_bands<'a>(
     alloc: Global,
     parts: &mut Parts<'a>,
     picture: &Picture<'a>,
-    steps: &'a [Value],
+    axis: Axis<'a>,
     widths: &[usize],
 ) {
+    let labels = labels_width(picture.lanes.as_slice());
     let mut from = 0;
     let mut first = 0;
     for _ in 0..widths.len() {
-        let to = band_end(widths, from);
+        let to = band_end(widths, from, labels);
         let last = marks_before(picture.marks.as_slice(), first, to);
         if last > first {
             let band = Band {
+                labels,
                 from,
                 widths: widths.get(from..to).unwrap_or(&[]),
                 marks: picture.marks.get(first..last).unwrap_or(&[]),
             };
-            band.add_to(alloc, parts, picture.lanes.as_slice(), steps);
+            band.add_to(alloc, parts, picture.lanes.as_slice(), axis);
         }
         from = to;
         first = last;
@@ -257,14 +297,9 @@ fn add_bands<'a>(
 }
 
 /// Adds the parts of a picture, with these steps above their columns.
-pub fn add_parts<'a>(
-    alloc: Global,
-    parts: &mut Parts<'a>,
-    picture: &Picture<'a>,
-    steps: &'a [Value],
-) {
-    match widths_of(alloc, picture) {
-        Ok(widths) => add_bands(alloc, parts, picture, steps, widths.as_slice()),
+pub fn add_parts<'a>(alloc: Global, parts: &mut Parts<'a>, picture: &Picture<'a>, axis: Axis<'a>) {
+    match widths_of(alloc, picture, axis) {
+        Ok(widths) => add_bands(alloc, parts, picture, axis, widths.as_slice()),
         Err(_) => parts.fail(),
     }
 }

@@ -1,7 +1,7 @@
 //! The parts of all pictures of a script.
 
 use crate::collection::collection_picture;
-use crate::layout::{Part, Parts, add_parts};
+use crate::layout::{Axis, Part, Parts, add_parts};
 use crate::picture::Picture;
 use crate::played::Played;
 use crate::steps::steps_picture;
@@ -13,10 +13,10 @@ fn add_picture<'a>(
     alloc: Global,
     parts: &mut Parts<'a>,
     picture: Result<Picture<'a>, AllocError>,
-    steps: &'a [Value],
+    axis: Axis<'a>,
 ) {
     match picture {
-        Ok(picture) => add_parts(alloc, parts, &picture, steps),
+        Ok(picture) => add_parts(alloc, parts, &picture, axis),
         Err(_) => parts.fail(),
     }
 }
@@ -27,7 +27,11 @@ fn add_collections<'a>(alloc: Global, parts: &mut Parts<'a>, played: Played<'a>)
         if let (Some(chain), Some(told)) = (step.get("chain"), played.told(place)) {
             parts.push(Part::Collection(place.saturating_add(1), chain));
             let picture = collection_picture(alloc, chain, &told.answer, played.line(place));
-            add_picture(alloc, parts, picture, &[]);
+            let axis = Axis {
+                steps: &[],
+                told: &[],
+            };
+            add_picture(alloc, parts, picture, axis);
         }
     }
 }
@@ -40,7 +44,11 @@ pub fn parts_of<'a>(
 ) -> Result<Vec<Part<'a>>, AllocError> {
     let mut parts = Parts::new(alloc);
     let picture = steps_picture(alloc, script, played);
-    add_picture(alloc, &mut parts, picture, played.steps);
+    let axis = Axis {
+        steps: played.steps,
+        told: played.answers.steps.as_slice(),
+    };
+    add_picture(alloc, &mut parts, picture, axis);
     add_collections(alloc, &mut parts, played);
     parts.finish()
 }

@@ -9,7 +9,7 @@ pub enum Sign {
     Value,
     /// The emitter of the value waits.
     Waits,
-    /// The flow did not take the value, or its emission was cancelled.
+    /// The flow did not take the value, its emission was cancelled, or a subscriber lost it.
     Lost,
     /// There was nothing to receive or to end.
     Nothing,
@@ -38,6 +38,27 @@ pub enum Words<'a> {
     Text(&'a str),
 }
 
+/// What stands beside a mark.
+#[derive(Clone, Copy)]
+pub enum Note {
+    None,
+    /// So many values more are there for the subscriber of the lane.
+    Behind(u64),
+    /// What else the step did.
+    Word(&'static str),
+}
+
+impl Note {
+    /// That so many values more are there, if there are some.
+    pub(crate) fn behind(lag: u64) -> Note {
+        if lag == 0 {
+            Note::None
+        } else {
+            Note::Behind(lag)
+        }
+    }
+}
+
 /// A mark on a lane.
 #[derive(Clone, Copy)]
 pub struct Mark<'a> {
@@ -49,15 +70,30 @@ pub struct Mark<'a> {
     pub sign: Sign,
     /// What stands in it.
     pub words: Words<'a>,
-    /// How many values more are there for the subscriber of its lane: 0, too, where the lane is that of no subscriber.
-    pub lag: u64,
+    /// What stands beside it.
+    pub note: Note,
+}
+
+/// What is written before a lane.
+#[derive(Clone, Copy)]
+pub struct Label<'a> {
+    /// The name of the flow, the subscriber or the emission, or what a lane of a collection shows.
+    pub name: &'a str,
+    /// The flow of a subscriber or an emission, if the script has several flows.
+    pub flow: Option<&'a str>,
+}
+
+impl<'a> Label<'a> {
+    /// A name that needs no flow.
+    pub(crate) fn of(name: &'a str) -> Label<'a> {
+        Label { name, flow: None }
+    }
 }
 
 /// A line of the picture, from left to right: that of a flow, a subscriber or an emission.
 #[derive(Clone, Copy)]
 pub struct Lane<'a> {
-    /// The name of the flow, the subscriber or the emission.
-    pub name: &'a str,
+    pub label: Label<'a>,
     /// The column where it begins.
     pub begins: usize,
     /// The last column where it is there: `usize::MAX`, where it does not end.
@@ -94,9 +130,9 @@ impl<'a> Picture<'a> {
     }
 
     /// A lane that begins at the next column.
-    pub(crate) fn add_lane(&mut self, name: &'a str, waits: Option<i64>) {
+    pub(crate) fn add_lane(&mut self, label: Label<'a>, waits: Option<i64>) {
         let lane = Lane {
-            name,
+            label,
             begins: self.columns,
             ends: OPEN,
             waits,
@@ -105,13 +141,13 @@ impl<'a> Picture<'a> {
     }
 
     /// A mark in the next column.
-    pub(crate) fn add_mark(&mut self, lane: usize, sign: Sign, words: Words<'a>, lag: u64) {
+    pub(crate) fn add_mark(&mut self, lane: usize, sign: Sign, words: Words<'a>, note: Note) {
         let mark = Mark {
             lane,
             column: self.columns,
             sign,
             words,
-            lag,
+            note,
         };
         self.failed = self.failed || self.marks.push(mark).is_err();
     }
@@ -140,9 +176,9 @@ impl<'a> Picture<'a> {
         }
     }
 
-    /// The value of an emission that goes on.
-    pub(crate) fn open_value(&self, lane: usize) -> Option<i64> {
-        let lane = self.lanes.get(lane)?;
+    /// The value of an emission that goes on, if the lane is one's.
+    pub(crate) fn open_value(&self, lane: Option<usize>) -> Option<i64> {
+        let lane = self.lanes.get(lane?)?;
         if lane.ends == OPEN { lane.waits } else { None }
     }
 

@@ -5,6 +5,7 @@ use crate::page::Page;
 use crate::picture::Picture;
 use crate::played::Played;
 use crate::script_words::{add_flow, text_of};
+use script_chain_format::{Version, version_of};
 use serde_json::Value;
 use std::alloc::{AllocError, Global};
 
@@ -20,11 +21,11 @@ fn single_flow(script: &Value) -> Option<&Value> {
 
 /// The lanes of the flows.
 fn add_lanes<'a>(drawing: &mut Drawing<'a>, script: &'a Value) {
-    if single_flow(script).is_some() {
-        drawing.add_flow("flow");
+    if let Some(flow) = single_flow(script) {
+        drawing.add_flow("flow", flow);
     } else if let Some(Value::Object(flows)) = script.get("flows") {
-        for (name, _) in flows {
-            drawing.add_flow(name.as_str());
+        for (name, flow) in flows {
+            drawing.add_flow(name.as_str(), flow);
         }
     }
 }
@@ -44,14 +45,18 @@ fn add_last_lags<'a>(drawing: &mut Drawing<'a>, played: Played<'a>) {
     }
 }
 
-/// The picture of a script's steps: a lane for each flow, subscriber and emission, a column for each step that was played, and one more
-/// where subscribers are behind in the end. The error says that memory was wanting.
+/// The picture of a script's steps: a lane for each flow, each subscriber and each emission that was not done at once, a column for each
+/// step that was played, and one more if subscribers are behind in the end.
+///
+/// # Errors
+/// `AllocError`: out of memory.
 pub fn steps_picture<'a>(
     alloc: Global,
     script: &'a Value,
     played: Played<'a>,
 ) -> Result<Picture<'a>, AllocError> {
-    let mut drawing = Drawing::new(alloc);
+    let version = version_of(script).unwrap_or(Version::One);
+    let mut drawing = Drawing::new(alloc, version);
     add_lanes(&mut drawing, script);
     add_steps(&mut drawing, played);
     add_last_lags(&mut drawing, played);

@@ -56,7 +56,7 @@ pub const LEGEND: &str = "\
 <text class=\"h\" x=\"272\" y=\"23\">its emitter waits</text>
 <rect class=\"m l\" x=\"440\" y=\"6\" width=\"26\" height=\"26\" rx=\"13\"/>
 <text class=\"n s\" x=\"453\" y=\"24\">1</text>
-<text class=\"h\" x=\"472\" y=\"23\">not taken, or cancelled</text>
+<text class=\"h\" x=\"472\" y=\"23\">not taken, cancelled or dropped</text>
 <rect class=\"m e\" x=\"16\" y=\"46\" width=\"10\" height=\"10\" rx=\"5\"/>
 <text class=\"h\" x=\"40\" y=\"55\">nothing there</text>
 <rect class=\"b\" x=\"251\" y=\"39\" width=\"4\" height=\"24\"/>
@@ -70,6 +70,6 @@ pub const LEGEND: &str = "\
 <text class=\"h\" x=\"56\" y=\"87\">2 more are there to receive</text>
 <rect class=\"m c0\" x=\"235\" y=\"70\" width=\"31\" height=\"26\" rx=\"13\"/>
 <text class=\"n k\" x=\"250\" y=\"88\">+1</text>
-<text class=\"h\" x=\"272\" y=\"87\">1 that waited is taken</text>
+<text class=\"h\" x=\"272\" y=\"87\">a waiting value got in</text>
 </g>
 ";

@@ -4,12 +4,13 @@ use crate::frame::Frame;
 use crate::layout::{Cell, Numbered, Part};
 use crate::page::Page;
 use crate::parts::parts_of;
+use crate::picture::Label;
 use crate::played::Played;
 use crate::script_words::{add_collection, text_of};
 use crate::steps::{add_all_heads, add_heads};
 use crate::style::{LEAST_WIDTH, LEGEND, LEGEND_HEIGHT, STYLE};
 use crate::svg_marks::{END_TEXT, add_attribute, add_cell, begin_text, pixels};
-use crate::widths::{NAME_WIDTH, add_cut};
+use crate::widths::{add_head, add_label};
 use serde_json::Value;
 use std::alloc::{AllocError, Global};
 
@@ -25,7 +26,7 @@ const HEADER: usize = 62;
 /// The number of a step above its column, and what it does, in a word that rises to the right from `y` on.
 fn add_step_head(page: &mut Page, numbered: Numbered<'_>, x: usize, y: usize) {
     begin_text(page, "h", x, y.saturating_add(14));
-    page.push_number(numbered.number);
+    add_head(page, numbered.number, numbered.moment);
     page.push_str(END_TEXT);
     page.push_str("<text class=\"h\" transform=\"translate(");
     page.push_number(x);
@@ -114,12 +115,12 @@ impl Canvas {
         }
     }
 
-    /// The name of a lane.
-    fn add_name(&mut self, name: &str) {
+    /// The label of a lane, in a place that is so wide.
+    fn add_name(&mut self, label: Label<'_>, width: usize) {
         let y = self.height.saturating_add(LANE / 2 + 5);
-        self.x = pixels(NAME_WIDTH);
+        self.x = pixels(width);
         begin_text(&mut self.page, "a", 8, y);
-        add_cut(&mut self.page, name, NAME_WIDTH - 2);
+        add_label(&mut self.page, label, " &lt; ");
         self.page.push_str(END_TEXT);
     }
 
@@ -137,10 +138,10 @@ impl Canvas {
 
     fn add_part(&mut self, part: Part<'_>) {
         match part {
-            Part::Numbers => self.x = pixels(NAME_WIDTH),
+            Part::Numbers(width) => self.x = pixels(width),
             Part::Number(numbered) => self.add_number(numbered),
             Part::EndNumbers => self.height = self.height.saturating_add(HEADER),
-            Part::Name(name) => self.add_name(name),
+            Part::Name(label, width) => self.add_name(label, width),
             Part::Cell(cell) => self.add_cell(cell),
             Part::EndLane => self.height = self.height.saturating_add(LANE),
             Part::EndBand(width) => {

@@ -2,8 +2,8 @@
 
 use crate::layout::Cell;
 use crate::page::Page;
-use crate::picture::{Mark, Sign, Words};
-use crate::widths::{add_lag, add_words, words_width};
+use crate::picture::{Mark, Note, Sign, Words};
+use crate::widths::{add_note, add_words, words_width};
 
 /// How wide a character is, in pixels.
 const CHARACTER: usize = 9;
@@ -111,16 +111,17 @@ fn add_mark(page: &mut Page, mark: Mark<'_>, x: usize, y: usize) {
     );
     add_words(page, mark.words);
     page.push_str(END_TEXT);
-    add_lag_at(page, mark.lag, x.saturating_add(width), y);
+    add_note_at(page, mark.note, x.saturating_add(width), y);
 }
 
-/// How many values more are there for a subscriber, to the right of its mark.
-fn add_lag_at(page: &mut Page, lag: u64, x: usize, y: usize) {
-    if lag > 0 {
-        begin_text(page, "h", x.saturating_add(3), y.saturating_sub(5));
-        add_lag(page, lag);
-        page.push_str(END_TEXT);
+/// A note to the right of its mark.
+fn add_note_at(page: &mut Page, note: Note, x: usize, y: usize) {
+    if matches!(note, Note::None) {
+        return;
     }
+    begin_text(page, "h", x.saturating_add(3), y.saturating_sub(5));
+    add_note(page, note);
+    page.push_str(END_TEXT);
 }
 
 /// The line of a lane through a column from `x` on, whose mark has its middle there.

@@ -4,19 +4,21 @@ use crate::frame::Frame;
 use crate::layout::{Cell, MOST_WIDTH, Numbered, Part};
 use crate::page::Page;
 use crate::parts::parts_of;
-use crate::picture::Mark;
+use crate::picture::{Label, Mark};
 use crate::played::Played;
 use crate::script_words::add_collection;
 use crate::steps::add_all_heads;
-use crate::widths::{NAME_WIDTH, add_cut, add_lag, add_words, brackets, mark_width, number_width};
+use crate::widths::{
+    add_head, add_label, add_note, add_words, brackets, head_width, label_width, mark_width,
+};
 use serde_json::Value;
 use std::alloc::{AllocError, Global};
 
 /// What the marks mean.
 const LEGEND: &str = "\
-(3) taken by the flow, or received    ?3 its emitter waits    x3 not taken, or cancelled
+(3) taken by the flow, or received    ?3 its emitter waits    x3 not taken, cancelled or dropped
  .  nothing there                      | begins, or ends       ! refused
-+2  so many more are there to receive  (+1) so many taken that waited
++2  so many more are there to receive  (+1) a waiting value got in
 
 ";
 
@@ -26,11 +28,10 @@ fn end_line(page: &mut Page) {
     page.push('\n');
 }
 
-/// A name, as wide as the place before the lanes.
-fn add_name(page: &mut Page, name: &str) {
-    let width = name.len().min(NAME_WIDTH - 2);
-    add_cut(page, name, NAME_WIDTH - 2);
-    page.push_times(' ', NAME_WIDTH - width);
+/// A label, as wide as the place before the lanes.
+fn add_name(page: &mut Page, label: Label<'_>, width: usize) {
+    add_label(page, label, " < ");
+    page.push_times(' ', width.saturating_sub(label_width(label)));
 }
 
 /// A mark between its signs.
@@ -39,7 +40,7 @@ fn add_mark(page: &mut Page, mark: Mark<'_>) {
     page.push_str(before);
     add_words(page, mark.words);
     page.push_str(after);
-    add_lag(page, mark.lag);
+    add_note(page, mark.note);
 }
 
 /// A column of a lane: its line, and the mark there.
@@ -55,12 +56,12 @@ fn add_cell(page: &mut Page, cell: Cell<'_>) {
     page.push_times(after, cell.width.saturating_sub(taken));
 }
 
-/// The number of a step above its column.
+/// The number of a step above its column, and the moment if it is a turn.
 fn add_number(page: &mut Page, numbered: Numbered<'_>) {
-    let number = numbered.number;
+    let Numbered { number, moment, .. } = numbered;
     page.push(' ');
-    page.push_number(number);
-    let taken = number_width(number as u64).saturating_add(1);
+    add_head(page, number, moment);
+    let taken = head_width(number, moment).saturating_add(1);
     page.push_times(' ', numbered.width.saturating_sub(taken));
 }
 
@@ -72,9 +73,9 @@ fn add_collection_line(page: &mut Page, step: usize, chain: &Value) {
 
 fn add_part(page: &mut Page, part: Part<'_>) {
     match part {
-        Part::Numbers => add_name(page, "step"),
+        Part::Numbers(width) => add_name(page, Label::of("step"), width),
         Part::Number(numbered) => add_number(page, numbered),
-        Part::Name(name) => add_name(page, name),
+        Part::Name(label, width) => add_name(page, label, width),
         Part::Cell(cell) => add_cell(page, cell),
         Part::EndNumbers | Part::EndLane => end_line(page),
         Part::EndBand(_) => page.push('\n'),

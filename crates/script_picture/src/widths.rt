@@ -1,25 +1,91 @@
 //! How wide the words and the marks of a picture are, in characters.
 
 use crate::page::Page;
-use crate::picture::{Mark, Sign, Words};
+use crate::picture::{Label, Lane, Mark, Note, Sign, Words};
+
+/// The least width of what stands before the lanes.
+const LEAST_LABELS: usize = 14;
 
 /// The most characters of a name before its lane.
-pub const NAME_WIDTH: usize = 14;
+const MOST_NAME: usize = 12;
+
+/// How many characters stand between the name of a subscriber or an emission and that of its flow.
+const OF_FLOW_WIDTH: usize = 3;
 
 /// The most characters that stand in a mark.
 pub const WORDS_WIDTH: usize = 24;
 
 /// How many digits a number has.
-pub fn number_width(number: u64) -> usize {
+fn number_width(number: u64) -> usize {
     (number.checked_ilog10().unwrap_or(0) as usize).saturating_add(1)
 }
 
-/// How many characters tell that so many more are there: none, where there are none.
-fn lag_width(count: u64) -> usize {
-    if count == 0 {
-        0
-    } else {
-        number_width(count).saturating_add(1)
+/// How many characters tell that so many more are there.
+fn more_width(count: u64) -> usize {
+    number_width(count).saturating_add(1)
+}
+
+fn note_width(note: Note) -> usize {
+    match note {
+        Note::None => 0,
+        Note::Behind(count) => more_width(count),
+        Note::Word(word) => word.len(),
+    }
+}
+
+fn name_width(name: &str) -> usize {
+    name.len().min(MOST_NAME)
+}
+
+/// How many characters a label has.
+pub fn label_width(label: Label<'_>) -> usize {
+    let name = name_width(label.name);
+    match label.flow {
+        Some(flow) => name
+            .saturating_add(OF_FLOW_WIDTH)
+            .saturating_add(name_width(flow)),
+        None => name,
+    }
+}
+
+/// How wide the place before these lanes is.
+pub fn labels_width(lanes: &[Lane<'_>]) -> usize {
+    let mut widest = LEAST_LABELS;
+    for lane in lanes {
+        widest = widest.max(label_width(lane.label).saturating_add(2));
+    }
+    widest
+}
+
+/// What is written before a lane, with these three characters before the name of a flow. Longer names are cut.
+pub fn add_label(page: &mut Page, label: Label<'_>, of_flow: &str) {
+    add_cut(page, label.name, MOST_NAME);
+    if let Some(flow) = label.flow {
+        page.push_str(of_flow);
+        add_cut(page, flow, MOST_NAME);
+    }
+}
+
+/// What stands between the number of a turn and its moment.
+const AT: &str = " at ";
+
+/// How many characters the number of a step has, and the moment if it is a turn.
+pub fn head_width(number: usize, moment: Option<u64>) -> usize {
+    let width = number_width(number as u64);
+    match moment {
+        Some(moment) => width
+            .saturating_add(AT.len())
+            .saturating_add(number_width(moment)),
+        None => width,
+    }
+}
+
+/// The number of a step, and the moment if it is a turn.
+pub fn add_head(page: &mut Page, number: usize, moment: Option<u64>) {
+    page.push_number(number);
+    if let Some(moment) = moment {
+        page.push_str(AT);
+        page.push_number(moment);
     }
 }
 
@@ -30,7 +96,7 @@ pub fn words_width(words: Words<'_>) -> usize {
         Words::Number(number) => {
             number_width(number.unsigned_abs()).saturating_add((number < 0) as usize)
         }
-        Words::More(count) => lag_width(count),
+        Words::More(count) => more_width(count),
         Words::Text(text) => text.len().min(WORDS_WIDTH),
     }
 }
@@ -40,21 +106,28 @@ pub fn add_words(page: &mut Page, words: Words<'_>) {
     match words {
         Words::None => {}
         Words::Number(number) => page.push_number(number),
-        Words::More(count) => add_lag(page, count),
+        Words::More(count) => add_more(page, count),
         Words::Text(words) => add_cut(page, words, WORDS_WIDTH),
     }
 }
 
-/// That so many more are there, if there are some.
-pub fn add_lag(page: &mut Page, count: u64) {
-    if count > 0 {
-        page.push('+');
-        page.push_number(count);
+/// That so many more are there.
+fn add_more(page: &mut Page, count: u64) {
+    page.push('+');
+    page.push_number(count);
+}
+
+/// What stands beside a mark.
+pub fn add_note(page: &mut Page, note: Note) {
+    match note {
+        Note::None => {}
+        Note::Behind(count) => add_more(page, count),
+        Note::Word(word) => page.push_str(word),
     }
 }
 
 /// A text, of which at most so many characters are kept.
-pub fn add_cut(page: &mut Page, words: &str, most: usize) {
+fn add_cut(page: &mut Page, words: &str, most: usize) {
     if words.len() <= most {
         page.push_str(words);
         return;
@@ -85,5 +158,5 @@ pub fn mark_width(mark: Mark<'_>) -> usize {
         .len()
         .saturating_add(after.len())
         .saturating_add(words_width(mark.words))
-        .saturating_add(lag_width(mark.lag))
+        .saturating_add(note_width(mark.note))
 }
