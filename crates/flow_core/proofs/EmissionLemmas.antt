@@ -82,7 +82,7 @@ module _ {T : Type 0} where
         | inr more ↦ omega (arith, least_position-beyond a b us le more.1)
       ]
 
-  -- where a subscriber is the bound, and not the cache, a value more leaves none that nobody may ask for
+  -- if a subscriber decides how many values are held, and not the cache, one value more makes none superfluous
   pub stands-appended : (core : Core T) (s : SharedFlowState T) (v : T) → core.reset_mark ≤ core.appended → StandsFor core s
       → (core.appended - length core.held == kept_start core) ≡ false
       → Covers (pushed v (core.issued + 1) (record core { issued = core.issued + 1 })) (append v s)

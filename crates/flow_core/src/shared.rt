@@ -179,7 +179,7 @@ impl<T: FlowValue, A: Allocator + Copy> SharedCore<T, A> {
         self.values.truncate_front(count as usize);
     }
 
-    /// Lets go of values after an emission, if the cache was the bound of those that are held.
+    /// Drops values after an emission, if the replay cache decided how many are held.
     #[inline]
     fn trim_after(&mut self, by_cache: bool)
         ensures { (s : SharedFlowState T) → Covers self.old s → OnFalse by_cache (StandsFor self.old s)

@@ -1,4 +1,4 @@
-//! Which calls of an illegal record are told.
+//! Finds the calls of an illegal record that contradict each other.
 //!
 //! A *look* is a call that by its answer changed nothing. An order that explains calls also explains
 //! them without a look. So if the calls are illegal without some looks, these looks are not needed to

@@ -44,7 +44,7 @@ fn line_of(bytes: &[u8], part: Part) -> (usize, usize) {
     (begin, begin)
 }
 
-/// What is told of a record.
+/// The words that explain the verdict on a record.
 #[derive(Drop)]
 struct Report<'a> {
     text: Text<'a>,

@@ -108,7 +108,7 @@ fn run<W: Write>(alloc: Global, out: &mut W, bytes: &[u8], with_order: bool) -> 
     }
 }
 
-/// What the arguments ask for: whether the order is told, or None if they are wrong.
+/// Returns whether the arguments ask for the order; `None` if they are wrong.
 fn order_asked(words: &[String]) -> Option<bool> {
     match words {
         [] => Some(false),

@@ -22,7 +22,7 @@ use Rattle.flow_script.specs.Numbers.{Numbers}
 use Rattle.flow_script.specs.SharingMeaning.{SharingPlay, first_sharing, turn_at}
 use Rattle.flow_script.specs.Sharings.{ShowsSharing, TurnsAsDocumented, both_of}
 
--- a fault that is told is no want of memory
+-- a fault that a line reports is not OutOfMemory
 pub told-had : (fault : ShareFault) → IsToldFault fault → HadMemory {R = Report} (Err fault)
 told-had (Backwards last) told = tt
 told-had Ended told = tt

@@ -83,7 +83,7 @@ module _ {S C R : Type 0} (kind : Kind ℤ S C R) (played : Played S C R) where
   abbrev pub own_turn : FlowStep → S → Numbers → Turn S
   own_turn step s n = turn_by (played.own_call step n.emissions) step s n
 
-  -- this is the answer by a reply that is told
+  -- this is the answer of a reply that a line reports
   abbrev pub IsAnswer : (R → Bool) → C → R → Answer → Type 0
   IsAnswer is_told call reply answer = (is_told reply ≡ true) × (played.answer call reply ≡ answer)
 

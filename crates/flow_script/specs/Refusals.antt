@@ -1,4 +1,4 @@
--- The answer of a flow that was not made. One that was refused for want of memory has none.
+-- The answer of a flow that was not made. OutOfMemory is a fault of the whole run, and has no answer.
 use Rattle.flow_script.specs.declared.refusal.Refusal.{Refusal}
 use Rattle.flow_script.specs.declared.refusal.Refusal.TheVariants as refusal
 use Rattle.std.specs.Prelude.{◌≡◌}
@@ -17,7 +17,7 @@ abbrev pub IsTold : Refusal → Type 0
 IsTold (refusal.Flow fault) = IsToldFlowFault fault
 IsTold (refusal.Sharing fault) = IsToldFault fault
 
--- this answer says why, and it was not for want of memory
+-- this answer says why, and the reason is not OutOfMemory
 abbrev pub AnswersRefusal : FlowFault → Given → Type 0
 AnswersRefusal fault answer = IsToldFlowFault fault × (answer_of answer ≡ refused fault)
 

@@ -30,7 +30,7 @@ pub trait ScriptCore: FlowCore<Item = i64> {
             self.old self.new numbers.old numbers.new) }
         ensures fault { IfErr result (λ fault. fault ≡ ScriptFault.OutOfMemory) };
 
-    /// A reply that is told is the documented one, and has its answer.
+    /// A reply that a line reports is the documented one, and has its answer.
     fn law_answers()
         ensures { HasAnswers Self.kind played };
 }

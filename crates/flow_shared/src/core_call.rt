@@ -63,7 +63,7 @@ pub(crate) fn leave_and_wake<S: FlowCore, A: Allocator + Copy, W: Adds<Said<S::C
     seat
 }
 
-/// A call whose caller sleeps if it is told to wait.
+/// A call whose caller sleeps if the reply is a wait.
 pub(crate) trait SleepingCall<S: FlowCore, A: Allocator + Copy>: CoreCall<S> {
     /// The answer tells the caller to wait.
     ghost is_wait: { Self.Answer → Type 0 };
@@ -77,7 +77,7 @@ pub(crate) trait SleepingCall<S: FlowCore, A: Allocator + Copy>: CoreCall<S> {
         ensures kept { W.keeps waiter.old waiter.new };
 }
 
-/// As `call_core`, for a caller that sleeps if it is told to wait.
+/// As `call_core`, for a caller that sleeps if the reply is a wait.
 pub(crate) fn call_core_or_sleep<
     S: FlowCore,
     A: Allocator + Copy,

@@ -77,7 +77,7 @@ impl<S: FlowCore + Drop, A: Allocator + Copy> Flow<S, A> {
         }
     }
 
-    /// As `call_by_now`, for a caller that sleeps if it is told to wait. If another caller is inside, the task that is
+    /// As `call_by_now`, for a caller that sleeps if the reply is a wait. If another caller is inside, the task that is
     /// polled asks to be polled again.
     pub(crate) fn call_by_or_sleep<C: SleepingCall<S, A>>(
         &self,
@@ -106,7 +106,7 @@ impl<S: FlowCore + Drop, A: Allocator + Copy> Flow<S, A> {
         }
     }
 
-    /// As `call_by`, for a caller that sleeps if it is told to wait.
+    /// As `call_by`, for a caller that sleeps if the reply is a wait.
     pub(crate) fn call_by_asleep<R: Wait, C: SleepingCall<S, A>, W: Waiter<A>>(
         &self,
         rt: &R,
@@ -146,7 +146,7 @@ impl<S: FlowCore + Drop, A: Allocator + Copy> Flow<S, A> {
         answer
     }
 
-    /// As `call`, for a caller that sleeps if it is told to wait.
+    /// As `call`, for a caller that sleeps if the reply is a wait.
     pub(crate) fn call_asleep<R: Wait, C: SleepingCall<S, A>, W: Waiter<A>>(
         &self,
         rt: &R,
@@ -190,7 +190,7 @@ impl<S: FlowCore + Drop, A: Allocator + Copy> Flow<S, A> {
         answer
     }
 
-    /// As `call_now`, for a caller that sleeps if it is told to wait, and asks to be polled again if another is inside.
+    /// As `call_now`, for a caller that sleeps if the reply is a wait, and asks to be polled again if another is inside.
     pub(crate) fn call_or_sleep<C: SleepingCall<S, A>>(
         &self,
         seat: &mut FlowSeat<S, A>,

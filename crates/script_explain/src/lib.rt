@@ -1,4 +1,4 @@
-//! What people are told of flow scripts in words: where and why one is refused, and by which rule a step has its answer.
+//! Explains flow scripts in words: where and why one is refused, and by which rule a step has its answer.
 //!
 //! # Refusals
 //! `explain_refusal` takes the bytes of a script and the fault by which the reader refused it. It walks over the text again, finds

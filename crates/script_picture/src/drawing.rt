@@ -36,7 +36,7 @@ pub struct Drawing<'a> {
     lanes: IndexMap<&'a str, usize>,
 }
 
-/// The command that is told beside the item of a turn.
+/// The command that stands beside the item of a turn.
 fn command_note(command: Command) -> Note {
     match command {
         Command::Start => Note::Word(" start"),

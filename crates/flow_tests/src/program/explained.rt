@@ -1,4 +1,4 @@
-//! What people are told of a script: the faults and the answers that no script comes to, and one of each that some do.
+//! Explanations of scripts: the faults and the answers that no script comes to, and one of each that some do.
 use crate::program::Host;
 use flow_script::{Answer, ScriptFault};
 use script_explain::{explain_refusal, rule_of};
