@@ -47,8 +47,7 @@ pub const DRAINS: &[Example] = &[
             Values(&[1, 2, 3]),
         ],
     },
-    // Nothing is lost where memory is wanting: the second copy is refused, its value stays in the flow, and the first one
-    // in the list.
+    // A copy that is refused once is made again by the same drain.
     Example {
         config: THREE,
         calls: &[
@@ -56,6 +55,22 @@ pub const DRAINS: &[Example] = &[
             Emit(2, Done),
             Emit(3, Done),
             Subscribe(4),
+            RefuseCopy(2),
+            Drain(0, 10, Ok(Empty)),
+            Values(&[1, 2, 3]),
+        ],
+    },
+    // Nothing is lost if a drain is refused: the second value stays in the flow, and the first one in the list.
+    Example {
+        config: Config {
+            extra: 1,
+            ..UNBUFFERED
+        },
+        calls: &[
+            Subscribe(1),
+            Emit(1, Done),
+            Emit(2, Queued(3)),
+            Emit(3, Queued(4)),
             RefuseCopy(2),
             Drain(0, 10, Err(FlowFault::OutOfMemory)),
             Values(&[1]),
