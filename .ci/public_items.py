@@ -70,18 +70,16 @@ def files(crate):
 
 
 def exports(crate):
-    """What `lib.rt` exports: each name with the crate that defines it."""
+    """What `lib.rt` exports: each name with the crate that defines it, or with the public module of it."""
     found = {}
     for item in items((top / "crates" / crate / "src/lib.rt").read_text().splitlines()):
         use = re.match(r"pub use ([\w:]+)::(?:\{(.*)\}|(\w+));$", item.text)
-        module = re.match(r"pub mod (\w+);$", item.text)
         if use:
             origin = use.group(1).split("::")
             for name in split(use.group(2) or use.group(3)):
                 behind = exports(origin[0]) if origin[0] in crates else {}
-                found[name] = behind.get(name, origin[0] if behind else crate)
-        elif module:
-            found.update({name: crate for (of, name), (_, _, stem) in types.items() if of == crate and stem == module.group(1)})
+                module = "::".join(origin[:2])
+                found[name] = module if (module, name) in types else behind.get(name, origin[0] if behind else crate)
     return found
 
 
@@ -135,13 +133,15 @@ def first_sentence(item):
 
 
 PUBLIC = re.compile(r"pub (struct|enum|trait|type|const|fn) (\w+)")
-types, impls = {}, []  # by crate and name; every implementation
+types, impls = {}, []  # by crate (or public module, as `flow_law::report`) and name; every implementation
 crates = [folder.name for folder in sorted((top / "crates").iterdir()) if (folder / "src/lib.rt").exists()]
 for crate in crates:
+    modules = re.findall(r"^pub mod (\w+);", (top / "crates" / crate / "src/lib.rt").read_text(), re.M)
     for file in files(crate):
+        of = f"{crate}::{file.stem}" if file.stem in modules else crate
         for item in items(file.read_text().splitlines()):
             found = PUBLIC.match(item.text)
             if found:
-                types.setdefault((crate, found.group(2)), (found.group(1), item, file.stem))
+                types.setdefault((of, found.group(2)), (found.group(1), item, file.stem))
             elif item.text.startswith("impl"):
-                impls.append((crate, item))
+                impls.append((of, item))
