@@ -1,5 +1,6 @@
-"""What ./play and ./draw share: their arguments, and the program that they run, which is built where there is none yet."""
+"""What ./play, ./draw and ./judge share: their arguments, and the program that they run, which is built if there is none yet."""
 import contextlib
+import difflib
 import os
 import pathlib
 import shutil
@@ -19,6 +20,8 @@ VERSION = "0.1.0"
 # Status of the command itself. The programs use 0, 2, 3 and 4.
 FAILED = 1
 REFUSED = 2
+# In place of the moment of a watched file's last change.
+GONE = -1
 
 
 def say(words):
@@ -82,21 +85,32 @@ def program(name):
     return found or build(name) or sys.exit(FAILED)
 
 
-def script_of(words):
-    """The text of the script that the words name, and the words that are left. Without any words it is standard input; with
-    options alone it is None, since the program refuses or reads by itself."""
+def file_of(words, what):
+    """The file that the words name, if they name one, and the words that are left."""
     files = [word for word in words if not word.startswith("-")]
-    if not files:
-        return (None if words else sys.stdin.buffer.read()), words
     if len(files) > 1:
-        stop(f"one script at a time: {' '.join(files)}")
+        stop(f"one {what} at a time: {' '.join(files)}")
+    return (files or [None])[0], [word for word in words if word.startswith("-")]
+
+
+def opened(file):
+    """The file, or standard input if there is none."""
+    if file is None:
+        if sys.stdin.isatty():
+            say("reading standard input")
+        return sys.stdin.buffer
     try:
-        text = pathlib.Path(files[0]).read_bytes()
+        return open(file, "rb")
     except FileNotFoundError:
-        stop(f"no such file: {files[0]}")
+        stop(f"no such file: {file}")
     except OSError as error:
-        stop(f"cannot read {files[0]}: {error.strerror}")
-    return text, [word for word in words if word != files[0]]
+        stop(f"cannot read {file}: {error.strerror}")
+
+
+def script_of(words):
+    """The text of the script that the words name, or of standard input, and the words that are left."""
+    file, words = file_of(words, "script")
+    return opened(file).read(), words
 
 
 def watched(words):
@@ -117,8 +131,11 @@ def watch(file, show):
             except FileNotFoundError:
                 if seen is None:
                     stop(f"no such file: {file}")
-                changed = seen
-            if changed != seen:
+                changed = None if seen == GONE else GONE
+            if changed == GONE:
+                say(f"waiting for {file}")
+                seen = GONE
+            elif changed not in (None, seen):
                 seen = changed
                 if sys.stdout.isatty():
                     print("\x1b[2J\x1b[H", end="", flush=True)
@@ -128,11 +145,21 @@ def watch(file, show):
         pass
 
 
-def first_options(words, usage):
-    """Answers --help and --version."""
+def refuse_word(kind, word, known):
+    """Says that there is no such option or command, and which one is near."""
+    near = difflib.get_close_matches(word, known, 1)
+    say(f"no {kind} {word}" + (f": did you mean {near[0]}?" if near else "; --help lists them"))
+    sys.exit(REFUSED)
+
+
+def first_options(words, usage, options):
+    """Answers --help and --version, and refuses an option that is not among these."""
     if "--help" in words or "-h" in words:
         print(usage)
         sys.exit(0)
     if "--version" in words:
         print(f"wumsnair {VERSION}")
         sys.exit(0)
+    for word in words:
+        if word.startswith("-") and word not in options:
+            refuse_word("option", word, [*options, "--help", "--version"])
