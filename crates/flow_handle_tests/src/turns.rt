@@ -1,36 +1,50 @@
-//! One emitter that goes to threads in turn, and meets what the current thread holds.
+//! One caller that goes to threads in turn, and meets what the current thread holds.
 ghost use Rattle.std.specs.Prelude.{◌≡◌};
 
 use crate::compare::compare;
 use flow_law::{Config, OutOfMemory};
-use flow_shared::{Emitter, Reader, SharedFlow};
+use flow_shared::{Emitter, Reader, Seat, SharedFlow};
+use std::process::Abort;
 use std::sync::Wait;
 use std::thread::{Threads, join};
 
-/// Emits a value on a thread of its own, which has ended afterwards. Returns whether the flow took the value.
-fn emit_on_a_thread<R: Wait + Threads + Sync>(
-    rt: &R,
-    emitter: &mut Emitter<'_, i64>,
-    value: i64,
-) -> bool {
-    let (taken, ()) = join(rt, || emitter.try_emit(rt, value), || ());
-    taken == Ok(true)
+/// Emits a value that the flow takes, and gives the seat back.
+fn emit<R: Wait + Abort>(rt: &R, flow: &SharedFlow<i64>, seat: Seat<i64>, value: i64) -> Seat<i64>
+    requires { seat.table_id ≡ flow.now.table_id }
+    ensures { result.table_id ≡ flow.now.table_id }
+{
+    let mut seat = seat;
+    compare(rt, 0, flow.try_emit(rt, &mut seat, value), Ok(true));
+    seat
 }
 
-/// The flow that is closed then has what both threads emitted.
+/// Sends the seat to a new thread, which emits the value. The seat comes back when that thread has ended.
+fn emit_on_a_thread<R: Wait + Threads + Abort + Sync>(
+    rt: &R,
+    flow: &SharedFlow<i64>,
+    seat: Seat<i64>,
+    value: i64,
+) -> Seat<i64>
+    requires { seat.table_id ≡ flow.now.table_id }
+    ensures { result.table_id ≡ flow.now.table_id }
+{
+    let (seat, ()) = join(rt, || emit(rt, flow, seat, value), || ());
+    seat
+}
+
+/// The flow that is closed then has what both threads emitted, and no subscriber.
 #[test]
-fn an_emitter_goes_to_two_threads_in_turn(rt: HostRuntime) {
+fn a_seat_goes_to_two_threads_in_turn(rt: HostRuntime) {
     let made = SharedFlow::new(rt.alloc(), Config::new().replay(2));
     let (flow, seat) = made.expect(&rt, "a flow");
-    let mut emitter = flow.emitter(seat);
-    let mut other = emitter.another();
-    compare(&rt, 0, emit_on_a_thread(&rt, &mut other, 1), true);
-    compare(&rt, 1, emit_on_a_thread(&rt, &mut other, 2), true);
-    drop(other);
-    let seat = emitter.into_seat();
+    let seat = emit_on_a_thread(&rt, &flow, seat, 1);
+    let mut seat = emit_on_a_thread(&rt, &flow, seat, 2);
+    let seen = flow.replay_cache(&rt, &mut seat).expect(&rt, "memory");
+    compare(&rt, 1, seen.as_slice(), [1, 2].as_slice());
     let core = flow.close(seat).expect(&rt, "no caller is inside");
     let cache = core.replay_cache().expect(&rt, "memory");
-    compare(&rt, 2, cache.as_slice() == [1, 2].as_slice(), true);
+    compare(&rt, 2, cache.as_slice(), [1, 2].as_slice());
+    compare(&rt, 3, (core.subscription_count(), core.held()), (0, 2));
 }
 
 /// An emitter and a reader of one flow.
@@ -53,20 +67,20 @@ impl<'a, 'b> Pair<'a, 'b> {
     }
 }
 
-/// The emitter of the pair emits 5 on a thread of its own, which has ended afterwards.
-fn emit_five_on_a_thread<R: Wait + Threads + Sync>(rt: &R, pair: &mut Pair<'_, '_>) -> bool {
-    let (taken, ()) = join(rt, || pair.emit(rt, 5), || ());
+/// The emitter of the pair emits 8 on a thread of its own, which has ended afterwards.
+fn emit_eight_on_a_thread<R: Wait + Threads + Sync>(rt: &R, pair: &mut Pair<'_, '_>) -> bool {
+    let (taken, ()) = join(rt, || pair.emit(rt, 8), || ());
     taken
 }
 
 /// The reader has then seen what the other thread emitted, and receives it.
 #[test]
 fn a_reader_meets_an_emitter_that_was_on_a_thread(rt: HostRuntime) {
-    let made = SharedFlow::new(rt.alloc(), Config::new().extra(1));
+    let made = SharedFlow::new(rt.alloc(), Config::new().extra(4));
     let (flow, seat) = made.expect(&rt, "a flow");
     let mut emitter = flow.emitter(seat);
     let reader = emitter.subscribe(&rt).expect(&rt, "a reader");
     let mut pair = Pair { emitter, reader };
-    compare(&rt, 0, emit_five_on_a_thread(&rt, &mut pair), true);
-    compare(&rt, 1, pair.meet_and_read(&rt), Ok(Some(5)));
+    compare(&rt, 0, emit_eight_on_a_thread(&rt, &mut pair), true);
+    compare(&rt, 1, pair.meet_and_read(&rt), Ok(Some(8)));
 }
