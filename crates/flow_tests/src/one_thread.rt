@@ -2,6 +2,7 @@
 //! `MutableSharedFlow`, `BufferOverflow` and `MutableStateFlow`.
 mod drains;
 mod held;
+mod hints;
 mod lags;
 pub mod limited;
 mod many;

@@ -1,0 +1,33 @@
+//! A subscription keeps the place of its subscriber, where a core looks first. Its `Debug` shows that place.
+use crate::compare::compare;
+use flow_core::{FlowCore, SharedCore, StateCore, SubId};
+use flow_law::Config;
+use std::alloc::Global;
+use std::process::Abort;
+
+/// Compares what a subscription is printed as.
+fn is_printed(rt: &impl Abort, alloc: Global, place: usize, id: SubId, wanted: &str) {
+    let printed = format!(in alloc; "{id:?}").expect(rt, "memory");
+    compare(rt, place, printed.as_str(), wanted);
+}
+
+/// Three subscribers are kept one after the other. The second one leaves, and the fourth one is kept in its place.
+fn subscribe_four<S: FlowCore>(rt: &impl Abort, alloc: Global, core: &mut S) {
+    let first = core.subscribe().expect(rt, "a subscription");
+    let second = core.subscribe().expect(rt, "a subscription");
+    let third = core.subscribe().expect(rt, "a subscription");
+    compare(rt, 0, core.unsubscribe(second), true);
+    let fourth = core.subscribe().expect(rt, "a subscription");
+    is_printed(rt, alloc, 1, first, "SubId { number: 1, key: 0 }");
+    is_printed(rt, alloc, 2, second, "SubId { number: 2, key: 1 }");
+    is_printed(rt, alloc, 3, third, "SubId { number: 3, key: 2 }");
+    is_printed(rt, alloc, 4, fourth, "SubId { number: 4, key: 1 }");
+}
+
+#[test]
+fn a_subscription_has_the_place_of_its_subscriber(rt: HostRuntime) {
+    let alloc = rt.alloc();
+    let shared = SharedCore::<i64>::new(alloc, Config::new());
+    subscribe_four(&rt, alloc, &mut shared.expect(&rt, "a flow"));
+    subscribe_four(&rt, alloc, &mut StateCore::new(alloc, 0i64, u64::MAX));
+}
