@@ -11,7 +11,8 @@ use std::alloc::Global;
 
 /// The items, each plus `k`, up to the first sum that is out of range.
 pub fn collect_plus(alloc: Global, items: Vec<i64>, k: i64) -> Result<Collected<i64>, ChainFault>
-    ensures collects { IfOk result (λ r. Collects (map_run (λ x. ranged (x +ℤ k)) (list_run items.items)) r.items.items r.end) }
+    ensures collects { IfOk result (λ r. Collects
+        (map_run (λ x. ranged (x +ℤ k)) (list_run items.items)) r.items.items r.end) }
     ensures memory { IfErr result (λ fault. fault ≡ ChainFault.OutOfMemory) }
 {
     let mut chain = OfList::new(items).map(|x| x.checked_add(k).ok_or(ChainFault::Overflow));
