@@ -33,9 +33,10 @@ fn share<'a, R: Wait>(
     unreachable!()
 }
 
-/// Returns what the reading thread has added up.
+/// Returns what the reading thread has added up. The flow has room for all items, so no turn waits for the reader: if no
+/// thread can be made, `join` runs the reader after the turns.
 pub fn add_up<R: Wait + Threads + Sync>(rt: &R, alloc: Global) -> Result<i64> {
-    let (flow, mut seat) = SharedFlow::<i64>::new(alloc, Config::new().extra(4))?;
+    let (flow, mut seat) = SharedFlow::<i64>::new(alloc, Config::new().extra(20))?;
     let hub = SharedFlowHub::new(&flow, &mut seat);
     let mut reader = flow.emitter(seat).subscribe(rt)?;
     let mut sharing = Sharing::new(OfRange::new(1, 20), Started::Lazily, hub);
