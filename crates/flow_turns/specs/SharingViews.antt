@@ -1,14 +1,16 @@
 -- What contracts see of a sharing: what it keeps, as flow_law's `SharingState`, and its chain and hub. Begin with `state_of`.
-use Rattle.std.specs.Prelude.{Bool, List}
+use Rattle.std.specs.Prelude.{◌≡◌, Bool, List}
 use Rattle.flow_law.specs.declared.sharing.Started.{Started}
 use Rattle.flow_law.specs.declared.sharing.SharingObservation.{SharingObservation}
 use Rattle.flow_law.specs.ChainRun.{ChainRun}
 use Rattle.flow_law.specs.SharingCalls.{ChainAndHub}
 use Rattle.flow_law.specs.SharingTurn.{SharingState}
+use Rattle.flow_law.specs.TurnMeaning.{BetweenTurns, IsQuiet}
 use Rattle.flow_turns.specs.declared.sharing.Sharing.{Sharing}
 use Rattle.flow_turns.specs.Policy.{HasSeen}
 
 module _ {C H T : Type 0} where
+  -- what the sharing keeps between two turns, beside its chain and its hub
   abbrev pub state_of : Sharing C H T → SharingState T
   state_of sharing = record {
     kept = sharing.kept;
@@ -46,3 +48,22 @@ module _ {C H T : Type 0} where
   -- the flow into which the sharing emits
   abbrev pub hub_of : Sharing C H T → H
   hub_of sharing = sharing.hub
+
+-- every reading of the chain before a call is a reading of the chain after it
+abbrev pub KeepsReadings : {C R : Type 0} → (C → R → Type 0) → C → C → Type 0
+KeepsReadings {C} {R} reads old new = (m : R) → reads old m → reads new m
+
+-- `whole` and `rest` are the runs of the chain, for each of its readings
+module _ {C H T R : Type 0} (whole rest : C → R → ChainRun T) where
+  -- the sharing collects this chain into its hub, and has asked nothing of it
+  abbrev pub Collects : C → Sharing C H T → Type 0
+  Collects chain sharing =
+      (m : R) → chain_and_hub (λ c. whole c m) (λ c. rest c m) sharing ≡ record { whole = whole chain m; rest = rest chain m; hub = hub_of sharing }
+
+  -- what holds between two turns holds of the sharing
+  abbrev pub IsBetweenTurns : Sharing C H T → Type 0
+  IsBetweenTurns sharing = (m : R) → BetweenTurns (state_of sharing) (chain_and_hub (λ c. whole c m) (λ c. rest c m) sharing)
+
+  -- no emission waits in the hub while the sharing does not run
+  abbrev pub IsQuietHub : (H → Bool) → Sharing C H T → Type 0
+  IsQuietHub waits sharing = (m : R) → IsQuiet waits (state_of sharing) (chain_and_hub (λ c. whole c m) (λ c. rest c m) sharing)

@@ -3,6 +3,8 @@
 -- `turn_steps` of flow_law.
 use Rattle.std.specs.Prelude.{◌≡◌, ℕ, Bool, true, false, List, Result, Ok, Err}
 use Rattle.flow_law.specs.declared.chain.ChainFault.{ChainFault}
+use Rattle.flow_law.specs.declared.chain.End.{End}
+use Rattle.flow_law.specs.declared.chain.End.TheVariants.{Failed}
 use Rattle.flow_law.specs.declared.sharing.Started.{Started}
 use Rattle.flow_law.specs.declared.sharing.Command.{Command}
 use Rattle.flow_law.specs.declared.sharing.SharingObservation.{SharingObservation}
@@ -16,7 +18,7 @@ use Rattle.flow_law.specs.SharingCalls.{HubCall, HubAnswer, CallDoes, HubStep}
 use Rattle.flow_law.specs.SharingTurn.{reported, turn_steps}
 use Rattle.flow_law.specs.TurnMeaning.{HasAccount, BetweenTurns, IsQuiet, IsCommand, TurnMeans, TurnResets}
 use Rattle.flow_turns.specs.declared.sharing.Sharing.{Sharing}
-use Rattle.flow_turns.specs.SharingViews.{state_of, chain_and_hub, hub_of, HasObserved}
+use Rattle.flow_turns.specs.SharingViews.{state_of, chain_and_hub, chain_of, hub_of, HasObserved}
 
 -- `whole` and `rest` are the runs of the chain; `does` and `waits` are what the hub says of itself
 module _ {C H T : Type 0} (whole rest : C → ChainRun T) (does : (c : HubCall T) → H → HubAnswer c → H → Type 0) (waits : H → Bool) where
@@ -67,6 +69,10 @@ module _ {C H T : Type 0} (whole rest : C → ChainRun T) where
 abbrev pub OnChainFault : {R : Type 0} → Result R ShareFault → (ChainFault → Type 0) → Type 0
 OnChainFault (Err (Chain fault)) P = P fault
 OnChainFault result P = Unit {0}
+
+-- where the answer is a fault of the chain, the chain's last answer was this fault
+abbrev pub FaultWasAnswered : {C H T R : Type 0} → (C → End → Type 0) → Result R ShareFault → Sharing C H T → Type 0
+FaultWasAnswered has_answered result new = OnChainFault result (λ fault. has_answered (chain_of new) (Failed fault))
 
 -- the sharing has ended once a turn answered a fault of the chain
 abbrev pub ended_after : {R : Type 0} → Result R ShareFault → Bool → Bool

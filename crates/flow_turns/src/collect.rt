@@ -1,11 +1,10 @@
 //! The last step of a turn: while the sharing runs, one item at most goes into the flow.
 ghost use Rattle.std.specs.Prelude.{◌≡◌, ◌≢◌, None, MatchResult, false, Err};
-ghost use Rattle.flow_law.specs.declared.chain.End.{End};
 ghost use Rattle.flow_law.specs.SharingCalls.{polls};
 ghost use Rattle.flow_law.specs.SharingTurn as steps;
 ghost use Rattle.flow_operators.specs.Asking.{AskGives, OnEnd};
-ghost use Rattle.flow_turns.specs.SharingViews.{state_of, chain_of, CanRun, has_ended};
-ghost use Rattle.flow_turns.specs.TurnClauses.{OnChainFault, ended_after};
+ghost use Rattle.flow_turns.specs.SharingViews.{state_of, chain_of, CanRun, KeepsReadings, has_ended};
+ghost use Rattle.flow_turns.specs.TurnClauses.{FaultWasAnswered, ended_after};
 ghost use Rattle.flow_turns.specs.TurnParts.{CallsHub, ComesTo};
 
 use crate::answers::refusal_of;
@@ -19,7 +18,7 @@ use flow_law::{FlowFault, Refused};
 fn ask_chain<C: Cold>(chain: &mut C) -> Asked<C::Item>
     requires { C.CanAsk chain.old }
     ensures callable { C.CanAsk chain.new }
-    ensures reads { (m : C.Reading) → C.Reads chain.old m → C.Reads chain.new m }
+    ensures reads { KeepsReadings C.Reads chain.old chain.new }
     ensures whole { (m : C.Reading) → C.whole chain.new m ≡ C.whole chain.old m }
     ensures gives { (m : C.Reading) → C.Reads chain.old m → AskGives (C.rest chain.old m) result (C.rest chain.new m) }
     ensures answered { OnEnd result (C.HasAnswered chain.new) }
@@ -34,12 +33,11 @@ impl<C: Cold, H: Hub<Item = C::Item>> Sharing<C, H> {
         requires free { H.waits self.old.hub ≡ false }
         requires empty { self.old.kept ≡ None }
         ensures callable { CanRun C.CanAsk self.new }
-        ensures reads { (m : C.Reading) → C.Reads (chain_of self.old) m → C.Reads (chain_of self.new) m }
+        ensures reads { KeepsReadings C.Reads (chain_of self.old) (chain_of self.new) }
         ensures policy { self.new.policy ≡ self.old.policy }
         ensures ended { has_ended self.new ≡ ended_after result (has_ended self.old) }
         ensures not_ended { result ≢ Err ShareFault.Ended }
-        ensures answered { OnChainFault result
-            (λ fault. C.HasAnswered (chain_of self.new) (End.Failed fault)) }
+        ensures answered { FaultWasAnswered C.HasAnswered result self.new }
         ensures steps { (m : C.Reading) → C.Reads (chain_of self.old) m
             → ComesTo (λ c. C.whole c m) (λ c. C.rest c m) H.does H.waits
             (λ command seen. steps.put command seen item) self.old result self.new }
@@ -65,12 +63,11 @@ impl<C: Cold, H: Hub<Item = C::Item>> Sharing<C, H> {
         requires callable { CanRun C.CanAsk self.old }
         requires free { H.waits self.old.hub ≡ false }
         ensures callable { CanRun C.CanAsk self.new }
-        ensures reads { (m : C.Reading) → C.Reads (chain_of self.old) m → C.Reads (chain_of self.new) m }
+        ensures reads { KeepsReadings C.Reads (chain_of self.old) (chain_of self.new) }
         ensures policy { self.new.policy ≡ self.old.policy }
         ensures ended { has_ended self.new ≡ ended_after result (has_ended self.old) }
         ensures not_ended { result ≢ Err ShareFault.Ended }
-        ensures answered { OnChainFault result
-            (λ fault. C.HasAnswered (chain_of self.new) (End.Failed fault)) }
+        ensures answered { FaultWasAnswered C.HasAnswered result self.new }
         ensures steps { (m : C.Reading) → C.Reads (chain_of self.old) m
             → ComesTo (λ c. C.whole c m) (λ c. C.rest c m) H.does H.waits
             (λ command seen s. steps.send command seen s.kept s) self.old result self.new }
@@ -96,7 +93,7 @@ impl<C: Cold, H: Hub<Item = C::Item>> Sharing<C, H> {
     fn is_waiting(&mut self) -> Result<bool, FlowFault>
         requires { CanRun C.CanAsk self.old }
         ensures callable { CanRun C.CanAsk self.new }
-        ensures reads { (m : C.Reading) → C.Reads (chain_of self.old) m → C.Reads (chain_of self.new) m }
+        ensures reads { KeepsReadings C.Reads (chain_of self.old) (chain_of self.new) }
         ensures policy { self.new.policy ≡ self.old.policy }
         ensures state { state_of self.new ≡ state_of self.old }
         ensures polls { (m : C.Reading) → CallsHub (λ c. C.whole c m) (λ c. C.rest c m) H.does H.waits polls self.old result self.new }
@@ -111,12 +108,11 @@ impl<C: Cold, H: Hub<Item = C::Item>> Sharing<C, H> {
     pub(crate) fn collect(&mut self) -> Result<Event, ShareFault>
         requires { CanRun C.CanAsk self.old }
         ensures callable { CanRun C.CanAsk self.new }
-        ensures reads { (m : C.Reading) → C.Reads (chain_of self.old) m → C.Reads (chain_of self.new) m }
+        ensures reads { KeepsReadings C.Reads (chain_of self.old) (chain_of self.new) }
         ensures policy { self.new.policy ≡ self.old.policy }
         ensures ended { has_ended self.new ≡ ended_after result (has_ended self.old) }
         ensures not_ended { result ≢ Err ShareFault.Ended }
-        ensures answered { OnChainFault result
-            (λ fault. C.HasAnswered (chain_of self.new) (End.Failed fault)) }
+        ensures answered { FaultWasAnswered C.HasAnswered result self.new }
         ensures steps { (m : C.Reading) → C.Reads (chain_of self.old) m
             → ComesTo (λ c. C.whole c m) (λ c. C.rest c m) H.does H.waits
             steps.collect_while_running self.old result self.new }

@@ -2,7 +2,7 @@
 //! the reset.
 ghost use Rattle.std.specs.Prelude.{◌≡◌, ◌||◌, true, false, IfOk};
 ghost use Rattle.flow_law.specs.SharingTurn as steps;
-ghost use Rattle.flow_turns.specs.SharingViews.{chain_of, has_ended, CanRun};
+ghost use Rattle.flow_turns.specs.SharingViews.{chain_of, has_ended, CanRun, KeepsReadings};
 ghost use Rattle.flow_turns.specs.TurnParts.{CommandLeads, GoesOn};
 
 use crate::hub::Hub;
@@ -16,7 +16,7 @@ impl<C: Cold, H: Hub<Item = C::Item>> Sharing<C, H> {
     pub(crate) fn obey(&mut self, command: Command)
         requires { CanRun C.CanAsk self.old }
         ensures callable { CanRun C.CanAsk self.new }
-        ensures reads { (m : C.Reading) → C.Reads (chain_of self.old) m → C.Reads (chain_of self.new) m }
+        ensures reads { KeepsReadings C.Reads (chain_of self.old) (chain_of self.new) }
         ensures policy { self.new.policy ≡ self.old.policy }
         ensures ended { has_ended self.new ≡ has_ended self.old }
         ensures steps { (m : C.Reading) → C.Reads (chain_of self.old) m
@@ -51,7 +51,7 @@ impl<C: Cold, H: Hub<Item = C::Item>> Sharing<C, H> {
     pub(crate) fn cancel_if_due(&mut self) -> Result<(), FlowFault>
         requires { CanRun C.CanAsk self.old }
         ensures callable { CanRun C.CanAsk self.new }
-        ensures reads { (m : C.Reading) → C.Reads (chain_of self.old) m → C.Reads (chain_of self.new) m }
+        ensures reads { KeepsReadings C.Reads (chain_of self.old) (chain_of self.new) }
         ensures policy { self.new.policy ≡ self.old.policy }
         ensures ended { has_ended self.new ≡ has_ended self.old }
         ensures free { IfOk result (λ _. self.new.reset_due ≡ true → H.waits self.new.hub ≡ false) }
@@ -71,7 +71,7 @@ impl<C: Cold, H: Hub<Item = C::Item>> Sharing<C, H> {
         requires callable { CanRun C.CanAsk self.old }
         requires free { self.old.reset_due ≡ true → H.waits self.old.hub ≡ false }
         ensures callable { CanRun C.CanAsk self.new }
-        ensures reads { (m : C.Reading) → C.Reads (chain_of self.old) m → C.Reads (chain_of self.new) m }
+        ensures reads { KeepsReadings C.Reads (chain_of self.old) (chain_of self.new) }
         ensures policy { self.new.policy ≡ self.old.policy }
         ensures ended { has_ended self.new ≡ has_ended self.old }
         ensures steps { (m : C.Reading) → GoesOn (λ c. C.whole c m) (λ c. C.rest c m) H.does H.waits

@@ -1,7 +1,7 @@
 //! A sharing that is run by one call, which sleeps while there is nothing to do.
 ghost use Rattle.std.specs.Prelude.{◌≡◌, ◌≤◌, Err, IfErr};
 ghost use Rattle.flow_law.specs.declared.chain.End.{End};
-ghost use Rattle.flow_turns.specs.SharingViews.{chain_of, CanRun};
+ghost use Rattle.flow_turns.specs.SharingViews.{chain_of, CanRun, KeepsReadings};
 ghost use Rattle.flow_turns.specs.Runs.{RunsTo};
 
 use crate::hub::Hub;
@@ -96,7 +96,7 @@ impl<C: Cold, H: WatchedHub<Item = C::Item>> Sharing<C, H> {
     ) -> Result<(), ShareFault>
         requires { CanRun C.CanAsk self.old }
         ensures callable { CanRun C.CanAsk self.new }
-        ensures reads { (m : C.Reading) → C.Reads (chain_of self.old) m → C.Reads (chain_of self.new) m }
+        ensures reads { KeepsReadings C.Reads (chain_of self.old) (chain_of self.new) }
         ensures turns { (m : C.Reading) → C.Reads (chain_of self.old) m
             → RunsTo (λ c. C.whole c m) (λ c. C.rest c m) H.does H.waits self.old result self.new }
     {

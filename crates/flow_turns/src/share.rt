@@ -5,11 +5,10 @@ ghost use Rattle.flow_law.specs.SharedFlow.{NoFlow, config_fault, first_state};
 ghost use Rattle.flow_law.specs.Standing.{StandsFor};
 ghost use Rattle.flow_law.specs.StateFlow.{first_state_flow};
 ghost use Rattle.flow_law.specs.SharingTurn.{at_rest};
-ghost use Rattle.flow_law.specs.TurnMeaning.{BetweenTurns, IsQuiet};
 ghost use Rattle.flow_turns.specs.CoreHub.{core_of, is_waiting};
 ghost use Rattle.flow_turns.specs.ShareIn.{share_config};
 ghost use Rattle.flow_turns.specs.StateHub.{state_core_of, initial_of, never_waits};
-ghost use Rattle.flow_turns.specs.SharingViews.{state_of, chain_and_hub, chain_of, hub_of, CanRun, HasObserved};
+ghost use Rattle.flow_turns.specs.SharingViews.{state_of, chain_of, hub_of, CanRun, KeepsReadings, Collects, IsBetweenTurns, IsQuietHub, HasObserved};
 
 use crate::core_hub::CoreHub;
 use crate::sharing::Sharing;
@@ -25,7 +24,7 @@ const LEAST_BUFFER: u32 = 64;
 
 /// Shares a chain by a shared flow of its own (`shareIn`). The flow keeps `replay` values for new subscribers, and at
 /// least 64 for slow ones; where a subscriber is further behind, the chain waits. `limit` is the most numbers that the
-/// flow issues. It is refused as `Flow(TooLarge)` where `replay` is over 65,536, and else for want of memory; the chain is
+/// flow issues. It is refused as `Flow(TooLarge)` where `replay` is over 65,536, and else if it is out of memory; the chain is
 /// dropped then.
 pub fn share_in<C: Cold, A: Allocator + Copy>(
     alloc: A,
@@ -42,14 +41,11 @@ pub fn share_in<C: Cold, A: Allocator + Copy>(
         × (fault ≡ ShareFault.Flow refusal)) }
     ensures nothing { IfOk result (λ sharing. HasObserved started sharing []) }
     ensures callable { IfOk result (λ sharing. CanRun C.CanAsk sharing) }
-    ensures reads { IfOk result (λ sharing. (m : C.Reading) → C.Reads chain m → C.Reads (chain_of sharing) m) }
+    ensures reads { IfOk result (λ sharing. KeepsReadings C.Reads chain (chain_of sharing)) }
     ensures state { IfOk result (λ sharing. state_of sharing ≡ at_rest) }
-    ensures chain { IfOk result (λ sharing. (m : C.Reading) → chain_and_hub (λ c. C.whole c m) (λ c. C.rest c m) sharing
-        ≡ record { whole = C.whole chain m; rest = C.rest chain m; hub = hub_of sharing }) }
-    ensures between { IfOk result (λ sharing. (m : C.Reading) →
-        BetweenTurns (state_of sharing) (chain_and_hub (λ c. C.whole c m) (λ c. C.rest c m) sharing)) }
-    ensures quiet { IfOk result (λ sharing. (m : C.Reading) →
-        IsQuiet is_waiting (state_of sharing) (chain_and_hub (λ c. C.whole c m) (λ c. C.rest c m) sharing)) }
+    ensures chain { IfOk result (λ sharing. Collects C.whole C.rest chain sharing) }
+    ensures between { IfOk result (λ sharing. IsBetweenTurns C.whole C.rest sharing) }
+    ensures quiet { IfOk result (λ sharing. IsQuietHub C.whole C.rest is_waiting sharing) }
 {
     let config = Config {
         replay,
@@ -79,14 +75,11 @@ pub fn state_in<C: Cold, A: Allocator + Copy>(
     ensures initial { IfOk result (λ sharing. initial_of (hub_of sharing) ≡ initial) }
     ensures nothing { IfOk result (λ sharing. HasObserved started sharing []) }
     ensures callable { IfOk result (λ sharing. CanRun C.CanAsk sharing) }
-    ensures reads { IfOk result (λ sharing. (m : C.Reading) → C.Reads chain m → C.Reads (chain_of sharing) m) }
+    ensures reads { IfOk result (λ sharing. KeepsReadings C.Reads chain (chain_of sharing)) }
     ensures state { IfOk result (λ sharing. state_of sharing ≡ at_rest) }
-    ensures chain { IfOk result (λ sharing. (m : C.Reading) → chain_and_hub (λ c. C.whole c m) (λ c. C.rest c m) sharing
-        ≡ record { whole = C.whole chain m; rest = C.rest chain m; hub = hub_of sharing }) }
-    ensures between { IfOk result (λ sharing. (m : C.Reading) →
-        BetweenTurns (state_of sharing) (chain_and_hub (λ c. C.whole c m) (λ c. C.rest c m) sharing)) }
-    ensures quiet { IfOk result (λ sharing. (m : C.Reading) →
-        IsQuiet never_waits (state_of sharing) (chain_and_hub (λ c. C.whole c m) (λ c. C.rest c m) sharing)) }
+    ensures chain { IfOk result (λ sharing. Collects C.whole C.rest chain sharing) }
+    ensures between { IfOk result (λ sharing. IsBetweenTurns C.whole C.rest sharing) }
+    ensures quiet { IfOk result (λ sharing. IsQuietHub C.whole C.rest never_waits sharing) }
 {
     match initial.try_copy() {
         Ok(copy) => {

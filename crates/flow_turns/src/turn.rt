@@ -3,12 +3,10 @@
 //! A turn takes the steps of `turn_steps` of flow_law in their order: count, observe, obey the command, cancel, reset,
 //! collect.
 ghost use Rattle.std.specs.Prelude.{◌≡◌, ◌≢◌, [], false, IsTrue, ◌↔◌, Err};
-ghost use Rattle.flow_law.specs.declared.chain.End.{End};
 ghost use Rattle.flow_law.specs.SharingCalls.{counts};
 ghost use Rattle.flow_law.specs.SharingTurn.{at_rest};
-ghost use Rattle.flow_law.specs.TurnMeaning.{BetweenTurns, IsQuiet};
-ghost use Rattle.flow_turns.specs.SharingViews.{state_of, chain_and_hub, chain_of, hub_of, CanRun, HasObserved, has_ended};
-ghost use Rattle.flow_turns.specs.TurnClauses.{TakesTurn, MeansAnswer, HandlesReset, StaysBetween, StaysQuiet, OnChainFault, ended_after};
+ghost use Rattle.flow_turns.specs.SharingViews.{state_of, chain_of, hub_of, CanRun, KeepsReadings, Collects, IsBetweenTurns, IsQuietHub, HasObserved, has_ended};
+ghost use Rattle.flow_turns.specs.TurnClauses.{TakesTurn, MeansAnswer, HandlesReset, StaysBetween, StaysQuiet, FaultWasAnswered, ended_after};
 ghost use Rattle.flow_turns.specs.TurnParts.{CallsHub, CommandComesTo};
 
 use crate::answers::{refusal_of, report_of};
@@ -25,14 +23,13 @@ impl<C: Cold, H: Hub<Item = C::Item>> Sharing<C, H> {
         requires callable { C.CanAsk chain }
         requires free { H.waits hub ≡ false }
         ensures callable { CanRun C.CanAsk result }
-        ensures reads { (m : C.Reading) → C.Reads chain m → C.Reads (chain_of result) m }
+        ensures reads { KeepsReadings C.Reads chain (chain_of result) }
         ensures hub { hub_of result ≡ hub }
         ensures nothing { HasObserved started result [] }
         ensures state { state_of result ≡ at_rest }
-        ensures chain { (m : C.Reading) → chain_and_hub (λ c. C.whole c m) (λ c. C.rest c m) result
-            ≡ record { whole = C.whole chain m; rest = C.rest chain m; hub = hub } }
-        ensures between { (m : C.Reading) → BetweenTurns (state_of result) (chain_and_hub (λ c. C.whole c m) (λ c. C.rest c m) result) }
-        ensures quiet { (m : C.Reading) → IsQuiet H.waits (state_of result) (chain_and_hub (λ c. C.whole c m) (λ c. C.rest c m) result) }
+        ensures chain { Collects C.whole C.rest chain result }
+        ensures between { IsBetweenTurns C.whole C.rest result }
+        ensures quiet { IsQuietHub C.whole C.rest H.waits result }
     {
         Sharing {
             chain,
@@ -50,7 +47,7 @@ impl<C: Cold, H: Hub<Item = C::Item>> Sharing<C, H> {
     fn counted(&mut self) -> Result<u64, FlowFault>
         requires { CanRun C.CanAsk self.old }
         ensures callable { CanRun C.CanAsk self.new }
-        ensures reads { (m : C.Reading) → C.Reads (chain_of self.old) m → C.Reads (chain_of self.new) m }
+        ensures reads { KeepsReadings C.Reads (chain_of self.old) (chain_of self.new) }
         ensures policy { self.new.policy ≡ self.old.policy }
         ensures state { state_of self.new ≡ state_of self.old }
         ensures counts { (m : C.Reading) → CallsHub (λ c. C.whole c m) (λ c. C.rest c m) H.does H.waits counts self.old result self.new }
@@ -63,12 +60,11 @@ impl<C: Cold, H: Hub<Item = C::Item>> Sharing<C, H> {
     fn carry_out(&mut self, command: Command) -> Result<Event, ShareFault>
         requires { CanRun C.CanAsk self.old }
         ensures callable { CanRun C.CanAsk self.new }
-        ensures reads { (m : C.Reading) → C.Reads (chain_of self.old) m → C.Reads (chain_of self.new) m }
+        ensures reads { KeepsReadings C.Reads (chain_of self.old) (chain_of self.new) }
         ensures policy { self.new.policy ≡ self.old.policy }
         ensures ended { has_ended self.new ≡ ended_after result (has_ended self.old) }
         ensures not_ended { result ≢ Err ShareFault.Ended }
-        ensures answered { OnChainFault result
-            (λ fault. C.HasAnswered (chain_of self.new) (End.Failed fault)) }
+        ensures answered { FaultWasAnswered C.HasAnswered result self.new }
         ensures steps { (m : C.Reading) → C.Reads (chain_of self.old) m
             → CommandComesTo (λ c. C.whole c m) (λ c. C.rest c m) H.does H.waits command self.old result self.new }
     {
@@ -90,7 +86,7 @@ impl<C: Cold, H: Hub<Item = C::Item>> Sharing<C, H> {
     pub fn turn(&mut self, now: u64) -> Result<Report, ShareFault>
         requires { CanRun C.CanAsk self.old }
         ensures callable { CanRun C.CanAsk self.new }
-        ensures reads { (m : C.Reading) → C.Reads (chain_of self.old) m → C.Reads (chain_of self.new) m }
+        ensures reads { KeepsReadings C.Reads (chain_of self.old) (chain_of self.new) }
 
         // The steps of the turn, and what has been observed after it.
         ensures turn { (m : C.Reading) → C.Reads (chain_of self.old) m
@@ -101,8 +97,7 @@ impl<C: Cold, H: Hub<Item = C::Item>> Sharing<C, H> {
         ensures refused_after_end { IsTrue (has_ended self.old) ↔ (result ≡ Err ShareFault.Ended) }
 
         // A fault of the chain is the chain's own last answer. So is an answer that it is out of memory.
-        ensures answered { OnChainFault result
-            (λ fault. C.HasAnswered (chain_of self.new) (End.Failed fault)) }
+        ensures answered { FaultWasAnswered C.HasAnswered result self.new }
 
         // What the answer means for the items that the flow has accepted since the last start.
         ensures means { (m : C.Reading) → C.Reads (chain_of self.old) m
