@@ -4,7 +4,7 @@ use Rattle.std.proofs.alloc.Calls.{Al, α, seen, Answer, answer_val, Answer-type
 use Rattle.std.proofs.alloc.Shapes.{after}
 use mathlib.Core.Bool.{Bool}
 use seplogic.Ra.Ura.{Ura}
-use mir.Syntax.{Ty, Args, Fn, a_type, dnil, dcons}
+use mir.Syntax.{Ty, Fn}
 use mir.Val.{Val, vbool, vint, vptr}
 use mir.MapTy.{inst_fn}
 use base.Logic.{SProp, ent, sep, emp, id⊢}
@@ -21,15 +21,14 @@ use contract.BorrowLft.{◌⊑◌, ⊑_trans}
 use contract.Monad.{Fun, fact}
 use contract.Running.{tables, tables_of}
 use sound.WpLaws.{fm_of, WpFn-mono}
-use denote.Builtin.{usize, RefOf}
+use denote.Builtin.{usize}
 use denote.Exit.{yes}
 use denote.Opens.{unhide}
-use denote.Param.{bounded, param}
 use denote.Plain.{uint_vals, uint_Tells}
 use denote.RattleType.{owns}
 use denote.RawPtr.{block_ptr}
 use denote.Ref.{shr_vals}
-use denote.Signature.{Slot, plain, types_at}
+use denote.Signature.{plain, types_at}
 use denote.Steps.{heard, nothing}
 use denote.Triple.Call.{calls_at}
 use denote.Triple.Clauses.{Ended, Clauses}
@@ -40,6 +39,7 @@ use denote.Triple.Walked.{Stays, stay_dropped, walk_of, ends_at, walked, Goes-dr
 use Rattle.flow_testing.proofs.Refusals.{Refuses, at_refuses, refuses_takes, refuses_gives}
 use Rattle.flow_testing.proofs.memory.refuses.Symbol as refuses_symbol
 use Rattle.flow_testing.proofs.memory.refuses.Met as refuses_met
+use Rattle.flow_testing.proofs.Inside.{args_of, self_of}
 use Rattle.flow_testing.specs.contracts.memory.Refusing as memory
 use Rattle.flow_testing.specs.contracts.memory.RefusingAllocator.allocate as said
 use Rattle.flow_testing.specs.contracts.memory.RefusingAllocator.allocate.Key as key
@@ -48,20 +48,14 @@ use Rattle.flow_testing.proofs.memory.RefusingAllocator.allocate.Code as code
 
 -- the function at the memory inside, and what comes in and goes out
 module _ (Z : Al) where
-  abbrev args : Args
-  args = bounded (a_type ∷ []) (Z.row, tt) (dcons Z.d (dcons Z.drops dnil))
-
   abbrev function : Fn
-  function = inst_fn args code.function
-
-  abbrev self : Slot 2
-  self = RefOf (0 ∷ []) tt (plain (λ _. memory.the_row (param 0 Z.row))) (λ _. tt)
+  function = inst_fn (args_of Z) code.function
 
   abbrev ended : Ended
   ended = said.ended Z.row Z.g Z.d Z.drops
 
   abbrev stays : Stays ended.signature.params ended.kept
-  stays = (stay_dropped self yes, (stay_dropped (plain (λ _. usize)) yes, (stay_dropped (plain (λ _. usize)) yes, tt)))
+  stays = (stay_dropped (self_of Z) yes, (stay_dropped (plain (λ _. usize)) yes, (stay_dropped (plain (λ _. usize)) yes, tt)))
 
 module _ (Z : Al) {M : Type 1} {𝓤 : Ura M} (𝓛 : Logic 𝓤) (at_mem : Memory → SProp 𝓤) (run : Routine → Fun 𝓤) (𝓣 : Tables 𝓤 𝓛.H) (inner : Triple 𝓤 (𝓣.C (takes_key Z)) (Takes Z 𝓛 at_mem run)) (counts : Triple 𝓤 (𝓣.C refuses_symbol.name) (Refuses 𝓛 at_mem run)) where
   open 𝓛 use {H, A}
@@ -130,7 +124,7 @@ allocate_spec 𝓤 𝓛 𝓜 𝓡 wired Y L g d drops met _ =
     let A = 𝓛.A in
     let 𝓣 : Tables 𝓤 𝓛.H = tables_of 𝓤 𝓛.H 𝓜 (tables 𝓤 𝓛.H 𝓜 𝓡 𝓡.env) in
     let c = said.clauses Y g d drops 𝓛 𝓜.mem 𝓡.returns in
-    entered 𝓤 𝓛.H (triple_of 𝓛 (said.signature Y) (said.spec Y g d drops 𝓛 𝓜.mem 𝓡.returns)) 𝓣.C 𝓣.Λ (key.name (args Z)) (function Z) (code.unfolded 𝓤 𝓛.H 𝓜 𝓡 wired (Y, tt) d drops)
-    (walk_Meets 𝓛 (ended Z) (stays Z) (Goes-dropped 𝓛 2 (self Z) yes (λ κs x f. refl), (Goes-dropped 𝓛 2 (plain (λ _. usize)) yes (λ κs x f. refl), (Goes-dropped 𝓛 2 (plain (λ _. usize)) yes (λ κs x f. refl), tt))) c (WpFn 𝓤 𝓛.H 𝓣.C 𝓣.Λ (function Z)) (WpFn-mono 𝓤 𝓛.H 𝓛.laws 𝓣 (function Z))
+    entered 𝓤 𝓛.H (triple_of 𝓛 (said.signature Y) (said.spec Y g d drops 𝓛 𝓜.mem 𝓡.returns)) 𝓣.C 𝓣.Λ (key.name (args_of Z)) (function Z) (code.unfolded 𝓤 𝓛.H 𝓜 𝓡 wired (Y, tt) d drops)
+    (walk_Meets 𝓛 (ended Z) (stays Z) (Goes-dropped 𝓛 2 (self_of Z) yes (λ κs x f. refl), (Goes-dropped 𝓛 2 (plain (λ _. usize)) yes (λ κs x f. refl), (Goes-dropped 𝓛 2 (plain (λ _. usize)) yes (λ κs x f. refl), tt))) c (WpFn 𝓤 𝓛.H 𝓣.C 𝓣.Λ (function Z)) (WpFn-mono 𝓤 𝓛.H 𝓛.laws 𝓣 (function Z))
     (walked 𝓛 (ended Z) (stays Z) c (WpFn 𝓤 𝓛.H 𝓣.C 𝓣.Λ (function Z)) (λ κs. (shr_vals, (uint_vals w64, (uint_vals w64, tt)))) (λ κs. ((λ r vs s. s.0), (uint_Tells w64, (uint_Tells w64, tt))))
     (λ κs qs bounds a τ are. walk Z 𝓛 𝓜.mem 𝓡.returns 𝓣 (met.allocate drops) (cited 𝓤 𝓛.H _ 𝓜 𝓡 𝓡.env refuses_symbol.name (𝓡.env refuses_symbol.name) refl (refuses_met.met 𝓤 𝓛 𝓜 𝓡 (code.calls-flow_testing::memory::refuses 𝓡.env wired))) κs.0 κs.1.0 qs.0 qs.1.0 bounds.0 a.0 a.1.0 a.1.1.0 τ are.1.0.1 are.1.1.0.1)))
