@@ -1,5 +1,5 @@
 -- Calls of `next` that found nothing, before one that did.
-use Rattle.std.proofs.Common.{◌≡◌, List, [], ◌∷◌, Option, Some, None, Ok}
+use Rattle.std.proofs.Common.{◌≡◌, subst, List, [], ◌∷◌, Option, Some, None, Ok}
 use Rattle.futures.specs.Runs.{After, Within}
 use Rattle.flow_law.specs.declared.history.Said.{Said}
 use Rattle.flow_law.specs.declared.outcome.Next.TheVariants.{Value, Empty}
@@ -30,6 +30,17 @@ module _ {Id T S C R : Type 0} (kind : Kind T S C R) (first : S) where
   pub found_far : (s t u : Numbered Id C R) (found : Option T) → AsksInVain kind first s t → ReceivesInTime kind first t found u → ReceivesInTime kind first s found u
   found_far s t u (Some value) one h = receives_far one h
   found_far s t u None one h = record { between = h.between; in_vain = in_vain_far one h.in_vain; empty = h.empty }
+
+  -- ---- a look at the same flow, whose first state is known by an equation
+
+  pub in_vain_again : {now : S} {s t u : Numbered Id C R} → now ≡ first → AsksInVain kind first s t → FindsNone kind now t u → AsksInVain kind first s u
+  in_vain_again {now} {s} {t} {u} is one none = in_vain_all one (subst (λ f. FindsNone kind f t u) is none)
+
+  pub receives_then : {now : S} {s t u : Numbered Id C R} {value : T} → now ≡ first → AsksInVain kind first s t → Receives kind now t value u → Receives kind first s value u
+  receives_then {now} {s} {t} {u} {value} is one h = receives_far one (subst (λ f. Receives kind f t value u) is h)
+
+  pub found_then : {now : S} (s t u : Numbered Id C R) (found : Option T) → now ≡ first → AsksInVain kind first s t → ReceivesInTime kind now t found u → ReceivesInTime kind first s found u
+  found_then s t u found is one h = found_far s t u found one (subst (λ f. ReceivesInTime kind f t found u) is h)
 
   -- ---- streams
 

@@ -29,6 +29,7 @@ abbrev pub value_in : {T : Type 0} → (ℕ → T) → Option ℕ → Option T
 value_in value_of None = None
 value_in value_of (Some w) = Some (value_of w)
 
+-- the word of a last value, if there is one, is the pack of a value
 abbrev pub IsPack : (ℕ → Type 0) → Option ℕ → Type 0
 IsPack packs None = Unit {0}
 IsPack packs (Some w) = packs w
@@ -46,6 +47,7 @@ module _ {T : Type 0} (value_of : ℕ → T) where
       AddsOne (IsStateHistory (begun value_of (only before.0).start)) (only before.0).knows call reply (only after.0).knows × ((only after.0).start ≡ (only before.0).start) × (after ≡ (only after.0 ∷ [], before.1))
       × ((only after.0).knows.lost ≡ (only before.0).knows.lost)
 
+  -- `set`: a swap of the value's word
   abbrev pub sets : Step Unit → Me Unit (List (Known T)) → ℕ → Me Unit (List (Known T)) → Type 0
   sets step before found after = Makes before (Set (value_of step.first)) Done after
 
@@ -53,9 +55,11 @@ module _ {T : Type 0} (value_of : ℕ → T) where
   abbrev pub exchanges : Step Unit → Me Unit (List (Known T)) → ℕ → Me Unit (List (Known T)) → Type 0
   exchanges step before found after = Makes before (CompareAndSet (value_of step.first) (value_of step.second)) (Answered (found == step.first)) after
 
+  -- `subscription_count`: the lower half of the word of the counts
   abbrev pub counts_live : Step Unit → Me Unit (List (Known T)) → ℕ → Me Unit (List (Known T)) → Type 0
   counts_live step before found after = Makes before SubscriptionCount (Counted (found % 4294967296)) after
 
+  -- `unsubscribe` of the subscriber whose seat it is
   abbrev pub leaves : Step Unit → Me Unit (List (Known T)) → ℕ → Me Unit (List (Known T)) → Type 0
   leaves step before found after = (x : LastGot) → (only before.0).subscriber ≡ Some x → Makes before (Unsubscribe x.number) (Answered true) after
 
@@ -75,9 +79,11 @@ module _ {T : Type 0} (value_of : ℕ → T) where
   looks step before found after = (history : StateHistory T) × IsStateHistory (begun value_of (only before.0).start) history × Fits history (only before.0).knows × (after ≡ before)
 
 module _ {T : Type 0} (packs : ℕ → Type 0) (value_of : ℕ → T) where
+  -- `value`: a load of the value's word
   abbrev pub reads : Step Unit → Me Unit (List (Known T)) → ℕ → Me Unit (List (Known T)) → Type 0
   reads step before found after = packs found × Makes value_of before GetValue (Got (value_of found)) after
 
+  -- `next` of the subscriber whose seat it is, which has then got the value of the word found
   abbrev pub receives : Step Unit → Me Unit (List (Known T)) → ℕ → Me Unit (List (Known T)) → Type 0
   receives step before found after = (x : LastGot) → (only before.0).subscriber ≡ Some x
       → packs found × Makes value_of before (TakeNext x.number) (Received (received value_of x.last found)) after

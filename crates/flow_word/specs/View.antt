@@ -19,6 +19,7 @@ StateKnowledge T = Knowledge (Said (StateCall T) (StateReply T))
 abbrev pub no_start : Start
 no_start = record { word = 0; limit = 0 }
 
+-- a subscriber's number, and the pack of the value that it got last
 abbrev pub last_got : ℕ → Option ℕ → LastGot
 last_got number last = record { number = number; last = last }
 
@@ -27,9 +28,11 @@ module _ {T : Type 0} where
   abbrev pub begun : (ℕ → T) → Start → StateFlowState T
   begun value_of start = first_state_flow start.limit (value_of start.word)
 
+  -- what a token knows, how its flow began, and what it got as a subscriber
   abbrev pub known : StateKnowledge T → Start → Option LastGot → Known T
   known knows start subscriber = record { knows = knows; start = start; subscriber = subscriber }
 
+  -- the token knows something else instead
   abbrev pub with_knows : (StateKnowledge T → StateKnowledge T) → Known T → Known T
   with_knows f x = known (f x.knows) x.start x.subscriber
 
@@ -47,6 +50,7 @@ module _ {T : Type 0} where
   first_of [] = []
   first_of (x ∷ xs) = x ∷ []
 
+  -- the tokens of a joined view without the first
   abbrev pub others_of : List (Known T) → List (Known T)
   others_of [] = []
   others_of (x ∷ xs) = xs

@@ -1,8 +1,9 @@
 //! What holds of all that a token has seen.
 ghost use Rattle.std.specs.Prelude.{◌≡◌, ℕ};
 ghost use Rattle.flow_law.specs.Conflation.{Conflates};
-ghost use Rattle.flow_law.specs.Current.{Converges, IsThere};
-ghost use Rattle.flow_law.specs.StateFlow.{IsStateHistory, state_after_all};
+ghost use Rattle.flow_law.specs.Current.{Converges};
+ghost use Rattle.flow_law.specs.StateFlow.{IsStateHistory};
+ghost use Rattle.flow_word.specs.Handles.{IsThereAfter};
 ghost use Rattle.flow_word.specs.Tokens.{token_of, IsIdle};
 ghost use Rattle.flow_word.specs.View.{begun};
 
@@ -46,8 +47,7 @@ impl<T: Packed> WordState<T> {
         ensures conflated { Conflates self.now.first.value subscription.new.token.knows.seen }
         ensures current { (u : ℕ) → Converges u self.now.first subscription.new.token.knows.seen }
         // Its subscriber is there.
-        ensures subscribed { IsThere subscription.new.number
-            (state_after_all self.now.first subscription.new.token.knows.seen) }
+        ensures subscribed { IsThereAfter self.now.first subscription.new.token.knows.seen subscription.new.number }
     {
         self.look(&mut subscription.seat);
     }

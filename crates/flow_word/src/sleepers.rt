@@ -120,8 +120,15 @@ impl WordSleepers {
 }
 
 impl Announced<'_> {
-    /// Sleeps until a change after the announcement.
-    pub fn sleep<R: Wait>(&self, rt: &R) {
+    /// Sleeps until a change after the announcement, or for `most`, if that is given. It may return early then.
+    pub fn sleep<R: Wait>(&self, rt: &R, most: Option<Duration>) {
+        match most {
+            Some(most) => self.sleep_for(rt, most),
+            None => self.sleep_until_change(rt),
+        }
+    }
+
+    fn sleep_until_change<R: Wait>(&self, rt: &R) {
         let epoch = &self.sleepers.epoch;
         for _ in rt.forever() {
             if epoch.load(SeqCst) != self.epoch {
@@ -131,8 +138,7 @@ impl Announced<'_> {
         }
     }
 
-    /// Sleeps until a change after the announcement, for no longer than `most`. It may return early.
-    pub fn sleep_for<R: Wait>(&self, rt: &R, most: Duration) {
+    fn sleep_for<R: Wait>(&self, rt: &R, most: Duration) {
         let epoch = &self.sleepers.epoch;
         if epoch.load(SeqCst) == self.epoch {
             epoch.park_timeout(rt, (self.epoch & 0xffff_ffff) as u32, most);

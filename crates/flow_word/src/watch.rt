@@ -33,9 +33,6 @@ impl CountWatch<'_> {
     /// Sleeps until a subscriber has come or gone since the thread was counted, or for `most`, if that is given. It may
     /// return early.
     pub fn sleep<R: Wait>(self, rt: &R, most: Option<Duration>) {
-        match most {
-            Some(most) => self.announced.sleep_for(rt, most),
-            None => self.announced.sleep(rt),
-        }
+        self.announced.sleep(rt, most);
     }
 }

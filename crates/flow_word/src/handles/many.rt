@@ -1,10 +1,8 @@
 //! Callers that each have a thread of their own, and what they have done once these threads have ended.
 ghost use Rattle.std.specs.Prelude.{◌≡◌, ◌∷◌, ℕ, ◌<◌, All, IfOk, length, map, slice_index_or, vec_len};
-ghost use Rattle.flow_law.specs.Closed.{makes_many, nth_child};
-ghost use Rattle.flow_law.specs.Handles.{called_by};
 ghost use Rattle.flow_law.specs.Rounds.{OnlyMeets, MeetsInTurn, IsFinalValue};
 ghost use Rattle.flow_law.specs.StateFlow.{state_flow};
-ghost use Rattle.flow_law.specs.Tokens.{knowing};
+ghost use Rattle.flow_word.specs.Handles.{MakesMany, AreNextSeats};
 
 use super::setter::WordSetter;
 use flow_law::{OutOfMemory, Packed};
@@ -21,11 +19,9 @@ impl<'a, T: Packed> WordSetter<'a, T> {
         count: u32,
     ) -> Result<Vec<WordSetter<'a, T>>, OutOfMemory>
         ensures flow { self.new.flow ≡ self.old.flow }
-        ensures maker { IfOk result (λ made. self.new.token
-            ≡ knowing self.old.token (makes_many count self.old.token.knows)) }
+        ensures maker { IfOk result (λ _. MakesMany count self.old.token self.new.token) }
         ensures count { IfOk result (λ made. vec_len made ≡ count) }
-        ensures made { IfOk result (λ made. (i : ℕ) (d : _) → i < count → slice_index_or made.items i d
-            ≡ called_by self.old.flow (knowing self.old.token (nth_child i self.old.token.knows))) }
+        ensures made { IfOk result (λ made. AreNextSeats self.old.flow self.old.token count made.items) }
     {
         let mut made = Vec::new(alloc);
         for _count in 0..count {

@@ -1,10 +1,11 @@
 //! A subscription that is bound to its word state.
 ghost use Rattle.std.specs.Prelude.{◌≡◌, ℕ, Ok};
 ghost use Rattle.flow_law.specs.Conflation.{Conflates};
-ghost use Rattle.flow_law.specs.Current.{Converges, IsThere};
+ghost use Rattle.flow_law.specs.Current.{Converges};
 ghost use Rattle.flow_law.specs.Handles.{read_by, next_of};
-ghost use Rattle.flow_law.specs.StateFlow.{IsStateHistory, state_after_all, state_flow};
+ghost use Rattle.flow_law.specs.StateFlow.{IsStateHistory, state_flow};
 ghost use Rattle.flow_law.specs.Tokens.{NextsIn, UnsubscribesIn};
+ghost use Rattle.flow_word.specs.Handles.{IsThereAfter};
 
 use super::setter::WordSetter;
 use crate::token::{WordState, WordSubscription};
@@ -22,14 +23,10 @@ pub struct WordReader<'a, T: Packed> {
 
 impl<'a, T: Packed> Model for WordReader<'a, T> {
     ghost use Rattle.std.specs.Prelude.{◌≡◌};
-    ghost use Rattle.flow_law.specs.declared.history.Said.{Said};
-    ghost use Rattle.flow_law.specs.declared.call.StateCall.{StateCall};
-    ghost use Rattle.flow_law.specs.declared.call.StateReply.{StateReply};
-    ghost use Rattle.flow_law.specs.declared.states.StateFlowState.{StateFlowState};
-    ghost use Rattle.flow_law.specs.Handles.{ReaderOf, read_by};
-    ghost use Rattle.flow_word.specs.Tokens.{WordId};
+    ghost use Rattle.flow_law.specs.Handles.{read_by};
+    ghost use Rattle.flow_word.specs.Handles.{ReaderOfWord};
 
-    ghost Value = { ReaderOf WordId (StateFlowState T) (Said (StateCall T) (StateReply T)) };
+    ghost Value = { ReaderOfWord T };
 
     ghost view = { λ r. read_by r.flow.now r.subscription };
 
@@ -88,8 +85,8 @@ impl<'a, T: Packed> WordReader<'a, T> {
         ensures history { IsStateHistory self.new.flow.first self.new.subscription.token.knows.seen }
         ensures conflated { Conflates self.new.flow.first.value self.new.subscription.token.knows.seen }
         ensures current { (u : ℕ) → Converges u self.new.flow.first self.new.subscription.token.knows.seen }
-        ensures subscribed { IsThere self.new.subscription.number
-            (state_after_all self.new.flow.first self.new.subscription.token.knows.seen) }
+        ensures subscribed { IsThereAfter self.new.flow.first self.new.subscription.token.knows.seen
+            self.new.subscription.number }
     {
         self.flow.seen_by_subscription(&mut self.subscription);
     }

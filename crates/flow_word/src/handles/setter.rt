@@ -27,14 +27,10 @@ pub struct WordSetter<'a, T: Packed> {
 
 impl<'a, T: Packed> Model for WordSetter<'a, T> {
     ghost use Rattle.std.specs.Prelude.{◌≡◌};
-    ghost use Rattle.flow_law.specs.declared.history.Said.{Said};
-    ghost use Rattle.flow_law.specs.declared.call.StateCall.{StateCall};
-    ghost use Rattle.flow_law.specs.declared.call.StateReply.{StateReply};
-    ghost use Rattle.flow_law.specs.declared.states.StateFlowState.{StateFlowState};
-    ghost use Rattle.flow_law.specs.Handles.{CallerOf, called_by};
-    ghost use Rattle.flow_word.specs.Tokens.{WordId};
+    ghost use Rattle.flow_law.specs.Handles.{called_by};
+    ghost use Rattle.flow_word.specs.Handles.{CallerOfWord};
 
-    ghost Value = { CallerOf WordId (StateFlowState T) (Said (StateCall T) (StateReply T)) };
+    ghost Value = { CallerOfWord T };
 
     ghost view = { λ c. called_by c.flow.now c.seat };
 

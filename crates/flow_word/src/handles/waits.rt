@@ -22,8 +22,9 @@ impl<'a, T: Packed> WordReader<'a, T> {
         self.next()
     }
 
-    /// Takes the value if it has changed. If it has not, sleeps until the next change, and returns `None`.
-    fn look_or_sleep<R: Wait>(&mut self, rt: &R) -> Option<T>
+    /// Takes the value if it has changed. If it has not, sleeps until the next change, or for `most`, if that is given, and
+    /// returns `None`.
+    fn look_or_sleep<R: Wait>(&mut self, rt: &R, most: Option<Duration>) -> Option<T>
         ensures flow { self.new.flow ≡ self.old.flow }
         ensures received { ReceivesInTime state_flow self.old.flow.first
             self.old.subscription result self.new.subscription }
@@ -33,24 +34,7 @@ impl<'a, T: Packed> WordReader<'a, T> {
         match self.look() {
             Some(value) => Some(value),
             None => {
-                announced.sleep(rt);
-                None
-            }
-        }
-    }
-
-    /// Takes the value as `look_or_sleep` does, and sleeps for no longer than `most`.
-    fn look_or_sleep_for<R: Wait>(&mut self, rt: &R, most: Duration) -> Option<T>
-        ensures flow { self.new.flow ≡ self.old.flow }
-        ensures received { ReceivesInTime state_flow self.old.flow.first
-            self.old.subscription result self.new.subscription }
-    {
-        let flow = self.flow;
-        let announced = flow.announce();
-        match self.look() {
-            Some(value) => Some(value),
-            None => {
-                announced.sleep_for(rt, most);
+                announced.sleep(rt, most);
                 None
             }
         }
@@ -91,7 +75,7 @@ impl<'a, T: Packed> WordReader<'a, T> {
             None => {}
         }
         for _ in rt.forever() {
-            match self.look_or_sleep(rt) {
+            match self.look_or_sleep(rt, None) {
                 Some(value) => return value,
                 None => {}
             }
@@ -106,7 +90,7 @@ impl<'a, T: Packed> WordReader<'a, T> {
     {
         for _ in rt.forever() {
             match limit.left(rt) {
-                Some(left) => match self.look_or_sleep_for(rt, left) {
+                Some(left) => match self.look_or_sleep(rt, Some(left)) {
                     Some(value) => return Some(value),
                     None => {}
                 },
