@@ -48,6 +48,7 @@ pub record Played (S C R : Type 0) : Type 0 where
   pub answer : C → R → Answer
 
 module _ {S C R : Type 0} (kind : Kind ℤ S C R) (played : Played S C R) where
+  -- the state after a call, with its documented reply
   abbrev pub after : C → S → S
   after call s = kind.after s call (played.reply_to call s)
 
@@ -65,6 +66,7 @@ module _ {S C R : Type 0} (kind : Kind ℤ S C R) (played : Played S C R) where
   call_of step.Count n = Some kind.count
   call_of own n = played.own_call own n.emissions
 
+  -- a step that makes this call
   abbrev pub called : FlowStep → S → Numbers → C → Turn S
   called step s n call = record {
     answer = played.answer call (played.reply_to call s);
@@ -72,6 +74,7 @@ module _ {S C R : Type 0} (kind : Kind ℤ S C R) (played : Played S C R) where
     numbers = with_number step (given call (played.reply_to call s)) n;
   }
 
+  -- a step that makes this call, or none
   abbrev pub turn_by : Option C → FlowStep → S → Numbers → Turn S
   turn_by call step s n = option_map_or (called step s n) call (without_call step s n)
 

@@ -29,6 +29,7 @@ lined text = text ++ 10 ∷ []
 abbrev pub Adds : {Z : Type 0} → List ℕ → String Z → String Z → Type 0
 Adds text old new = string_bytes new ≡ string_bytes old ++ text
 
+-- a call adds this line
 abbrev pub AddsLine : {Z : Type 0} → List ℕ → String Z → String Z → Type 0
 AddsLine text = Adds (lined text)
 
@@ -36,10 +37,12 @@ AddsLine text = Adds (lined text)
 abbrev pub more_items : List ℤ → List ℕ
 more_items xs = flat_map (λ x. codes ", " ++ signed_decimal x) xs
 
+-- whole numbers in brackets
 abbrev pub list_text : List ℤ → List ℕ
 list_text [] = codes "[]"
 list_text (x ∷ xs) = codes "[" ++ signed_decimal x ++ more_items xs ++ codes "]"
 
+-- a fault of a flow, with its number
 abbrev pub flow_fault_text : FlowFault → List ℕ
 flow_fault_text OutOfMemory = codes "1 OutOfMemory"
 flow_fault_text TooLarge = codes "2 TooLarge"
@@ -48,15 +51,19 @@ flow_fault_text Exhausted = codes "4 Exhausted"
 flow_fault_text Unsupported = codes "5 Unsupported"
 flow_fault_text Busy = codes "6 Busy"
 
+-- a call that a flow refused
 abbrev pub refusal_text : FlowFault → List ℕ
 refusal_text fault = codes "refused " ++ flow_fault_text fault
 
+-- the answer of a test
 abbrev pub test_text : Bool → List ℕ
 test_text test = if test then codes "true" else codes "false"
 
+-- whether an emission waits
 abbrev pub wait_text : Bool → List ℕ
 wait_text waits = if waits then codes "waiting" else codes "done"
 
+-- what a subscriber received
 abbrev pub next_text : Next ℤ → List ℕ
 next_text (Value value) = codes "value " ++ signed_decimal value
 next_text Empty = codes "empty"
@@ -64,6 +71,7 @@ next_text Gone = codes "gone"
 
 -- ---- chains
 
+-- a fault of a chain, with its number
 abbrev pub chain_fault_text : ChainFault → List ℕ
 chain_fault_text chain_fault.OutOfMemory = codes "1 OutOfMemory"
 chain_fault_text chain_fault.Overflow = codes "2 Overflow"
@@ -71,18 +79,21 @@ chain_fault_text chain_fault.NotPositive = codes "3 NotPositive"
 chain_fault_text (chain_fault.Source number) = codes "4 Source " ++ decimal number
 chain_fault_text chain_fault.TooDeep = codes "5 TooDeep"
 
+-- how a collection ended, behind the items
 abbrev pub end_text : End → List ℕ
 end_text Completed = codes " completed"
 end_text (Failed fault) = codes " failed " ++ chain_fault_text fault
 
 -- ---- turns of a sharing
 
+-- what a turn told the chain
 abbrev pub command_text : Command → List ℕ
 command_text command.Start = codes "start"
 command_text command.Stop = codes "stop"
 command_text command.StopAndReset = codes "stop_and_reset"
 command_text command.Keep = codes "keep"
 
+-- what a turn came to
 abbrev pub event_text : Event → List ℕ
 event_text event.Busy = codes "busy"
 event_text event.Idle = codes "idle"
@@ -92,12 +103,14 @@ event_text event.Waiting = codes "waiting"
 event_text event.Pending = codes "pending"
 event_text event.Completed = codes "completed"
 
+-- why a turn was refused, with the number of the fault
 abbrev pub share_fault_text : ShareFault → List ℕ
 share_fault_text (share_fault.Backwards last) = codes "refused 1 Backwards " ++ decimal last
 share_fault_text share_fault.Ended = codes "refused 2 Ended"
 share_fault_text (share_fault.Chain fault) = codes "refused 3 Chain " ++ chain_fault_text fault
 share_fault_text (share_fault.Flow fault) = codes "refused 4 Flow " ++ flow_fault_text fault
 
+-- a turn: its command, and what it came to
 abbrev pub report_text : Report → List ℕ
 report_text report = command_text report.command ++ codes " " ++ event_text report.event
 

@@ -6,6 +6,7 @@ pub record Numbers : Type 0 where
   pub emissions : List (Option ℕ)
   pub subscribers : List (Option ℕ)
 
+-- no name was introduced
 abbrev pub no_numbers : Numbers
 no_numbers = record { emissions = []; subscribers = [] }
 
@@ -13,8 +14,10 @@ no_numbers = record { emissions = []; subscribers = [] }
 abbrev pub number_at : ℕ → List (Option ℕ) → Option ℕ
 number_at place numbers = option_and_then (λ number. number) (slice_get numbers place)
 
+-- one emission more
 abbrev pub with_emission : Option ℕ → Numbers → Numbers
 with_emission number n = record n { emissions = n.emissions ++ number ∷ [] }
 
+-- one subscriber more
 abbrev pub with_subscriber : Option ℕ → Numbers → Numbers
 with_subscriber number n = record n { subscribers = n.subscribers ++ number ∷ [] }

@@ -18,30 +18,37 @@ abbrev pub took_none : {E : Type 0} → Result ℕ E → List ℕ → Bool
 took_none (Ok count) bytes = (count == 0) && not (length bytes == 0)
 took_none (Err e) bytes = true
 
+-- why reading failed: out of memory, or a fault of the reader
 abbrev pub IsReadFault : ScriptFault → Type 0
 IsReadFault fault = (fault ≡ OutOfMemory) ⊎ (fault ≡ ReadFailed)
 
+-- the reader failed
 abbrev pub read_failed : ScriptFault → Bool
 read_failed ReadFailed = true
 read_failed _ = false
 
+-- the result tells that the reader failed
 abbrev pub is_read_failed : {A : Type 0} → Result A ScriptFault → Bool
 is_read_failed (Ok a) = false
 is_read_failed (Err fault) = read_failed fault
 
+-- the writer failed
 abbrev pub write_failed : ScriptFault → Bool
 write_failed WriteFailed = true
 write_failed _ = false
 
+-- the result tells that the writer failed
 abbrev pub is_write_failed : {A : Type 0} → Result A ScriptFault → Bool
 is_write_failed (Ok a) = false
 is_write_failed (Err fault) = write_failed fault
 
 -- ---- runs
 
+-- the bytes of a text, or the fault
 abbrev pub text_result : Result (String Global) ScriptFault → Result (List ℕ) ScriptFault
 text_result r = result_map string_bytes r
 
+-- what the answers that were kept say, or the fault
 abbrev pub answers_result : Result Kept ScriptFault → Result Answers ScriptFault
 answers_result r = result_map said r
 

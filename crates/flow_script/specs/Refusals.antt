@@ -13,6 +13,7 @@ abbrev pub refused_answer : Refusal → Answer
 refused_answer (refusal.Flow fault) = refused fault
 refused_answer (refusal.Sharing fault) = turn_refused fault
 
+-- a reason that a line reports
 abbrev pub IsTold : Refusal → Type 0
 IsTold (refusal.Flow fault) = IsToldFlowFault fault
 IsTold (refusal.Sharing fault) = IsToldFault fault
@@ -21,8 +22,10 @@ IsTold (refusal.Sharing fault) = IsToldFault fault
 abbrev pub AnswersRefusal : FlowFault → Given → Type 0
 AnswersRefusal fault answer = IsToldFlowFault fault × (answer_of answer ≡ refused fault)
 
+-- the same of a sharing that was not made
 abbrev pub AnswersTurn : ShareFault → Given → Type 0
 AnswersTurn fault answer = IsToldFault fault × (answer_of answer ≡ turn_refused fault)
 
+-- the answer gives this reason
 abbrev pub Answers : Refusal → Given → Type 0
 Answers why answer = IsTold why × (answer_of answer ≡ refused_answer why)

@@ -13,14 +13,17 @@ use Rattle.flow_script.specs.ScriptMeaning.{Answers, NotMade, Play, PlayedFlow, 
 use Rattle.flow_script.specs.Said.{said_of}
 use Rattle.flow_script.specs.Shown.{numbers_of}
 
+-- a flow that is kept, and its names, are as the definitions have them
 abbrev pub ShowsFlow : Kept → PlayedFlow → Type 0
 ShowsFlow kept flow = Shows kept.player flow.player × (numbers_of kept.numbers ≡ flow.numbers)
 
+-- so is what is at a place: a flow, or none
 abbrev pub ShowsPlace : Option Kept → Option PlayedFlow → Type 0
 ShowsPlace (Some kept) (Some flow) = ShowsFlow kept flow
 ShowsPlace None None = Unit {0}
 ShowsPlace _ _ = ⊥
 
+-- so is a whole row
 abbrev pub ShowsRow : List (Option Kept) → List (Option PlayedFlow) → Type 0
 ShowsRow kept row = AllZip ShowsPlace kept row
 

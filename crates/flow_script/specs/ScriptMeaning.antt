@@ -39,15 +39,19 @@ pub data Player : Type 0 where
 
 -- ---- steps
 
+-- a turn on a flow of one kind, as a turn on any
 abbrev pub played_as : {P : Type 0} → (P → Player) → Turn P → Turn Player
 played_as player t = record { answer = t.answer; after = player t.after; numbers = t.numbers }
 
+-- a step on a shared flow
 abbrev pub shared_turn : FlowStep → SharedFlowState ℤ → Numbers → Turn (SharedFlowState ℤ)
 shared_turn = flow_turn shared_flow plays_shared
 
+-- a step on a state flow
 abbrev pub state_turn : FlowStep → StateFlowState ℤ → Numbers → Turn (StateFlowState ℤ)
 state_turn = flow_turn state_flow plays_state
 
+-- a step on a flow of any kind
 abbrev pub player_turn : FlowStep → Player → Numbers → Turn Player
 player_turn step (shared s) n = played_as shared (shared_turn step s n)
 player_turn step (state s) n = played_as state (state_turn step s n)
@@ -81,6 +85,7 @@ pub record PlaceTurn : Type 0 where
   pub answer : Answer
   pub after : Option PlayedFlow
 
+-- a step on what is at a place
 abbrev pub place_turn : Play → Option PlayedFlow → PlaceTurn
 place_turn play None = record { answer = no_flow; after = None }
 place_turn play (Some flow) =
@@ -92,6 +97,7 @@ pub record RowTurn : Type 0 where
   pub answer : Answer
   pub after : List (Option PlayedFlow)
 
+-- the flow at a place, if it was made
 abbrev pub flow_at : ℕ → List (Option PlayedFlow) → Option PlayedFlow
 flow_at place row = option_and_then (λ flow. flow) (slice_get row place)
 
@@ -136,6 +142,7 @@ pub record Answers : Type 0 where
   pub not_made : List NotMade
   pub steps : List Answer
 
+-- a flow of this name was refused with this answer
 abbrev pub not_made_flow : Option (List ℕ) → Answer → NotMade
 not_made_flow name answer = record { name = name; answer = answer }
 
@@ -169,6 +176,7 @@ answers_of flows steps = script_from flows steps []
 abbrev pub not_made_line : NotMade → List ℕ
 not_made_line flow = option_map_or (λ name. name ++ codes " ") flow.name [] ++ line_of flow.answer
 
+-- the lines of the flows that were refused
 abbrev pub not_made_lines : List NotMade → List ℕ
 not_made_lines [] = []
 not_made_lines (flow ∷ more) = lined (not_made_line flow) ++ not_made_lines more

@@ -54,14 +54,17 @@ is_reading _ = false
 
 -- `flow` says what a step does on the flow
 module _ {F : Type 0} (flow : FlowStep → F → Numbers → Turn F) where
+  -- a step on the flow leaves the sharing as it is
   abbrev pub on_flow : Turn F → SharingPlay F → Turn (SharingPlay F)
   on_flow t p = record { answer = t.answer; after = record p { both = with_hub p.both t.after }; numbers = t.numbers }
 
+  -- a step that only reads the flow is played on it; no other one is allowed
   abbrev pub reading : FlowStep → SharingPlay F → Numbers → Turn (SharingPlay F)
   reading step p n = if is_reading step then on_flow (flow step p.both.hub n) p else without_call step p n
 
 -- `reply` says what the flow answers the sharing
 module _ {F : Type 0} (reply : (c : HubCall ℤ) → F → After (HubAnswer c) F) where
+  -- a turn at this moment
   abbrev pub turn_at : ℕ → SharingPlay F → Numbers → Turn (SharingPlay F)
   turn_at now p n =
       let t = sharing.flow_turn reply p.started now p.seen p.state p.both in
@@ -71,6 +74,7 @@ module _ {F : Type 0} (reply : (c : HubCall ℤ) → F → After (HubAnswer c) F
         numbers = n;
       }
 
+-- a step on a sharing: a turn, or one that reads the flow
 abbrev pub sharing_step : {F : Type 0} → (FlowStep → F → Numbers → Turn F) → ((c : HubCall ℤ) → F → After (HubAnswer c) F) → FlowStep → SharingPlay F → Numbers → Turn (SharingPlay F)
 sharing_step flow reply (step.Turn now) p n = turn_at reply now p n
 sharing_step flow reply other p n = reading flow other p n

@@ -15,6 +15,7 @@ use Rattle.script_format.specs.declared.script.FlowStep.TheVariants as step
 use Rattle.flow_script.specs.FlowMeaning.{Played}
 use Rattle.flow_script.specs.Answers.{state_answer}
 
+-- the value is the last one that a subscriber got
 abbrev pub is_last : ℤ → Option ℤ → Bool
 is_last value None = false
 is_last value (Some last) = int_eq last value
@@ -24,6 +25,7 @@ abbrev pub received : ℤ → Option (Option ℤ) → StateReply ℤ
 received value None = reply.Received Gone
 received value (Some last) = if is_last value last then reply.Received Empty else reply.Received (Value value)
 
+-- the reply of the documented flow; whole numbers can be compared, so there is one
 abbrev pub state_reply : StateCall ℤ → StateFlowState ℤ → StateReply ℤ
 state_reply call.GetValue s = reply.Got s.value
 state_reply (call.Set x) s = reply.Done
@@ -44,6 +46,7 @@ state_own_call (step.Set x) emissions = Some (call.Set x)
 state_own_call (step.CompareAndSet expect update) emissions = Some (call.CompareAndSet expect update)
 state_own_call _ emissions = None
 
+-- how scripts play on state flows
 abbrev pub plays_state : Played (StateFlowState ℤ) (StateCall ℤ) (StateReply ℤ)
 plays_state = record { try_emit = call.TryEmit; own_call = state_own_call; reply_to = state_reply; answer = state_answer }
 

@@ -32,9 +32,11 @@ use Rattle.script_chain_format.specs.SourceFormat.{within, numbers_in, source_in
 
 -- ---- limits
 
+-- the most numbers that a `transform` adds to an item
 abbrev pub most_added : ℕ
 most_added = 16
 
+-- the most items that a `flat_map` makes of one
 abbrev pub most_spread : ℕ
 most_spread = 1000
 
@@ -45,6 +47,7 @@ abbrev pub later_op_named : Version → List ℕ → Option OpName
 later_op_named One text = None
 later_op_named Two text = if bytes_eq text (codes "drop_while") then Some DropWhile else (if bytes_eq text (codes "running_reduce") then Some RunningReduce else None)
 
+-- the operator that a text names, in a version of the format
 abbrev pub op_named : Version → List ℕ → Option OpName
 op_named version text =
     if bytes_eq text (codes "map") then Some Map
@@ -58,15 +61,19 @@ op_named version text =
     else (if bytes_eq text (codes "zip") then Some Zip
     else (if bytes_eq text (codes "distinct") then Some Distinct else later_op_named version text)))))))))
 
+-- the operator that the key `op` names
 abbrev pub op_name_of : Version → Data → Option OpName
 op_name_of version d = option_and_then (op_named version) (text_at (codes "op") d)
 
+-- how a number is computed, by its word
 abbrev pub arithmetic_named : List ℕ → Option Arithmetic
 arithmetic_named text = if bytes_eq text (codes "add") then Some arithmetic.Add else (if bytes_eq text (codes "mul") then Some arithmetic.Mul else None)
 
+-- how a `map`, a `scan` or a `running_reduce` computes
 abbrev pub arithmetic_at : Data → Option Arithmetic
 arithmetic_at d = option_and_then arithmetic_named (text_at (codes "by") d)
 
+-- how two items are joined, by its word
 abbrev pub joining_named : List ℕ → Option Joining
 joining_named text =
     if bytes_eq text (codes "add") then Some joining.Add
@@ -74,15 +81,19 @@ joining_named text =
     else (if bytes_eq text (codes "left") then Some joining.Left
     else (if bytes_eq text (codes "right") then Some joining.Right else None)))
 
+-- how a `zip` joins
 abbrev pub joining_at : Data → Option Joining
 joining_at d = option_and_then joining_named (text_at (codes "by") d)
 
+-- what becomes of an item, by its word
 abbrev pub spread_named : List ℕ → Option Spread
 spread_named text = if bytes_eq text (codes "range") then Some spread.Range else (if bytes_eq text (codes "repeat") then Some spread.Repeat else None)
 
+-- what a `flat_map` makes of an item
 abbrev pub spread_at : Data → Option Spread
 spread_at d = option_and_then spread_named (text_at (codes "to") d)
 
+-- the number that a test compares with; the operator has no other key than that and its test
 abbrev pub compared_with : Data → Option ℤ
 compared_with d = where_true (has_only (codes "op" ∷ codes "by" ∷ codes "k" ∷ []) d) (i64_at (codes "k") d)
 
@@ -95,6 +106,7 @@ test_named text d =
     else (if bytes_eq text (codes "gt") then option_map test.Greater (compared_with d)
     else (if bytes_eq text (codes "ne") then option_map test.NotEqual (compared_with d) else None))))
 
+-- the test of a `filter`, a `take_while` or a `drop_while`
 abbrev pub test_of : Data → Option Test
 test_of d = option_and_then (λ text. test_named text d) (text_at (codes "by") d)
 
@@ -105,6 +117,7 @@ pub record BuiltChain : Type 0 where
   pub depth : ℕ
   pub run : ChainRun ℤ
 
+-- an operator: what it does to the run of a chain, and how deep the chain is with it
 pub record Operator : Type 0 where
   -- a take of nothing
   pub takes_none : Bool
@@ -112,49 +125,64 @@ pub record Operator : Type 0 where
   pub depth : ℕ → ℕ
   pub run : ChainRun ℤ → ChainRun ℤ
 
+-- an operator that is always built, and makes the chain one deeper
 abbrev pub one_deeper : (ChainRun ℤ → ChainRun ℤ) → Operator
 one_deeper run = record { takes_none = false; depth = λ depth. depth + 1; run = run }
 
+-- a `take` of so many items
 abbrev pub take_operator : ℕ → Operator
 take_operator count = record { takes_none = count == 0; depth = λ depth. depth + 1; run = take_run count }
 
+-- a `zip` with a chain that was built: as deep as the deeper of the two, and one more
 abbrev pub zip_operator : Joining → BuiltChain → Operator
 zip_operator by with = record { takes_none = false; depth = λ depth. max depth with.depth + 1; run = λ r. zip_run (joined by) r with.run }
 
+-- a `map`: what it computes, and with which number
 abbrev pub map_of : Data → Option Operator
 map_of d = where_true (has_only (codes "op" ∷ codes "by" ∷ codes "k" ∷ []) d) (option_and_then (λ by. option_map (λ k. one_deeper (map_run (λ x. computed by (x, k)))) (i64_at (codes "k") d)) (arithmetic_at d))
 
+-- a `filter` by its test
 abbrev pub filter_of : Data → Option Operator
 filter_of d = option_map (λ test. one_deeper (filter_run (passes test))) (test_of d)
 
+-- a `take_while` by its test
 abbrev pub take_while_of : Data → Option Operator
 take_while_of d = option_map (λ test. one_deeper (take_while_run (passes test))) (test_of d)
 
+-- a `drop_while` by its test
 abbrev pub drop_while_of : Data → Option Operator
 drop_while_of d = option_map (λ test. one_deeper (drop_while_run (passes test))) (test_of d)
 
+-- a `take` of the first n items
 abbrev pub take_of : Data → Option Operator
 take_of d = where_true (has_only (codes "op" ∷ codes "n" ∷ []) d) (option_map take_operator (u64_at (codes "n") d))
 
+-- a `drop` of the first n items
 abbrev pub drop_of : Data → Option Operator
 drop_of d = where_true (has_only (codes "op" ∷ codes "n" ∷ []) d) (option_map (λ n. one_deeper (λ r. drop_run r n)) (u64_at (codes "n") d))
 
+-- a `scan`, which gives its first value before any item
 abbrev pub scan_of : Data → Option Operator
 scan_of d = where_true (has_only (codes "op" ∷ codes "by" ∷ codes "from" ∷ []) d) (option_and_then (λ by. option_map (λ from. one_deeper (λ r. gives from (scan_run (computed by) from r))) (i64_at (codes "from") d)) (arithmetic_at d))
 
+-- a `running_reduce`, whose first item is the first that it gives
 abbrev pub running_reduce_of : Data → Option Operator
 running_reduce_of d = where_true (has_only (codes "op" ∷ codes "by" ∷ []) d) (option_map (λ by. one_deeper (running_reduce_run (computed by) None)) (arithmetic_at d))
 
+-- a `distinct`, which has no other key
 abbrev pub distinct_of : Data → Option Operator
 distinct_of d = where_true (has_only (codes "op" ∷ []) d) (Some (one_deeper (distinct_run int_eq None)))
 
+-- a `transform`, which gives the sums of an item and each of its numbers
 abbrev pub transform_in : ℕ → Data → Result Operator ScriptFault
 transform_in at d = result_map (λ entries. one_deeper (transform_run (sums entries)))
     (result_then (numbers_in at most_added) (or_fault (BadShape at) (where_true (has_only (codes "op" ∷ codes "add" ∷ []) d) (get (codes "add") d))))
 
+-- what a `flat_map` makes of an item, and how many of it
 abbrev pub flat_map_of : Data → Option (Spread × ℕ)
 flat_map_of d = where_true (has_only (codes "op" ∷ codes "to" ∷ codes "n" ∷ []) d) (option_and_then (λ to. option_map (λ n. (to, n)) (u64_at (codes "n") d)) (spread_at d))
 
+-- a `flat_map`, if it makes no more of an item than it may
 abbrev pub flat_map_in : ℕ → Data → Result Operator ScriptFault
 flat_map_in at d = result_then (λ f. within at most_spread f.1 (one_deeper (flat_map_run (spread_run f.0 f.1)))) (or_fault (BadShape at) (flat_map_of d))
 
@@ -177,6 +205,7 @@ operator_named FlatMap at d = flat_map_in at d
 operator_named Zip at d = Err (BadShape at)
 operator_named Distinct at d = or_fault (BadShape at) (distinct_of d)
 
+-- an operator by the word of its key `op`, if it is no zip
 abbrev pub operator_in : Version → ℕ → Data → Result Operator ScriptFault
 operator_in version at d = result_then (λ name. operator_named name at d) (or_fault (BadShape at) (op_name_of version d))
 
@@ -185,6 +214,7 @@ abbrev pub zip_by : OpName → Data → Option (Joining × Data)
 zip_by Zip d = zip_of d
 zip_by _ d = None
 
+-- how an operator joins, and the chain that it joins with, if it is a zip
 abbrev pub zip_parts : Version → Data → Option (Joining × Data)
 zip_parts version d = option_and_then (λ name. zip_by name d) (op_name_of version d)
 
@@ -194,6 +224,7 @@ zip_parts version d = option_and_then (λ name. zip_by name d) (op_name_of versi
 abbrev pub Build : Type 0
 Build = Result BuiltChain ChainFault
 
+-- how deep a chain may be
 abbrev pub deepest : ℕ
 deepest = 64
 
@@ -214,10 +245,12 @@ abbrev pub joined_to : Result Build ScriptFault → Result (Result Operator Chai
 joined_to (Ok chain) o = result_map (built_on chain) o
 joined_to (Err fault) o = Err (first_fault fault o)
 
+-- a `zip` with this chain, or why that chain could not be built
 abbrev pub zip_with : Joining → Build → Result Operator ChainFault
 zip_with by (Ok with) = Ok (zip_operator by with)
 zip_with by (Err fault) = Err fault
 
+-- a chain without operators, by its source
 abbrev pub start_of : Result (ChainRun ℤ) ScriptFault → Result Build ScriptFault
 start_of r = result_map (λ run. Ok (record { depth = 1; run = run })) r
 
@@ -225,9 +258,11 @@ start_of r = result_map (λ run. Ok (record { depth = 1; run = run })) r
 abbrev pub parts_of : Data → Option (Data × Items)
 parts_of d = where_true (has_only (codes "from" ∷ codes "ops" ∷ []) d) (option_and_then (λ from. option_map (λ ops. (from, ops)) (option_and_then as_array (get (codes "ops") d))) (get (codes "from") d))
 
+-- a `zip` with a chain that was read
 abbrev pub zipped : Joining → Result Build ScriptFault → Result (Result Operator ChainFault) ScriptFault
 zipped by r = result_map (zip_with by) r
 
+-- an operator that is no zip: nothing of it is refused when it is built on a chain
 abbrev pub plain : Result Operator ScriptFault → Result (Result Operator ChainFault) ScriptFault
 plain r = result_map (λ o. Ok o) r
 
@@ -235,6 +270,7 @@ plain r = result_map (λ o. Ok o) r
 abbrev pub operator_where : (Data → Result Build ScriptFault) → Version → ℕ → Data → Result (Result Operator ChainFault) ScriptFault
 operator_where chain_by version at d = option_map_or (λ zip. zipped zip.0 (chain_by zip.1)) (zip_parts version d) (plain (operator_in version at d))
 
+-- the chain with these operators behind it, of which `operator_by` reads each
 abbrev pub ops_on : (Data → Result (Result Operator ChainFault) ScriptFault) → Result Build ScriptFault → Items → Result Build ScriptFault
 ops_on operator_by chain no_items = chain
 ops_on operator_by chain (item d ds) = ops_on operator_by (joined_to chain (operator_by d)) ds
@@ -245,6 +281,7 @@ chain_at version zero at d = Err (BadShape at)
 chain_at version (suc levels) at d =
     result_then (λ parts. ops_on (operator_where (chain_at version levels at) version at) (start_of (source_in at parts.0)) parts.1) (or_fault (BadShape at) (parts_of d))
 
+-- an operator, where zips may nest so deep in it
 abbrev pub operator_at : Version → ℕ → ℕ → Data → Result (Result Operator ChainFault) ScriptFault
 operator_at version levels at d = operator_where (chain_at version levels at) version at d
 
@@ -252,5 +289,6 @@ operator_at version levels at d = operator_where (chain_at version levels at) ve
 unfoldable pub most_levels : ℕ
 most_levels = 127
 
+-- the chain of a text
 abbrev pub chain_in : Version → ℕ → Data → Result Build ScriptFault
 chain_in version at d = chain_at version most_levels at d

@@ -10,15 +10,19 @@ use Rattle.script_chain_format.specs.declared.reading.version.Version.TheVariant
 
 -- ---- numbers and texts
 
+-- the number of a member, if it is below 2^64 and not negative
 abbrev pub u64_at : List ℕ → Data → Option ℕ
 u64_at key d = option_and_then as_u64 (option_and_then as_number (get key d))
 
+-- the number of a member, if it is below 2^32 and not negative
 abbrev pub u32_at : List ℕ → Data → Option ℕ
 u32_at key d = option_and_then (λ n. if nat_lt n (2 ^ 32) then Some n else None) (u64_at key d)
 
+-- the number of a member, if it is one of 64 bits with a sign
 abbrev pub i64_at : List ℕ → Data → Option ℤ
 i64_at key d = option_and_then as_i64 (option_and_then as_number (get key d))
 
+-- the text of a member
 abbrev pub text_at : List ℕ → Data → Option (List ℕ)
 text_at key d = option_and_then as_str (get key d)
 
@@ -27,6 +31,7 @@ abbrev pub are_among : List (List ℕ) → Members → Bool
 are_among keys no_members = true
 are_among keys (member key value ms) = list_any (bytes_eq key) keys && are_among keys ms
 
+-- an object whose keys are all among these
 abbrev pub has_only : List (List ℕ) → Data → Bool
 has_only keys d = option_map_or (are_among keys) (as_object d) false
 
@@ -40,8 +45,10 @@ only_at key d = where_true (has_only (key ∷ []) d) (get key d)
 
 -- ---- versions
 
+-- the version of a number, if there is one
 abbrev pub version_numbered : ℕ → Option Version
 version_numbered number = if number == 1 then Some One else (if number == 2 then Some Two else None)
 
+-- the version that the key `version` says
 abbrev pub version_of : Data → Option Version
 version_of d = option_and_then version_numbered (u64_at (codes "version") d)

@@ -4,14 +4,17 @@ use Rattle.std.specs.Option.{option_map_or}
 use Rattle.script_chain_format.specs.declared.reading.fault.ScriptFault.{ScriptFault}
 use Rattle.script_chain_format.specs.declared.reading.fault.ScriptFault.TheVariants.{OutOfMemory, ReadFailed, WriteFailed, NotJson, BadVersion, BadShape, UnknownName, DuplicateName, TooLarge}
 
+-- goes on with what was read, unless there was a fault
 abbrev pub result_then : {A B : Type 0} → (A → Result B ScriptFault) → Result A ScriptFault → Result B ScriptFault
 result_then follow (Ok a) = follow a
 result_then follow (Err fault) = Err fault
 
+-- makes something of what was read, unless there was a fault
 abbrev pub result_map : {A B : Type 0} → (A → B) → Result A ScriptFault → Result B ScriptFault
 result_map f (Ok a) = Ok (f a)
 result_map f (Err fault) = Err fault
 
+-- what was read, or this fault if nothing was
 abbrev pub or_fault : {A : Type 0} → ScriptFault → Option A → Result A ScriptFault
 or_fault fault o = option_map_or (λ a. Ok a) o (Err fault)
 
@@ -22,6 +25,7 @@ abbrev pub comes_first : ScriptFault → Bool
 comes_first (TooLarge at) = false
 comes_first _ = true
 
+-- a fault that no later one of the same part comes before
 abbrev pub is_final : {A : Type 0} → Result A ScriptFault → Bool
 is_final (Ok a) = false
 is_final (Err fault) = comes_first fault

@@ -20,9 +20,11 @@ use Rattle.script_chain_format.specs.Results.{result_then, result_map, or_fault}
 abbrev pub most_items : ℕ
 most_items = 10000
 
+-- it is too large if the count is over the most that is allowed
 abbrev pub within : {A : Type 0} → ℕ → ℕ → ℕ → A → Result A ScriptFault
 within at most count a = if nat_lt most count then Err (TooLarge at) else Ok a
 
+-- a number without a fraction, of 64 bits with a sign
 abbrev pub whole_number : Data → Option ℤ
 whole_number d = option_and_then as_i64 (as_number d)
 
@@ -31,6 +33,7 @@ abbrev pub all_of : {X : Type 0} → (Data → Option X) → Items → Option (L
 all_of f no_items = Some []
 all_of f (item d ds) = option_and_then (λ x. option_map (λ xs. x ∷ xs) (all_of f ds)) (f d)
 
+-- whole numbers, if all are
 abbrev pub whole_numbers : Items → Option (List ℤ)
 whole_numbers ds = all_of whole_number ds
 
@@ -41,6 +44,7 @@ entry_of d =
     (option_map_or (λ text. where_true (bytes_eq text (codes "pending")) (Some entry.Pending)) (as_str d)
     (where_true (has_only (codes "fault" ∷ []) d) (option_map entry.Fault (u32_at (codes "fault") d))))
 
+-- entries of a scripted source, if all are
 abbrev pub entries_of : Items → Option (List (Entry ℤ))
 entries_of ds = all_of entry_of ds
 
@@ -52,6 +56,7 @@ numbers_of at most ds = result_then (λ xs. within at most (length xs) xs) (or_f
 abbrev pub numbers_in : ℕ → ℕ → Data → Result (List ℤ) ScriptFault
 numbers_in at most d = result_then (numbers_of at most) (or_fault (BadShape at) (as_array d))
 
+-- a source that gives a list of numbers
 abbrev pub list_source : ℕ → Data → Result (ChainRun ℤ) ScriptFault
 list_source at d = result_map list_run (numbers_in at most_items d)
 
@@ -60,9 +65,11 @@ abbrev pub bounds_of : Items → Option (ℤ × ℤ)
 bounds_of (item first (item last no_items)) = option_and_then (λ a. option_map (λ b. (a, b)) (whole_number last)) (whole_number first)
 bounds_of _ = None
 
+-- whether a range has more numbers than a source may have
 abbrev pub is_too_long : ℤ → ℤ → Bool
 is_too_long first last = nat_lt most_items (span first last)
 
+-- a source that gives the numbers from the first to the last
 abbrev pub range_source : ℕ → Data → Result (ChainRun ℤ) ScriptFault
 range_source at d = result_then (λ b. if is_too_long b.0 b.1 then Err (TooLarge at) else Ok (range_run b.0 b.1)) (or_fault (BadShape at) (option_and_then bounds_of (as_array d)))
 
@@ -70,6 +77,7 @@ range_source at d = result_then (λ b. if is_too_long b.0 b.1 then Err (TooLarge
 abbrev pub entries_in : ℕ → Items → Result (List (Entry ℤ)) ScriptFault
 entries_in at ds = result_then (λ es. within at most_items (length es) es) (or_fault (BadShape at) (entries_of ds))
 
+-- a source that gives items, pends and faults as its entries say
 abbrev pub scripted_source : ℕ → Data → Result (ChainRun ℤ) ScriptFault
 scripted_source at d = result_map scripted_run (result_then (entries_in at) (or_fault (BadShape at) (as_array d)))
 

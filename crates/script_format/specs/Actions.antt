@@ -10,6 +10,7 @@ use Rattle.script_chain_format.specs.ChainFormat.{Build}
 use Rattle.script_format.specs.Heads.{Head, NamedHead, shared_flow, state_flow, shared_chain, state_chain}
 use Rattle.script_chain_format.specs.Chains.{build_of}
 
+-- a step: on a flow, a subscription with first values, or a collection
 pub data Action : Type 0 where
   -- with the place of the flow
   on_flow : ℕ → FlowStep → Action
@@ -23,6 +24,7 @@ action_of (step.Flow flow s) = on_flow flow s
 action_of (step.SubscribeWith flow first) = subscribe_with flow first.items
 action_of (step.Collect build) = collect (build_of build)
 
+-- what the steps that were read are
 abbrev pub actions_of : List Step → List Action
 actions_of steps = map action_of steps
 
@@ -33,8 +35,10 @@ head_of_flow (flow.State initial limit) = state_flow initial limit
 head_of_flow (flow.Share chain started replay limit) = shared_chain (build_of chain) started replay limit
 head_of_flow (flow.StateIn chain started initial limit) = state_chain (build_of chain) started initial limit
 
+-- what a flow with its name that was read is
 abbrev pub named_head : NamedFlow → NamedHead
 named_head flow = record { name = option_map string_bytes flow.name; flow = head_of_flow flow.flow }
 
+-- what the flows that were read are
 abbrev pub heads_of : List NamedFlow → List NamedHead
 heads_of flows = map named_head flows

@@ -39,6 +39,7 @@ use Rattle.script_chain_format.specs.declared.reading.version.Version.TheVariant
 abbrev pub most_bytes : ℕ
 most_bytes = 1048576
 
+-- the most steps of a script
 abbrev pub most_steps : ℕ
 most_steps = 10000
 
@@ -49,18 +50,23 @@ pub record NameLists : Type 0 where
   pub emissions : List (List ℕ)
   pub subscribers : List (List ℕ)
 
+-- no name was introduced
 abbrev pub no_names : NameLists
 no_names = record { emissions = []; subscribers = [] }
 
+-- the place of a name among others
 abbrev pub place_of : List ℕ → List (List ℕ) → Option ℕ
 place_of name names = position (λ known. bytes_eq name known) names
 
+-- the name was introduced for the flow, for an emission or for a subscriber
 abbrev pub is_known : List ℕ → NameLists → Bool
 is_known name names = list_any (λ known. bytes_eq name known) names.emissions || list_any (λ known. bytes_eq name known) names.subscribers
 
+-- one emission more
 abbrev pub with_emission : List ℕ → NameLists → NameLists
 with_emission name names = record names { emissions = names.emissions ++ name ∷ [] }
 
+-- one subscriber more
 abbrev pub with_subscriber : List ℕ → NameLists → NameLists
 with_subscriber name names = record names { subscribers = names.subscribers ++ name ∷ [] }
 
@@ -72,9 +78,11 @@ names_at flow row = option_map_or (λ names. names) (slice_get row flow) no_name
 abbrev pub introduced : ℕ → List ℕ → List NameLists → List NameLists → Result (List NameLists) ScriptFault
 introduced at name row after = if list_any (is_known name) row then Err (DuplicateName at) else Ok after
 
+-- the names after a step that introduces an emission
 abbrev pub introduces_emission : ℕ → ℕ → List ℕ → List NameLists → Result (List NameLists) ScriptFault
 introduces_emission flow at name row = introduced at name row (slice_set row flow (with_emission name (names_at flow row)))
 
+-- the names after a step that introduces a subscriber
 abbrev pub introduces_subscriber : ℕ → ℕ → List ℕ → List NameLists → Result (List NameLists) ScriptFault
 introduces_subscriber flow at name row = introduced at name row (slice_set row flow (with_subscriber name (names_at flow row)))
 
@@ -82,6 +90,7 @@ introduces_subscriber flow at name row = introduced at name row (slice_set row f
 abbrev pub emission_at : ℕ → ℕ → List ℕ → List NameLists → Result ℕ ScriptFault
 emission_at flow at name row = or_fault (UnknownName at) (place_of name (names_at flow row).emissions)
 
+-- which subscriber of the flow at a place the name stands for
 abbrev pub subscriber_at : ℕ → ℕ → List ℕ → List NameLists → Result ℕ ScriptFault
 subscriber_at flow at name row = or_fault (UnknownName at) (place_of name (names_at flow row).subscribers)
 
@@ -107,6 +116,7 @@ first_at d = option_and_then (λ values. where_true (is_some (whole_numbers valu
 abbrev pub pair_of : Data → Option (ℤ × ℤ)
 pair_of d = option_and_then (λ expect. option_map (λ update. (expect, update)) (i64_at (codes "update") d)) (i64_at (codes "expect") d)
 
+-- a step by what it does, if its other keys have the right form
 abbrev pub written_by : FlowVerb → Data → Option Written
 written_by TryEmit d = option_map (λ value. plain (step.TryEmit value)) (i64_at (codes "value") d)
 written_by Emit d = option_and_then (λ value. option_map (λ name. emit name value) (name_at (codes "name") d)) (i64_at (codes "value") d)
@@ -129,6 +139,7 @@ pub record Named : Type 0 where
   pub step : Action
   pub names : List NameLists
 
+-- the step, with these names after it
 abbrev pub named : List NameLists → Action → Named
 named names step = record { step = step; names = names }
 
@@ -148,9 +159,11 @@ named_step flow at names (subscribe_with name values) =
 named_step flow at names (next name) = result_map (λ place. named names (on_flow flow (step.Next place))) (subscriber_at flow at name names)
 named_step flow at names (unsubscribe name) = result_map (λ place. named names (on_flow flow (step.Unsubscribe place))) (subscriber_at flow at name names)
 
+-- the flow has this name
 abbrev pub is_named : List ℕ → NamedHead → Bool
 is_named name flow = option_map_or (λ known. bytes_eq name known) flow.name false
 
+-- the place of the flow with this name
 abbrev pub place_named : List ℕ → List NamedHead → Option ℕ
 place_named name flows = position (λ flow. is_named name flow) flows
 
@@ -165,13 +178,16 @@ flow_step_by version flows verb at names d =
     result_then (λ written. result_then (λ place. if allows verb (kind_at place flows) then named_step place at names written else Err (BadShape at))
     (place_at version flows at d)) (or_fault (BadShape at) (written_by verb d))
 
+-- the chain of a collection
 abbrev pub collected_in : Version → ℕ → Data → Result Build ScriptFault
 collected_in version at d = result_then (chain_in version at) (or_fault (BadShape at) (get (codes "chain") d))
 
+-- a step by what it does: on a flow, or a collection
 abbrev pub step_by : Version → List NamedHead → Verb → ℕ → List NameLists → Data → Result Named ScriptFault
 step_by version flows (Flow verb) at names d = flow_step_by version flows verb at names d
 step_by version flows Collect at names d = result_map (λ build. named names (collect build)) (collected_in version at d)
 
+-- a step, and the names after it
 abbrev pub step_of : Version → List NamedHead → ℕ → List NameLists → Data → Result Named ScriptFault
 step_of version flows at names d = result_then (λ verb. step_by version flows verb at names d) (or_fault (BadShape at) (verb_of version d))
 
@@ -208,6 +224,7 @@ script_of d =
 abbrev pub json_of : List ℕ → Result Data ScriptFault
 json_of bytes = if is_utf8 bytes then or_fault NotJson (read bytes) else Err NotJson
 
+-- what a script says, or the first fault that is found: that of its length, of its JSON text, or of what that says
 abbrev pub read_script : List ℕ → Result Checked ScriptFault
 read_script bytes = if nat_lt most_bytes (length bytes) then Err (TooLarge 0) else result_then script_of (json_of bytes)
 
@@ -217,14 +234,18 @@ read_script bytes = if nat_lt most_bytes (length bytes) then Err (TooLarge 0) el
 abbrev pub then_names : Result (Unit {0}) ScriptFault → List NameLists → Result (List NameLists) ScriptFault
 then_names r names = result_map (λ _. names) r
 
+-- the data of a text that was read, or the fault
 abbrev pub value_result : Result JsonValue ScriptFault → Result Data ScriptFault
 value_result r = result_map view r
 
+-- a step that was read, with the names after it, or the fault
 abbrev pub named_result : Result Step ScriptFault → List NameLists → Result Named ScriptFault
 named_result r names = result_map (λ step. named names (action_of step)) r
 
+-- steps that were read, or the fault
 abbrev pub steps_result : Result (Vec Step Global) ScriptFault → Result (List Action) ScriptFault
 steps_result r = result_map (λ steps. actions_of steps.items) r
 
+-- a script that was read, or the fault
 abbrev pub script_result : Result Script ScriptFault → Result Checked ScriptFault
 script_result r = result_map (λ script. record { flows = heads_of script.flows.items; steps = actions_of script.steps.items }) r

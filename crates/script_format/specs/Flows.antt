@@ -13,6 +13,7 @@ use Rattle.script_format.specs.NameForm.{is_name}
 use Rattle.script_format.specs.Heads.{NamedHead, flow_in, only_in}
 use Rattle.script_chain_format.specs.Results.{result_then, result_map, or_fault, first_fault}
 
+-- the most flows of a script
 abbrev pub most_flows : ℕ
 most_flows = 64
 
@@ -30,6 +31,7 @@ abbrev pub with_flow : Result (List NamedHead) ScriptFault → Result NamedHead 
 with_flow (Ok flows) flow = result_map (λ f. flows ++ f ∷ []) flow
 with_flow (Err fault) flow = Err (first_fault fault flow)
 
+-- these flows, and then those of the members
 abbrev pub flows_after : Result (List NamedHead) ScriptFault → Members → Result (List NamedHead) ScriptFault
 flows_after flows no_members = flows
 flows_after flows (member name d ms) = flows_after (with_flow flows (named_flow name d)) ms
@@ -52,8 +54,10 @@ abbrev pub head_keys : Version → List (List ℕ)
 head_keys One = codes "version" ∷ codes "flow" ∷ codes "steps" ∷ []
 head_keys Two = codes "version" ∷ codes "flows" ∷ codes "steps" ∷ []
 
+-- the values of the steps of an object that has no other keys than a script
 abbrev pub steps_in : Version → Data → Option Items
 steps_in version d = where_true (has_only (head_keys version) d) (option_and_then as_array (get (codes "steps") d))
 
+-- the flows of a script, and the values of its steps
 abbrev pub head_in : Version → Data → Result (List NamedHead × Items) ScriptFault
 head_in version d = result_then (λ steps. result_map (λ flows. (flows, steps)) (flows_in version d)) (or_fault (BadShape 0) (steps_in version d))

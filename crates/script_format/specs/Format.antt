@@ -20,6 +20,7 @@ use Rattle.script_format.specs.declared.verb.Kind.TheVariants as kind
 
 -- ---- the configuration of a flow
 
+-- what becomes of a value without room, by its word
 abbrev pub overflow_named : List ℕ → Option Overflow
 overflow_named text =
     if bytes_eq text (codes "suspend") then Some Suspend
@@ -30,6 +31,7 @@ overflow_named text =
 abbrev pub limit_at : Data → Option ℕ
 limit_at d = option_map_or (λ l. option_and_then as_u64 (as_number l)) (get (codes "limit") d) (Some (2 ^ 64 - 1))
 
+-- the configuration of a shared flow, if each key has the right form and there is no other
 abbrev pub config_of : Data → Option Config
 config_of d =
     option_and_then (λ replay. option_and_then (λ extra. option_and_then (λ overflow. option_and_then (λ limit.
@@ -39,6 +41,7 @@ config_of d =
 
 -- ---- steps
 
+-- there is a flow
 abbrev pub is_flow : Kind → Bool
 is_flow kind.Absent = false
 is_flow _ = true
@@ -49,10 +52,12 @@ is_mutable kind.Shared = true
 is_mutable kind.State = true
 is_mutable _ = false
 
+-- a shared flow
 abbrev pub is_shared : Kind → Bool
 is_shared kind.Shared = true
 is_shared _ = false
 
+-- a state flow
 abbrev pub is_state : Kind → Bool
 is_state kind.State = true
 is_state _ = false

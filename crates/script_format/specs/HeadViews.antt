@@ -31,29 +31,38 @@ shared_chain_in version keys d =
     where_true (has_only keys d) (Some (record { chain = chain; started = started; limit = limit })))
     (limit_at d)) (started_at version d)) (get (codes "chain") d)
 
+-- with how many values are replayed
 abbrev pub with_replay : CommonParts → ℕ → ShareParts
 with_replay shared replay = record { chain = shared.chain; started = shared.started; replay = replay; limit = shared.limit }
 
+-- with the first value
 abbrev pub with_initial : CommonParts → ℤ → StateInParts
 with_initial shared initial = record { chain = shared.chain; started = shared.started; initial = initial; limit = shared.limit }
 
+-- what both kinds of shared chains have, as it was read
 abbrev pub shared_chain_of : SharedChain → CommonParts
 shared_chain_of shared = record { chain = view shared.chain.now; started = shared.started; limit = shared.limit }
 
+-- a chain that is shared into a shared flow, as it was read
 abbrev pub share_parts_of : SharedChain × ℕ → ShareParts
 share_parts_of parts = with_replay (shared_chain_of parts.0) parts.1
 
+-- a chain that is shared into a state flow, as it was read
 abbrev pub state_in_parts_of : SharedChain × ℤ → StateInParts
 state_in_parts_of parts = with_initial (shared_chain_of parts.0) parts.1
 
+-- a flow that was read, or the fault
 abbrev pub flow_result : Result ScriptFlow ScriptFault → Result Head ScriptFault
 flow_result r = result_map head_of_flow r
 
+-- a flow with its name that was read, or the fault
 abbrev pub named_flow_result : Result NamedFlow ScriptFault → Result NamedHead ScriptFault
 named_flow_result r = result_map named_head r
 
+-- flows that were read, or the fault
 abbrev pub flows_result : Result (Vec NamedFlow Global) ScriptFault → Result (List NamedHead) ScriptFault
 flows_result r = result_map (λ flows. heads_of flows.items) r
 
+-- a head that was read, with the values of the steps, or the fault
 abbrev pub head_result : Result (Vec NamedFlow Global × Bor (Vec Value Global)) ScriptFault → Result (List NamedHead × Items) ScriptFault
 head_result r = result_map (λ head. (heads_of head.0.items, items_view head.1.now.items)) r

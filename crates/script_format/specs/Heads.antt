@@ -35,6 +35,7 @@ pub record NamedHead : Type 0 where
   pub name : Option (List ℕ)
   pub flow : Head
 
+-- of which kind a flow is
 abbrev pub kind_of : Head → Kind
 kind_of (shared_flow config) = kind.Shared
 kind_of (state_flow initial limit) = kind.State
@@ -45,10 +46,12 @@ kind_of (state_chain build started initial limit) = kind.StateIn
 abbrev pub kind_at : ℕ → List NamedHead → Kind
 kind_at place flows = option_map_or (λ named. kind_of named.flow) (slice_get flows place) kind.Absent
 
+-- a state flow: its first value, and the most numbers that it issues
 abbrev pub state_of : Data → Option Head
 state_of d = option_and_then (λ initial. option_and_then (λ limit. where_true (has_only (codes "kind" ∷ codes "initial" ∷ codes "limit" ∷ []) d) (Some (state_flow initial limit)))
     (limit_at d)) (i64_at (codes "initial") d)
 
+-- when a shared chain runs, by its word
 abbrev pub started_named : List ℕ → Option Started
 started_named text = if bytes_eq text (codes "eagerly") then Some Eagerly else (if bytes_eq text (codes "lazily") then Some Lazily else None)
 
@@ -61,6 +64,7 @@ started_keys Two = codes "stop" ∷ codes "expire" ∷ []
 abbrev pub expire_at : Data → Option ℕ
 expire_at d = option_map_or (λ expire. option_and_then as_u64 (as_number expire)) (get (codes "expire") d) (Some never)
 
+-- a chain that runs while it has subscribers: the times after which it stops and forgets
 abbrev pub while_subscribed : Version → Data → Option Started
 while_subscribed version d =
     where_true (has_only (started_keys version) d) (option_and_then (λ stop. option_map (λ expire. WhileSubscribed stop expire) (expire_at d)) (u64_at (codes "stop") d))
@@ -69,45 +73,55 @@ while_subscribed version d =
 abbrev pub started_of : Version → Data → Option Started
 started_of version d = option_map_or started_named (as_str d) (while_subscribed version d)
 
+-- when a shared chain runs, by the key `started`
 abbrev pub started_at : Version → Data → Option Started
 started_at version d = option_and_then (started_of version) (get (codes "started") d)
 
+-- what a head says of a chain that is shared into a shared flow
 pub record ShareParts : Type 0 where
   pub chain : Data
   pub started : Started
   pub replay : ℕ
   pub limit : ℕ
 
+-- its keys
 abbrev pub share_keys : List (List ℕ)
 share_keys = codes "kind" ∷ codes "chain" ∷ codes "started" ∷ codes "replay" ∷ codes "limit" ∷ []
 
+-- what the keys of a shared chain say, if each has the right form and there is no other
 abbrev pub share_parts : Version → Data → Option ShareParts
 share_parts version d =
     option_and_then (λ chain. option_and_then (λ started. option_and_then (λ replay. option_and_then (λ limit.
     where_true (has_only share_keys d) (Some (record { chain = chain; started = started; replay = replay; limit = limit })))
     (limit_at d)) (u32_at (codes "replay") d)) (started_at version d)) (get (codes "chain") d)
 
+-- a chain that is shared into a shared flow
 abbrev pub share_in : Version → Data → Result Head ScriptFault
 share_in version d = result_then (λ parts. result_map (λ build. shared_chain build parts.started parts.replay parts.limit) (chain_in version 0 parts.chain)) (or_fault (BadShape 0) (share_parts version d))
 
+-- what a head says of a chain that is shared into a state flow
 pub record StateInParts : Type 0 where
   pub chain : Data
   pub started : Started
   pub initial : ℤ
   pub limit : ℕ
 
+-- the keys of that
 abbrev pub state_in_keys : List (List ℕ)
 state_in_keys = codes "kind" ∷ codes "chain" ∷ codes "started" ∷ codes "initial" ∷ codes "limit" ∷ []
 
+-- what these keys say, if each has the right form and there is no other
 abbrev pub state_in_parts : Version → Data → Option StateInParts
 state_in_parts version d =
     option_and_then (λ chain. option_and_then (λ started. option_and_then (λ initial. option_and_then (λ limit.
     where_true (has_only state_in_keys d) (Some (record { chain = chain; started = started; initial = initial; limit = limit })))
     (limit_at d)) (i64_at (codes "initial") d)) (started_at version d)) (get (codes "chain") d)
 
+-- a chain that is shared into a state flow
 abbrev pub state_in : Version → Data → Result Head ScriptFault
 state_in version d = result_then (λ parts. result_map (λ build. state_chain build parts.started parts.initial parts.limit) (chain_in version 0 parts.chain)) (or_fault (BadShape 0) (state_in_parts version d))
 
+-- a flow by the word of its kind
 abbrev pub flow_named : Version → List ℕ → Data → Result Head ScriptFault
 flow_named version kind d =
     if bytes_eq kind (codes "shared") then or_fault (BadShape 0) (option_map shared_flow (config_of d))
@@ -119,6 +133,7 @@ flow_named version kind d =
 abbrev pub flow_in : Version → Data → Result Head ScriptFault
 flow_in version d = result_then (λ kind. flow_named version kind d) (or_fault (BadShape 0) (text_at (codes "kind") d))
 
+-- a script without a flow, which has no other key
 abbrev pub no_flows : Data → Result (List NamedHead) ScriptFault
 no_flows d = or_fault (BadShape 0) (where_true (has_only (codes "kind" ∷ []) d) (Some []))
 
@@ -126,6 +141,7 @@ no_flows d = or_fault (BadShape 0) (where_true (has_only (codes "kind" ∷ []) d
 abbrev pub only : Head → List NamedHead
 only flow = record { name = None; flow = flow } ∷ []
 
+-- the only flow of a script of version 1, by the word of its kind
 abbrev pub only_named : List ℕ → Data → Result (List NamedHead) ScriptFault
 only_named kind d = if bytes_eq kind (codes "none") then no_flows d else result_map only (flow_named One kind d)
 
