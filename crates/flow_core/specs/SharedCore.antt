@@ -32,17 +32,21 @@ use Rattle.flow_core.specs.declared.shared.emission.EmitCase.TheVariants.{Append
 
 -- ---- replies
 
+-- what `try_emit` returned, as a reply
 abbrev pub try_emit_reply : {T : Type 0} → Result Bool (Refused T) → SharedReply T
 try_emit_reply (Ok answer) = reply.Tested answer
 try_emit_reply (Err refused) = reply.Refused refused.fault
 
+-- what `emit` returned, as a reply
 abbrev pub emit_reply : {T : Type 0} → Result Emit (Refused T) → SharedReply T
 emit_reply (Ok emission) = reply.Emitted emission
 emit_reply (Err refused) = reply.Refused refused.fault
 
+-- what `subscribe` returned, as a reply: a history has the number alone
 abbrev pub subscribe_reply : {T : Type 0} → Result SubId FlowFault → SharedReply T
 subscribe_reply = replied shared_flow (λ id. reply.Subscribed (number_of id))
 
+-- what `next` returned, as a reply
 abbrev pub next_reply : {T : Type 0} → Result (Next T) FlowFault → SharedReply T
 next_reply = replied shared_flow reply.Received
 
@@ -50,6 +54,7 @@ next_reply = replied shared_flow reply.Received
 abbrev pub Nexts : {T : Type 0} → ℕ → Core T → Result (Next T) FlowFault → Core T → Type 0
 Nexts number old result new = Conforms old (call.TakeNext number) (next_reply result) new
 
+-- what `replay_cache` returned, as a reply
 abbrev pub cache_reply : {T A : Type 0} → Result (Vec T A) FlowFault → SharedReply T
 cache_reply = replied shared_flow (λ values. reply.Cached values.items)
 
@@ -76,6 +81,7 @@ fields_of c = record {
 abbrev pub AreWithin : {T : Type 0} → ℕ → ℕ → ℕ → List (Subscriber T) → Type 0
 AreWithin floor emitted window = AllByRecursion (λ u. (floor ≤ u.position) × (u.position ≤ emitted) × (emitted ≤ u.position + window))
 
+-- what holds of a core's fields between two calls
 pub record IsSound {T A : Type 0} (c : Inside T A) : Type 0 where
   pub window : c.subscribers.window ≡ window_of c.config
   pub capacity : c.values.capacity ≡ window_of c.config
@@ -94,6 +100,7 @@ pub record IsSound {T A : Type 0} (c : Inside T A) : Type 0 where
 
 -- ---- private steps
 
+-- the case of the definitions that a case of the code is
 abbrev pub case_of : EmitCase → law.EmitCase
 case_of Appends = law.appends
 case_of Offers = law.offers

@@ -16,12 +16,15 @@ use Rattle.flow_core.specs.declared.state.StateCore.TheInside.{Inside}
 use Rattle.flow_core.specs.SubId.{number_of}
 
 module _ {T : Type 0} where
+  -- what `value` returned, as a reply
   abbrev pub value_reply : Result T FlowFault → StateReply T
   value_reply = replied state_flow reply.Got
 
+  -- what `subscribe` returned, as a reply: a history has the number alone
   abbrev pub subscribe_reply : Result SubId FlowFault → StateReply T
   subscribe_reply = replied state_flow (λ id. reply.Subscribed (number_of id))
 
+  -- what `next` returned, as a reply
   abbrev pub next_reply : Result (Next T) FlowFault → StateReply T
   next_reply = replied state_flow reply.Received
 
@@ -29,6 +32,7 @@ module _ {T : Type 0} where
   abbrev pub Nexts : ℕ → StateFlowState T → Result (Next T) FlowFault → StateFlowState T → Type 0
   Nexts number old result new = StateConforms old (call.TakeNext number) (next_reply result) new
 
+  -- what `replay_cache` returned, as a reply
   abbrev pub cache_reply : {A : Type 0} → Result (Vec T A) FlowFault → StateReply T
   cache_reply = replied state_flow (λ values. reply.Cached values.items)
 
@@ -36,9 +40,11 @@ module _ {T : Type 0} where
   abbrev pub reset_reply : Result (Unit {0}) FlowFault → StateReply T
   reset_reply = replied state_flow (λ none. reply.Done)
 
+  -- a subscriber by its number and the value that it got last
   abbrev pub subscriber_of : Member (Option T) → StateSubscriber T
   subscriber_of member = record { number = member.number; last = member.row }
 
+  -- the state of the documented flow that a core's fields are
   abbrev pub fields_of : {A : Type 0} → Inside T A → StateFlowState T
   fields_of c = record {
     limit = c.limit;

@@ -36,6 +36,7 @@ module _ {T : Type 0} where
   abbrev pub is_open : SharedFlowState T → Bool
   is_open s = (length s.subscribers == 0) || (not (is_blocked s) && nat_lt 0 (capacity s))
 
+  -- what becomes of an emission into a flow in this state
   abbrev pub emit_case : SharedFlowState T → EmitCase
   emit_case s = if is_open s then appends else (if is_blocked s then when_blocked s.config.overflow else offers)
 
@@ -55,6 +56,7 @@ module _ {T : Type 0} where
   abbrev pub drop_oldest : SharedFlowState T → SharedFlowState T
   drop_oldest s = record s { subscribers = raise_to (length s.emitted - capacity s) s.subscribers }
 
+  -- `emit` in each case
   abbrev pub emit_in : EmitCase → T → SharedFlowState T → Answer Emit T
   emit_in appends v s = issuing s (answer Done (append v s))
   emit_in offers v s = issuing s (answer (Queued (s.issued + 1)) (append v s))
@@ -62,6 +64,7 @@ module _ {T : Type 0} where
   emit_in drops_latest v s = answer Done s
   emit_in drops_oldest v s = issuing s (answer Done (drop_oldest (append v s)))
 
+  -- `try_emit` in each case
   abbrev pub try_emit_in : EmitCase → T → SharedFlowState T → Answer Bool T
   try_emit_in appends v s = issuing s (answer true (append v s))
   try_emit_in offers v s = answer false s
@@ -69,8 +72,10 @@ module _ {T : Type 0} where
   try_emit_in drops_latest v s = answer true s
   try_emit_in drops_oldest v s = issuing s (answer true (drop_oldest (append v s)))
 
+  -- `emit`
   abbrev pub emit : T → SharedFlowState T → Answer Emit T
   emit v s = emit_in (emit_case s) v s
 
+  -- `try_emit`
   abbrev pub try_emit : T → SharedFlowState T → Answer Bool T
   try_emit v s = try_emit_in (emit_case s) v s

@@ -15,27 +15,34 @@ use Rattle.flow_law.specs.declared.errors.TryNextError.{TryNextError}
 use Rattle.flow_law.specs.declared.errors.TryNextError.TheVariants as try_next
 use Rattle.flow_law.specs.declared.errors.Rejected.{Rejected}
 
+-- of calls that are refused only if they are out of memory
 abbrev pub memory_fault : OutOfMemory → FlowFault
 memory_fault e = fault.OutOfMemory
 
+-- of calls that are refused only if no number is left
 abbrev pub limit_fault : Exhausted → FlowFault
 limit_fault e = fault.Exhausted
 
+-- of calls that are refused only if another caller is inside
 abbrev pub busy_fault : Busy → FlowFault
 busy_fault e = fault.Busy
 
+-- of calls that a kind of flow does not have
 abbrev pub unsupported_fault : Unsupported → FlowFault
 unsupported_fault e = fault.Unsupported
 
+-- of calls that take a number and memory
 abbrev pub number_fault : NumberError → FlowFault
 number_fault number.OutOfMemory = fault.OutOfMemory
 number_fault number.Exhausted = fault.Exhausted
 
+-- of `emit_now`
 abbrev pub emit_now_fault : EmitNowError → FlowFault
 emit_now_fault emit_now.OutOfMemory = fault.OutOfMemory
 emit_now_fault emit_now.Exhausted = fault.Exhausted
 emit_now_fault emit_now.Busy = fault.Busy
 
+-- of `try_next`
 abbrev pub try_next_fault : TryNextError → FlowFault
 try_next_fault try_next.OutOfMemory = fault.OutOfMemory
 try_next_fault try_next.Busy = fault.Busy

@@ -9,6 +9,7 @@ use Rattle.flow_law.specs.declared.call.SharedReply.TheVariants as reply
 use Rattle.flow_law.specs.SharedFlow.{SharedFlowState, first_state, values, cache, entry, is_offering, is_offered_as, window}
 use Rattle.flow_law.specs.SharedHistory.{History, after}
 
+-- what a subscriber has received and has still to receive
 pub record Mailbox (T : Type 0) : Type 0 where
   -- what the subscriber took, the first value in front
   pub taken : List T
@@ -23,6 +24,7 @@ pub record Beginning (T : Type 0) : Type 0 where
   pub entry : ℕ
 
 module _ {T : Type 0} where
+  -- so many of the last entries
   abbrev pub keep_last : ℕ → List T → List T
   keep_last count xs = drop (length xs - count) xs
 
@@ -53,12 +55,15 @@ module _ {T : Type 0} where
   abbrev pub arrivals : SharedFlowState T → SharedFlowState T → List T
   arrivals old new = drop (length old.emitted) (values new)
 
+  -- the mailbox after these values arrived
   abbrev pub with_arrivals : ℕ → List T → Mailbox T → Mailbox T
   with_arrivals room vs m = record m { box = arrive room m.box vs }
 
+  -- the mailbox of the subscriber u after one event
   abbrev pub mailbox_by : ℕ → SharedFlowState T → SharedCall T → SharedReply T → Mailbox T → Mailbox T
   mailbox_by u s c r m = with_arrivals (window s) (arrivals s (after s c r)) (before_arrivals u s c r m)
 
+  -- the mailbox of u after these events, which begin in the state s
   abbrev pub mailbox_from : ℕ → SharedFlowState T → History T → Mailbox T → Mailbox T
   mailbox_from u s [] m = m
   mailbox_from u s (e ∷ es) m = mailbox_from u (after s e.what.call e.what.reply) es (mailbox_by u s e.what.call e.what.reply m)
@@ -67,15 +72,19 @@ module _ {T : Type 0} where
   abbrev pub mailbox : ℕ → Config → History T → Mailbox T
   mailbox u config h = mailbox_from u (first_state config) h (record { taken = []; own = []; box = [] })
 
+  -- what u has taken after a history
   abbrev pub taken : ℕ → Config → History T → List T
   taken u config h = (mailbox u config h).taken
 
+  -- what is left of its own first values
   abbrev pub own : ℕ → Config → History T → List T
   own u config h = (mailbox u config h).own
 
+  -- what it has still to take of the flow's values
   abbrev pub box : ℕ → Config → History T → List T
   box u config h = (mailbox u config h).box
 
+  -- all that was delivered to u: what it took, and what it has still to take
   abbrev pub delivered : ℕ → Config → History T → List T
   delivered u config h = taken u config h ++ (own u config h ++ box u config h)
 
@@ -84,6 +93,7 @@ module _ {T : Type 0} where
   received_by u (call.TakeNext n) (reply.Received (Value v)) = if n == u then v ∷ [] else []
   received_by u _ _ = []
 
+  -- the values that `next` gave to u in a history
   abbrev pub received : ℕ → History T → List T
   received u [] = []
   received u (e ∷ es) = received_by u e.what.call e.what.reply ++ received u es
@@ -93,9 +103,11 @@ module _ {T : Type 0} where
   began_by u s (call.Subscribe name first) (reply.Subscribed n) b = if n == u then record { first = first; entry = entry s } else b
   began_by u s _ _ b = b
 
+  -- what u began with after these events, which begin in the state s
   abbrev pub began_from : ℕ → SharedFlowState T → History T → Beginning T → Beginning T
   began_from u s [] b = b
   began_from u s (e ∷ es) b = began_from u (after s e.what.call e.what.reply) es (began_by u s e.what.call e.what.reply b)
 
+  -- what u began with in a history of a flow of this configuration
   abbrev pub began : ℕ → Config → History T → Beginning T
   began u config h = began_from u (first_state config) h (record { first = []; entry = 0 })

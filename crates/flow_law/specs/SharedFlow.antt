@@ -56,9 +56,11 @@ module _ {T : Type 0} where
   position_of number [] = None
   position_of number (u ∷ us) = if u.number == number then Some u.position else position_of number us
 
+  -- the subscriber at this position
   abbrev pub stand_at : ℕ → Subscriber T → Subscriber T
   stand_at position u = record u { position = position }
 
+  -- the subscriber of this number is at this position
   abbrev pub move_to : ℕ → ℕ → List (Subscriber T) → List (Subscriber T)
   move_to number position [] = []
   move_to number position (u ∷ us) = if u.number == number then stand_at position u ∷ us else u ∷ move_to number position us
@@ -67,6 +69,7 @@ module _ {T : Type 0} where
   abbrev pub raise_to : ℕ → List (Subscriber T) → List (Subscriber T)
   raise_to floor = map (λ u. stand_at (max u.position floor) u)
 
+  -- the subscriber of this number is gone
   abbrev pub without : ℕ → List (Subscriber T) → List (Subscriber T)
   without number = filter (λ u. not (u.number == number))
 
@@ -75,6 +78,7 @@ module _ {T : Type 0} where
   own_of number [] = []
   own_of number (u ∷ us) = if u.number == number then u.own else own_of number us
 
+  -- so much is left of its own first values
   abbrev pub leave_own : List T → Subscriber T → Subscriber T
   leave_own own u = record u { own = own }
 
@@ -115,6 +119,7 @@ module _ {T : Type 0} where
   abbrev pub cache_start : SharedFlowState T → ℕ
   cache_start s = max s.reset_mark (length s.emitted - s.config.replay)
 
+  -- the emitted values without their numbers
   abbrev pub values : SharedFlowState T → List T
   values s = map (λ e. e.value) s.emitted
 
@@ -136,6 +141,7 @@ module _ {T : Type 0} where
   abbrev pub is_offered_as : ℕ → SharedFlowState T → Bool
   is_offered_as e s = is_offering s && (newest s == e)
 
+  -- the value of this number waits in the queue
   abbrev pub is_queued : ℕ → SharedFlowState T → Bool
   is_queued e s = list_any (λ q. q.number == e) s.queue
 
@@ -151,6 +157,7 @@ pub record Answer (R T : Type 0) : Type 0 where
   pub after : SharedFlowState T
 
 module _ {T : Type 0} where
+  -- a call that is not refused
   abbrev pub answer : {R : Type 0} → R → SharedFlowState T → Answer R T
   answer reply after = record { reply = Ok reply; after = after }
 

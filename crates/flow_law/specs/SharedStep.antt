@@ -14,6 +14,7 @@ module _ {T : Type 0} where
   admit s [] = record s { queue = [] }
   admit s (e ∷ queue) = if is_blocked s then record s { queue = e ∷ queue } else admit (record s { emitted = s.emitted ++ e ∷ [] }) queue
 
+  -- queued values are emitted while there is room
   abbrev pub settle : SharedFlowState T → SharedFlowState T
   settle s = admit s s.queue
 
@@ -23,6 +24,7 @@ module _ {T : Type 0} where
   abbrev pub is_waiting : ℕ → SharedFlowState T → Bool
   is_waiting e s = is_queued e s || is_offered_as e s
 
+  -- `poll`: whether the emitter of this number waits
   abbrev pub poll : ℕ → SharedFlowState T → Answer Bool T
   poll e s = answer (is_waiting e s) s
 
@@ -32,6 +34,7 @@ module _ {T : Type 0} where
       if is_offered_as e s then record s { subscribers = map (stand_at (length s.emitted)) s.subscribers }
       else record s { queue = filter (λ q. not (q.number == e)) s.queue }
 
+  -- `cancel`: whether the emitter waited, and the state without its wait
   abbrev pub cancel : ℕ → SharedFlowState T → Answer Bool T
   cancel e s = answer (is_waiting e s) (settle (withdraw e s))
 
@@ -44,9 +47,11 @@ module _ {T : Type 0} where
     issued = s.issued + 1;
   }
 
+  -- `subscribe_with` these first values, and `subscribe` with none
   abbrev pub subscribe : List T → SharedFlowState T → Answer ℕ T
   subscribe first s = issuing s (answer (s.issued + 1) (enroll first s))
 
+  -- the subscriber is at this position
   abbrev pub advance : ℕ → ℕ → SharedFlowState T → SharedFlowState T
   advance number position s = record s { subscribers = move_to number position s.subscribers }
 
@@ -56,6 +61,7 @@ module _ {T : Type 0} where
       option_map_or (λ value. answer (Value value) (settle (advance number (position + 1) s)))
       (slice_get (values s) position) (answer Empty s)
 
+  -- `next` of a subscriber without own values: the value at its position, or `Gone` if there is no such subscriber
   abbrev pub next_emitted : ℕ → SharedFlowState T → Answer (Next T) T
   next_emitted number s = option_map_or (λ position. read number position s) (position_of number s.subscribers) (answer Gone s)
 
@@ -68,25 +74,32 @@ module _ {T : Type 0} where
   next_from number [] s = next_emitted number s
   next_from number (value ∷ own) s = answer (Value value) (keep_own number own s)
 
+  -- `next`
   abbrev pub next : ℕ → SharedFlowState T → Answer (Next T) T
   next number s = next_from number (own_of number s.subscribers) s
 
+  -- the subscriber is gone
   abbrev pub leave : ℕ → SharedFlowState T → SharedFlowState T
   leave number s = record s { subscribers = without number s.subscribers }
 
+  -- `unsubscribe`: whether there was such a subscriber
   abbrev pub unsubscribe : ℕ → SharedFlowState T → Answer Bool T
   unsubscribe number s = answer (is_some (position_of number s.subscribers)) (settle (leave number s))
 
   -- ---- the cache and the count
 
+  -- `replay_cache`
   abbrev pub replay_cache : SharedFlowState T → Answer (List T) T
   replay_cache s = answer (cache s) s
 
+  -- the cache of new subscribers begins behind all that was emitted
   abbrev pub forget : SharedFlowState T → SharedFlowState T
   forget s = record s { reset_mark = length s.emitted }
 
+  -- `reset_replay_cache`
   abbrev pub reset_replay_cache : SharedFlowState T → Answer (Unit {0}) T
   reset_replay_cache s = answer tt (forget s)
 
+  -- `subscription_count`
   abbrev pub subscription_count : SharedFlowState T → Answer ℕ T
   subscription_count s = answer (length s.subscribers) s

@@ -14,6 +14,7 @@ pub use Rattle.flow_law.specs.declared.states.StateSubscriber.{StateSubscriber}
 pub use Rattle.flow_law.specs.declared.states.StateFlowState.{StateFlowState}
 
 module _ {T : Type 0} where
+  -- before any call
   abbrev pub first_state_flow : ℕ → T → StateFlowState T
   first_state_flow limit first = record { limit = limit; value = first; subscribers = []; issued = 0 }
 
@@ -22,13 +23,16 @@ module _ {T : Type 0} where
   last_of number [] = None
   last_of number (r ∷ rs) = if r.number == number then Some r.last else last_of number rs
 
+  -- this is the last value that the subscriber got
   abbrev pub with_last : ℕ → T → List (StateSubscriber T) → List (StateSubscriber T)
   with_last number v [] = []
   with_last number v (r ∷ rs) = if r.number == number then record r { last = Some v } ∷ rs else r ∷ with_last number v rs
 
+  -- the subscriber is gone
   abbrev pub without_subscriber : ℕ → List (StateSubscriber T) → List (StateSubscriber T)
   without_subscriber number = filter (λ r. not (r.number == number))
 
+  -- no number is left to issue
   abbrev pub is_exhausted : StateFlowState T → Bool
   is_exhausted s = s.issued == s.limit
 
@@ -60,6 +64,7 @@ module _ {T : Type 0} where
   IsReply s ReplayCache r = r ≡ Cached (s.value ∷ [])
   IsReply s ResetReplayCache r = r ≡ Refused Unsupported
 
+  -- the reply is a refusal
   abbrev pub is_refused : StateReply T → Bool
   is_refused (Refused fault) = true
   is_refused _ = false
@@ -77,14 +82,17 @@ module _ {T : Type 0} where
   MayNeedMemory s (Subscribe name) = is_exhausted s ≡ false
   MayNeedMemory s _ = ⊥
 
+  -- What the flow may reply: out of memory, if the call may need memory, and else its one reply.
   abbrev pub Replies : StateFlowState T → StateCall T → StateReply T → Type 0
   Replies s c (Refused OutOfMemory) = MayNeedMemory s c
   Replies s c r = IsReply s c r
 
+  -- the subscription gets the subscriber's number
   abbrev pub gives : List ℕ → StateCall T → StateReply T → Option Owner
   gives name (Subscribe given) (Subscribed u) = Some (record { number = subscriber u; name = given })
   gives name _ _ = None
 
+  -- the number of which a call speaks
   abbrev pub speaks_of : StateCall T → Option Number
   speaks_of (TakeNext u) = Some (subscriber u)
   speaks_of (Unsubscribe u) = Some (subscriber u)
@@ -116,13 +124,16 @@ module _ {T : Type 0} where
     refused = Refused;
   }
 
+-- a history of a state flow
 abbrev pub StateHistory : Type 0 → Type 0
 StateHistory T = List (Event (Said (StateCall T) (StateReply T)))
 
 module _ {T : Type 0} where
+  -- the state that a history leads to
   abbrev pub state_after_all : StateFlowState T → StateHistory T → StateFlowState T
   state_after_all = histories.after_all state_flow
 
+  -- each reply of the history is one that the flow may give there
   abbrev pub IsLegalState : StateFlowState T → StateHistory T → Type 0
   IsLegalState = histories.IsLegal state_flow
 
