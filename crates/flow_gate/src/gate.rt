@@ -60,6 +60,7 @@ impl<S: Guarded + Drop, A: Allocator + Copy> Gate<S, A> {
         }
     }
 
+    #[inline]
     fn try_enter_at<B: StartsFrom<S>>(&self, seat: Seat<S, A>) -> Result<Held<'_, S, A>, Seat<S, A>>
         requires gate { seat.table_id ≡ self.now.table_id }
         requires first { B.first ≡ Some self.now.first }
@@ -84,6 +85,7 @@ impl<S: Guarded + Drop, A: Allocator + Copy> Gate<S, A> {
     }
 
     /// Enters, if nobody is inside. Where somebody is, the seat comes back and has counted one exchange that it lost.
+    #[inline]
     pub fn try_enter(&self, seat: Seat<S, A>) -> Result<Held<'_, S, A>, Seat<S, A>>
         requires { seat.table_id ≡ self.now.table_id }
         ensures found { IfOk result (FindsAtOnce S.stands self.now seat) }
@@ -93,6 +95,7 @@ impl<S: Guarded + Drop, A: Allocator + Copy> Gate<S, A> {
     }
 
     /// Whether nobody is inside, at the moment of the look. It takes nothing from who is.
+    #[inline]
     fn is_free(&self) -> bool {
         self.table.shared.peek(0) == 0
     }
@@ -100,20 +103,39 @@ impl<S: Guarded + Drop, A: Allocator + Copy> Gate<S, A> {
     /// Enters, and waits where somebody is inside: it lets other threads go first, and tries where it finds the gate free.
     ///
     /// Nothing says that it ever wins: who is inside may stay, and others may be faster.
+    #[inline]
     pub fn enter<R: Wait>(&self, rt: &R, seat: Seat<S, A>) -> Held<'_, S, A>
+        requires { seat.table_id ≡ self.now.table_id }
+        ensures found { Finds S.stands self.now seat result }
+        ensures lost { seat.knows.lost ≤ result.token.knows.lost }
+    {
+        if !self.is_free() {
+            return self.enter_waiting(rt, seat);
+        }
+        match self.try_enter(seat) {
+            Ok(held) => held,
+            Err(back) => self.enter_waiting(rt, back),
+        }
+    }
+
+    /// Enters, after the gate was found taken. It is a call of its own, so that a call that need not wait saves no registers
+    /// for it.
+    #[cold]
+    #[inline(never)]
+    fn enter_waiting<R: Wait>(&self, rt: &R, seat: Seat<S, A>) -> Held<'_, S, A>
         requires { seat.table_id ≡ self.now.table_id }
         ensures found { Finds S.stands self.now seat result }
         ensures lost { seat.knows.lost ≤ result.token.knows.lost }
     {
         let mut seat = seat;
         for _ in rt.forever() {
+            thread::yield_now();
             if self.is_free() {
                 match self.try_enter(seat) {
                     Ok(held) => return held,
                     Err(back) => seat = back,
                 }
             }
-            thread::yield_now();
         }
         unreachable!()
     }

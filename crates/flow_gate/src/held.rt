@@ -38,6 +38,7 @@ impl<'a, S: Guarded, A: Allocator> Held<'a, S, A> {
     ghost use Rattle.flow_gate.specs.Tokens.{StandsWith};
 
     /// The state, which may be changed while it is lent.
+    #[inline]
     pub fn state(&mut self) -> &mut S
         ensures* writes_back { sem 𝓛 (LendsState S.row A.row S.Said.row S.Guarded A.Allocator self.entry result) }
         ensures value { result.now ≡ self.old.state }
@@ -46,6 +47,7 @@ impl<'a, S: Guarded, A: Allocator> Held<'a, S, A> {
     }
 
     /// Puts the state back, where the events that were added are those of `W`, a type of one's own.
+    #[inline]
     pub fn leave_adding<W: Adds<S::Said>>(self) -> Seat<S, A>
         requires { StandsWith S.stands self W.adds }
         ensures { result ≡ knowing self.entry.token (adds W.adds self.entry.token.knows) }
@@ -65,6 +67,7 @@ impl<'a, S: Guarded, A: Allocator> Held<'a, S, A> {
 
     /// Puts the state back. At `Brand` the caller's proof says which events were added; it may speak of what lies
     /// behind `evidence`, such as the call's argument and its answer.
+    #[inline]
     pub fn leave<W: Adds<S::Said>, X>(self, _evidence: &X) -> Seat<S, A>
         requires { StandsWith S.stands self W.adds }
         ensures { result ≡ knowing self.entry.token (adds W.adds self.entry.token.knows) }

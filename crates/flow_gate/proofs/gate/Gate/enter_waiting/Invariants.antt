@@ -1,7 +1,7 @@
 use Rattle.std.proofs.Common.{◌≡◌, ◌≤◌}
 use Rattle.flow_law.specs.Growth.{knowledge}
 use Rattle.flow_law.specs.Tokens.{knowing}
-use Rattle.flow_gate.proofs.gate.Gate.enter.Given as goal
+use Rattle.flow_gate.proofs.gate.Gate.enter_waiting.Given as goal
 
 abbrev pub invariant-loop : goal.invariant-loop
 invariant-loop g l =
