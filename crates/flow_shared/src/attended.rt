@@ -151,6 +151,7 @@ impl<S: FlowCore, A: Allocator + Copy> Attended<S, A> {
     }
 
     /// Makes a call of the core, and takes out those who have something after it.
+    #[inline]
     pub(crate) fn call<C: CoreCall<S>>(&mut self, call: C) -> C::Answer
         ensures documented { (name : List ℕ) → Documents S.kind (AttendedAs S.sleeping S.stands_as)
             self.old (C.call call name) (C.reply result) self.new }
@@ -159,6 +160,18 @@ impl<S: FlowCore, A: Allocator + Copy> Attended<S, A> {
         if self.is_alone() {
             return call.run(&mut self.core);
         }
+        self.call_and_take_out(call)
+    }
+
+    /// Makes a call of the core, and takes out those who have something after it. It is a call of its own, so that a call with
+    /// nobody asleep saves no registers for it.
+    #[cold]
+    #[inline(never)]
+    fn call_and_take_out<C: CoreCall<S>>(&mut self, call: C) -> C::Answer
+        ensures documented { (name : List ℕ) → Documents S.kind (AttendedAs S.sleeping S.stands_as)
+            self.old (C.call call name) (C.reply result) self.new }
+        ensures also { C.also call result }
+    {
         self.wake_ended(call.ends(), call.cancels());
         let mark = self.core.mark();
         let first = self.core.first_waiting();
@@ -200,15 +213,17 @@ impl<S: FlowCore, A: Allocator + Copy> Attended<S, A> {
         }
     }
 
-    /// Takes those out who are to be woken, if there are any.
-    pub(crate) fn take_woken(&mut self) -> Option<(Woken<A>, Woken<A>)>
+    /// Returns whether a caller is to be woken.
+    pub(crate) fn wakes_any(&self) -> bool {
+        !self.woken.is_empty() || !self.done.is_empty()
+    }
+
+    /// Takes those out who are to be woken.
+    pub(crate) fn take_woken(&mut self) -> (Woken<A>, Woken<A>)
         ensures core { self.new.core ≡ self.old.core }
         ensures readers { self.new.readers ≡ self.old.readers }
         ensures emitters { self.new.emitters ≡ self.old.emitters }
     {
-        if self.woken.is_empty() && self.done.is_empty() {
-            return None;
-        }
-        Some((self.woken.take(), self.done.take()))
+        (self.woken.take(), self.done.take())
     }
 }

@@ -49,7 +49,25 @@ pub(crate) trait CoreCall<S: FlowCore> {
 }
 
 /// Leaves the gate, and then wakes those who have something.
+#[inline]
 pub(crate) fn leave_and_wake<S: FlowCore, A: Allocator + Copy, W: Adds<Said<S::Call, S::Reply>>, X>(
+    held: Held<'_, Attended<S, A>, A>,
+    evidence: &X,
+) -> Seat<Attended<S, A>, A>
+    requires { StandsWith (attended_stands S.sleeping S.first S.stands_as) held W.adds }
+    ensures { result ≡ knowing held.entry.token (adds W.adds held.entry.token.knows) }
+{
+    let mut held = held;
+    if held.state().wakes_any() {
+        return leave_then_wake::<S, A, W, X>(held, evidence);
+    }
+    held.leave::<W, X>(evidence)
+}
+
+/// As `leave_and_wake`, if a caller is to be woken.
+#[cold]
+#[inline(never)]
+fn leave_then_wake<S: FlowCore, A: Allocator + Copy, W: Adds<Said<S::Call, S::Reply>>, X>(
     held: Held<'_, Attended<S, A>, A>,
     evidence: &X,
 ) -> Seat<Attended<S, A>, A>
@@ -104,6 +122,7 @@ pub(crate) fn call_core_or_sleep<
     (seat, answer)
 }
 
+#[inline]
 pub(crate) fn call_core<S: FlowCore, A: Allocator + Copy, C: CoreCall<S>>(
     held: Held<'_, Attended<S, A>, A>,
     call: C,

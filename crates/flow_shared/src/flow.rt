@@ -39,6 +39,7 @@ impl<S: FlowCore, A: Allocator + Copy> Model for Flow<S, A> {
 }
 
 impl<S: FlowCore + Drop, A: Allocator + Copy> Flow<S, A> {
+    #[inline]
     pub(crate) fn call_by<R: Wait, C: CoreCall<S>>(
         &self,
         rt: &R,
@@ -127,6 +128,7 @@ impl<S: FlowCore + Drop, A: Allocator + Copy> Flow<S, A> {
     }
 
     /// A call through a seat.
+    #[inline]
     pub(crate) fn call<R: Wait, C: CoreCall<S>>(
         &self,
         rt: &R,
