@@ -10,4 +10,5 @@ pub mod DrainEnds
 pub mod Yields
 pub mod Attending
 pub mod Waits
+pub mod Tries
 pub mod PollRuns

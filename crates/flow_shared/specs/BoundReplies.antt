@@ -8,8 +8,8 @@ use Rattle.flow_law.specs.declared.outcome.Drained.TheVariants as drained
 use Rattle.flow_law.specs.declared.call.SharedCall.{SharedCall}
 use Rattle.flow_law.specs.declared.call.SharedReply.{SharedReply}
 use Rattle.flow_law.specs.declared.states.SharedFlowState.{SharedFlowState}
-use Rattle.flow_law.specs.Handles.{CallerOf}
-use Rattle.flow_gate.specs.Tokens.{Origin}
+use Rattle.flow_law.specs.Handles.{CallerOf, ReaderOf}
+use Rattle.flow_gate.specs.Tokens.{Origin, Token}
 use Rattle.flow_shared.specs.Calls.{NumberedToken}
 use Rattle.flow_shared.specs.SharedReplies.{SharedToken}
 use Rattle.flow_shared.specs.BoundEmissions.{EmissionOf}
@@ -64,6 +64,17 @@ module _ {T A : Type 0} where
   abbrev pub polled_now_flow : Result (PollAnswer T A) (EmissionOf T) → Origin (SharedFlowState T)
   polled_now_flow (Ok p) = polled_flow p
   polled_now_flow (Err e) = e.flow
+
+-- ---- an unsubscribe
+
+module _ {S E : Type 0} where
+  abbrev pub left_by : Result (CallerOf TableId S E) (ReaderOf TableId S E) → Result (Token E) (NumberedToken E)
+  left_by (Ok c) = Ok c.token
+  left_by (Err r) = Err r.subscription
+
+  abbrev pub left_flow : Result (CallerOf TableId S E) (ReaderOf TableId S E) → Origin S
+  left_flow (Ok c) = c.flow
+  left_flow (Err r) = r.flow
 
 -- ---- a cancel
 

@@ -1,6 +1,6 @@
 -- What each call of a flow for several threads does, for any kind of flow. Begin with `Calls`: one word for every call that is
 -- an event. `flow` is the flow: which one, and the state that it began with.
-use Rattle.std.specs.Prelude.{◌≡◌, ℕ, List, ◌∷◌, [], ◌++◌, Result}
+use Rattle.std.specs.Prelude.{◌≡◌, ℕ, List, ◌∷◌, [], ◌++◌, true, Result, Ok, Err}
 use Rattle.atomic_table.specs.Seated.{TableId}
 use Rattle.flow_law.specs.declared.fault.FlowFault.{FlowFault}
 use Rattle.flow_law.specs.declared.history.Event.{Event}
@@ -10,7 +10,7 @@ use Rattle.flow_law.specs.Growth.{Fits, adds, event}
 use Rattle.flow_law.specs.History.{Kind, IsHistory}
 use Rattle.flow_law.specs.OneHistory.{said}
 use Rattle.flow_law.specs.Standing.{StandsForHistory}
-use Rattle.flow_law.specs.Tokens.{CallsIn, CallsAtOnceIn, NextsIn, UnsubscribesIn, CountsIn, MeetsIn, SubscribesIn, NextsNowIn, CountsNowIn}
+use Rattle.flow_law.specs.Tokens.{CallsIn, CallsAtOnceIn, NextsIn, UnsubscribesIn, CountsIn, MeetsIn, SubscribesIn, NextsNowIn, CountsNowIn, IsBusy}
 use Rattle.flow_law.specs.Tokens as flows
 use Rattle.flow_gate.specs.Tokens.{Token, Origin, HeldState}
 
@@ -46,6 +46,11 @@ module _ {T S C R : Type 0} (kind : Kind T S C R) (flow : Origin S) where
 
   abbrev pub NextsNow : NumberedToken (Said C R) → Result (Next T) FlowFault → NumberedToken (Said C R) → Type 0
   NextsNow = NextsNowIn kind flow.first
+
+  -- the subscription was there and ended, with no exchange lost; or another caller was inside, and it is still there
+  abbrev pub UnsubscribesNow : NumberedToken (Said C R) → Result (Token (Said C R)) (NumberedToken (Said C R)) → Type 0
+  UnsubscribesNow old (Ok after) = CallsAtOnce old.token (kind.unsubscribe old.number) (kind.tested true) after
+  UnsubscribesNow old (Err back) = (back.number ≡ old.number) × IsBusy old.token back.token
 
   abbrev pub CountsNow : Token (Said C R) → Result ℕ FlowFault → Token (Said C R) → Type 0
   CountsNow = CountsNowIn kind flow.first

@@ -114,6 +114,10 @@ module _ {T : Type 0} (flow : Origin (SharedFlowState T)) where
   ResetsNow before (Ok none) after = CallsAtOnce flow before call.ResetReplayCache reply.Reset after
   ResetsNow before (Err fault) after = (fault ≡ Busy) × IsBusy before after
 
+  -- the emission's wait has ended, and the answer says whether it waited
+  abbrev pub Cancels : NumberedToken (Said (SharedCall T) (SharedReply T)) → SharedToken T × Bool → Type 0
+  Cancels e ended = Calls flow e.token (call.Cancel e.number) (reply.Tested ended.1) ended.0
+
   abbrev pub CancelsNow : NumberedToken (Said (SharedCall T) (SharedReply T)) → Result (SharedToken T × Bool) (NumberedToken (Said (SharedCall T) (SharedReply T))) → Type 0
   CancelsNow e (Ok ended) = CallsAtOnce flow e.token (call.Cancel e.number) (reply.Tested ended.1) ended.0
   CancelsNow e (Err back) = (back.number ≡ e.number) × IsBusy e.token back.token

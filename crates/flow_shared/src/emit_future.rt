@@ -7,6 +7,7 @@ ghost use Rattle.flow_shared.specs.Futures.{OneEach};
 ghost use Rattle.flow_shared.specs.EmitFutures.{Emitting, emitting, HoldsOf, EmitPolls, Says, held, token_after, KeepsCount, IsRefusedIfDue, sent_token, GivesSent, Cancels};
 
 use crate::answers::{Emission, Emitted, PolledNow};
+use crate::dropping::TRIES;
 use crate::shared::{Seat, SharedFlow};
 use flow_law::{FlowFault, FlowValue};
 use futures::Future;
@@ -44,13 +45,21 @@ pub enum EmitStage<T: FlowValue, A: Allocator + Copy = Global> {
 /// pending poll asks to be polled again, since no call of a flow wakes anybody. After Ready a poll is pending and
 /// calls nothing.
 ///
-/// # What is lost
-/// A future that is dropped while it waits leaves its value queued or offered, and its seat is lost. To walk
-/// away, call `cancel`.
-#[derive(Drop)]
+/// # Dropping
+/// Dropping the future cancels its emission if that waits, as dropping a `BoundEmission` does, and loses its seat. Call `cancel`
+/// to get the seat back.
 pub struct EmitFuture<'a, T: FlowValue, A: Allocator + Copy = Global> {
     flow: &'a SharedFlow<T, A>,
     stage: EmitStage<T, A>,
+}
+
+impl<T: FlowValue, A: Allocator + Copy> Drop for EmitFuture<'_, T, A> {
+    fn drop(self) {
+        let Self { flow, stage } = self;
+        if let EmitStage::Waiting(emission) = stage {
+            let _ended = flow.cancel_within(emission, TRIES);
+        }
+    }
 }
 
 impl<'a, T: FlowValue, A: Allocator + Copy> Model for EmitFuture<'a, T, A> {

@@ -18,15 +18,16 @@
 //! answers `FlowFault::Busy` there, and has done nothing. Neither waits for room or for a value: `emit` answers `Queued`,
 //! and `next` answers `Empty`. Three calls of handles do, `send`, `receive` and `changed`: the thread sleeps meanwhile.
 //!
-//! # What is lost
+//! # Dropping
 //! A seat that is dropped is lost. A subscription that is dropped stays, and may block emitters for good. An emission that
-//! is dropped stays queued or offered.
+//! is dropped stays queued or offered. A handle or a future ends the subscription or the emission that it holds.
 #![tactic(auto)]
 
 mod answers;
 mod attended;
 mod core_call;
 mod drain;
+mod dropping;
 mod emit_future;
 mod flow;
 mod handles;

@@ -5,6 +5,7 @@ ghost use Rattle.futures.specs.Poll.{IfReady, OnPending};
 ghost use Rattle.flow_shared.specs.Futures.{OneEach};
 ghost use Rattle.flow_shared.specs.NextFutures.{Receiving, receiving, IsTo, NextPolls, Says, held, token_after, given_by, IsRefusedIfDue, GivesReceived};
 
+use crate::dropping::TRIES;
 use crate::shared::{SharedFlow, Subscription};
 use flow_law::{FlowFault, FlowValue, Next};
 use futures::Future;
@@ -22,13 +23,20 @@ pub type Received<T, A = Global> = (Subscription<T, A>, Result<T, FlowFault>);
 /// another caller was inside) asks to be polled again, since no call of a flow wakes anybody. After Ready a poll is
 /// pending and calls nothing. The answer is a value, or `OutOfMemory`: the value is then still in the flow.
 ///
-/// # What is lost
-/// A future that is dropped loses no value, but its subscription: that stays in the flow, as one that is dropped
-/// does. To walk away, call `into_subscription`.
-#[derive(Drop)]
+/// # Dropping
+/// Dropping the future ends its subscription, as dropping a `Reader` does. Call `into_subscription` to keep it.
 pub struct NextFuture<'a, T: FlowValue, A: Allocator + Copy = Global> {
     flow: &'a SharedFlow<T, A>,
     subscription: Option<Subscription<T, A>>,
+}
+
+impl<T: FlowValue, A: Allocator + Copy> Drop for NextFuture<'_, T, A> {
+    fn drop(self) {
+        let Self { flow, subscription } = self;
+        if let Some(subscription) = subscription {
+            let _ended = flow.unsubscribe_within(subscription, TRIES);
+        }
+    }
 }
 
 impl<'a, T: FlowValue, A: Allocator + Copy> Model for NextFuture<'a, T, A> {

@@ -5,6 +5,7 @@ ghost use Rattle.futures.specs.Poll.{IfReady, OnPending};
 ghost use Rattle.flow_shared.specs.Futures.{OneEach};
 ghost use Rattle.flow_shared.specs.NextFutures.{Receiving, receiving, IsTo, NextPolls, Says, held, token_after, IsRefusedIfDue, GivesReceived};
 
+use crate::dropping::TRIES;
 use crate::next_future::{Received, given_by};
 use crate::shared::{SharedFlow, Subscription};
 use flow_law::FlowValue;
@@ -21,12 +22,20 @@ use std::marker::Model;
 /// After Ready a poll is pending and calls nothing.
 ///
 /// # Dropping
-/// A future that is dropped loses no value, but leaves its subscription in the flow, and perhaps a waker: its task may be
-/// woken once more. To walk away, call `into_subscription`.
-#[derive(Drop)]
+/// Dropping the future ends its subscription, as dropping a `Reader` does. Its task may be woken once more. Call
+/// `into_subscription` to keep the subscription.
 pub struct ReceiveFuture<'a, T: FlowValue, A: Allocator + Copy = Global> {
     flow: &'a SharedFlow<T, A>,
     subscription: Option<Subscription<T, A>>,
+}
+
+impl<T: FlowValue, A: Allocator + Copy> Drop for ReceiveFuture<'_, T, A> {
+    fn drop(self) {
+        let Self { flow, subscription } = self;
+        if let Some(subscription) = subscription {
+            let _ended = flow.unsubscribe_within(subscription, TRIES);
+        }
+    }
 }
 
 impl<'a, T: FlowValue, A: Allocator + Copy> Model for ReceiveFuture<'a, T, A> {

@@ -7,6 +7,7 @@ ghost use Rattle.flow_shared.specs.Futures.{OneEach};
 ghost use Rattle.flow_shared.specs.EmitFutures.{Emitting, emitting, HoldsOf, EmitPolls, Says, held, token_after, KeepsCount, IsRefusedIfDue, sent_token, GivesSent, Cancels};
 
 use crate::answers::{Emission, Emitted, PolledNow};
+use crate::dropping::TRIES;
 use crate::emit_future::{EmitStage, Sent};
 use crate::shared::{Seat, SharedFlow};
 use flow_law::{FlowFault, FlowValue};
@@ -25,12 +26,20 @@ use std::sync::Wait;
 /// a poll is pending and calls nothing.
 ///
 /// # Dropping
-/// A future that is dropped while it waits leaves its value queued or offered, and its seat is lost. To walk away, call
-/// `cancel`.
-#[derive(Drop)]
+/// Dropping the future cancels its emission if that waits, as dropping a `BoundEmission` does, and loses its seat. Call `cancel`
+/// to get the seat back.
 pub struct SendFuture<'a, T: FlowValue, A: Allocator + Copy = Global> {
     flow: &'a SharedFlow<T, A>,
     stage: EmitStage<T, A>,
+}
+
+impl<T: FlowValue, A: Allocator + Copy> Drop for SendFuture<'_, T, A> {
+    fn drop(self) {
+        let Self { flow, stage } = self;
+        if let EmitStage::Waiting(emission) = stage {
+            let _ended = flow.cancel_within(emission, TRIES);
+        }
+    }
 }
 
 impl<'a, T: FlowValue, A: Allocator + Copy> Model for SendFuture<'a, T, A> {

@@ -92,8 +92,8 @@ impl<S: FlowCore, A: Allocator + Copy> SleepingCall<S, A> for TakeNext {
 }
 
 #[derive(Drop)]
-struct Unsubscribe {
-    id: SubId,
+pub(crate) struct Unsubscribe {
+    pub(crate) id: SubId,
 }
 
 impl<S: FlowCore> CoreCall<S> for Unsubscribe {

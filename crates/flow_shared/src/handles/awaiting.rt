@@ -27,7 +27,7 @@ impl<'a, T: FlowValue, A: Allocator + Copy> FlowReader<'a, SharedCore<T, A>, A> 
     pub fn into_receive(self) -> ReceiveFuture<'a, T, A>
         ensures { result ≡ receiving self.entry.flow (Some self.entry.subscription) }
     {
-        let FlowReader { flow, subscription } = self;
-        ReceiveFuture::new(flow, subscription)
+        let flow = self.flow;
+        ReceiveFuture::new(flow, self.into_subscription())
     }
 }

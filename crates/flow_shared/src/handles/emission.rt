@@ -9,6 +9,7 @@ ghost use Rattle.flow_shared.specs.BoundReplies.{polled_by, polled_flow, polled_
 use super::caller::FlowCaller;
 use super::emitter::Emitter;
 use crate::answers::{Emission, Polled, PolledNow};
+use crate::dropping::TRIES;
 use crate::flow::Flow;
 use crate::shared::SharedFlow;
 use flow_core::SharedCore;
@@ -19,11 +20,19 @@ use std::sync::Wait;
 
 /// A suspended emission, and the flow that it is in. It has its emitter's seat.
 ///
-/// Dropping it leaves its value queued or offered, and drops its seat. Call `cancel` to end its wait.
-#[derive(Drop)]
+/// # Dropping
+/// Dropping it cancels the emission, as `cancel` does, without waiting. If other callers hold the flow at each of many tries,
+/// its value stays queued or offered.
 pub struct BoundEmission<'a, T: FlowValue, A: Allocator + Copy = Global> {
     flow: &'a SharedFlow<T, A>,
     emission: Emission<T, A>,
+}
+
+impl<T: FlowValue, A: Allocator + Copy> Drop for BoundEmission<'_, T, A> {
+    fn drop(self) {
+        let Self { flow, emission } = self;
+        let _ended = flow.cancel_within(emission, TRIES);
+    }
 }
 
 impl<'a, T: FlowValue, A: Allocator + Copy> Model for BoundEmission<'a, T, A> {

@@ -7,11 +7,12 @@ ghost use Rattle.flow_law.specs.Growth.{makes, child};
 ghost use Rattle.flow_law.specs.HandleFaults.{answer_by, memory_fault, try_next_fault};
 ghost use Rattle.flow_law.specs.Handles.{read_by, next_in};
 ghost use Rattle.flow_law.specs.Tokens.{knowing};
-ghost use Rattle.flow_shared.specs.Calls.{NextsOf, NextsNow, Unsubscribes};
-ghost use Rattle.flow_shared.specs.BoundReplies.{drained_by};
+ghost use Rattle.flow_shared.specs.Calls.{NextsOf, NextsNow, Unsubscribes, UnsubscribesNow};
+ghost use Rattle.flow_shared.specs.BoundReplies.{drained_by, left_by, left_flow};
 
 use super::caller::FlowCaller;
 use super::errors::{drain_end, try_next_error};
+use crate::dropping::TRIES;
 use crate::flow::Flow;
 use crate::token::FlowSubscription;
 use flow_core::{FlowCore, SharedCore, StateCore};
@@ -22,8 +23,9 @@ use std::sync::Wait;
 
 /// A subscription, and the flow that it is to. Contracts see both.
 ///
-/// Dropping it leaves the subscription in the flow, where it is still counted. Call `unsubscribe` to end it.
-#[derive(Drop)]
+/// # Dropping
+/// Dropping the reader ends its subscription, as `unsubscribe` does, without waiting. If other callers hold the flow at each
+/// of many tries, the subscription stays in the flow.
 pub struct FlowReader<'a, S: FlowCore, A: Allocator + Copy = Global> {
     pub(crate) flow: &'a Flow<S, A>,
     pub(crate) subscription: FlowSubscription<S, A>,
@@ -42,6 +44,13 @@ pub enum DrainEnd {
     Most,
     /// The subscriber has received all values.
     Empty,
+}
+
+impl<S: FlowCore + Drop, A: Allocator + Copy> Drop for FlowReader<'_, S, A> {
+    fn drop(self) {
+        let Self { flow, subscription } = self;
+        let _ended = flow.unsubscribe_within(subscription, TRIES);
+    }
 }
 
 impl<'a, S: FlowCore, A: Allocator + Copy> Model for FlowReader<'a, S, A> {
@@ -154,6 +163,18 @@ impl<'a, S: FlowCore + Drop, A: Allocator + Copy> FlowReader<'a, S, A> {
         let FlowReader { flow, subscription } = self;
         let seat = flow.unsubscribe(rt, subscription);
         FlowCaller::new(flow, seat)
+    }
+
+    /// Ends the subscription if no other caller holds the flow; otherwise returns the reader.
+    pub fn try_unsubscribe(self) -> Result<FlowCaller<'a, S, A>, FlowReader<'a, S, A>>
+        ensures flow { left_flow result ≡ self.entry.flow }
+        ensures left { UnsubscribesNow S.kind self.entry.flow self.entry.subscription (left_by result) }
+    {
+        let FlowReader { flow, subscription } = self;
+        match flow.unsubscribe_now(subscription) {
+            Ok(seat) => Ok(FlowCaller::new(flow, seat)),
+            Err(back) => Err(FlowReader::new(flow, back)),
+        }
     }
 
     /// Gives the subscription back, for the flow's own calls.

@@ -52,7 +52,7 @@ impl<'a, S: FlowCore + Drop, A: Allocator + Copy> FlowReader<'a, S, A> {
 /// not be copied; the value is then the next item.
 ///
 /// # Dropping
-/// Dropping the stream leaves its subscription in the flow. Call `into_reader` to get it back.
+/// Dropping the stream ends its subscription, as dropping its reader does. Call `into_reader` to keep it.
 #[derive(Drop)]
 pub struct FlowValues<'a, S: FlowCore, A: Allocator + Copy = Global> {
     reader: FlowReader<'a, S, A>,
