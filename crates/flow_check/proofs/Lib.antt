@@ -4,6 +4,16 @@ pub mod Timing
 pub mod Ordering
 pub mod Places
 pub mod Bridging
+pub mod KeptLemmas
 pub mod StateSeats
 pub mod StateSteps
 pub mod StateJudging
+pub mod LagLemmas
+pub mod QueueLemmas
+pub mod SharedSeats
+pub mod SharedStanding
+pub mod SharedEmitting
+pub mod SharedCalls
+pub mod SharedMoves
+pub mod SharedSteps
+pub mod SharedJudging

@@ -1,5 +1,5 @@
 -- Steps of a checker of state flows go through a record in an order exactly if a history of a state flow explains it in that order.
-use Rattle.std.proofs.Common.{◌≡◌, ◌≢◌, ◌⊎◌, ℕ, suc, zero, ◌+◌, Bool, true, false, ◌==◌, cond, List, [], ◌∷◌, ◌++◌, length, Option, Some, None, refl, sym, ap, ◌∙◌, subst, inl, inr, arith}
+use Rattle.std.proofs.Common.{◌≡◌, ◌≢◌, ◌⊎◌, ℕ, ◌+◌, Bool, true, false, ◌==◌, cond, List, [], ◌∷◌, ◌++◌, length, Option, Some, None, refl, sym, ap, ◌∙◌, subst, inl, inr, arith}
 use Rattle.std.proofs.lemmas.List.{length-map}
 use Rattle.std.proofs.lemmas.Bool.{false≢true}
 use Rattle.std.proofs.lemmas.Bool.Decides.{eqb_tells}
@@ -25,7 +25,9 @@ use Rattle.flow_check.specs.Records.{Calls, IsWellTimed}
 use Rattle.flow_check.specs.Remaining.{none_placed, GoesThroughAll}
 use Rattle.flow_check.specs.Verdicts.{Judges}
 use Rattle.flow_check.specs.StateRecords.{name_of, call_of, IsRecorded, AddsEntry, ExplainsState}
-use Rattle.flow_check.specs.StateMachine.{Kept, reader_of, present, none_subscribed, own_answer, moved, same_answer, agrees, stepped, may_skip}
+use Rattle.flow_check.specs.Subscribed.{none_subscribed}
+use Rattle.flow_check.specs.StateMachine.{Kept, own_answer, moved, same_answer, agrees, stepped, may_skip}
+use Rattle.flow_check.proofs.KeptLemmas.{present-none, kept-none}
 use Rattle.flow_check.proofs.Places.{counts_none}
 use Rattle.flow_check.proofs.Ordering.{goes_explains, explains_goes}
 use Rattle.flow_check.proofs.Bridging.{Leads, Follows, steps_go, goes_steps}
@@ -70,16 +72,6 @@ own_agrees a own written e r = subst (λ (o : Option StateAnswer). agrees o writ
 
 -- ---- before any call
 
-present-none : {C : Type 0} (callers : List C) → present (none_subscribed callers) ≡ 0
-present-none [] = refl
-present-none (c ∷ callers) = present-none callers
-
-none_reader : {C : Type 0} (callers : List C) (i : ℕ) → reader_of i (none_subscribed callers) ≡ None
-none_reader [] zero = refl
-none_reader [] (suc i) = refl
-none_reader (c ∷ callers) zero = refl
-none_reader (c ∷ callers) (suc i) = none_reader callers i
-
 module _ (callers : Calls StateEntry) (initial limit : ℕ) where
   abbrev first : StateFlowState ℕ
   first = first_state_flow limit initial
@@ -94,8 +86,8 @@ module _ (callers : Calls StateEntry) (initial limit : ℕ) where
   stands_first = record {
     value = refl;
     readers = length-map callers (λ _. None);
-    count = sym (present-none callers);
-    seats = λ caller l. subst (Seat [] [] caller) (sym (none_reader callers caller)) (λ u own. refl);
+    count = sym (present-none (Option ℕ) callers);
+    seats = λ caller l. subst (Seat [] [] caller) (sym (kept-none (Option ℕ) callers caller)) (λ u own. refl);
     issued = omega arith;
     owned = tt;
   }

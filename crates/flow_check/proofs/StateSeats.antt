@@ -1,8 +1,8 @@
 -- What a checker of state flows keeps of each caller, and the subscribers of the documented flow. Begin with `StandsAs`.
-use Rattle.std.proofs.Common.{◌≡◌, ◌≢◌, ℕ, suc, zero, ◌+◌, ◌<◌, ◌≤◌, Bool, cond, List, [], ◌∷◌, ◌++◌, length, set, get_or, Option, Some, None, refl, sym, ap, ◌∙◌, subst, inl, inr, arith, ne_eqb, length-set, length-append, le_refl}
-use Rattle.std.specs.Prelude.{slice_get, is_some}
+use Rattle.std.proofs.Common.{◌≡◌, ◌≢◌, ℕ, ◌+◌, ◌<◌, ◌≤◌, Bool, cond, List, [], ◌∷◌, ◌++◌, length, set, get_or, Option, Some, None, refl, sym, ap, ◌∙◌, subst, inl, inr, arith, ne_eqb, length-set, length-append, le_refl}
+use Rattle.std.specs.Prelude.{is_some}
 use Rattle.std.proofs.lemmas.Bool.Decides.{eqb_tells}
-use Rattle.std.proofs.lemmas.Option.{slice_get_within, slice_get-get_or, same_Some}
+use Rattle.std.proofs.lemmas.Option.{same_Some}
 use Rattle.flow_law.specs.declared.states.StateSubscriber.{StateSubscriber}
 use Rattle.flow_law.specs.declared.states.StateFlowState.{StateFlowState}
 use Rattle.flow_law.specs.History.{subscriber, Owner, owner_of}
@@ -12,8 +12,9 @@ use Rattle.flow_law.proofs.StateSubscriberLemmas.{last-snoc, last-snoc_other, la
 use Rattle.flow_law.proofs.StateCounts.{none_above, one_fewer, length-with, Once}
 use Rattle.flow_law.proofs.StateCounts as counts
 use Rattle.flow_check.specs.StateRecords.{name_of}
-use Rattle.flow_check.specs.StateMachine.{Kept, reader_in, reader_of, present, with_reader}
-use Rattle.flow_check.proofs.Places.{get-set_same, get-set_other}
+use Rattle.flow_check.specs.Subscribed.{present}
+use Rattle.flow_check.specs.StateMachine.{Kept, reader_of, with_reader}
+use Rattle.flow_check.proofs.KeptLemmas.{kept_at, kept-set_same, kept-set_other, present-set_more, present-set_same, present-set_fewer}
 
 abbrev pub Subscribers : Type 0
 Subscribers = List (StateSubscriber ℕ)
@@ -41,38 +42,6 @@ pub record IsSound (s : StateFlowState ℕ) : Type 0 where
   pub numbers : counts.UpTo s.issued s.subscribers
   pub once : Once s.subscribers
 
--- ---- readers
-
-reader_at : (readers : List (Option (Option ℕ))) (i : ℕ) → i < length readers → slice_get readers i ≡ Some (reader_of i readers)
-reader_at readers i l = let e = slice_get-get_or readers i None l in e ∙ ap Some (sym (ap reader_in e))
-
-reader-set_same : (readers : List (Option (Option ℕ))) (i : ℕ) (x : Option (Option ℕ)) → i < length readers → reader_of i (set readers i x) ≡ x
-reader-set_same readers i x l = ap reader_in (get-set_same readers i x l)
-
-reader-set_other : (readers : List (Option (Option ℕ))) (i j : ℕ) (x : Option (Option ℕ)) → i ≢ j → j < length readers → reader_of j (set readers i x) ≡ reader_of j readers
-reader-set_other readers i j x apart l = ap reader_in (get-set_other readers i j x apart l)
-
-present-set_more : (readers : List (Option (Option ℕ))) (i : ℕ) (x : Option ℕ) → slice_get readers i ≡ Some None → present (set readers i (Some x)) ≡ present readers + 1
-present-set_more [] i x h = let past = slice_get_within [] i None h in absurd (omega arith)
-present-set_more (None ∷ readers) zero x h = refl
-present-set_more (Some y ∷ readers) zero x h = let e = same_Some (Some y) None h in absurd (cc)
-present-set_more (None ∷ readers) (suc i) x h = present-set_more readers i x h
-present-set_more (Some y ∷ readers) (suc i) x h = ap (λ n. n + 1) (present-set_more readers i x h)
-
-present-set_same : (readers : List (Option (Option ℕ))) (i : ℕ) (x y : Option ℕ) → slice_get readers i ≡ Some (Some y) → present (set readers i (Some x)) ≡ present readers
-present-set_same [] i x y h = let past = slice_get_within [] i (Some y) h in absurd (omega arith)
-present-set_same (None ∷ readers) zero x y h = let e = same_Some None (Some y) h in absurd (cc)
-present-set_same (Some z ∷ readers) zero x y h = refl
-present-set_same (None ∷ readers) (suc i) x y h = present-set_same readers i x y h
-present-set_same (Some z ∷ readers) (suc i) x y h = ap (λ n. n + 1) (present-set_same readers i x y h)
-
-present-set_fewer : (readers : List (Option (Option ℕ))) (i : ℕ) (y : Option ℕ) → slice_get readers i ≡ Some (Some y) → present (set readers i None) + 1 ≡ present readers
-present-set_fewer [] i y h = let past = slice_get_within [] i (Some y) h in absurd (omega arith)
-present-set_fewer (None ∷ readers) zero y h = let e = same_Some None (Some y) h in absurd (cc)
-present-set_fewer (Some z ∷ readers) zero y h = refl
-present-set_fewer (None ∷ readers) (suc i) y h = present-set_fewer readers i y h
-present-set_fewer (Some z ∷ readers) (suc i) y h = ap (λ n. n + 1) (present-set_fewer readers i y h)
-
 -- ---- seats
 
 -- a seat stays as it is if its caller's numbers do
@@ -82,7 +51,7 @@ seat_stays owners us vs caller None same seat = λ u own. same u own ∙ seat u 
 seat_stays owners us vs caller (Some last) same seat = (seat.0, seat.1, same seat.0 seat.1 ∙ seat.2, λ u own apart. same u own ∙ seat.3 u own apart)
 
 -- a number is one caller's
-other_number : (owners : List Owner) (i j u v : ℕ) → i ≢ j → IsOwn i u owners → IsOwn j v owners → u ≢ v
+pub other_number : (owners : List Owner) (i j u v : ℕ) → i ≢ j → IsOwn i u owners → IsOwn j v owners → u ≢ v
 other_number owners i j u v apart own other e =
     let names = same_Some (name_of i) (name_of j) (sym own ∙ subst (λ (n : ℕ). IsOwn j n owners) (sym e) other) in
     apart (ap (λ (name : List ℕ). get_or name 0 0) names)
@@ -117,17 +86,17 @@ module _ (size : ℕ) (m : Kept) (k : ℕ) (s : StateFlowState ℕ) (owners : Li
         let seat = subst (Seat owners s.subscribers caller) is (st.seats caller near) in record {
           value = st.value;
           readers = length-set m.readers caller (Some (Some v)) ∙ st.readers;
-          count = length-with u v s.subscribers ∙ st.count ∙ sym (present-set_same m.readers caller (Some v) last (reader_at m.readers caller low ∙ ap Some is));
+          count = length-with u v s.subscribers ∙ st.count ∙ sym (present-set_same m.readers caller (Some v) last (kept_at m.readers caller low ∙ ap Some is));
           seats = λ j l. elim (eqb_tells caller j) [
             | inl e ↦ subst (λ (i : ℕ). Seat owners (with_last u v s.subscribers) i (reader_of i (set m.readers caller (Some (Some v))))) e.1
-                (subst (Seat owners (with_last u v s.subscribers) caller) (sym (reader-set_same m.readers caller (Some (Some v)) low)) (
+                (subst (Seat owners (with_last u v s.subscribers) caller) (sym (kept-set_same m.readers caller (Some (Some v)) low)) (
                   u,
                   own,
                   last-with u v last s.subscribers (is_its caller u last seat own there),
                   λ w its apart. last-with_other w u v s.subscribers (ne_eqb u w (λ q. apart (sym q))) ∙ others_of caller u last seat own there w its apart,
                 ))
             | inr e ↦ let far : j < length m.readers = let is = st.readers in omega arith in
-                subst (Seat owners (with_last u v s.subscribers) j) (sym (reader-set_other m.readers caller j (Some (Some v)) e.1 far))
+                subst (Seat owners (with_last u v s.subscribers) j) (sym (kept-set_other m.readers caller j (Some (Some v)) e.1 far))
                 (seat_stays owners s.subscribers (with_last u v s.subscribers) j (reader_of j m.readers)
                 (λ w its. last-with_other w u v s.subscribers (ne_eqb u w (other_number owners caller j u w e.1 own its))) (st.seats j l))
           ];
@@ -140,12 +109,12 @@ module _ (size : ℕ) (m : Kept) (k : ℕ) (s : StateFlowState ℕ) (owners : Li
     had v is = let upto = st.issued in record {
       value = st.value;
       readers = length-set m.readers caller (Some (Some v)) ∙ st.readers;
-      count = st.count ∙ sym (present-set_same m.readers caller (Some v) (Some v) (reader_at m.readers caller low ∙ ap Some is));
+      count = st.count ∙ sym (present-set_same m.readers caller (Some v) (Some v) (kept_at m.readers caller low ∙ ap Some is));
       seats = λ j l. elim (eqb_tells caller j) [
         | inl e ↦ subst (λ (i : ℕ). Seat owners s.subscribers i (reader_of i (set m.readers caller (Some (Some v))))) e.1
-            (subst (Seat owners s.subscribers caller) (is ∙ sym (reader-set_same m.readers caller (Some (Some v)) low)) (st.seats caller near))
+            (subst (Seat owners s.subscribers caller) (is ∙ sym (kept-set_same m.readers caller (Some (Some v)) low)) (st.seats caller near))
         | inr e ↦ let far : j < length m.readers = let is = st.readers in omega arith in
-            subst (Seat owners s.subscribers j) (sym (reader-set_other m.readers caller j (Some (Some v)) e.1 far)) (st.seats j l)
+            subst (Seat owners s.subscribers j) (sym (kept-set_other m.readers caller j (Some (Some v)) e.1 far)) (st.seats j l)
       ];
       issued = omega arith;
       owned = st.owned;
@@ -158,19 +127,19 @@ module _ (size : ℕ) (m : Kept) (k : ℕ) (s : StateFlowState ℕ) (owners : Li
         let seat = subst (Seat owners s.subscribers caller) is (st.seats caller near) in
         let before = st.count in
         let fewer = one_fewer u s.subscribers sound.once (ap is_some (is_its caller u last seat own there)) in
-        let kept = present-set_fewer m.readers caller last (reader_at m.readers caller low ∙ ap Some is) in record {
+        let kept = present-set_fewer m.readers caller last (kept_at m.readers caller low ∙ ap Some is) in record {
           value = st.value;
           readers = length-set m.readers caller None ∙ st.readers;
           count = omega arith;
           seats = λ j l. elim (eqb_tells caller j) [
             | inl e ↦ subst (λ (i : ℕ). Seat owners (without_subscriber u s.subscribers) i (reader_of i (set m.readers caller None))) e.1
-                (subst (Seat owners (without_subscriber u s.subscribers) caller) (sym (reader-set_same m.readers caller None low))
+                (subst (Seat owners (without_subscriber u s.subscribers) caller) (sym (kept-set_same m.readers caller None low))
                 (λ w its. elim (eqb_tells u w) [
                   | inl q ↦ subst (λ (n : ℕ). last_of n (without_subscriber u s.subscribers) ≡ None) q.1 (last-without u s.subscribers)
                   | inr q ↦ last-without_other w u s.subscribers q.0 ∙ others_of caller u last seat own there w its (λ p. q.1 (sym p))
                 ]))
             | inr e ↦ let far : j < length m.readers = let is = st.readers in omega arith in
-                subst (Seat owners (without_subscriber u s.subscribers) j) (sym (reader-set_other m.readers caller j None e.1 far))
+                subst (Seat owners (without_subscriber u s.subscribers) j) (sym (kept-set_other m.readers caller j None e.1 far))
                 (seat_stays owners s.subscribers (without_subscriber u s.subscribers) j (reader_of j m.readers)
                 (λ w its. last-without_other w u s.subscribers (ne_eqb u w (other_number owners caller j u w e.1 own its))) (st.seats j l))
           ];
@@ -213,14 +182,14 @@ module _ (size : ℕ) (m : Kept) (k : ℕ) (s : StateFlowState ℕ) (owners : Li
     subscribed u sound new is = let upto = st.issued in
         let before = st.count in
         let more = length-append s.subscribers (new_one u ∷ []) in
-        let kept = present-set_more m.readers caller None (reader_at m.readers caller low ∙ ap Some is) in
+        let kept = present-set_more m.readers caller None (kept_at m.readers caller low ∙ ap Some is) in
         let above : s.issued < u = omega arith in record {
           value = st.value;
           readers = length-set m.readers caller (Some None) ∙ st.readers;
           count = omega arith;
           seats = λ j l. elim (eqb_tells caller j) [
             | inl e ↦ subst (λ (i : ℕ). Seat (given_to u ∷ owners) (s.subscribers ++ new_one u ∷ []) i (reader_of i (set m.readers caller (Some None)))) e.1
-                (subst (Seat (given_to u ∷ owners) (s.subscribers ++ new_one u ∷ []) caller) (sym (reader-set_same m.readers caller (Some None) low)) (
+                (subst (Seat (given_to u ∷ owners) (s.subscribers ++ new_one u ∷ []) caller) (sym (kept-set_same m.readers caller (Some None) low)) (
                   u,
                   newest_owner (given_to u) owners,
                   last-snoc u s.subscribers (new_one u) (none_above s.issued u s.subscribers sound.numbers above) refl,
@@ -228,7 +197,7 @@ module _ (size : ℕ) (m : Kept) (k : ℕ) (s : StateFlowState ℕ) (owners : Li
                       ∙ subst (Seat owners s.subscribers caller) is (st.seats caller near) w (older_owner u w caller apart its),
                 ))
             | inr e ↦ let far : j < length m.readers = let is = st.readers in omega arith in
-                subst (Seat (given_to u ∷ owners) (s.subscribers ++ new_one u ∷ []) j) (sym (reader-set_other m.readers caller j (Some None) e.1 far))
+                subst (Seat (given_to u ∷ owners) (s.subscribers ++ new_one u ∷ []) j) (sym (kept-set_other m.readers caller j (Some None) e.1 far))
                 (seat_with u j (reader_of j m.readers) e.1 new st.owned (st.seats j l))
           ];
           issued = omega arith;

@@ -19,7 +19,8 @@ use Rattle.flow_check.specs.declared.state_calls.StateOperation.TheVariants as o
 use Rattle.flow_check.specs.declared.state_calls.StateAnswer.{StateAnswer}
 use Rattle.flow_check.specs.declared.state_calls.StateAnswer.TheVariants as answer
 use Rattle.flow_check.specs.StateRecords.{name_of, call_of, reply_of, HasNoSubscription, MayMake}
-use Rattle.flow_check.specs.StateMachine.{Kept, reader_of, present, subscribe_answer, next_answer, unsubscribe_answer, own_answer, with_reader, moved}
+use Rattle.flow_check.specs.Subscribed.{present}
+use Rattle.flow_check.specs.StateMachine.{Kept, reader_of, subscribe_answer, next_answer, unsubscribe_answer, own_answer, with_reader, moved}
 use Rattle.flow_check.proofs.StateSeats.{Seat, StandsAs, IsSound, IsOwn, is_its, later, received, had, left, subscribed}
 
 abbrev tested : Bool → StateReply ℕ

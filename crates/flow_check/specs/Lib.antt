@@ -3,5 +3,8 @@ pub mod Orders
 pub mod Remaining
 pub mod Tables
 pub mod Verdicts
+pub mod Subscribed
 pub mod StateRecords
 pub mod StateMachine
+pub mod SharedRecords
+pub mod SharedMachine

@@ -1,32 +1,19 @@
 -- A state flow as a checker keeps it. Begin with `stepped`. No public clause cites this module.
-use Rattle.std.specs.Prelude.{ℕ, ◌+◌, Bool, true, false, not, ◌==◌, if◌then◌else◌, List, [], ◌∷◌, map, slice_get, slice_set, Option, Some, None}
+use Rattle.std.specs.Prelude.{ℕ, Bool, true, false, not, ◌==◌, if◌then◌else◌, List, slice_set, Option, Some, None}
 use Rattle.flow_check.specs.declared.state_calls.StateOperation.{StateOperation}
 use Rattle.flow_check.specs.declared.state_calls.StateOperation.TheVariants as operation
 use Rattle.flow_check.specs.declared.state_calls.StateAnswer.{StateAnswer}
 use Rattle.flow_check.specs.declared.state_calls.StateAnswer.TheVariants as answer
 use Rattle.flow_check.specs.declared.state_calls.StateEntry.{StateEntry}
+use Rattle.flow_check.specs.Subscribed.{kept_of, present}
 
 -- The value, and what each caller has received: None if it is not subscribed, and else the last value that it received.
 pub record Kept : Type 0 where
   pub value : ℕ
   pub readers : List (Option (Option ℕ))
 
-abbrev pub reader_in : Option (Option (Option ℕ)) → Option (Option ℕ)
-reader_in None = None
-reader_in (Some reader) = reader
-
 abbrev pub reader_of : ℕ → List (Option (Option ℕ)) → Option (Option ℕ)
-reader_of caller readers = reader_in (slice_get readers caller)
-
--- how many callers are subscribed
-abbrev pub present : List (Option (Option ℕ)) → ℕ
-present [] = 0
-present (None ∷ readers) = present readers
-present (Some last ∷ readers) = present readers + 1
-
--- no caller is subscribed
-abbrev pub none_subscribed : {C : Type 0} → List C → List (Option (Option ℕ))
-none_subscribed = map (λ _. None)
+reader_of = kept_of
 
 -- ---- answers
 

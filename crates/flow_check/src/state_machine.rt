@@ -1,11 +1,13 @@
 //! A state flow as the checker keeps it.
 ghost use Rattle.std.specs.Prelude.{◌≡◌, IsTrue, IfOk};
-ghost use Rattle.flow_check.specs.StateMachine.{reader_of, present, with_reader, none_subscribed};
+ghost use Rattle.flow_check.specs.Subscribed.{none_subscribed};
+ghost use Rattle.flow_check.specs.StateMachine.{reader_of, with_reader};
 ghost use Rattle.flow_check.specs.StateMachine.{subscribe_answer, next_answer, unsubscribe_answer};
 ghost use Rattle.flow_check.specs.StateMachine.{own_answer, moved, same_answer, agrees};
 
 use crate::machine::Machine;
 use crate::state_calls::{StateAnswer, StateEntry, StateOperation};
+use crate::subscribed::present;
 use std::alloc::{AllocError, Global};
 use std::marker::Model;
 
@@ -23,21 +25,6 @@ impl Model for StateMachine {
     ghost Value = { Kept };
 
     ghost view = { λ m. record { value = m.value; readers = m.readers.items } };
-}
-
-/// Returns how many callers are subscribed.
-fn present(readers: &[Option<Option<u64>>]) -> usize
-    ensures { result ≡ present readers.now }
-{
-    let mut rest = readers;
-    let mut count = 0;
-    while let Some((first, others)) = rest.split_first() {
-        if first.is_some() {
-            count += 1;
-        }
-        rest = others;
-    }
-    count
 }
 
 /// Returns the answer to `subscribe` of a caller that has received this.

@@ -13,4 +13,14 @@ mod random;
 #[cfg(test)]
 mod records;
 #[cfg(test)]
+mod shared;
+#[cfg(test)]
+mod shared_plain;
+#[cfg(test)]
+mod shared_random;
+#[cfg(test)]
+mod shared_records;
+#[cfg(test)]
+mod shared_search;
+#[cfg(test)]
 mod state;

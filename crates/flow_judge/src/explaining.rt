@@ -132,14 +132,6 @@ impl<'a> Report<'a> {
                 self.add_place(object.at, refusal.part)?;
                 self.add(&["\"", key, "\" is missing\n  expected: ", refusal.expected])
             }
-            Wrong::SharedFlow => {
-                let found = self.text.member(object, "kind")?.unwrap_or(object);
-                self.add_place(found.at, refusal.part)?;
-                self.add(&[
-                    "shared flows are not judged yet\n  expected: ",
-                    refusal.expected,
-                ])
-            }
             Wrong::Value(words) => {
                 let key = refusal.key.unwrap_or("");
                 let found = self.text.member(object, key)?.unwrap_or(object);

@@ -4,6 +4,8 @@ use serde_json::Value;
 
 pub const WHOLE: &str = "a whole number below 2^64";
 
+const SMALL: &str = "a whole number below 2^32";
+
 const TEXT: &str = "a word";
 
 /// An object of a record.
@@ -54,6 +56,14 @@ impl<'a> Fields<'a> {
         match self.need(key, WHOLE)?.as_u64() {
             Some(number) => Ok(number),
             None => unfit(self.part, key, WHOLE, &[]),
+        }
+    }
+
+    pub fn small(self, key: &'static str) -> Result<u32, Unread> {
+        let number = self.need(key, SMALL)?.as_u64();
+        match number {
+            Some(number) if number <= 0xFFFF_FFFF => Ok(number as u32),
+            _ => unfit(self.part, key, SMALL, &[]),
         }
     }
 

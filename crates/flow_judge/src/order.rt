@@ -20,12 +20,14 @@ pub fn word_of(call: CallWord) -> &'static str {
         CallWord::CompareAndSet => "compare_and_set",
         CallWord::Update => "update",
         CallWord::TryEmit => "try_emit",
+        CallWord::Emit => "emit",
         CallWord::Subscribe => "subscribe",
         CallWord::Next => "next",
         CallWord::Unsubscribe => "unsubscribe",
         CallWord::First => "first",
         CallWord::SubscriptionCount => "subscription_count",
         CallWord::ReplayCache => "replay_cache",
+        CallWord::ResetReplayCache => "reset_replay_cache",
     }
 }
 
@@ -47,6 +49,7 @@ fn write_answer<W: Write>(out: &mut W, lists: &[u64], call: WrittenCall) -> io::
     write!(out, ": ")?;
     match answer {
         WrittenAnswer::Done => write!(out, "done"),
+        WrittenAnswer::Cancelled => write!(out, "cancelled"),
         WrittenAnswer::Empty => write!(out, "empty"),
         WrittenAnswer::Value(value) => write!(out, "{value}"),
         WrittenAnswer::Truth(truth) => write!(out, "{truth}"),
@@ -61,8 +64,12 @@ pub fn write_call<W: Write>(out: &mut W, sheet: &Sheet, call: WrittenCall) -> io
     let word = word_of(call.call);
     write!(out, "{word}")?;
     match call.call {
-        CallWord::Set | CallWord::TryEmit => write!(out, " {}", call.value)?,
+        CallWord::Set | CallWord::TryEmit | CallWord::Emit => write!(out, " {}", call.value)?,
         CallWord::CompareAndSet => write!(out, " {} {}", call.expect, call.value)?,
+        CallWord::Subscribe if call.first.count > 0 => {
+            write!(out, " ")?;
+            write_list(out, sheet.lists.as_slice(), call.first)?;
+        }
         _ => {}
     }
     write_answer(out, sheet.lists.as_slice(), call)
@@ -70,10 +77,13 @@ pub fn write_call<W: Write>(out: &mut W, sheet: &Sheet, call: WrittenCall) -> io
 
 /// Returns what a part of a call is, if the call has several.
 fn part_words(call: WrittenCall, part: usize) -> &'static str {
-    match (call.call, part) {
-        (CallWord::First, 0) => " (it subscribes)",
-        (CallWord::First, 1) => " (it receives)",
-        (CallWord::First, _) => " (it leaves)",
+    match (call.call, call.answer, part) {
+        (CallWord::First, _, 0) => " (it subscribes)",
+        (CallWord::First, _, 1) => " (it receives)",
+        (CallWord::First, _, _) => " (it leaves)",
+        (CallWord::Emit, Some(_), 0) => " (it begins)",
+        (CallWord::Emit, Some(WrittenAnswer::Cancelled), _) => " (it is cancelled)",
+        (CallWord::Emit, Some(_), _) => " (it returns)",
         _ => "",
     }
 }
@@ -96,7 +106,7 @@ fn write_turn<W: Write>(
     write_call(out, sheet, call)?;
     writeln!(out, "{}", part_words(call, cursor.part))?;
     cursor.part = cursor.part.saturating_add(1);
-    if cursor.part >= parts_of(call) {
+    if cursor.part >= parts_of(call, sheet.flow.is_state()) {
         cursor.call = cursor.call.saturating_add(1);
         cursor.part = 0;
     }

@@ -1,36 +1,69 @@
 //! Reads records.
 use crate::fields::{Fields, WHOLE};
-use crate::refusal::{Part, Refusal, Unread, Wrong, unfit};
+use crate::refusal::{Part, Unread, unfit};
 use crate::words::{
-    AnswerForm, CALL_WORDS, CallRow, CallWord, FLOW_KEYS, HEAD_KEYS, KINDS, LINE_KEYS, row_of,
+    AnswerForm, CallRow, CallWord, HEAD_KEYS, KINDS, LINE_KEYS, OVERFLOWS, SHARED_CALLS,
+    SHARED_KEYS, STATE_CALLS, STATE_KEYS, row_of,
 };
-use crate::written::{Range, Sheet, WrittenAnswer, WrittenCall};
+use crate::written::{Range, Sheet, WrittenAnswer, WrittenCall, WrittenFlow};
+use flow_law::Overflow;
 use serde_json::Value;
 use std::alloc::{AllocError, Global};
 
-const A_KIND: &str = "\"state\"";
+const A_KIND: &str = "\"state\" or \"shared\"";
 
-const A_CALL: &str = "a call of a state flow";
+const AN_OVERFLOW: &str = "\"suspend\", \"drop_oldest\" or \"drop_latest\"";
+
+/// The most that `replay` and `extra` may come to.
+const MOST_CAPACITY: u64 = 65_536;
+
+const A_CAPACITY: &str = "at most 65536 together with \"replay\"";
+
+const NO_BUFFER: &str = "\"suspend\" where \"replay\" and \"extra\" are 0";
+
+const A_CALL: &str = "a call of this kind of flow";
 
 const A_LIST: &str = "a list of values";
 
-/// Reads the initial value of a state flow from the value of `flow`.
-fn initial_of(value: &Value) -> Result<u64, Unread> {
+fn overflow_of(flow: Fields<'_>) -> Result<Overflow, Unread> {
+    match flow.word("overflow", OVERFLOWS)? {
+        "suspend" => Ok(Overflow::Suspend),
+        "drop_oldest" => Ok(Overflow::DropOldest),
+        "drop_latest" => Ok(Overflow::DropLatest),
+        _ => unfit(Part::Flow, "overflow", AN_OVERFLOW, OVERFLOWS),
+    }
+}
+
+/// Reads the value of `flow`.
+fn flow_of(value: &Value) -> Result<WrittenFlow, Unread> {
     let flow = Fields {
         value,
         part: Part::Flow,
     };
     match flow.word("kind", KINDS)? {
         "state" => {
-            flow.has_only(FLOW_KEYS)?;
-            flow.whole("initial")
+            flow.has_only(STATE_KEYS)?;
+            let initial = flow.whole("initial")?;
+            Ok(WrittenFlow::State { initial })
         }
-        "shared" => Err(Unread::Refused(Refusal {
-            part: Part::Flow,
-            key: Some("kind"),
-            wrong: Wrong::SharedFlow,
-            expected: A_KIND,
-        })),
+        "shared" => {
+            flow.has_only(SHARED_KEYS)?;
+            let replay = flow.small("replay")?;
+            let extra = flow.small("extra")?;
+            let overflow = overflow_of(flow)?;
+            let capacity = replay as u64 + extra as u64;
+            if capacity > MOST_CAPACITY {
+                return unfit(Part::Flow, "extra", A_CAPACITY, &[]);
+            }
+            if capacity == 0 && overflow != Overflow::Suspend {
+                return unfit(Part::Flow, "overflow", NO_BUFFER, &[]);
+            }
+            Ok(WrittenFlow::Shared {
+                replay,
+                extra,
+                overflow,
+            })
+        }
         _ => unfit(Part::Flow, "kind", A_KIND, KINDS),
     }
 }
@@ -70,6 +103,11 @@ fn list_of(
 fn answer_in(value: &Value, form: AnswerForm) -> Option<WrittenAnswer> {
     match form {
         AnswerForm::Done => (value.as_str()? == "done").then_some(WrittenAnswer::Done),
+        AnswerForm::Ended => match value.as_str()? {
+            "done" => Some(WrittenAnswer::Done),
+            "cancelled" => Some(WrittenAnswer::Cancelled),
+            _ => None,
+        },
         AnswerForm::Value => Some(WrittenAnswer::Value(value.get("value")?.as_u64()?)),
         AnswerForm::Truth => Some(WrittenAnswer::Truth(value.as_bool()?)),
         AnswerForm::Next => match value.as_str() {
@@ -133,11 +171,13 @@ fn end_of(
     Ok((None, None))
 }
 
-fn row_in(call: Fields<'_>) -> Result<CallRow, Unread> {
-    let word = call.word("call", CALL_WORDS)?;
-    match row_of(word) {
+fn row_in(sheet: &Sheet, call: Fields<'_>) -> Result<CallRow, Unread> {
+    let is_state = sheet.flow.is_state();
+    let words = if is_state { STATE_CALLS } else { SHARED_CALLS };
+    let word = call.word("call", words)?;
+    match row_of(word, is_state) {
         Some(row) => Ok(row),
-        None => unfit(call.part, "call", A_CALL, CALL_WORDS),
+        None => unfit(call.part, "call", A_CALL, words),
     }
 }
 
@@ -155,9 +195,13 @@ fn add_call(alloc: Global, sheet: &mut Sheet, value: &Value) -> Result<(), Unrea
     if !value.is_object() {
         return call.has_only(&[]);
     }
-    let row = row_in(call)?;
+    let row = row_in(sheet, call)?;
     call.has_only(row.keys)?;
     let name = call.word("by", &[])?;
+    let first = match call.get("first") {
+        Some(list) => list_of(sheet, list, call.part, "first")?,
+        None => Range { from: 0, count: 0 },
+    };
     let value = if has(row, "value") {
         call.whole("value")?
     } else {
@@ -178,6 +222,7 @@ fn add_call(alloc: Global, sheet: &mut Sheet, value: &Value) -> Result<(), Unrea
             call: row.call,
             value,
             expect,
+            first,
             begin,
             end,
             answer,
@@ -203,12 +248,12 @@ fn read_whole(alloc: Global, bytes: &[u8]) -> Result<Sheet, Unread> {
         part: Part::Head,
     };
     head.has_only(HEAD_KEYS)?;
-    let initial = initial_of(head.need("flow", "an object")?)?;
+    let flow = flow_of(head.need("flow", "an object")?)?;
     let calls = head.need("calls", "a list of calls")?;
     let Some(calls) = calls.as_array() else {
         return unfit(Part::Head, "calls", "a list of calls", &[]);
     };
-    let mut sheet = Sheet::new(alloc, initial);
+    let mut sheet = Sheet::new(alloc, flow);
     for call in calls.as_slice() {
         add_call(alloc, &mut sheet, call)?;
     }
@@ -237,8 +282,8 @@ fn read_lines(alloc: Global, bytes: &[u8]) -> Result<Sheet, Unread> {
                     part: Part::Head,
                 };
                 head.has_only(LINE_KEYS)?;
-                let initial = initial_of(head.need("flow", "an object")?)?;
-                read = Some(Sheet::new(alloc, initial));
+                let flow = flow_of(head.need("flow", "an object")?)?;
+                read = Some(Sheet::new(alloc, flow));
             }
         }
     }

@@ -23,8 +23,6 @@ pub enum Wrong {
     Key(&'static [&'static str]),
     /// It is no object.
     NoObject,
-    /// The flow is a shared one, and only state flows are judged.
-    SharedFlow,
 }
 
 /// Why a record is refused: in the value of `key` of this part, or in the part itself.

@@ -8,18 +8,22 @@ pub enum CallWord {
     CompareAndSet,
     Update,
     TryEmit,
+    Emit,
     Subscribe,
     Next,
     Unsubscribe,
     First,
     SubscriptionCount,
     ReplayCache,
+    ResetReplayCache,
 }
 
 /// What a call may be answered.
 #[derive(Clone, Copy)]
 pub enum AnswerForm {
     Done,
+    /// Of `emit`, which may be cancelled.
+    Ended,
     Value,
     Truth,
     /// Of `next`.
@@ -35,6 +39,7 @@ impl AnswerForm {
     pub fn expected(self) -> &'static str {
         match self {
             AnswerForm::Done => "\"done\"",
+            AnswerForm::Ended => "\"done\" or \"cancelled\"",
             AnswerForm::Value => "{\"value\": V}, with a value",
             AnswerForm::Truth => "true or false",
             AnswerForm::Next => "{\"value\": V}, with a value, or \"empty\"",
@@ -48,19 +53,22 @@ impl AnswerForm {
     pub fn words(self) -> &'static [&'static str] {
         match self {
             AnswerForm::Done => &["done"],
+            AnswerForm::Ended => &["done", "cancelled"],
             AnswerForm::Next => &["empty"],
             _ => &[],
         }
     }
 }
 
-/// A call: its word, its keys and its answers.
+/// A call: its word, its keys, its answers, and the kinds of flow that have it.
 #[derive(Clone, Copy)]
 pub struct CallRow {
     pub word: &'static str,
     pub call: CallWord,
     pub keys: &'static [&'static str],
     pub answer: AnswerForm,
+    pub of_state: bool,
+    pub of_shared: bool,
 }
 
 const PLAIN: &[&str] = &["by", "call", "begin", "end", "answer"];
@@ -69,34 +77,64 @@ const WITH_VALUE: &[&str] = &["by", "call", "value", "begin", "end", "answer"];
 
 const WITH_EXPECT: &[&str] = &["by", "call", "expect", "value", "begin", "end", "answer"];
 
-/// A row of `CALLS`: the word, the call, its keys and its answers.
+const WITH_FIRST: &[&str] = &["by", "call", "first", "begin", "end", "answer"];
+
+/// A row of `CALLS`: the word, the call, its keys, its answers, and whether state and shared flows
+/// have it.
 macro_rules! row {
-    ($word:expr, $call:ident, $keys:expr, $answer:ident) => {
+    ($word:expr, $call:ident, $keys:expr, $answer:ident, $of_state:expr, $of_shared:expr) => {
         CallRow {
             word: $word,
             call: CallWord::$call,
             keys: $keys,
             answer: AnswerForm::$answer,
+            of_state: $of_state,
+            of_shared: $of_shared,
         }
     };
 }
 
+/// All calls. Those of state flows alone come first, and those of shared flows alone last.
 const CALLS: &[CallRow] = &[
-    row!("value", Value, PLAIN, Value),
-    row!("set", Set, WITH_VALUE, Done),
-    row!("compare_and_set", CompareAndSet, WITH_EXPECT, Truth),
-    row!("update", Update, PLAIN, Exchange),
-    row!("try_emit", TryEmit, WITH_VALUE, Truth),
-    row!("subscribe", Subscribe, PLAIN, Done),
-    row!("next", Next, PLAIN, Next),
-    row!("unsubscribe", Unsubscribe, PLAIN, Done),
-    row!("first", First, PLAIN, Value),
-    row!("subscription_count", SubscriptionCount, PLAIN, Number),
-    row!("replay_cache", ReplayCache, PLAIN, Values),
+    row!("value", Value, PLAIN, Value, true, false),
+    row!("set", Set, WITH_VALUE, Done, true, false),
+    row!(
+        "compare_and_set",
+        CompareAndSet,
+        WITH_EXPECT,
+        Truth,
+        true,
+        false
+    ),
+    row!("update", Update, PLAIN, Exchange, true, false),
+    row!("try_emit", TryEmit, WITH_VALUE, Truth, true, true),
+    row!("subscribe", Subscribe, PLAIN, Done, true, false),
+    row!("subscribe", Subscribe, WITH_FIRST, Done, false, true),
+    row!("next", Next, PLAIN, Next, true, true),
+    row!("unsubscribe", Unsubscribe, PLAIN, Done, true, true),
+    row!("first", First, PLAIN, Value, true, true),
+    row!(
+        "subscription_count",
+        SubscriptionCount,
+        PLAIN,
+        Number,
+        true,
+        true
+    ),
+    row!("replay_cache", ReplayCache, PLAIN, Values, true, true),
+    row!("emit", Emit, WITH_VALUE, Ended, false, true),
+    row!(
+        "reset_replay_cache",
+        ResetReplayCache,
+        PLAIN,
+        Done,
+        false,
+        true
+    ),
 ];
 
-/// The words of all calls.
-pub const CALL_WORDS: &[&str] = &[
+/// The words of the calls of state flows.
+pub const STATE_CALLS: &[&str] = &[
     "value",
     "set",
     "compare_and_set",
@@ -110,18 +148,40 @@ pub const CALL_WORDS: &[&str] = &[
     "replay_cache",
 ];
 
+/// The words of the calls of shared flows.
+pub const SHARED_CALLS: &[&str] = &[
+    "try_emit",
+    "emit",
+    "subscribe",
+    "next",
+    "unsubscribe",
+    "first",
+    "subscription_count",
+    "replay_cache",
+    "reset_replay_cache",
+];
+
 pub const HEAD_KEYS: &[&str] = &["flow", "calls"];
 
 pub const LINE_KEYS: &[&str] = &["flow"];
 
-pub const FLOW_KEYS: &[&str] = &["kind", "initial"];
+pub const STATE_KEYS: &[&str] = &["kind", "initial"];
 
-pub const KINDS: &[&str] = &["state"];
+pub const SHARED_KEYS: &[&str] = &["kind", "replay", "extra", "overflow"];
 
-/// Returns the row of a call.
-pub fn row_of(word: &str) -> Option<CallRow> {
+pub const KINDS: &[&str] = &["state", "shared"];
+
+pub const OVERFLOWS: &[&str] = &["suspend", "drop_oldest", "drop_latest"];
+
+/// Returns the row of a call of this kind of flow.
+pub fn row_of(word: &str, is_state: bool) -> Option<CallRow> {
     for row in CALLS {
-        if row.word == word {
+        let has_it = if is_state {
+            row.of_state
+        } else {
+            row.of_shared
+        };
+        if has_it && row.word == word {
             return Some(*row);
         }
     }

@@ -1,5 +1,6 @@
 //! A record as it is written, before it is judged.
 use crate::words::CallWord;
+use flow_law::Overflow;
 use std::alloc::{AllocError, Global};
 use std::collections::HashMap;
 
@@ -21,6 +22,7 @@ impl Range {
 #[derive(Clone, Copy, Debug)]
 pub enum WrittenAnswer {
     Done,
+    Cancelled,
     Empty,
     Value(u64),
     Truth(bool),
@@ -38,16 +40,36 @@ pub struct WrittenCall {
     pub call: CallWord,
     pub value: u64,
     pub expect: u64,
+    pub first: Range,
     pub begin: u64,
     pub end: Option<u64>,
     pub answer: Option<WrittenAnswer>,
 }
 
-/// A record: the initial value of its flow, the names of its callers in the order in which they come
-/// up, and the calls of each.
+/// The flow of a record.
+#[derive(Clone, Copy, Debug)]
+pub enum WrittenFlow {
+    State {
+        initial: u64,
+    },
+    Shared {
+        replay: u32,
+        extra: u32,
+        overflow: Overflow,
+    },
+}
+
+impl WrittenFlow {
+    pub fn is_state(self) -> bool {
+        matches!(self, WrittenFlow::State { .. })
+    }
+}
+
+/// A record: its flow, the names of its callers in the order in which they come up, and the calls of
+/// each.
 #[derive(Drop)]
 pub struct Sheet {
-    pub initial: u64,
+    pub flow: WrittenFlow,
     pub names: Vec<String>,
     places: HashMap<String, usize>,
     pub rows: Vec<Vec<WrittenCall>>,
@@ -56,9 +78,9 @@ pub struct Sheet {
 }
 
 impl Sheet {
-    pub fn new(alloc: Global, initial: u64) -> Sheet {
+    pub fn new(alloc: Global, flow: WrittenFlow) -> Sheet {
         Sheet {
-            initial,
+            flow,
             names: Vec::new(alloc),
             places: HashMap::new(alloc),
             rows: Vec::new(alloc),

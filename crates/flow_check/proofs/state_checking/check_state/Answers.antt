@@ -2,7 +2,8 @@ use Rattle.std.proofs.Common.{subst}
 use Rattle.flow_check.specs.declared.state_calls.StateEntry.{StateEntry}
 use Rattle.flow_check.specs.Records.{Calls}
 use Rattle.flow_check.specs.Remaining.{GoesThroughAll}
-use Rattle.flow_check.specs.StateMachine.{Kept, none_subscribed, stepped, may_skip}
+use Rattle.flow_check.specs.Subscribed.{none_subscribed}
+use Rattle.flow_check.specs.StateMachine.{Kept, stepped, may_skip}
 use Rattle.flow_check.specs.Verdicts.{Judges}
 use Rattle.flow_check.proofs.StateJudging.{judged}
 use Rattle.flow_check.proofs.state_checking.check_state.Goals as goal

@@ -1,0 +1,267 @@
+-- A shared flow as a checker keeps it: lags in place of positions, callers in place of numbers. Begin with `stepped`.
+-- No public clause cites this module.
+use Rattle.std.specs.Prelude.{ℕ, ◌+◌, ◌-◌, max, min, Bool, true, false, not, ◌&&◌, ◌||◌, ◌==◌, nat_lt, nat_le, if◌then◌else◌, List, [], ◌∷◌, ◌++◌, length, drop, map, filter, slice_get, slice_set, Option, Some, None, is_some}
+use Rattle.std.specs.List.{list_any}
+use Rattle.flow_law.specs.declared.config.Config.{Config}
+use Rattle.flow_law.specs.declared.config.Overflow.{Overflow}
+use Rattle.flow_law.specs.declared.config.Overflow.TheVariants.{Suspend, DropOldest, DropLatest}
+use Rattle.flow_check.specs.declared.shared_calls.SharedOperation.{SharedOperation}
+use Rattle.flow_check.specs.declared.shared_calls.SharedOperation.TheVariants as operation
+use Rattle.flow_check.specs.declared.shared_calls.SharedAnswer.{SharedAnswer}
+use Rattle.flow_check.specs.declared.shared_calls.SharedAnswer.TheVariants as answer
+use Rattle.flow_check.specs.declared.shared_calls.SharedEntry.{SharedEntry}
+use Rattle.flow_check.specs.declared.shared_machine.EmitCase.{EmitCase}
+use Rattle.flow_check.specs.declared.shared_machine.EmitCase.TheVariants as emits
+use Rattle.flow_check.specs.declared.shared_machine.Held.{Held}
+use Rattle.flow_check.specs.Subscribed.{kept_of, present}
+
+-- The last emitted values, and how many of them the replay cache has. Of each caller, how many emitted values it has still to
+-- receive, None if it is not subscribed, and what is left of its own first values. The values whose emitters wait, and the caller
+-- whose value was emitted without a buffer.
+pub record Kept : Type 0 where
+  pub config : Config
+  pub values : List ℕ
+  pub cached : ℕ
+  pub lags : List (Option ℕ)
+  pub owns : List (List ℕ)
+  pub queue : List Held
+  pub offered : Option ℕ
+
+-- ---- what is read off a state
+
+abbrev pub own_in : Option (List ℕ) → List ℕ
+own_in None = []
+own_in (Some own) = own
+
+abbrev pub own_left : ℕ → List (List ℕ) → List ℕ
+own_left caller owns = own_in (slice_get owns caller)
+
+-- the most that a subscriber has still to receive
+abbrev pub most_lag : List (Option ℕ) → ℕ
+most_lag [] = 0
+most_lag (None ∷ lags) = most_lag lags
+most_lag (Some lag ∷ lags) = max lag (most_lag lags)
+
+abbrev pub no_values : {C : Type 0} → List C → List (List ℕ)
+no_values = map (λ _. [])
+
+abbrev pub capacity : Kept → ℕ
+capacity s = s.config.replay + s.config.extra
+
+abbrev pub window : Kept → ℕ
+window s = max (capacity s) 1
+
+abbrev pub is_blocked : Kept → Bool
+is_blocked s = nat_le (window s) (most_lag s.lags)
+
+abbrev pub when_blocked : Overflow → EmitCase
+when_blocked Suspend = emits.Queues
+when_blocked DropLatest = emits.DropsLatest
+when_blocked DropOldest = emits.DropsOldest
+
+abbrev pub emit_case : Kept → EmitCase
+emit_case s =
+    if (present s.lags == 0) || (not (is_blocked s) && nat_lt 0 (capacity s)) then emits.Appends
+    else (if is_blocked s then when_blocked s.config.overflow else emits.Offers)
+
+-- the caller whose value is offered: one that some subscriber has not received
+abbrev pub offering : Kept → Option ℕ
+offering s = if most_lag s.lags == 0 then None else s.offered
+
+abbrev pub is_offered_by : ℕ → Option ℕ → Bool
+is_offered_by caller None = false
+is_offered_by caller (Some other) = other == caller
+
+abbrev pub is_in_queue : ℕ → List Held → Bool
+is_in_queue caller = list_any (λ held. held.caller == caller)
+
+-- the caller's `emit` waits
+abbrev pub is_waiting : ℕ → Kept → Bool
+is_waiting caller s = is_offered_by caller (offering s) || is_in_queue caller s.queue
+
+-- the last so many values
+abbrev pub last_values : ℕ → List ℕ → List ℕ
+last_values count values = drop (length values - count) values
+
+abbrev pub cache : Kept → List ℕ
+cache s = last_values s.cached s.values
+
+-- what a subscriber with this lag receives of the emitted values
+abbrev pub value_at : ℕ → List ℕ → Option ℕ
+value_at lag values = slice_get (last_values lag values) 0
+
+abbrev pub lag_at_first : ℕ → Option ℕ → ℕ
+lag_at_first cached None = cached
+lag_at_first cached (Some caller) = 1
+
+-- how many emitted values a new subscriber has to receive
+abbrev pub first_lag : Kept → ℕ
+first_lag s = lag_at_first s.cached (offering s)
+
+-- ---- changes
+
+-- one more value to receive, and no more than the window
+abbrev pub raised : ℕ → Option ℕ → Option ℕ
+raised most None = None
+raised most (Some lag) = Some (min (lag + 1) most)
+
+abbrev pub cleared : Option ℕ → Option ℕ
+cleared None = None
+cleared (Some lag) = Some 0
+
+abbrev pub with_lag : ℕ → Option ℕ → Kept → Kept
+with_lag caller lag s = record s { lags = slice_set s.lags caller lag }
+
+abbrev pub with_own : ℕ → List ℕ → Kept → Kept
+with_own caller own s = record s { owns = slice_set s.owns caller own }
+
+-- the caller's value is emitted; without a buffer it is offered to those who are subscribed
+abbrev pub append : ℕ → ℕ → Kept → Kept
+append caller v s = record s {
+  values = s.values ++ v ∷ [];
+  cached = min (s.cached + 1) s.config.replay;
+  lags = map (raised (window s)) s.lags;
+  offered = if capacity s == 0 then Some caller else None;
+}
+
+-- queued values are emitted, the first ones first, until the flow is blocked
+abbrev pub admit : Kept → List Held → Kept
+admit s [] = record s { queue = [] }
+admit s (held ∷ queue) = if is_blocked s then record s { queue = held ∷ queue } else admit (append held.caller held.value s) queue
+
+abbrev pub settle : Kept → Kept
+settle s = admit s s.queue
+
+-- without the values that can be neither received nor replayed, and without what is offered to none
+abbrev pub trim : Kept → Kept
+trim s = record s { values = last_values (max (most_lag s.lags) s.cached) s.values; offered = offering s }
+
+abbrev pub hold : ℕ → ℕ → Kept → Kept
+hold caller v s = record s { queue = s.queue ++ record { caller = caller; value = v } ∷ [] }
+
+abbrev pub emit_in : EmitCase → ℕ → ℕ → Kept → Kept
+emit_in emits.Appends caller v s = append caller v s
+emit_in emits.Offers caller v s = append caller v s
+emit_in emits.Queues caller v s = hold caller v s
+emit_in emits.DropsLatest caller v s = s
+emit_in emits.DropsOldest caller v s = append caller v s
+
+abbrev pub try_emit_in : EmitCase → ℕ → ℕ → Kept → Kept
+try_emit_in emits.Appends caller v s = append caller v s
+try_emit_in emits.Offers caller v s = s
+try_emit_in emits.Queues caller v s = s
+try_emit_in emits.DropsLatest caller v s = s
+try_emit_in emits.DropsOldest caller v s = append caller v s
+
+-- an offered value is no more for those who have not received it, a queued one is lost
+abbrev pub withdraw : ℕ → Kept → Kept
+withdraw caller s =
+    if is_offered_by caller (offering s) then record s { lags = map cleared s.lags }
+    else record s { queue = filter (λ held. not (held.caller == caller)) s.queue }
+
+abbrev pub cancel : ℕ → Kept → Kept
+cancel caller s = if is_waiting caller s then settle (withdraw caller s) else s
+
+-- the first of the own values, or the next emitted one if none is left
+abbrev pub receive_by : ℕ → List ℕ → Option ℕ → Kept → Kept
+receive_by caller (v ∷ own) lag s = with_own caller own s
+receive_by caller [] None s = s
+receive_by caller [] (Some lag) s = if lag == 0 then s else settle (with_lag caller (Some (lag - 1)) s)
+
+abbrev pub receive : ℕ → Kept → Kept
+receive caller s = receive_by caller (own_left caller s.owns) (kept_of caller s.lags) s
+
+-- ---- answers
+
+-- an answer of the flow's own, with its list of values
+pub data OwnAnswer : Type 0 where
+  done : OwnAnswer
+  received : ℕ → OwnAnswer
+  tested : Bool → OwnAnswer
+  nothing : OwnAnswer
+  counted : ℕ → OwnAnswer
+  cached : List ℕ → OwnAnswer
+
+abbrev pub same_values : List ℕ → List ℕ → Bool
+same_values [] [] = true
+same_values (v ∷ vs) (w ∷ ws) = (v == w) && same_values vs ws
+same_values _ _ = false
+
+abbrev pub same_answer : OwnAnswer → SharedAnswer → Bool
+same_answer done answer.Done = true
+same_answer (received v) (answer.Value w) = v == w
+same_answer (tested b) (answer.Truth c) = if b then c else not c
+same_answer nothing answer.Empty = true
+same_answer (counted m) (answer.Number n) = m == n
+same_answer (cached vs) (answer.Values ws) = same_values vs ws.now
+same_answer _ _ = false
+
+-- the own answer is the one that was recorded, if one was
+abbrev pub agrees : Option OwnAnswer → Option SharedAnswer → Bool
+agrees None written = false
+agrees (Some own) None = true
+agrees (Some own) (Some a) = same_answer own a
+
+abbrev pub done_if : Bool → Option OwnAnswer
+done_if may = if may then Some done else None
+
+abbrev pub try_emit_answer : EmitCase → Bool
+try_emit_answer emits.Appends = true
+try_emit_answer emits.Offers = false
+try_emit_answer emits.Queues = false
+try_emit_answer emits.DropsLatest = true
+try_emit_answer emits.DropsOldest = true
+
+abbrev pub emitted_answer : Option ℕ → OwnAnswer
+emitted_answer None = nothing
+emitted_answer (Some v) = received v
+
+-- the first of the own values, or the next emitted one if none is left
+abbrev pub next_value : List ℕ → ℕ → List ℕ → Option ℕ
+next_value (v ∷ own) lag values = Some v
+next_value [] lag values = value_at lag values
+
+abbrev pub next_answer : List ℕ → Option ℕ → List ℕ → Option OwnAnswer
+next_answer own None values = None
+next_answer own (Some lag) values = Some (emitted_answer (next_value own lag values))
+
+-- the flow's own answer to a caller, if the caller may make the call
+abbrev pub own_answer : ℕ → SharedOperation → Kept → Option OwnAnswer
+own_answer caller (operation.TryEmit v) s = Some (tested (try_emit_answer (emit_case s)))
+own_answer caller (operation.Emit v) s = done_if (not (is_waiting caller s))
+own_answer caller (operation.EmitOrNot v) s = done_if (not (is_waiting caller s))
+own_answer caller operation.EmitReturned s = done_if (not (is_waiting caller s))
+own_answer caller operation.EmitCancelled s = Some done
+own_answer caller (operation.Subscribe own) s = done_if (not (is_some (kept_of caller s.lags)))
+own_answer caller operation.Next s = next_answer (own_left caller s.owns) (kept_of caller s.lags) s.values
+own_answer caller operation.Unsubscribe s = done_if (is_some (kept_of caller s.lags))
+own_answer caller operation.ReplayCache s = Some (cached (cache s))
+own_answer caller operation.ResetReplayCache s = Some done
+own_answer caller operation.SubscriptionCount s = Some (counted (present s.lags))
+
+-- ---- steps
+
+abbrev pub made : ℕ → SharedOperation → Kept → Kept
+made caller (operation.TryEmit v) s = try_emit_in (emit_case s) caller v s
+made caller (operation.Emit v) s = emit_in (emit_case s) caller v s
+made caller (operation.EmitOrNot v) s = emit_in (emit_case s) caller v s
+made caller operation.EmitReturned s = s
+made caller operation.EmitCancelled s = cancel caller s
+made caller (operation.Subscribe own) s = with_own caller own.now (with_lag caller (Some (first_lag s)) s)
+made caller operation.Next s = receive caller s
+made caller operation.Unsubscribe s = settle (with_own caller [] (with_lag caller None s))
+made caller operation.ReplayCache s = s
+made caller operation.ResetReplayCache s = record s { cached = 0 }
+made caller operation.SubscriptionCount s = s
+
+abbrev pub stepped : Kept → ℕ → SharedEntry → Option Kept
+stepped s caller entry =
+    if agrees (own_answer caller entry.operation s) entry.answer then Some (trim (made caller entry.operation s)) else None
+
+-- an `emit` that was cancelled may not have begun
+abbrev pub may_skip_operation : SharedOperation → Bool
+may_skip_operation (operation.EmitOrNot v) = true
+may_skip_operation _ = false
+
+abbrev pub may_skip : SharedEntry → Bool
+may_skip entry = may_skip_operation entry.operation

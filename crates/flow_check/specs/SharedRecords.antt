@@ -1,0 +1,105 @@
+-- What recorded calls of a shared flow are in a history of the documented shared flow. Begin with `ExplainsShared`.
+use Rattle.std.specs.Prelude.{◌≡◌, ◌⊎◌, ℕ, true, false, List, [], ◌∷◌, Option, Some, None}
+use Rattle.flow_law.specs.declared.config.Config.{Config}
+use Rattle.flow_law.specs.declared.outcome.Emit.{Emit}
+use Rattle.flow_law.specs.declared.outcome.Next.TheVariants as next
+use Rattle.flow_law.specs.declared.call.SharedCall.{SharedCall}
+use Rattle.flow_law.specs.declared.call.SharedCall.TheVariants as call
+use Rattle.flow_law.specs.declared.call.SharedReply.{SharedReply}
+use Rattle.flow_law.specs.declared.call.SharedReply.TheVariants as reply
+use Rattle.flow_law.specs.declared.states.SharedFlowState.{SharedFlowState}
+use Rattle.flow_law.specs.Growth.{event}
+use Rattle.flow_law.specs.OneHistory.{said}
+use Rattle.flow_law.specs.History.{subscriber, emission, Owner, owner_of, owners_all}
+use Rattle.flow_law.specs.SharedFlow.{first_state, position_of}
+use Rattle.flow_law.specs.SharedStep.{is_waiting}
+use Rattle.flow_law.specs.SharedHistory.{History, shared_flow, after_all}
+use Rattle.flow_check.specs.declared.shared_calls.SharedOperation.{SharedOperation}
+use Rattle.flow_check.specs.declared.shared_calls.SharedOperation.TheVariants as operation
+use Rattle.flow_check.specs.declared.shared_calls.SharedAnswer.{SharedAnswer}
+use Rattle.flow_check.specs.declared.shared_calls.SharedAnswer.TheVariants as answer
+use Rattle.flow_check.specs.declared.shared_calls.SharedEntry.{SharedEntry}
+use Rattle.flow_check.specs.Records.{Calls}
+use Rattle.flow_check.specs.Orders.{Explains}
+use Rattle.flow_check.specs.StateRecords.{name_of}
+
+-- the call that an event has; n is the number of the caller's subscription or emission, if the call speaks of one
+abbrev pub call_of : ℕ → ℕ → SharedOperation → SharedCall ℕ
+call_of caller n (operation.TryEmit v) = call.TryEmit v
+call_of caller n (operation.Emit v) = call.Emit v
+call_of caller n (operation.EmitOrNot v) = call.Emit v
+call_of caller n operation.EmitReturned = call.Poll n
+call_of caller n operation.EmitCancelled = call.Cancel n
+call_of caller n (operation.Subscribe own) = call.Subscribe (name_of caller) own.now
+call_of caller n operation.Next = call.TakeNext n
+call_of caller n operation.Unsubscribe = call.Unsubscribe n
+call_of caller n operation.ReplayCache = call.ReplayCache
+call_of caller n operation.ResetReplayCache = call.ResetReplayCache
+call_of caller n operation.SubscriptionCount = call.SubscriptionCount
+
+-- the event has this reply, if the answer is one to this operation; whether an emission waits is not recorded where it begins
+abbrev pub IsReply : ℕ → SharedOperation → SharedAnswer → SharedReply ℕ → Type 0
+IsReply n (operation.TryEmit v) (answer.Truth b) r = r ≡ reply.Tested b
+IsReply n (operation.Emit v) answer.Done r = (e : Emit) × (r ≡ reply.Emitted e)
+IsReply n (operation.EmitOrNot v) answer.Done r = (e : Emit) × (r ≡ reply.Emitted e)
+IsReply n operation.EmitCancelled answer.Done r = r ≡ reply.Tested true
+IsReply n (operation.Subscribe own) answer.Done r = r ≡ reply.Subscribed n
+IsReply n operation.Next (answer.Value v) r = r ≡ reply.Received (next.Value v)
+IsReply n operation.Next answer.Empty r = r ≡ reply.Received next.Empty
+IsReply n operation.Unsubscribe answer.Done r = r ≡ reply.Tested true
+IsReply n operation.ReplayCache (answer.Values vs) r = r ≡ reply.Cached vs.now
+IsReply n operation.ResetReplayCache answer.Done r = r ≡ reply.Reset
+IsReply n operation.SubscriptionCount (answer.Number k) r = r ≡ reply.Counted k
+IsReply n _ _ r = ⊥
+
+-- the answer that was recorded, or any if none was
+abbrev pub IsRecorded : Option SharedAnswer → SharedAnswer → Type 0
+IsRecorded written a = (written ≡ None) ⊎ (written ≡ Some a)
+
+-- in a state of the flow, with these owners of numbers, no subscriber's number is the caller's
+abbrev pub HasNoSubscription : SharedFlowState ℕ → List Owner → ℕ → Type 0
+HasNoSubscription s owners caller = (u : ℕ) → owner_of (subscriber u) owners ≡ Some (name_of caller) → position_of u s.subscribers ≡ None
+
+-- no emission of the caller waits
+abbrev pub HasNoEmission : SharedFlowState ℕ → List Owner → ℕ → Type 0
+HasNoEmission s owners caller = (e : ℕ) → owner_of (emission e) owners ≡ Some (name_of caller) → is_waiting e s ≡ false
+
+-- a caller subscribes only while it has no subscription, and emits only while no emission of its waits
+abbrev pub MayMake : SharedFlowState ℕ → List Owner → ℕ → SharedOperation → Type 0
+MayMake s owners caller (operation.Emit v) = HasNoEmission s owners caller
+MayMake s owners caller (operation.EmitOrNot v) = HasNoEmission s owners caller
+MayMake s owners caller (operation.Subscribe own) = HasNoSubscription s owners caller
+MayMake s owners caller _ = Unit {0}
+
+-- An `emit` has returned if no emission of the caller waits. A cancelled one may have been done before it was cancelled, and it
+-- may not have begun.
+abbrev pub MayAddNothing : SharedFlowState ℕ → List Owner → ℕ → SharedEntry → Type 0
+MayAddNothing s owners caller entry = by entry.operation
+  where
+    by : SharedOperation → Type 0
+    by operation.EmitReturned = IsRecorded entry.answer answer.Done × HasNoEmission s owners caller
+    by operation.EmitCancelled = IsRecorded entry.answer answer.Done × HasNoEmission s owners caller
+    by (operation.EmitOrNot v) = Unit {0}
+    by _ = ⊥
+
+module _ (first : SharedFlowState ℕ) where
+  -- a part of a recorded call is one event under the caller's name
+  pub record AddsEvent (h : History ℕ) (caller : ℕ) (entry : SharedEntry) (part : History ℕ) : Type 0 where
+    -- the number of the caller's subscription or emission, if the call speaks of one
+    pub number : ℕ
+    pub given : SharedAnswer
+    pub replied : SharedReply ℕ
+    pub is_recorded : IsRecorded entry.answer given
+    pub is_reply : IsReply number entry.operation given replied
+    pub is_event : part ≡ event (name_of caller) (said (call_of caller number entry.operation) replied) ∷ []
+    pub may_make : MayMake (after_all first h) (owners_all shared_flow [] h) caller entry.operation
+
+  -- or it is none
+  abbrev pub AddsEntry : History ℕ → ℕ → SharedEntry → History ℕ → Type 0
+  AddsEntry h caller entry part =
+      AddsEvent h caller entry part ⊎ ((part ≡ []) × MayAddNothing (after_all first h) (owners_all shared_flow [] h) caller entry)
+
+-- a legal and owned history of some shared flow of this configuration, with the flow's own numbers, explains the calls
+abbrev pub ExplainsShared : Calls SharedEntry → Config → List ℕ → Type 0
+ExplainsShared callers config order =
+    (limit : ℕ) × Explains shared_flow (AddsEntry (first_state (record config { limit = limit }))) callers (first_state (record config { limit = limit })) order

@@ -1,0 +1,268 @@
+//! What calls of a shared flow do to the state that the checker keeps.
+ghost use Rattle.std.specs.Prelude.{◌≡◌, ◌<◌, IfOk, OnOk, IsTrue, IsFalse, map, filter, length};
+ghost use Rattle.std.specs.Prelude.{not, ◌==◌};
+ghost use Rattle.flow_check.specs.SharedMachine.{raised, cleared, with_lag, with_own, append};
+ghost use Rattle.flow_check.specs.SharedMachine.{settle, trim, emit_in, try_emit_in, emit_case};
+ghost use Rattle.flow_check.specs.SharedMachine.{withdraw, cancel, receive, made};
+
+use crate::shared_calls::SharedOperation;
+use crate::shared_machine::{EmitCase, Held, SharedMachine, last_values, most_lag};
+use std::alloc::{AllocError, Global};
+
+/// Copies the lags after one more value was emitted; none becomes more than the window.
+fn raised(
+    alloc: Global,
+    lags: &[Option<usize>],
+    window: usize,
+) -> Result<Vec<Option<usize>>, AllocError>
+    ensures { IfOk result (λ copy. copy.items ≡ map (raised window) lags.now) }
+{
+    let mut copy = Vec::new(alloc);
+    for lag in lags {
+        copy.push(match lag {
+            None => None,
+            Some(lag) => Some(lag.saturating_add(1).min(window)),
+        })?;
+    }
+    Ok(copy)
+}
+
+/// Copies the lags after all that was emitted is no more for any subscriber.
+fn cleared(alloc: Global, lags: &[Option<usize>]) -> Result<Vec<Option<usize>>, AllocError>
+    ensures { IfOk result (λ copy. copy.items ≡ map cleared lags.now) }
+{
+    let mut copy = Vec::new(alloc);
+    for lag in lags {
+        copy.push(match lag {
+            None => None,
+            Some(_) => Some(0),
+        })?;
+    }
+    Ok(copy)
+}
+
+/// Copies the queue without the values of this caller.
+fn without(alloc: Global, queue: &[Held], caller: usize) -> Result<Vec<Held>, AllocError>
+    ensures { IfOk result (λ copy.
+        copy.items ≡ filter (λ held. not (held.caller == caller)) queue.now) }
+{
+    let mut copy = Vec::new(alloc);
+    let mut rest = queue;
+    while let Some((first, others)) = rest.split_first() {
+        if first.caller != caller {
+            copy.push(*first)?;
+        }
+        rest = others;
+    }
+    Ok(copy)
+}
+
+impl<'a> SharedMachine<'a> {
+    /// Emits a caller's value. Without a buffer it is offered to those who are subscribed.
+    fn append(&mut self, alloc: Global, caller: usize, value: u64) -> Result<(), AllocError>
+        ensures { OnOk result (self.new ≡ append caller value self.old) }
+    {
+        let lags = raised(alloc, self.lags.as_slice(), self.window())?;
+        self.values.push(value)?;
+        let cached = self.cached.saturating_add(1);
+        self.cached = cached.min(self.config.replay as usize);
+        self.lags = lags;
+        self.offered = if self.capacity() == 0 {
+            Some(caller)
+        } else {
+            None
+        };
+        Ok(())
+    }
+
+    /// Emits the first queued value, if there is one and the flow is not blocked. Returns whether it
+    /// did.
+    #[tactic(auto, using(crate::proofs::QueueLemmas::admitted_first, crate::proofs::QueueLemmas::settled_blocked, crate::proofs::QueueLemmas::settled_empty))]
+    fn admit(&mut self, alloc: Global) -> Result<bool, AllocError>
+        ensures settled { IfOk result (λ more. settle self.new ≡ settle self.old) }
+        ensures fewer { IfOk result (λ more.
+            IsTrue more → length self.new.queue < length self.old.queue) }
+        ensures last { IfOk result (λ more. IsFalse more → self.new ≡ settle self.old) }
+    {
+        if self.is_blocked() {
+            return Ok(false);
+        }
+        let Some((first, rest)) = self.queue.as_slice().split_first() else {
+            return Ok(false);
+        };
+        let held = *first;
+        let queue = Vec::from_slice(alloc, rest)?;
+        self.queue = queue;
+        self.append(alloc, held.caller, held.value)?;
+        Ok(true)
+    }
+
+    /// Emits the queued values until the flow is blocked.
+    fn settle(&mut self, alloc: Global) -> Result<(), AllocError>
+        ensures { OnOk result (self.new ≡ settle self.old) }
+    {
+        while self.admit(alloc)? {}
+        Ok(())
+    }
+
+    /// Leaves out the values that can be neither received nor replayed, and what is offered to none.
+    fn trim(&mut self, alloc: Global) -> Result<(), AllocError>
+        ensures { OnOk result (self.new ≡ trim self.old) }
+    {
+        let needed = most_lag(self.lags.as_slice()).max(self.cached);
+        let values = Vec::from_slice(alloc, last_values(self.values.as_slice(), needed))?;
+        self.values = values;
+        self.offered = self.offering();
+        Ok(())
+    }
+
+    fn emit(
+        &mut self,
+        alloc: Global,
+        caller: usize,
+        value: u64,
+        case: EmitCase,
+    ) -> Result<(), AllocError>
+        ensures { OnOk result (self.new ≡ emit_in case caller value self.old) }
+    {
+        match case {
+            EmitCase::Appends | EmitCase::Offers | EmitCase::DropsOldest => {
+                self.append(alloc, caller, value)
+            }
+            EmitCase::Queues => {
+                self.queue.push(Held { caller, value })?;
+                Ok(())
+            }
+            EmitCase::DropsLatest => Ok(()),
+        }
+    }
+
+    fn try_emit(
+        &mut self,
+        alloc: Global,
+        caller: usize,
+        value: u64,
+        case: EmitCase,
+    ) -> Result<(), AllocError>
+        ensures { OnOk result (self.new ≡ try_emit_in case caller value self.old) }
+    {
+        match case {
+            EmitCase::Appends | EmitCase::DropsOldest => self.append(alloc, caller, value),
+            EmitCase::Offers | EmitCase::Queues | EmitCase::DropsLatest => Ok(()),
+        }
+    }
+
+    /// Withdraws the caller's value: an offered one is no more for those who have not received it, a
+    /// queued one is lost.
+    fn withdraw(&mut self, alloc: Global, caller: usize) -> Result<(), AllocError>
+        ensures { OnOk result (self.new ≡ withdraw caller self.old) }
+    {
+        if self.is_offering(caller) {
+            let lags = cleared(alloc, self.lags.as_slice())?;
+            self.lags = lags;
+        } else {
+            let queue = without(alloc, self.queue.as_slice(), caller)?;
+            self.queue = queue;
+        }
+        Ok(())
+    }
+
+    fn cancel(&mut self, alloc: Global, caller: usize) -> Result<(), AllocError>
+        ensures { OnOk result (self.new ≡ cancel caller self.old) }
+    {
+        if !self.is_waiting(caller) {
+            return Ok(());
+        }
+        self.withdraw(alloc, caller)?;
+        self.settle(alloc)
+    }
+
+    fn set_lag(&mut self, caller: usize, lag: Option<usize>)
+        ensures { self.new ≡ with_lag caller lag self.old }
+    {
+        if caller < self.lags.len() {
+            self.lags[caller] = lag;
+        }
+    }
+
+    #[tactic(auto, using(crate::proofs::QueueLemmas::set_now))]
+    fn set_own(&mut self, caller: usize, own: &'a [u64])
+        ensures { self.new ≡ with_own caller own.now self.old }
+    {
+        if caller < self.owns.len() {
+            self.owns[caller] = own;
+        }
+    }
+
+    /// Takes the first of the caller's own values, or the next emitted one if none is left.
+    fn receive(&mut self, alloc: Global, caller: usize) -> Result<(), AllocError>
+        ensures { OnOk result (self.new ≡ receive caller self.old) }
+    {
+        if let Some((_value, own)) = self.own(caller).split_first() {
+            self.set_own(caller, own);
+            return Ok(());
+        }
+        let Some(lag) = self.lag(caller) else {
+            return Ok(());
+        };
+        if lag == 0 {
+            return Ok(());
+        }
+        self.set_lag(caller, Some(lag - 1));
+        self.settle(alloc)
+    }
+
+    /// Makes a call that is answered as the flow answers.
+    fn make_call(
+        &mut self,
+        alloc: Global,
+        caller: usize,
+        operation: SharedOperation<'a>,
+    ) -> Result<(), AllocError>
+        ensures { OnOk result (self.new ≡ made caller operation.entry self.old) }
+    {
+        match operation {
+            SharedOperation::TryEmit(value) => {
+                let case = self.emit_case();
+                self.try_emit(alloc, caller, value, case)
+            }
+            SharedOperation::Emit(value) | SharedOperation::EmitOrNot(value) => {
+                let case = self.emit_case();
+                self.emit(alloc, caller, value, case)
+            }
+            SharedOperation::EmitCancelled => self.cancel(alloc, caller),
+            SharedOperation::Subscribe(own) => {
+                let lag = self.first_lag();
+                self.set_lag(caller, Some(lag));
+                self.set_own(caller, own);
+                Ok(())
+            }
+            SharedOperation::Next => self.receive(alloc, caller),
+            SharedOperation::Unsubscribe => {
+                self.set_lag(caller, None);
+                self.set_own(caller, &[]);
+                self.settle(alloc)
+            }
+            SharedOperation::ResetReplayCache => {
+                self.cached = 0;
+                Ok(())
+            }
+            SharedOperation::EmitReturned
+            | SharedOperation::ReplayCache
+            | SharedOperation::SubscriptionCount => Ok(()),
+        }
+    }
+
+    /// Makes a call that is answered as the flow answers, and brings the state into its normal form.
+    pub fn make(
+        &mut self,
+        alloc: Global,
+        caller: usize,
+        operation: SharedOperation<'a>,
+    ) -> Result<(), AllocError>
+        ensures { OnOk result (self.new ≡ trim (made caller operation.entry self.old)) }
+    {
+        self.make_call(alloc, caller, operation)?;
+        self.trim(alloc)
+    }
+}
