@@ -1,8 +1,8 @@
-//! What the cores keep things in: subscribers in a slab, how many of them stand at each position, both together as who has come
-//! how far, the values whose emitters wait, and a subscriber's own first values.
+//! The containers from which the cores of `flow_core` are made: subscribers in a slab, the number of subscribers at
+//! each position, the values whose emitters wait, and a subscriber's own first values.
 //!
-//! Each container is seen as what it stands for: a list in the order of numbers, a row of counts. The cores of `flow_core` are made of
-//! them, and nobody else needs them.
+//! A contract sees each container as a plain value: a list in the order of numbers, or a row of counts. Only
+//! `flow_core` needs this crate.
 #![tactic(auto)]
 
 mod members;

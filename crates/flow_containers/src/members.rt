@@ -1,7 +1,7 @@
 //! The subscribers of a flow, each under a key of a slab.
 //!
-//! A subscriber is asked for by its number, with the key where it stood last as a hint: whoever is not there, because the
-//! hint came from elsewhere, is looked for through the whole slab.
+//! A subscriber is found by its number. The key under which it was last seen is a hint: if the entry there has another
+//! number, all entries are searched.
 ghost use Rattle.std.specs.Prelude.{◌≡◌, ℕ, ◌+◌, ◌<◌, ◌≤◌, ◌++◌, [], ◌∷◌, length, Some, None, IfOk, IfSome, IfNone, IsSomeAnd, MatchResult, MatchOption, is_some, option_copied};
 ghost use Rattle.std.specs.Option.{option_copied_mut};
 ghost use Rattle.std.specs.Borrow.{sem};
@@ -16,16 +16,16 @@ use slab::Slab;
 use std::alloc::Allocator;
 use std::marker::Model;
 
-/// What is kept of one subscriber.
+/// One subscriber.
 #[derive(Drop)]
 pub struct Member<R> {
-    /// The number that its subscription took.
+    /// The number that its `subscribe` issued.
     pub number: u64,
-    /// What its flow knows of it.
+    /// What the flow keeps about it.
     pub row: R,
 }
 
-/// The subscribers in the order of their numbers.
+/// Subscribers, in the order of their numbers.
 #[derive(Drop)]
 pub struct Members<R: Drop, A: Allocator> {
     slab: Slab<Member<R>, A>,
@@ -42,7 +42,7 @@ impl<R: Drop, A: Allocator> Model for Members<R, A> {
     ghost invariant = { IsSound };
 }
 
-/// The key of the subscriber of this number: at the hint, or else wherever it is found.
+/// Returns the key of the subscriber of this number. Looks at the hint first, then at every entry.
 fn key_of<R: Drop, A: Allocator>(
     slab: &Slab<Member<R>, A>,
     number: u64,
@@ -67,7 +67,7 @@ fn key_of<R: Drop, A: Allocator>(
 impl<R: Drop, A: Allocator> Members<R, A> {
     ghost use Rattle.flow_containers.specs.MembersLends.{lends_row};
 
-    /// Nobody. It takes no memory.
+    /// Returns an empty list. It takes no memory.
     pub fn new(alloc: A) -> Self
         ensures empty { result.members ≡ [] }
         ensures last { result.last ≡ 0 }
@@ -79,16 +79,16 @@ impl<R: Drop, A: Allocator> Members<R, A> {
         }
     }
 
-    /// How many subscribers there are.
+    /// Returns the number of subscribers.
     pub fn len(&self) -> usize
         ensures value { result ≡ length self.now.members }
-        // In every state, so that a caller may take it from here: no two have one number.
+        // This holds of every list, so a caller learns here that no two subscribers have one number.
         ensures rising { RisesTo 0 (numbers self.now.members) self.now.last }
     {
         self.slab.len()
     }
 
-    /// What is kept of a subscriber.
+    /// Returns what is kept about a subscriber.
     pub fn get(&self, number: u64, hint: usize) -> Option<&R>
         ensures { option_copied result ≡ row_of number self.now.members }
     {
@@ -99,7 +99,7 @@ impl<R: Drop, A: Allocator> Members<R, A> {
         }
     }
 
-    /// Adds a subscriber, and gives its key. A refusal for want of memory hands the row back.
+    /// Adds a subscriber, and returns its key. If memory is refused, returns the row.
     pub fn insert(&mut self, number: u64, row: R) -> Result<usize, R>
         requires { self.old.last < number }
         ensures key { IfOk result (λ key. EntersAt number key self.old.by_key self.new.by_key) }
@@ -117,7 +117,7 @@ impl<R: Drop, A: Allocator> Members<R, A> {
         }
     }
 
-    /// What is kept of a subscriber, for writing.
+    /// Returns what is kept about a subscriber, to be changed.
     pub fn get_mut(&mut self, number: u64, hint: usize) -> Option<&mut R>
         ensures* writes_back { sem 𝓛 (lends_row R.row A.row A.Allocator self.entry number result) }
         ensures value { option_copied_mut result ≡ row_of number self.old.members }
@@ -131,7 +131,7 @@ impl<R: Drop, A: Allocator> Members<R, A> {
         }
     }
 
-    /// Keeps this row of a subscriber in place of the one before, if there is such a subscriber.
+    /// Replaces what is kept about a subscriber, if there is such a subscriber.
     pub fn set(&mut self, number: u64, hint: usize, row: R)
         ensures members { self.new.members ≡ with_row number row self.old.members }
         ensures last { self.new.last ≡ self.old.last }
@@ -142,7 +142,7 @@ impl<R: Drop, A: Allocator> Members<R, A> {
         }
     }
 
-    /// Removes a subscriber, and gives what was kept of it.
+    /// Removes a subscriber, and returns what was kept about it.
     pub fn remove(&mut self, number: u64, hint: usize) -> Option<R>
         ensures value { result ≡ row_of number self.old.members }
         ensures members { self.new.members ≡ without_number number self.old.members }

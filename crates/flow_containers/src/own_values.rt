@@ -4,7 +4,7 @@ ghost use Rattle.std.specs.Prelude.{◌≡◌, ◌∷◌, [], length, MatchOptio
 use std::alloc::Allocator;
 use std::marker::Model;
 
-/// Values that leave from the front, the others unmoved: the next one stands last.
+/// Values that are taken from the front without moving the others: the next one is stored last.
 #[derive(Drop)]
 pub struct OwnValues<T: Drop, A: Allocator> {
     reversed: Vec<T, A>,
@@ -19,7 +19,7 @@ impl<T: Drop, A: Allocator> Model for OwnValues<T, A> {
 }
 
 impl<T: Drop, A: Allocator> OwnValues<T, A> {
-    /// These values, the first one next.
+    /// Keeps these values; the first one is taken first.
     pub fn new(first: Vec<T, A>) -> Self
         ensures { result ≡ first.items }
     {
@@ -28,7 +28,7 @@ impl<T: Drop, A: Allocator> OwnValues<T, A> {
         OwnValues { reversed }
     }
 
-    /// Returns how many are left.
+    /// Returns the number of values that are left.
     pub fn len(&self) -> usize
         ensures { result ≡ length self.now }
     {

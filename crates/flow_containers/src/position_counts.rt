@@ -1,18 +1,18 @@
-//! How many subscribers stand at each position, so that one look tells whether somebody is a whole window behind.
+//! The number of subscribers at each position. One look at it shows whether a subscriber is a whole window behind.
 ghost use Rattle.std.specs.Prelude.{◌≡◌, ℕ, ◌+◌, ◌-◌, ◌<◌, ◌≤◌, ◌%◌, ◌^◌, length, get_or, set, replicate, IfOk};
 ghost use Rattle.flow_containers.specs.PositionCounts.{IsLeast, entered, left_at};
 
 use std::alloc::{AllocError, Allocator};
 use std::marker::Model;
 
-/// A row of counts: of those who stand at a position, at the place that is the position's remainder by the row's length.
+/// A row of counts. The count of a position is at the place that is the position's remainder by the length of the row.
 ///
-/// The positions of subscribers are as many in a row as there are places, so no two of them share one. No place is
-/// computed by a division: it is found from that of the last position, and how far before it the position is.
+/// Subscribers have at most as many different positions as the row has places, so no two positions share a place. No
+/// place is found by a division: each is computed from the place of the last position and the distance to it.
 #[derive(Drop)]
 pub struct PositionCounts<A: Allocator> {
     row: Vec<u64, A>,
-    /// How many values were emitted, which is the last position.
+    /// The number of emitted values, which is also the last position.
     emitted: u64,
     /// The place of the last position.
     end: usize,
@@ -28,7 +28,7 @@ impl<A: Allocator> Model for PositionCounts<A> {
     ghost invariant = { λ c. IsPlaced c };
 }
 
-/// A row of zeros.
+/// Returns a row of zeros.
 fn empty_row<A: Allocator>(alloc: A, places: usize) -> Result<Vec<u64, A>, AllocError>
     ensures { IfOk result (λ row. row.items ≡ replicate places 0) }
 {
@@ -36,7 +36,7 @@ fn empty_row<A: Allocator>(alloc: A, places: usize) -> Result<Vec<u64, A>, Alloc
 }
 
 impl<A: Allocator> PositionCounts<A> {
-    /// Counts where nobody stands, with this many places.
+    /// Returns a row of so many places, with no subscriber.
     pub fn new(alloc: A, places: usize) -> Result<Self, AllocError>
         requires { 0 < places }
         ensures row { IfOk result (λ counts. counts.row ≡ replicate places 0) }
@@ -50,14 +50,14 @@ impl<A: Allocator> PositionCounts<A> {
         })
     }
 
-    /// How many values were emitted.
+    /// Returns the number of emitted values.
     pub fn emitted(&self) -> u64
         ensures { result ≡ self.now.emitted }
     {
         self.emitted
     }
 
-    /// The most that somebody may be behind: one place less than there are.
+    /// Returns the greatest possible lag: one less than the number of places.
     pub fn window(&self) -> usize
         ensures { result ≡ length self.now.row - 1 }
     {
@@ -105,14 +105,14 @@ impl<A: Allocator> PositionCounts<A> {
         self.row[place] = count;
     }
 
-    /// How many stand a whole window behind: at the position whose place the next one is to take.
+    /// Counts the subscribers that are a whole window behind. Their place is the one that the next position takes.
     pub fn at_oldest(&self) -> u64
         ensures { result ≡ get_or self.now.row ((self.now.emitted + 1) % length self.now.row) 0 }
     {
         self.count(self.place_after(self.end))
     }
 
-    /// How many stand at a position.
+    /// Counts the subscribers at a position.
     pub fn at(&self, position: u64) -> u64
         requires past { position ≤ self.now.emitted }
         requires near { self.now.emitted < position + length self.now.row }
@@ -121,7 +121,7 @@ impl<A: Allocator> PositionCounts<A> {
         self.count(self.place_of(position))
     }
 
-    /// One value more was emitted.
+    /// Records that one more value was emitted.
     pub fn add(&mut self)
         requires { self.old.emitted + 1 < 2 ^ 64 }
         ensures row { self.new.row ≡ self.old.row }
@@ -131,7 +131,7 @@ impl<A: Allocator> PositionCounts<A> {
         self.emitted += 1;
     }
 
-    /// One more stands at a position.
+    /// Adds a subscriber at a position.
     pub fn enter(&mut self, position: u64)
         requires past { position ≤ self.old.emitted }
         requires near { self.old.emitted < position + length self.old.row }
@@ -143,7 +143,7 @@ impl<A: Allocator> PositionCounts<A> {
         self.set_count(place, self.count(place) + 1);
     }
 
-    /// One less stands at a position.
+    /// Removes a subscriber from a position.
     pub fn leave(&mut self, position: u64)
         requires past { position ≤ self.old.emitted }
         requires near { self.old.emitted < position + length self.old.row }
@@ -155,7 +155,8 @@ impl<A: Allocator> PositionCounts<A> {
         self.set_count(place, self.count(place) - 1);
     }
 
-    /// Moves one of those at a position, which is not the last one, one further. Returns how many stay there.
+    /// Moves a subscriber from a position, which is not the last, to the next one. Returns how many stay at the
+    /// position.
     #[inline]
     pub fn move_on(&mut self, position: u64) -> u64
         requires past { position < self.old.emitted }
@@ -174,7 +175,7 @@ impl<A: Allocator> PositionCounts<A> {
         others
     }
 
-    /// All who stand at a position, which is not the last one, go one further.
+    /// Moves all subscribers at a position, which is not the last, to the next one.
     pub fn shift(&mut self, position: u64)
         requires past { position < self.old.emitted }
         requires near { self.old.emitted < position + length self.old.row }
@@ -191,7 +192,7 @@ impl<A: Allocator> PositionCounts<A> {
         self.set_count(place, 0);
     }
 
-    /// The least position from `start` on where somebody stands, or `first`.
+    /// Returns the least position from `start` on that has a subscriber, or `first` if that is less.
     pub fn least(&self, start: u64, first: u64) -> u64
         requires order { start ≤ first }
         requires past { first ≤ self.now.emitted }

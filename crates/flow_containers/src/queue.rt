@@ -9,14 +9,14 @@ use std::alloc::{AllocError, Allocator};
 use std::collections::VecDeque;
 use std::marker::Model;
 
-/// A value whose emitter waits, with the number that it took.
+/// A value whose emitter waits, with the number that was issued to it.
 #[derive(Drop)]
 pub struct Queued<T> {
     pub value: T,
     pub number: u64,
 }
 
-/// A queue whose numbers rise, so that a number is found by halves.
+/// A queue whose numbers rise. A number is found by binary search.
 #[derive(Drop)]
 pub struct Queue<T: Drop, A: Allocator> {
     items: VecDeque<Queued<T>, A>,
@@ -37,7 +37,7 @@ impl<T: Drop, A: Allocator> Model for Queue<T, A> {
 }
 
 impl<T: Drop, A: Allocator> Queue<T, A> {
-    /// Nothing waits. It takes no memory.
+    /// Returns an empty queue. It takes no memory.
     pub fn new(alloc: A) -> Self
         ensures { result ≡ [] }
     {
@@ -46,14 +46,14 @@ impl<T: Drop, A: Allocator> Queue<T, A> {
         }
     }
 
-    /// How many values wait.
+    /// Returns the number of values.
     pub fn len(&self) -> usize
         ensures { result ≡ length self.now }
     {
         self.items.len()
     }
 
-    /// Where the value with this number is.
+    /// Returns the place of the value with this number.
     fn place_of(&self, number: u64) -> Option<usize>
         ensures { IsPlace number self.now result }
     {
@@ -70,7 +70,7 @@ impl<T: Drop, A: Allocator> Queue<T, A> {
         }
     }
 
-    /// Whether the value with this number waits.
+    /// Returns whether the value with this number is queued.
     pub fn contains(&self, number: u64) -> bool
         ensures { result ≡ list_any (λ q. q.number == number) self.now }
     {
@@ -87,7 +87,7 @@ impl<T: Drop, A: Allocator> Queue<T, A> {
         }
     }
 
-    /// Adds a value, whose number is above those in the queue. A refusal hands it back.
+    /// Adds a value, whose number is above those in the queue. If memory is refused, returns the value.
     pub fn push(&mut self, value: T, number: u64) -> Result<(), T>
         requires positive { 0 < number }
         requires above { RisesTo 0 (map (λ q. q.number) self.old) (number - 1) }
@@ -101,7 +101,7 @@ impl<T: Drop, A: Allocator> Queue<T, A> {
         }
     }
 
-    /// Takes the first value out.
+    /// Removes the first value, and returns it.
     pub fn pop_front(&mut self) -> Option<Queued<T>>
         ensures { MatchOption result ((self.old ≡ []) × self.new ≡ [])
             (λ first. self.old ≡ numbered_of first ∷ self.new) }
@@ -109,7 +109,7 @@ impl<T: Drop, A: Allocator> Queue<T, A> {
         self.items.pop_front()
     }
 
-    /// Takes the value with this number out, if it is there.
+    /// Removes the value with this number, if it is queued.
     pub fn remove(&mut self, number: u64)
         ensures { self.new ≡ filter (λ q. not (q.number == number)) self.old }
     {

@@ -1,4 +1,4 @@
-//! Who has subscribed, how far each one has come, and who is a whole window behind.
+//! The subscribers with their positions, and which of them is a whole window behind.
 ghost use Rattle.std.specs.Prelude.{◌≡◌, ◌+◌, ◌-◌, ◌<◌, ◌≤◌, ◌^◌, ◌∷◌, ◌++◌, [], Some, None, false, is_some, length, map, IfOk, MatchResult};
 ghost use Rattle.std.specs.Option.{option_map};
 ghost use Rattle.flow_law.specs.SharedFlow as flow;
@@ -15,9 +15,9 @@ pub use receive::Received;
 use std::alloc::{AllocError, Allocator};
 use std::marker::Model;
 
-/// The subscribers in the order of their numbers.
+/// Subscribers, in the order of their numbers.
 ///
-/// A position below the floor is read as the floor, so that all who are behind are brought forward without a visit.
+/// A position below the floor is read as the floor. So raising the floor moves all slow subscribers without a visit.
 #[derive(Drop)]
 pub struct Subscribers<T: Drop, A: Allocator> {
     members: Members<Row<T, A>, A>,
@@ -36,7 +36,7 @@ impl<T: Drop, A: Allocator> Model for Subscribers<T, A> {
 }
 
 impl<T: Drop, A: Allocator> Subscribers<T, A> {
-    /// Nobody, before any value was emitted. The window is the most that somebody may be behind.
+    /// Returns an empty list, before any value was emitted. `window` is the greatest possible lag.
     pub fn new(alloc: A, window: usize) -> Result<Self, AllocError>
     where
         A: Copy,
@@ -64,7 +64,7 @@ impl<T: Drop, A: Allocator> Subscribers<T, A> {
         self.counts.emitted()
     }
 
-    /// How many emitted values a subscriber has still to receive, where it is there.
+    /// Returns how many emitted values a subscriber has still to receive, or `None` if there is no such subscriber.
     pub fn lag(&self, number: u64, key: usize) -> Option<u64>
         ensures { result ≡ option_map (λ position. self.now.emitted - position)
             (flow.position_of number self.now.list) }
@@ -75,14 +75,14 @@ impl<T: Drop, A: Allocator> Subscribers<T, A> {
         }
     }
 
-    /// Whether somebody has a whole window still to receive.
+    /// Returns whether a subscriber has a whole window of values still to receive.
     pub fn is_blocked(&self) -> bool
         ensures { result ≡ is_full self.now.window self.now.emitted self.now.list }
     {
         self.counts.at_oldest() > 0
     }
 
-    /// The least of `first` and all positions, which are at least `start`.
+    /// Returns the least of `first` and all positions. No position is below `start`.
     pub fn least(&self, start: u64, first: u64) -> u64
         requires below { start ≤ least_position first self.now.list }
         requires within { (first ≤ self.now.emitted) × (self.now.emitted ≤ start + self.now.window) }
@@ -91,7 +91,7 @@ impl<T: Drop, A: Allocator> Subscribers<T, A> {
         self.counts.least(start, first)
     }
 
-    /// One value more was emitted, while nobody had a whole window to receive.
+    /// Records that a value was emitted while no subscriber was a whole window behind.
     pub fn add(&mut self)
         requires free { is_full self.old.window self.old.emitted self.old.list ≡ false }
         requires room { self.old.emitted + 1 < 2 ^ 64 }
@@ -100,7 +100,7 @@ impl<T: Drop, A: Allocator> Subscribers<T, A> {
         self.counts.add();
     }
 
-    /// One value more was emitted, and who had a whole window to receive loses the oldest one.
+    /// Records that a value was emitted. A subscriber that was a whole window behind loses its oldest value.
     pub fn add_dropping(&mut self)
         requires full { self.old.window ≤ self.old.emitted }
         requires room { self.old.emitted + 1 < 2 ^ 64 }
@@ -116,7 +116,7 @@ impl<T: Drop, A: Allocator> Subscribers<T, A> {
         self.floor = oldest + 1;
     }
 
-    /// Nobody is to receive the value that was offered any more.
+    /// Records that the offered value was withdrawn: no subscriber receives it any more.
     pub fn gather(&mut self)
         requires { self.old.window ≡ 1 }
         ensures { self.new ≡ record self.old {
@@ -131,7 +131,7 @@ impl<T: Drop, A: Allocator> Subscribers<T, A> {
         }
     }
 
-    /// Adds a subscriber with its own first values, and gives its key. A refusal for want of memory hands them back.
+    /// Adds a subscriber with its own first values, and returns its key. If memory is refused, returns the values.
     pub fn push(&mut self, number: u64, first: Vec<T, A>, position: u64) -> Result<usize, Vec<T, A>>
         requires later { self.old.last < number }
         requires above { self.old.floor ≤ position }
@@ -154,7 +154,7 @@ impl<T: Drop, A: Allocator> Subscribers<T, A> {
         }
     }
 
-    /// Removes a subscriber, and answers whether it was there.
+    /// Removes a subscriber, and returns whether it was there.
     pub fn remove(&mut self, number: u64, key: usize) -> bool
         ensures there { result ≡ is_some (flow.position_of number self.old.list) }
         ensures removed { self.new ≡ record self.old {

@@ -14,7 +14,7 @@ use crate::sub_id::SubId;
 use flow_law::{Drained, FlowFault, FlowValue, Next};
 use std::alloc::Allocator;
 
-/// A flow as far as draining needs it.
+/// What draining needs of a flow.
 trait TakesNext {
     type Item: FlowValue;
 
@@ -46,7 +46,7 @@ impl<T: FlowValue, A: Allocator + Copy> TakesNext for StateCore<T, A> {
     }
 }
 
-/// `next` again and again. Room for a value is made before it is taken.
+/// Calls `next` until it has no value or enough were taken. Makes room for each value before taking it.
 fn take_all<S: TakesNext, B: Allocator>(
     core: &mut S,
     id: SubId,
@@ -71,11 +71,12 @@ fn take_all<S: TakesNext, B: Allocator>(
 }
 
 impl<T: FlowValue, A: Allocator + Copy> SharedCore<T, A> {
-    /// Takes what the subscriber can receive now, at most `most` values, to the end of the list: what `next`
-    /// answers, again and again, in order. `Ok` says why it stopped.
+    /// Appends what the subscriber can receive now, at most `most` values, to the list, just as so many calls of `next`
+    /// would return it. `Ok` says why it stopped.
     ///
-    /// Where memory is wanting the value is still in the flow, those before it are in the list, and the call can
-    /// be made again.
+    /// # Errors
+    /// `OutOfMemory` if the list has no room or a copy was refused. That value is still in the flow, the values before
+    /// it are in the list, and a later call continues.
     pub fn drain<B: Allocator>(
         &mut self,
         id: SubId,
@@ -92,8 +93,8 @@ impl<T: FlowValue, A: Allocator + Copy> SharedCore<T, A> {
 }
 
 impl<T: FlowValue, A: Allocator + Copy> StateCore<T, A> {
-    /// Takes what the subscriber can receive now, which is one value at most, to the end of the list. `Ok` says why
-    /// it stopped. It is there for callers who use a state flow as a shared flow.
+    /// Appends what the subscriber can receive now, which is at most one value, to the list. `Ok` says why it stopped.
+    /// Use it if a state flow takes the place of a shared flow.
     pub fn drain<B: Allocator>(
         &mut self,
         id: SubId,

@@ -1,4 +1,4 @@
-//! What the cores of all kinds of flow have alike: the kind of flow that they are, and the calls of subscribers.
+//! What the cores of all kinds of flow share: their kind of flow, and the calls of subscribers.
 ghost use Rattle.std.specs.Prelude.{◌≡◌, List, ℕ, IsOk};
 ghost use Rattle.flow_law.specs.declared.history.Event.{Event};
 ghost use Rattle.flow_law.specs.declared.history.Said.{Said};
@@ -14,7 +14,7 @@ use flow_law::{FlowFault, FlowValue, Guarded, Next, Said};
 /// A flow for one thread, of any kind.
 pub trait FlowCore: Guarded<Said = Said<Self::Call, Self::Reply>> {
     type Item: FlowValue;
-    /// The states of the documented flow.
+    /// The state of the documented flow.
     type State;
 
     type Call;
@@ -27,7 +27,7 @@ pub trait FlowCore: Guarded<Said = Said<Self::Call, Self::Reply>> {
     /// The state that a new core stands for.
     ghost first: { Self → Self.State };
 
-    /// For which states a core stands.
+    /// The states for which a core stands.
     ghost stands_as: { Self → Self.State → Type 0 };
 
     fn subscribe(&mut self) -> Result<SubId, FlowFault>
@@ -46,10 +46,10 @@ pub trait FlowCore: Guarded<Said = Said<Self::Call, Self::Reply>> {
     fn subscription_count(&self) -> u64
         ensures { Documents kind stands_as self.now kind.count (kind.counted result) self.now };
 
-    /// When a caller that sleeps has nothing still.
+    /// When a caller that sleeps still has nothing.
     ghost sleeping: { Sleeping kind };
 
-    /// Counts the values that subscribers could see so far.
+    /// Counts the values that subscribers could have seen so far.
     fn mark(&self) -> u64
         ensures { (s : Self.State) → stands_as self.now s → result ≡ sleeping.mark s };
 
@@ -57,10 +57,10 @@ pub trait FlowCore: Guarded<Said = Said<Self::Call, Self::Reply>> {
     fn first_waiting(&self) -> Option<u64>
         ensures { (s : Self.State) → stands_as self.now s → result ≡ sleeping.first_waiting s };
 
-    /// What holds of its kind.
+    /// The facts that hold of its kind.
     ghost lawful: { Lawful kind };
 
-    /// Behind a gate it stands for the histories of its kind.
+    /// Behind a gate, it stands for the histories of its kind.
     ghost stands_so: { (start core : Self) (h : List (Event (Said Self.Call Self.Reply)))
         → Self.stands start core h → StandsForHistory kind stands_as (first start) core h };
 

@@ -1,33 +1,31 @@
-//! Flows for one thread: what is emitted, who has received how much of it, and who waits.
+//! Flows for one thread: `SharedCore` is `MutableSharedFlow`, and `StateCore` is `MutableStateFlow` of
+//! kotlinx.coroutines.
 //!
-//! A `SharedCore` is a `MutableSharedFlow` of kotlinx.coroutines as one thread sees it. Every call has one clause,
-//! `documented`: in each state of the documented flow that the core stands for, that flow may reply so, and the core
-//! stands for the state after. The states are defined in `flow_law/specs/SharedFlow.antt`.
-//! `new` begins the chain: its core stands for the first state. `StateCore` has the same with `StateConforms`. A `drain` is
-//! a chain of what one `next` does (`DrainsBy`).
+//! Each call has a clause `documented`: in each state of the documented flow for which the core stands, that flow may
+//! give this reply, and the core then stands for the next state. `flow_law/specs/SharedFlow.antt` defines the states. A
+//! core from `new` stands for the first state. A `drain` is a chain of calls of `next` (`DrainsBy`).
 //!
-//! # Who waits
-//! An emitter waits where some subscriber has a whole window of values still to receive. `emit` then answers `Queued`
-//! with a number, and `poll` tells by it whether the emission still waits. To walk away, call `cancel`: an emission
-//! that is only forgotten stays queued, and is emitted when room comes.
+//! # Waiting
+//! An emitter waits if a subscriber has a whole window of values still to receive. `emit` then answers `Queued` with a
+//! number, and `poll` of that number returns whether the emission still waits. `cancel` takes it back. An emission that
+//! is only forgotten stays queued, and is emitted when there is room.
 //!
 //! # Capacity zero
-//! Without a buffer a value is offered to the subscribers of that moment, and its emitter waits until each of them has
-//! received it or left. Who subscribes meanwhile is offered it too.
+//! Without a buffer a value is offered to the present subscribers, and its emitter waits until each of them has
+//! received it or left. A subscriber that comes meanwhile is offered the value, too.
 //!
 //! # Own first values
-//! `subscribe_with` gives a subscriber values of its own, which it receives before any value of the flow. They block
-//! nobody, and nothing but the subscriber's `next` takes one away.
+//! `subscribe_with` gives a subscriber values of its own, which it receives before any value of the flow. They block no
+//! emitter, and only the subscriber's `next` removes them.
 //!
-//! # What is kept
-//! A shared flow keeps the values that a new subscriber may get or an old one has still to receive, and no others
-//! (`held`). Room for them is made with the flow. `lag` tells how far behind a subscriber is.
+//! # Memory
+//! A shared flow keeps just the values that a new subscriber may get or a present one has still to receive (`held`).
+//! The room for them is reserved when the flow is made.
 //!
-//! # Refusals
-//! A call that would issue a number when `limit` numbers are issued is refused as `Exhausted`; want of memory comes
-//! after that. A refused call hands its value back and has changed nothing. Memory is wanted by `subscribe`, by a value
-//! that is put into the queue, and by copies. `try_emit` wants none, and `poll`, `cancel`, `unsubscribe`,
-//! `reset_replay_cache`, and what tells a count, are never refused.
+//! # Errors
+//! A call that would issue a number after `limit` numbers fails with `Exhausted`, also if memory would be refused. A
+//! refused call returns its value and changes nothing. Memory is taken for subscribers, for queued values and for
+//! copies. `try_emit`, `poll`, `cancel`, `unsubscribe`, `reset_replay_cache` and the calls that count take none.
 #![tactic(auto)]
 
 mod copies;

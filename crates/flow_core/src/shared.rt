@@ -27,14 +27,14 @@ use std::marker::Model;
 
 /// A shared flow (`MutableSharedFlow`) for one thread.
 ///
-/// It keeps the values that may still be asked for, in room for `replay` and `extra` values that is made with it. A
-/// subscription that is only forgotten stays, and may block emitters: `unsubscribe` ends it.
+/// It keeps the values that may still be asked for, in room for `replay + extra` values that is reserved when it is
+/// made. A subscription that is only forgotten stays, and may block emitters; `unsubscribe` ends it.
 pub struct SharedCore<T: FlowValue, A: Allocator + Copy = Global> {
     alloc: A,
     config: Config,
-    /// The last values that were emitted, from the first that may still be asked for.
+    /// The last emitted values, from the first one that may still be asked for.
     values: HeapCircularBuffer<T, A>,
-    /// The number of the value that was emitted last, or 0.
+    /// The number of the last emitted value, or 0.
     newest: u64,
     reset_mark: u64,
     queue: Queue<T, A>,
@@ -42,7 +42,7 @@ pub struct SharedCore<T: FlowValue, A: Allocator + Copy = Global> {
     issued: u64,
 }
 
-// Not derived: each crate that drops a core would prove anew how all that it keeps is dropped.
+// Not derived: each crate that drops a core would prove again how its parts are dropped.
 impl<T: FlowValue, A: Allocator + Copy> Drop for SharedCore<T, A> {
     fn drop(self) {
         let Self {
@@ -72,7 +72,7 @@ impl<T: FlowValue, A: Allocator + Copy> Model for SharedCore<T, A> {
 
 const LARGEST_CAPACITY: u64 = 65_536;
 
-/// Why no flow is made of a configuration, if none is.
+/// Returns why no flow can have this configuration, if none can.
 fn fault_of(config: Config) -> Option<FlowFault>
     ensures { result ≡ flow.config_fault config }
 {
@@ -92,7 +92,7 @@ fn fault_of(config: Config) -> Option<FlowFault>
     }
 }
 
-/// How many values a flow keeps for a subscriber before it is blocked.
+/// Returns how many values a subscriber may be behind before it blocks the flow.
 fn capacity_of(config: Config) -> usize
     ensures { result ≡ config.replay + config.extra }
 {
@@ -100,11 +100,10 @@ fn capacity_of(config: Config) -> usize
 }
 
 impl<T: FlowValue, A: Allocator + Copy> SharedCore<T, A> {
-    /// A flow that nobody emitted into and nobody subscribed to, with room for the values that it may keep: as many as
-    /// `replay` and `extra` say, and one at least.
+    /// Makes a flow, with room for the values that it may keep: `replay + extra`, but at least one.
     ///
-    /// A configuration of which no flow is made is refused as `TooLarge` or `NeedsBuffer`, and want of memory comes after
-    /// that.
+    /// # Errors
+    /// `TooLarge` or `NeedsBuffer` if no flow can have this configuration, else `OutOfMemory`.
     pub fn new(alloc: A, config: Config) -> Result<Self, FlowFault>
         ensures { MatchResult result
             (λ core. (flow.config_fault config ≡ None) × StandsFor core (flow.first_state config))
@@ -138,7 +137,7 @@ impl<T: FlowValue, A: Allocator + Copy> SharedCore<T, A> {
         capacity_of(self.config)
     }
 
-    /// Whether somebody has a whole window of values still to receive.
+    /// Returns whether a subscriber has a whole window of values still to receive.
     fn is_blocked(&self) -> bool
         ensures own { result ≡ kept_full self.now }
         ensures shown { Shows self.now flow.is_blocked result }
@@ -146,7 +145,7 @@ impl<T: FlowValue, A: Allocator + Copy> SharedCore<T, A> {
         self.subscribers.is_blocked()
     }
 
-    /// Whether the last value is offered to somebody.
+    /// Returns whether the last value is being offered to a subscriber.
     fn is_offering(&self) -> bool
         ensures own { OnTrue result ((self.now.config.replay + self.now.config.extra ≡ 0) × kept_full self.now ≡ true) }
         ensures shown { Shows self.now flow.is_offering result }
@@ -154,7 +153,7 @@ impl<T: FlowValue, A: Allocator + Copy> SharedCore<T, A> {
         self.capacity() == 0 && self.subscribers.is_blocked()
     }
 
-    /// How many values were emitted before the first that is held.
+    /// Returns how many values were emitted before the first one that is held.
     fn held_from(&self) -> u64
         ensures from { result ≡ self.now.appended - length self.now.held }
         ensures near { self.now.appended ≤ result + window_of self.now.config }
@@ -162,7 +161,7 @@ impl<T: FlowValue, A: Allocator + Copy> SharedCore<T, A> {
         self.subscribers.emitted() - self.values.len() as u64
     }
 
-    /// Where a value that may still be asked for is among those that are held.
+    /// Returns the place of a position among the held values.
     fn place_of(&self, position: u64) -> usize
         requires { self.now.appended - length self.now.held ≤ position }
         ensures { result ≡ position - (self.now.appended - length self.now.held) }
@@ -170,7 +169,7 @@ impl<T: FlowValue, A: Allocator + Copy> SharedCore<T, A> {
         (position - self.held_from()) as usize
     }
 
-    /// Lets go of the values that nobody may ask for any more.
+    /// Drops the values that may not be asked for any more.
     fn trim(&mut self)
         ensures { Reaches self.old (λ s. s) self.new }
     {
@@ -191,7 +190,7 @@ impl<T: FlowValue, A: Allocator + Copy> SharedCore<T, A> {
         self.trim();
     }
 
-    /// Adds a value to those that were emitted, where nobody is blocked.
+    /// Appends a value while no subscriber blocks the flow.
     fn push(&mut self, value: T, number: u64)
         requires free { kept_full self.old ≡ false }
         requires issued { self.old.appended + length self.old.queue < self.old.issued }
@@ -233,7 +232,7 @@ impl<T: FlowValue, A: Allocator + Copy> SharedCore<T, A> {
         }
     }
 
-    /// Emits queued values until the flow is blocked, and then lets go of what nobody may ask for any more.
+    /// Emits queued values until the flow is blocked, and then drops the values that may not be asked for any more.
     fn settle(&mut self)
         ensures { Reaches self.old step.settle self.new }
     {
@@ -241,8 +240,8 @@ impl<T: FlowValue, A: Allocator + Copy> SharedCore<T, A> {
         self.trim();
     }
 
-    /// Settles after a subscriber moved on. If it was not the last one at the first value, the ring is settled already,
-    /// unless a queued value may be emitted.
+    /// Settles after a subscriber moved on. The ring changes only if the subscriber was the last one at the first held
+    /// value, or if a queued value may be emitted.
     #[inline]
     fn settle_after(&mut self, was_last: bool)
         ensures { (s : SharedFlowState T) → Covers self.old s → OnFalse was_last (StandsFor self.old s)
@@ -254,7 +253,7 @@ impl<T: FlowValue, A: Allocator + Copy> SharedCore<T, A> {
         self.settle();
     }
 
-    /// Where the replay cache begins among the emitted values.
+    /// Returns the position at which the replay cache begins.
     fn cache_start(&self) -> u64
         ensures start { result ≡ kept_start self.now }
         ensures within { (self.now.appended - length self.now.held ≤ result) × (result ≤ self.now.appended) }
@@ -265,7 +264,7 @@ impl<T: FlowValue, A: Allocator + Copy> SharedCore<T, A> {
             .max(self.reset_mark)
     }
 
-    /// Where a new subscriber stands.
+    /// Returns the position of a new subscriber.
     fn entry(&self) -> u64
         ensures within { (kept_need self.now ≤ result) × (result ≤ self.now.appended) }
         ensures shown { Shows self.now flow.entry result }
@@ -277,10 +276,12 @@ impl<T: FlowValue, A: Allocator + Copy> SharedCore<T, A> {
         }
     }
 
-    /// What a subscriber receives next: its own first values, and then what was emitted.
+    /// Returns the next value of a subscriber: its own first values come first, then the emitted ones.
     ///
-    /// An emitted value that is received makes room, so queued values may be emitted by it. `Err` is want of memory for a
-    /// copy of the value: a later call gives that value.
+    /// A received value makes room, so queued values may then be emitted.
+    ///
+    /// # Errors
+    /// `OutOfMemory` if the value could not be copied; a later call returns it.
     #[inline]
     pub fn next(&mut self, id: SubId) -> Result<Next<T>, FlowFault>
         ensures documented { Conforms self.old (call.TakeNext (number_of id)) (next_reply result) self.new }
@@ -298,7 +299,7 @@ impl<T: FlowValue, A: Allocator + Copy> SharedCore<T, A> {
         }
     }
 
-    /// Ends a subscription, and answers whether it was there. Emitters who waited for it alone go on.
+    /// Ends a subscription, and returns whether it was there. Emissions that waited only for it are done.
     pub fn unsubscribe(&mut self, id: SubId) -> bool
         ensures documented { Conforms self.old (call.Unsubscribe (number_of id))
             (reply.Tested result) self.new }
@@ -308,8 +309,8 @@ impl<T: FlowValue, A: Allocator + Copy> SharedCore<T, A> {
         was_there
     }
 
-    /// What a new subscriber would get first, where nothing is offered: copies of at most `replay` values. `Err` is want
-    /// of memory.
+    /// Returns the replay cache: copies of at most `replay` values. A new subscriber receives them first, unless a
+    /// value is being offered. The only error is `OutOfMemory`.
     pub fn replay_cache(&self) -> Result<Vec<T, A>, FlowFault>
         ensures documented { Conforms self.now call.ReplayCache (cache_reply result) self.now }
     {
@@ -319,7 +320,7 @@ impl<T: FlowValue, A: Allocator + Copy> SharedCore<T, A> {
         }
     }
 
-    /// Empties the cache for new subscribers. Old ones keep what they have still to receive.
+    /// Empties the replay cache. Present subscribers still receive the values that they have not received.
     pub fn reset_replay_cache(&mut self)
         ensures documented { Conforms self.old call.ResetReplayCache reply.Reset self.new }
     {

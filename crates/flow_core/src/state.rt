@@ -15,21 +15,21 @@ use flow_law::{FlowFault, FlowValue, Next};
 use std::alloc::{Allocator, Global};
 use std::marker::Model;
 
-/// A state flow (`MutableStateFlow`) for one thread: one current value, of which each subscriber gets the most recent
-/// that it has not got already.
+/// A state flow (`MutableStateFlow`) for one thread. It has one current value; a subscriber receives the most recent
+/// value that it has not received.
 ///
-/// It is a conflated flow: `law_conflated` of flow_law says which shared flow it is. A subscription that is only
-/// forgotten stays and costs one value; it blocks nobody.
+/// It is a conflated shared flow (`law_conflated` of `flow_law`). A subscription that is only forgotten stays; it keeps
+/// one value, and blocks no caller.
 pub struct StateCore<T: FlowValue, A: Allocator + Copy = Global> {
     alloc: A,
     value: T,
-    /// The last value that each subscriber got.
+    /// The last value that each subscriber received.
     subscribers: Members<Option<T>, A>,
     issued: u64,
     limit: u64,
 }
 
-// Not derived, as that of `SharedCore`.
+// Not derived, for the reason given at `SharedCore`.
 impl<T: FlowValue, A: Allocator + Copy> Drop for StateCore<T, A> {
     fn drop(self) {
         let Self {
@@ -55,7 +55,7 @@ impl<T: FlowValue, A: Allocator + Copy> Model for StateCore<T, A> {
     ghost invariant = { λ c. (c.issued ≤ c.limit) × (c.subscribers.last ≤ c.issued) };
 }
 
-/// Whether the last value that a subscriber got is this one.
+/// Returns whether the last value that a subscriber received is this one.
 fn has_got<T: FlowValue>(last: &Option<T>, value: &T) -> bool
     ensures { IsTrue result ↔ (last.now ≡ Some value.now) }
 {
@@ -65,7 +65,7 @@ fn has_got<T: FlowValue>(last: &Option<T>, value: &T) -> bool
     }
 }
 
-/// One copy to keep, and one to give.
+/// Returns two copies: one to keep, and one to return.
 fn two_copies<T: FlowValue>(value: &T) -> Result<(T, T), FlowFault>
     ensures copies { IfOk result (λ copies. (copies.0 ≡ value.now) × (copies.1 ≡ value.now)) }
     ensures memory { IfErr result (λ fault. fault ≡ FlowFault.OutOfMemory) }
@@ -76,7 +76,7 @@ fn two_copies<T: FlowValue>(value: &T) -> Result<(T, T), FlowFault>
 }
 
 impl<T: FlowValue, A: Allocator + Copy> StateCore<T, A> {
-    /// A state flow with this value, which issues at most `limit` numbers to subscribers. It takes no memory.
+    /// Makes a state flow with this value, which issues at most `limit` numbers to subscribers. It takes no memory.
     pub fn new(alloc: A, initial: T, limit: u64) -> Self
         ensures { result ≡ flow.first_state_flow limit initial }
     {
@@ -89,7 +89,7 @@ impl<T: FlowValue, A: Allocator + Copy> StateCore<T, A> {
         }
     }
 
-    /// A copy of the current value. `Err` is want of memory.
+    /// Returns a copy of the current value. The only error is `OutOfMemory`.
     pub fn value(&self) -> Result<T, FlowFault>
         ensures documented { StateConforms self.now call.GetValue (value_reply result) self.now }
         ensures given { T.IsAlwaysCopied → IsOk result }
@@ -100,14 +100,14 @@ impl<T: FlowValue, A: Allocator + Copy> StateCore<T, A> {
         }
     }
 
-    /// Makes this the current value. Setting the same value does nothing.
+    /// Sets the current value. Setting the same value does nothing.
     pub fn set(&mut self, value: T)
         ensures documented { StateConforms self.old (call.Set value) reply.Done self.new }
     {
         self.value = value;
     }
 
-    /// The same as `set`. A state flow always has room.
+    /// Does the same as `set`, and returns `true`: a state flow always has room.
     pub fn try_emit(&mut self, value: T) -> bool
         ensures documented { StateConforms self.old (call.TryEmit value) (reply.Answered result) self.new }
     {
@@ -115,8 +115,8 @@ impl<T: FlowValue, A: Allocator + Copy> StateCore<T, A> {
         true
     }
 
-    /// Makes `update` the current value where the current one is `expect`, and answers whether it was. At `false`
-    /// `update` is dropped. Where both are the current value the answer is `true`.
+    /// Sets the value to `update` if the current value is `expect`, and returns whether it was. At `false` it drops
+    /// `update`. If both are the current value, it returns `true`.
     pub fn compare_and_set(&mut self, expect: &T, update: T) -> bool
         ensures documented { StateConforms self.old (call.CompareAndSet expect.now update)
             (reply.Answered result) self.new }
@@ -129,8 +129,10 @@ impl<T: FlowValue, A: Allocator + Copy> StateCore<T, A> {
         }
     }
 
-    /// A new subscriber, who gets the current value first. `Err` is `Exhausted`, where the flow has issued as many numbers
-    /// as its limit allows, and else want of memory.
+    /// Adds a subscriber, which receives the current value first.
+    ///
+    /// # Errors
+    /// `Exhausted` if the flow has issued as many numbers as its limit allows, else `OutOfMemory`.
     pub fn subscribe(&mut self) -> Result<SubId, FlowFault>
         ensures documented { (name : List ℕ)
             → StateConforms self.old (call.Subscribe name) (subscribe_reply result) self.new }
@@ -148,8 +150,8 @@ impl<T: FlowValue, A: Allocator + Copy> StateCore<T, A> {
         }
     }
 
-    /// The current value, if it is not the one that the subscriber got last, and `Empty` if it is. Values that were set
-    /// in between are skipped. `Err` is want of memory for a copy: a later call gives the value.
+    /// Returns the current value, or `Empty` if the subscriber received that value last. Values that were set in
+    /// between are skipped. The only error is `OutOfMemory`; a later call returns the value.
     pub fn next(&mut self, id: SubId) -> Result<Next<T>, FlowFault>
         ensures documented { StateConforms self.old (call.TakeNext (number_of id))
             (next_reply result) self.new }
@@ -170,7 +172,7 @@ impl<T: FlowValue, A: Allocator + Copy> StateCore<T, A> {
         }
     }
 
-    /// Ends a subscription, and answers whether it was there.
+    /// Ends a subscription, and returns whether it was there.
     pub fn unsubscribe(&mut self, id: SubId) -> bool
         ensures documented { StateConforms self.old (call.Unsubscribe (number_of id))
             (reply.Answered result) self.new }
@@ -178,7 +180,7 @@ impl<T: FlowValue, A: Allocator + Copy> StateCore<T, A> {
         self.subscribers.remove(id.number, id.key).is_some()
     }
 
-    /// The current value alone: that is a state flow's replay cache. `Err` is want of memory.
+    /// Returns a list of the current value, which is a state flow's replay cache. The only error is `OutOfMemory`.
     pub fn replay_cache(&self) -> Result<Vec<T, A>, FlowFault>
         ensures documented { StateConforms self.now call.ReplayCache (cache_reply result) self.now }
     {
@@ -194,14 +196,14 @@ impl<T: FlowValue, A: Allocator + Copy> StateCore<T, A> {
         }
     }
 
-    /// Always refused as `Unsupported`: a state flow has a value at any time.
+    /// Fails with `Unsupported`, always: a state flow has a value at any time.
     pub fn reset_replay_cache(&mut self) -> Result<(), FlowFault>
         ensures documented { StateConforms self.old call.ResetReplayCache (reset_reply result) self.new }
     {
         Err(FlowFault::Unsupported)
     }
 
-    /// How many subscribers there are.
+    /// Returns the number of subscribers.
     pub fn subscription_count(&self) -> u64
         ensures documented { StateConforms self.now call.SubscriptionCount (reply.Counted result) self.now }
     {

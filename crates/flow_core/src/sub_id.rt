@@ -2,17 +2,17 @@
 ghost use Rattle.std.specs.Prelude.{◌≡◌};
 ghost use Rattle.flow_core.specs.SubId.{number_of};
 
-/// A subscription of a shared or state flow, by its number. It stands for the number alone: a core does not ask where
-/// it came from, and two of one number are equal.
+/// A subscription of a shared or state core, by its number. Two of the same number are equal, and a core does not ask
+/// where one came from.
 #[derive(Clone, Copy, Debug)]
 pub struct SubId {
     pub(crate) number: u64,
-    /// Where the subscriber stood last: a core looks there first.
+    /// The key under which the subscriber was last seen. A core looks there first.
     pub(crate) key: usize,
 }
 
 impl SubId {
-    /// The number that the subscription took when it was made.
+    /// Returns the number that `subscribe` issued.
     pub fn number(self) -> u64
         ensures { result ≡ number_of self }
     {

@@ -1,4 +1,4 @@
-//! The gate.
+//! The gate: entering, meeting, and closing.
 ghost use Rattle.std.specs.Prelude.{◌≡◌, ◌≤◌, [], Some, IfOk, IfErr, IfSome};
 ghost use Rattle.flow_law.specs.Growth.{loses, makes, child};
 ghost use Rattle.flow_law.specs.Tokens.{Begins, knowing};
@@ -16,7 +16,7 @@ use std::snapshot::Snapshot;
 use std::sync::Wait;
 use std::thread;
 
-/// A lock whose state stands for a history, of which each seat has seen a beginning.
+/// A lock whose state stands for a history. Each seat has seen a beginning of that history.
 #[derive(Drop)]
 pub struct Gate<S: Guarded, A: Allocator = Global> {
     pub(crate) table: Table<Option<Box<S, A>>, SeatView<S::Said>, Snapshot<S>, GateRule, A>,
@@ -35,7 +35,7 @@ impl<S: Guarded, A: Allocator> Model for Gate<S, A> {
 }
 
 impl<S: Guarded + Drop, A: Allocator + Copy> Gate<S, A> {
-    /// A gate with this state, and its first seat. Where memory is wanted, the state comes back.
+    /// Makes a gate with this state, and its first seat. If memory is refused, returns the state.
     pub fn new(alloc: A, state: S) -> Result<(Gate<S, A>, Seat<S, A>), AllocFailed<S>>
         requires { S.stands state state [] }
         ensures made { IfOk result (Begins state) }
@@ -84,7 +84,7 @@ impl<S: Guarded + Drop, A: Allocator + Copy> Gate<S, A> {
         }
     }
 
-    /// Enters, if nobody is inside. Where somebody is, the seat comes back and has counted one exchange that it lost.
+    /// Enters if no other caller is inside. Otherwise returns the seat, which has counted one lost exchange.
     #[inline]
     pub fn try_enter(&self, seat: Seat<S, A>) -> Result<Held<'_, S, A>, Seat<S, A>>
         requires { seat.table_id ≡ self.now.table_id }
@@ -94,15 +94,16 @@ impl<S: Guarded + Drop, A: Allocator + Copy> Gate<S, A> {
         self.try_enter_at::<Brand>(seat)
     }
 
-    /// Whether nobody is inside, at the moment of the look. It takes nothing from who is.
+    /// Returns whether the gate is free right now. Does not acquire it.
     #[inline]
     fn is_free(&self) -> bool {
         self.table.shared.peek(0) == 0
     }
 
-    /// Enters, and waits where somebody is inside: it lets other threads go first, and tries where it finds the gate free.
+    /// Enters, and waits while another caller is inside: it lets other threads go first, and tries when the gate is
+    /// free.
     ///
-    /// Nothing says that it ever wins: who is inside may stay, and others may be faster.
+    /// No contract says that it ever enters: a caller may stay inside, and others may be faster.
     #[inline]
     pub fn enter<R: Wait>(&self, rt: &R, seat: Seat<S, A>) -> Held<'_, S, A>
         requires { seat.table_id ≡ self.now.table_id }
@@ -140,7 +141,7 @@ impl<S: Guarded + Drop, A: Allocator + Copy> Gate<S, A> {
         unreachable!()
     }
 
-    /// Makes a seat through another, which counts it. The new one has seen what its maker had seen.
+    /// Makes a seat through another one, which counts it. The new seat has seen what its maker had seen.
     pub fn seat(&self, seat: &mut Seat<S, A>) -> Seat<S, A>
         requires { seat.old.table_id ≡ self.now.table_id }
         ensures maker { seat.new ≡ knowing seat.old (makes seat.old.knows) }
@@ -169,9 +170,9 @@ impl<S: Guarded + Drop, A: Allocator + Copy> Gate<S, A> {
         (Seat { seat: both }, Seat { seat })
     }
 
-    /// Makes what two seats have seen one history: both have then seen the history so far.
+    /// Lets two seats meet: both have then seen the history so far, which begins with what each had seen.
     ///
-    /// Call it where what one caller did is to count for the other, as after a thread has ended.
+    /// Call it if a caller relies on what the other one did, for instance after a thread has ended.
     pub fn meet(&self, one: Seat<S, A>, other: Seat<S, A>) -> (Seat<S, A>, Seat<S, A>)
         requires { (one.table_id ≡ self.now.table_id) × (other.table_id ≡ self.now.table_id) }
         ensures { MeetsAtGate S.stands self.now one other result.0 result.1 }
@@ -191,7 +192,7 @@ impl<S: Guarded + Drop, A: Allocator + Copy> Gate<S, A> {
     /// Proves that what the seat has seen begins a history for which some state stood. It changes nothing and does not
     /// wait.
     ///
-    /// Call it if the gate was lent and the caller knows nothing else of what its seat has seen.
+    /// Call it if the gate was lent and nothing else is known of what its seat has seen.
     pub fn look(&self, seat: &mut Seat<S, A>)
         requires { seat.old.table_id ≡ self.now.table_id }
         ensures unchanged { seat.new ≡ seat.old }
@@ -200,9 +201,9 @@ impl<S: Guarded + Drop, A: Allocator + Copy> Gate<S, A> {
         self.look_at::<Brand>(seat)
     }
 
-    /// The state, or `None` where it is out because somebody who entered never left.
+    /// Returns the state, or `None` if a caller entered and never left. It does not wait.
     ///
-    /// Call it where no seat is at hand any more; with a seat `close_with` tells more of the state. It waits for nobody.
+    /// Call it if no seat is at hand; with a seat, `close_with` says more about the state.
     pub fn close(self) -> Option<S>
         ensures { IfSome result (StandsForSome S.stands self) }
     {
@@ -218,10 +219,10 @@ impl<S: Guarded + Drop, A: Allocator + Copy> Gate<S, A> {
         }
     }
 
-    /// As `close`, by one of its seats: the state that comes back is what the last history led to, which begins with all
-    /// that the seat has seen.
+    /// Closes the gate by one of its seats. The state is the one after the last history, which begins with all that the
+    /// seat has seen. Returns `None` if a caller entered and never left.
     ///
-    /// Call it where what the seat's calls did is to be found in the state. Seats that are left are of no further use.
+    /// Seats that are left are of no further use.
     pub fn close_with(self, seat: Seat<S, A>) -> Option<S>
         requires { seat.table_id ≡ self.table_id }
         ensures { IfSome result (StandsAfter S.stands self seat) }

@@ -1,4 +1,4 @@
-//! Who is inside a gate.
+//! A caller inside a gate.
 ghost use Rattle.std.specs.Prelude.{◌≡◌};
 ghost use Rattle.flow_law.specs.Growth.{adds, events_of};
 ghost use Rattle.flow_law.specs.Tokens.{knowing};
@@ -11,7 +11,7 @@ use flow_law::Guarded;
 use std::alloc::{Allocator, Global};
 use std::marker::Model;
 
-/// Who is inside, with the state. It has no `Drop`: who entered must `leave`.
+/// A caller inside the gate, with the state. It has no `Drop`: a caller that entered has to `leave`.
 pub struct Held<'a, S: Guarded, A: Allocator = Global> {
     pub(crate) gate: &'a Gate<S, A>,
     pub(crate) seat: atomic_table::Seat<Option<Box<S, A>>, SeatView<S::Said>>,
@@ -37,7 +37,7 @@ impl<'a, S: Guarded, A: Allocator> Held<'a, S, A> {
     ghost use Rattle.flow_gate.specs.Lending.{LendsState};
     ghost use Rattle.flow_gate.specs.Tokens.{StandsWith};
 
-    /// The state, which may be changed while it is lent.
+    /// Lends the state, which may be changed.
     #[inline]
     pub fn state(&mut self) -> &mut S
         ensures* writes_back { sem 𝓛 (LendsState S.row A.row S.Said.row S.Guarded A.Allocator self.entry result) }
@@ -46,7 +46,7 @@ impl<'a, S: Guarded, A: Allocator> Held<'a, S, A> {
         &mut *self.state
     }
 
-    /// Puts the state back, where the events that were added are those of `W`, a type of one's own.
+    /// Puts the state back. The added events are those of `W`, a type of the caller's.
     #[inline]
     pub fn leave_adding<W: Adds<S::Said>>(self) -> Seat<S, A>
         requires { StandsWith S.stands self W.adds }
@@ -65,8 +65,8 @@ impl<'a, S: Guarded, A: Allocator> Held<'a, S, A> {
         Seat { seat }
     }
 
-    /// Puts the state back. At `Brand` the caller's proof says which events were added; it may speak of what lies
-    /// behind `evidence`, such as the call's argument and its answer.
+    /// Puts the state back. At `Brand` the caller's proof says which events were added; it may speak of what is behind
+    /// `evidence`, such as the call's argument and its answer.
     #[inline]
     pub fn leave<W: Adds<S::Said>, X>(self, _evidence: &X) -> Seat<S, A>
         requires { StandsWith S.stands self W.adds }

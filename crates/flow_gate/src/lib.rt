@@ -1,18 +1,18 @@
 //! A lock with tokens.
 //!
-//! A gate guards a state, and who enters has it until he leaves. What a mutex leaves to prose stands in the contracts
-//! here: the state stands for a history of events, and each seat, the token without which nobody enters, has seen a
-//! beginning of that one history. Who enters finds a state that stands for what his seat had seen, followed by events
-//! of others. Who leaves names the events that he added, under the name of his seat.
+//! A gate guards a state. A caller enters with a *seat* and has the state until it leaves. The contracts say what a
+//! mutex leaves to prose: the state stands for a history of events, and each seat has seen a beginning of that one
+//! history. A caller that enters finds a state for what its seat had seen, followed by events of others. A caller that
+//! leaves names the events that it added, under the name of its seat.
 //!
-//! - `Gate::new` gives the gate and its first seat; `seat` makes more, each through another.
-//! - `enter` waits until it is inside. `try_enter` hands the seat back where another is inside.
-//! - `Held::state` lends the state, and `Held::leave` puts it back. `Held` has no `Drop`: who entered must leave.
-//! - `meet` makes what two seats have seen one history.
-//! - `look` changes nothing, and tells what holds of all that a seat has seen.
-//! - `close` gives the state back.
+//! - `Gate::new` makes the gate and its first seat; `seat` makes more, each through another one.
+//! - `enter` waits until it is inside. `try_enter` returns the seat if another caller is inside.
+//! - `Held::state` lends the state, and `Held::leave` puts it back. `Held` has no `Drop`, so a caller has to leave.
+//! - `meet` makes one history of what two seats have seen.
+//! - `look` changes nothing, and proves what holds of all that a seat has seen.
+//! - `close` returns the state.
 //!
-//! Nothing is said of progress: not that a waiting `enter` wins, nor in which order.
+//! Progress is not claimed: not that a waiting `enter` ever enters, nor in which order.
 #![tactic(auto)]
 
 mod gate;

@@ -1,4 +1,4 @@
-//! The rule of the table, and what its steps tell. Nothing here runs.
+//! The rule of the gate's table, and what each step proves. Nothing here runs.
 ghost use Rattle.std.specs.Prelude.{List, [], ◌++◌, map, false, Option, None};
 ghost use Rattle.flow_law.specs.Growth.{makes, child};
 ghost use Rattle.flow_gate.specs.View.{first_view, seat_view};
@@ -12,7 +12,7 @@ use std::alloc::Allocator;
 use std::marker::{Brand, PhantomData};
 use std::snapshot::Snapshot;
 
-/// The events that a call adds to the history, for contracts alone. A call at `Brand` picks them in its proof.
+/// The events that a call adds to the history, for contracts only. A call at `Brand` chooses them in its proof.
 pub trait Adds<E> {
     ghost adds: { List E };
 }
@@ -31,7 +31,7 @@ impl<S: Guarded, A: Allocator> TableRule<Option<Box<S, A>>, SeatView<S::Said>, S
     ghost first = { λ _. first_view };
 }
 
-/// The state that the gate began with, which a step does not see by itself. A call at `Brand` picks it.
+/// The state with which the gate began. A step does not see it by itself; a call at `Brand` chooses it.
 pub(crate) trait StartsFrom<F> {
     ghost first: { Option F };
 }
@@ -79,7 +79,7 @@ impl<S, E, W: Adds<E>> Play<Option<S>, SeatView<E>> for Leave<W> {
     ghost then = { left W.adds };
 }
 
-/// A seat is made through another.
+/// Making a seat through another one.
 pub struct Make;
 
 impl<E> Split<SeatView<E>> for Make {
@@ -88,7 +88,7 @@ impl<E> Split<SeatView<E>> for Make {
     ghost right = { λ v. seat_view (map child v.known) false };
 }
 
-/// Two seats meet in one view.
+/// Joining two seats in one view.
 pub struct Meet;
 
 impl<E> Join<SeatView<E>> for Meet {
@@ -97,7 +97,7 @@ impl<E> Join<SeatView<E>> for Meet {
     ghost spent = { seat_view [] false };
 }
 
-/// They part again.
+/// Splitting the view again.
 pub struct Part;
 
 impl<E> Split<SeatView<E>> for Part {

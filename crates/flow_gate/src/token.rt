@@ -6,9 +6,9 @@ use flow_law::Guarded;
 use std::alloc::{Allocator, Global};
 use std::marker::Model;
 
-/// A seat at a gate: who has it may enter. Contracts see its name, its counts and the history that it has seen.
+/// A seat at a gate, by which a caller may enter. Contracts see its name, its counts and the history that it has seen.
 ///
-/// A seat that is dropped is lost: nobody calls under its name any more. The gate goes on.
+/// If a seat is dropped, no call is made under its name any more. The gate goes on.
 #[derive(Drop)]
 pub struct Seat<S: Guarded, A: Allocator = Global> {
     pub(crate) seat: atomic_table::Seat<Option<Box<S, A>>, SeatView<S::Said>>,

@@ -3,8 +3,8 @@ ghost use Rattle.std.specs.Prelude.{◌≡◌};
 
 use flow_law::{Knowledge, Sequence};
 
-/// The view of a seat at the table: what one token knows and, between a join and its split, two. A spent one has none.
-/// No value of this type is made.
+/// What the table knows of a seat: the view of one token or, between a join and its split, of two. A spent view knows
+/// none. No value of this type is made.
 pub struct SeatView<E> {
     pub known: Sequence<Knowledge<E>>,
     pub holds: bool,

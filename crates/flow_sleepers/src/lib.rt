@@ -1,7 +1,7 @@
-//! Callers that sleep, each under a number, until something is there for them: tasks, and threads.
+//! Callers that sleep until there is something for them, tasks and threads, each under a number.
 //!
-//! Neither a task's `Waker` nor a thread's can be copied or dropped without waking the sleeper. So a sleeper whose number is
-//! in none of these lists any more was woken. A wait that ends at some time has a `Limit`.
+//! Neither the `Waker` of a task nor that of a thread can be copied or dropped without waking the sleeper. So a sleeper
+//! whose number is in no list any more was woken. A `Limit` bounds a wait in time.
 #![tactic(auto)]
 
 mod limit;

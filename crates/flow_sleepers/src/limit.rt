@@ -10,7 +10,7 @@ pub struct Limit {
 }
 
 impl Limit {
-    /// Returns a limit that ends when `most` has passed from now.
+    /// Makes a limit that ends when `most` has passed from now.
     pub fn new<C: Clock>(clock: &C, most: Duration) -> Limit {
         Limit {
             start: Instant::now(clock).ok(),
@@ -18,7 +18,7 @@ impl Limit {
         }
     }
 
-    /// Returns how much time is left. `None` if the time is up, or if the clock cannot be read.
+    /// Returns how much time is left, or `None` if the time is up or the clock cannot be read.
     pub fn left<C: Clock>(&self, clock: &C) -> Option<Duration> {
         let spent = self.start?.elapsed(clock).ok()?;
         let left = self.most.checked_sub(spent)?;

@@ -33,13 +33,13 @@ impl<A: Allocator> Model for Sleepers<A> {
     ghost view = { λ s. numbers_of s.list.items };
 }
 
-/// Callers that sleep no more. Each is woken when this is dropped.
+/// Callers that are to be woken: dropping this wakes each.
 #[derive(Drop)]
 pub struct Woken<A: Allocator = Global> {
     list: Vec<Sleeper<A>, A>,
 }
 
-/// Whether the sleeper at this place has this number.
+/// Returns whether the sleeper at this place has this number.
 fn is_at<A: Allocator>(list: &[Sleeper<A>], place: usize, number: u64) -> bool
     ensures { OnTrue result (place < length list.now) }
 {
@@ -49,7 +49,7 @@ fn is_at<A: Allocator>(list: &[Sleeper<A>], place: usize, number: u64) -> bool
     }
 }
 
-/// The place of the sleeper of this number, which is made if there is none. `None` is want of memory.
+/// Returns the place of the sleeper of this number, which is added if there is none, or `None` if memory is refused.
 fn place_in<A: Allocator>(list: &mut Vec<Sleeper<A>, A>, number: u64) -> Option<usize>
     ensures within { IfSome result (λ place. place < vec_len list.new) }
     ensures adds { Adds number (numbers_of list.old.items) (numbers_of list.new.items) }
@@ -69,19 +69,19 @@ fn place_in<A: Allocator>(list: &mut Vec<Sleeper<A>, A>, number: u64) -> Option<
 }
 
 impl<A: Allocator + Copy> Woken<A> {
-    /// Returns a list of nobody. It takes no memory.
+    /// Returns an empty list. It takes no memory.
     pub fn new(alloc: A) -> Self {
         Woken {
             list: Vec::new(alloc),
         }
     }
 
-    /// Returns whether nobody is to be woken.
+    /// Returns whether no caller is to be woken.
     pub fn is_empty(&self) -> bool {
         self.list.is_empty()
     }
 
-    /// Takes all of them out.
+    /// Returns all of them, and leaves an empty list.
     pub fn take(&mut self) -> Self {
         let alloc = *self.list.allocator();
         Woken {
@@ -91,7 +91,7 @@ impl<A: Allocator + Copy> Woken<A> {
 }
 
 impl<A: Allocator + Copy> Sleepers<A> {
-    /// Returns a list of no sleepers. It takes no memory.
+    /// Returns an empty list. It takes no memory.
     pub fn new(alloc: A) -> Self
         ensures { result ≡ [] }
     {
@@ -100,14 +100,14 @@ impl<A: Allocator + Copy> Sleepers<A> {
         }
     }
 
-    /// Returns whether nobody sleeps.
+    /// Returns whether no caller sleeps.
     pub fn is_empty(&self) -> bool
         ensures { IsTrue result ↔ (self.now ≡ []) }
     {
         self.list.is_empty()
     }
 
-    /// Leaves the waker of a caller under this number. If no waker can be kept, because of memory, the caller asks again.
+    /// Keeps the waker of a caller under this number. If memory is refused, the caller asks again.
     pub fn sleep<W: Waiter<A>, T>(&mut self, waiter: &mut W, number: u64) -> Poll<T>
         ensures pending { result ≡ Poll.Pending }
         ensures armed { W.is_armed waiter.new }
@@ -124,21 +124,21 @@ impl<A: Allocator + Copy> Sleepers<A> {
         Poll::Pending
     }
 
-    /// Takes the sleepers of this number out, and wakes them.
+    /// Removes the sleepers of this number, and wakes them.
     pub fn wake(&mut self, number: u64)
         ensures { self.new ≡ filter (λ k. not (k == number)) self.old }
     {
         self.list.retain(|sleeper| sleeper.number != number);
     }
 
-    /// Takes the sleepers below this number out, and wakes them.
+    /// Removes the sleepers below this number, and wakes them.
     pub fn wake_below(&mut self, number: u64)
         ensures { self.new ≡ filter (λ k. nat_le number k) self.old }
     {
         self.list.retain(|sleeper| number <= sleeper.number);
     }
 
-    /// Takes all sleepers out.
+    /// Removes all sleepers, and returns them.
     pub fn take_all(&mut self) -> Woken<A>
         ensures { self.new ≡ [] }
     {

@@ -29,13 +29,13 @@ impl<A: Allocator> Wakers<A> {
 
 /// A caller that can sleep.
 pub trait Waiter<A: Allocator> {
-    /// Its waker was left, or it asks again.
+    /// The caller has left its waker, or asks again.
     ghost is_armed: { Self → Type 0 };
 
-    /// What leaving a waker keeps of the caller.
+    /// What stays as it was when the caller leaves its waker.
     ghost keeps: { Self → Self → Type 0 };
 
-    /// Leaves the caller's waker. If none can be kept, because of memory, the caller asks again.
+    /// Leaves the caller's waker. If memory is refused, the caller asks again.
     fn leave_waker(&mut self, alloc: A, wakers: &mut Wakers<A>)
         ensures armed { is_armed self.new }
         ensures kept { keeps self.old self.new };
@@ -45,7 +45,7 @@ pub trait Waiter<A: Allocator> {
         ensures armed { is_armed self.new }
         ensures kept { keeps self.old self.new };
 
-    /// A caller that was left alone is kept.
+    /// A caller that was not touched is kept.
     ghost keeps_same: { (w : Self) → keeps w w };
 }
 
@@ -78,18 +78,18 @@ impl<A: Allocator> Drop for ThreadWaker<A> {
     }
 }
 
-/// How a thread is to wait.
+/// How a thread waits.
 #[derive(Drop)]
 enum Rest {
     /// It was not told to wait.
     None,
-    /// Until the waker that it left is dropped.
+    /// It sleeps until the waker that it left is dropped.
     Asleep,
-    /// It asks again, when other threads had their turn.
+    /// It lets other threads go first, and asks again.
     Again,
 }
 
-/// The calling thread, which sleeps until a waker of it is dropped. One waiter serves one wait, under one number.
+/// The calling thread, which sleeps until a waker of it is dropped. A waiter serves one wait, under one number.
 #[derive(Drop)]
 pub struct ThreadWaiter<A: Allocator = Global> {
     /// Made when the thread first leaves a waker.
@@ -98,7 +98,7 @@ pub struct ThreadWaiter<A: Allocator = Global> {
 }
 
 impl<A: Allocator + Copy> ThreadWaiter<A> {
-    /// Returns a thread that has left no waker. It takes no memory.
+    /// Makes a waiter that has left no waker. It takes no memory.
     pub fn new() -> Self {
         ThreadWaiter {
             parker: None,
@@ -122,7 +122,7 @@ impl<A: Allocator + Copy> ThreadWaiter<A> {
         Ok(waker)
     }
 
-    /// Sleeps until the waker that was left is dropped, or lets other threads go first if the thread asks again.
+    /// Sleeps until the waker that was left is dropped, or lets other threads go first if the thread has to ask again.
     pub fn wait<R: Wait>(&mut self, rt: &R)
         requires { IsToldToWait self.old }
     {

@@ -1,4 +1,4 @@
-//! How a subscriber with its own first values is added.
+//! Adding a subscriber with its own first values.
 ghost use Rattle.std.specs.Prelude.{◌≡◌, ◌<◌, ◌++◌, ◌∷◌, [], IfOk, MatchResult};
 ghost use Rattle.flow_containers.specs.Members.{EntersAt};
 
@@ -6,7 +6,7 @@ use super::{Member, Members};
 use crate::own_values::OwnValues;
 use std::alloc::Allocator;
 
-/// What is left of a subscriber's own first values, and how many emitted values lay behind it when it last moved.
+/// What is left of a subscriber's own first values, and its position when it last moved.
 #[derive(Drop)]
 pub struct Row<T: Drop, A: Allocator> {
     pub own: OwnValues<T, A>,
@@ -14,7 +14,7 @@ pub struct Row<T: Drop, A: Allocator> {
 }
 
 impl<T: Drop, A: Allocator> Members<Row<T, A>, A> {
-    /// Adds a subscriber with its own first values, and gives its key. A refusal for want of memory hands them back.
+    /// Adds a subscriber with its own first values, and returns its key. If memory is refused, returns the values.
     pub fn enroll(
         &mut self,
         number: u64,

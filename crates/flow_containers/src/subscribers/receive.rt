@@ -1,4 +1,4 @@
-//! What a subscriber receives next. Who it is, is looked up once.
+//! The next value of a subscriber, by one look-up.
 ghost use Rattle.std.specs.Prelude.{◌≡◌, ◌-◌, ◌≤◌, length, IfSome, IsOk};
 ghost use Rattle.flow_law.specs.SharedFlow as flow;
 ghost use Rattle.flow_containers.specs.Receiving.{Receives};
@@ -13,17 +13,17 @@ use std::alloc::Allocator;
 pub enum Received<T> {
     /// There is no such subscriber.
     Gone,
-    /// The first of its own values.
+    /// The first of the subscriber's own values.
     Own(T),
-    /// A copy of an emitted value, and the subscriber stands behind it now. The flag says whether the value is the first
-    /// that is held and no other subscriber has it still to receive.
+    /// A copy of an emitted value, which the subscriber has now passed. The flag says whether the value is the first
+    /// one that the flow holds and no other subscriber has still to receive it.
     Emitted(T, bool),
-    /// Nothing yet.
+    /// The subscriber has received all values.
     Empty,
 }
 
 impl<T: FlowValue, A: Allocator> Subscribers<T, A> {
-    /// Gives a subscriber what it is to receive next. The values are the last that were emitted.
+    /// Returns what a subscriber receives next. `values` are the last emitted values.
     #[inline]
     pub fn receive(
         &mut self,

@@ -1,4 +1,4 @@
-//! What a subscriber takes of several emitted values at once.
+//! Several emitted values for a subscriber at once.
 ghost use Rattle.std.specs.Prelude.{◌≡◌, ◌+◌, ◌-◌, ◌<◌, ◌≤◌, ◌++◌, length, take, drop, IfSome};
 ghost use Rattle.flow_law.specs.SharedFlow as flow;
 ghost use Rattle.flow_containers.specs.Receiving.{TakesSome};
@@ -8,8 +8,8 @@ use circular_buffer::HeapCircularBuffer;
 use flow_law::FlowValue;
 use std::alloc::Allocator;
 
-/// Copies at most so many values, in order from this place, to the end of the list. Returns how many: fewer if there are
-/// no more or a copy is refused, and 0 if the list has no room for them.
+/// Appends copies of at most so many values, in order from this place, to the list. Returns how many: fewer if there
+/// are no more or a copy is refused, and 0 if the list has no room for them.
 fn copy_to<T: FlowValue, A: Allocator, B: Allocator>(
     values: &HeapCircularBuffer<T, A>,
     from: usize,
@@ -38,8 +38,8 @@ fn copy_to<T: FlowValue, A: Allocator, B: Allocator>(
 }
 
 impl<T: FlowValue, A: Allocator> Subscribers<T, A> {
-    /// Gives a subscriber without own values copies of the emitted values that it is to receive next, at most so many, at
-    /// the end of the list. Returns how many. The values are the last that were emitted.
+    /// Appends copies of the emitted values that a subscriber without own values receives next, at most so many, to the
+    /// list. Returns how many. `values` are the last emitted values.
     #[inline]
     pub fn take<B: Allocator>(
         &mut self,

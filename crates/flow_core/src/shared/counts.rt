@@ -1,4 +1,4 @@
-//! What a shared flow for one thread tells of itself: how many subscribers and values there are.
+//! The numbers of subscribers and values of a shared core.
 ghost use Rattle.std.specs.Prelude.{◌≡◌, ◌+◌, ◌≤◌, max, length};
 ghost use Rattle.flow_law.specs.SharedFlow.{lag_of};
 ghost use Rattle.flow_law.specs.Standing.{StandsFor, Conforms, held};
@@ -13,17 +13,18 @@ use flow_law::FlowValue;
 use std::alloc::Allocator;
 
 impl<T: FlowValue, A: Allocator + Copy> SharedCore<T, A> {
-    /// How many subscribers there are.
+    /// Returns the number of subscribers.
     pub fn subscription_count(&self) -> u64
         ensures documented { Conforms self.now call.SubscriptionCount (reply.Counted result) self.now }
     {
         self.subscribers.len() as u64
     }
 
-    /// How many values the flow keeps: those that a new subscriber may get, or that a subscriber has still to receive.
+    /// Returns how many values the flow keeps: those that a new subscriber may get or a present one has still to
+    /// receive.
     ///
-    /// They are at most `replay` and `extra` values, and one where both are 0. Values that wait in the queue are not among
-    /// them, nor are own first values.
+    /// There are at most `replay + extra` of them, or one if both are 0. Queued values and own first values do not
+    /// count.
     pub fn held(&self) -> usize
         ensures held { (s : SharedFlowState T) → StandsFor self.now s → result ≡ held s }
         ensures most { result ≤ max (self.now.config.replay + self.now.config.extra) 1 }
@@ -31,8 +32,8 @@ impl<T: FlowValue, A: Allocator + Copy> SharedCore<T, A> {
         self.values.len()
     }
 
-    /// How many values were emitted since the flow was made. Those that wait in the queue are not among them, nor are those
-    /// that were dropped in place of being emitted, nor own first values.
+    /// Returns how many values were emitted since the flow was made. Queued values, values that were dropped instead of
+    /// being emitted, and own first values do not count.
     pub fn emission_count(&self) -> u64
         ensures emitted { (s : SharedFlowState T) → StandsFor self.now s → result ≡ length s.emitted }
     {

@@ -1,4 +1,4 @@
-//! Emissions into a shared flow: what becomes of one, who waits, and how a wait is ended.
+//! Emissions into a shared core: their cases, their waits, and cancelling them.
 ghost use Rattle.std.specs.Prelude.{◌≡◌, ◌≢◌, ◌+◌, ◌<◌, true, false, length, IfErr, MatchResult};
 ghost use Rattle.std.specs.Bool.{OnTrue};
 ghost use Rattle.flow_law.specs.SharedFlow as flow;
@@ -15,7 +15,7 @@ use super::SharedCore;
 use flow_law::{Emit, FlowFault, FlowValue, Overflow, Refused};
 use std::alloc::Allocator;
 
-/// What becomes of an emission.
+/// What an emission does.
 #[derive(Clone, Copy)]
 enum EmitCase {
     Appends,
@@ -46,7 +46,7 @@ impl<T: FlowValue, A: Allocator + Copy> SharedCore<T, A> {
         }
     }
 
-    /// Emits a value now, where nobody is blocked, and answers its number.
+    /// Emits a value while no subscriber blocks the flow, and returns its number.
     #[inline]
     fn append(&mut self, value: T) -> Result<u64, Refused<T>>
         requires free { kept_full self.old ≡ false }
@@ -68,7 +68,7 @@ impl<T: FlowValue, A: Allocator + Copy> SharedCore<T, A> {
         Ok(number)
     }
 
-    /// Emits a value now, and leaves nobody more than a buffer to receive. Answers its number.
+    /// Emits a value; slow subscribers lose what exceeds a buffer. Returns its number.
     fn append_dropping(&mut self, value: T) -> Result<u64, Refused<T>>
         requires full { (kept_full self.old ≡ true) × (self.old.config.overflow ≡ Overflow.DropOldest) }
         ensures { MatchResult result
@@ -88,7 +88,7 @@ impl<T: FlowValue, A: Allocator + Copy> SharedCore<T, A> {
         Ok(number)
     }
 
-    /// Adds a value to those that were emitted, and leaves nobody more than a buffer to receive.
+    /// Appends a value; slow subscribers lose what exceeds a buffer.
     fn push_dropping(&mut self, value: T, number: u64)
         requires full { (kept_full self.old ≡ true) × (self.old.config.overflow ≡ Overflow.DropOldest) }
         requires issued { self.old.appended + length self.old.queue < self.old.issued }
@@ -99,7 +99,7 @@ impl<T: FlowValue, A: Allocator + Copy> SharedCore<T, A> {
         self.newest = number;
     }
 
-    /// Puts a value into the queue, and answers its number.
+    /// Queues a value, and returns its number.
     fn suspend(&mut self, value: T) -> Result<u64, Refused<T>>
         ensures { MatchResult result
             (λ number. (number ≡ self.old.issued + 1) × (self.old.issued ≢ self.old.config.limit) × Keeps self.old (rule.suspend value) self.new)
@@ -124,10 +124,10 @@ impl<T: FlowValue, A: Allocator + Copy> SharedCore<T, A> {
         }
     }
 
-    /// Emits a value, if it need not wait: `true` where the flow took it or, under `DropLatest`, dropped it.
+    /// Emits a value if it need not wait. Returns `true` if the flow took it or, under `DropLatest`, dropped it.
     ///
-    /// At `false` an `emit` would wait. The value is dropped then, and nothing has changed. It takes no memory, and is
-    /// refused as `Exhausted` alone.
+    /// At `false` an `emit` would wait; the value is dropped, and nothing changes. The call takes no memory, so its
+    /// only error is `Exhausted`, which returns the value.
     #[inline]
     pub fn try_emit(&mut self, value: T) -> Result<bool, Refused<T>>
         ensures documented { Conforms self.old (call.TryEmit value) (try_emit_reply result) self.new }
@@ -147,11 +147,11 @@ impl<T: FlowValue, A: Allocator + Copy> SharedCore<T, A> {
         }
     }
 
-    /// Emits a value, or puts it where it waits.
+    /// Emits a value, or queues it.
     ///
-    /// At `Queued` the emitter is to wait: `poll` tells by the number for how long, and `cancel` ends the wait. An
-    /// emission that is neither polled nor cancelled stays, and is emitted when room comes. Memory is taken only for a
-    /// value that is put into the queue. A refusal, `Exhausted` before want of memory, hands the value back.
+    /// At `Queued` the emitter waits: `poll` returns whether it still does, and `cancel` ends the wait. An emission
+    /// that is neither polled nor cancelled stays, and is emitted when there is room. Only a queued value takes memory.
+    /// An error, `Exhausted` or else `OutOfMemory`, returns the value.
     #[inline]
     pub fn emit(&mut self, value: T) -> Result<Emit, Refused<T>>
         ensures documented { Conforms self.old (call.Emit value) (emit_reply result) self.new }
@@ -185,9 +185,9 @@ impl<T: FlowValue, A: Allocator + Copy> SharedCore<T, A> {
         self.is_offering() && self.newest == number
     }
 
-    /// Whether the emission of this number still waits: its value is queued, or offered to some subscriber.
+    /// Returns whether the emission of this number still waits: its value is queued, or offered to a subscriber.
     ///
-    /// `false` tells that it was emitted and received, or cancelled, or that no emission has this number.
+    /// At `false` it was emitted and received, or cancelled, or there is no such emission.
     pub fn poll(&self, number: u64) -> bool
         ensures documented { Conforms self.now (call.Poll number) (reply.Tested result) self.now }
     {
@@ -205,9 +205,9 @@ impl<T: FlowValue, A: Allocator + Copy> SharedCore<T, A> {
         }
     }
 
-    /// Ends the wait of an emission, and answers whether it waited.
+    /// Cancels an emission, and returns whether it waited.
     ///
-    /// A queued value is lost. An offered one is no more for those who have not received it.
+    /// A queued value is never emitted. An offered one is withdrawn from the subscribers that have not received it.
     pub fn cancel(&mut self, number: u64) -> bool
         ensures documented { Conforms self.old (call.Cancel number) (reply.Tested result) self.new }
     {
@@ -217,7 +217,7 @@ impl<T: FlowValue, A: Allocator + Copy> SharedCore<T, A> {
         was_waiting
     }
 
-    /// Takes an emission's value back.
+    /// Withdraws an emission's value.
     fn withdraw(&mut self, number: u64)
         ensures { Leads self.old (step.withdraw number) self.new }
     {

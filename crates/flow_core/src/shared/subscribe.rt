@@ -11,10 +11,13 @@ use flow_law::{FlowFault, FlowValue, Refused};
 use std::alloc::Allocator;
 
 impl<T: FlowValue, A: Allocator + Copy> SharedCore<T, A> {
-    /// A new subscriber, who gets the replay cache first, or the value that is offered, and then what is emitted.
+    /// Adds a subscriber. It receives the replay cache first, or the value that is being offered, and then what is
+    /// emitted.
     ///
-    /// A subscriber who does not read blocks emitters or loses values, as the strategy says, until `unsubscribe`. `Err` is
-    /// `Exhausted`, where the flow has issued as many numbers as its limit allows, and else want of memory.
+    /// A subscriber that does not read blocks emitters or loses values, depending on the strategy, until `unsubscribe`.
+    ///
+    /// # Errors
+    /// `Exhausted` if the flow has issued as many numbers as its limit allows, else `OutOfMemory`.
     pub fn subscribe(&mut self) -> Result<SubId, FlowFault>
         ensures documented { (name : List ℕ)
             → Conforms self.old (call.Subscribe name []) (subscribe_reply result) self.new }
@@ -25,10 +28,9 @@ impl<T: FlowValue, A: Allocator + Copy> SharedCore<T, A> {
         }
     }
 
-    /// A new subscriber, who gets these values of its own before any value of the flow (`onSubscription`).
+    /// Adds a subscriber. It receives these values before any value of the flow (`onSubscription`).
     ///
-    /// They take no number and are in no cache, no strategy drops them, and they block no emitter. A refusal hands them
-    /// back.
+    /// They take no number, are in no replay cache, are never dropped, and block no emitter. An error returns them.
     pub fn subscribe_with(&mut self, first: Vec<T, A>) -> Result<SubId, Refused<Vec<T, A>>>
         ensures documented { (name : List ℕ)
             → Conforms self.old (call.Subscribe name first.items)

@@ -1,4 +1,4 @@
-//! What a subscriber takes of several values at once.
+//! Several values for a subscriber at once.
 ghost use Rattle.std.specs.Prelude.{◌≤◌, Ok};
 ghost use Rattle.flow_law.specs.Draining.{DrainsBy};
 ghost use Rattle.flow_law.specs.declared.outcome.Drained.TheVariants.{Most};
@@ -11,10 +11,10 @@ use flow_law::FlowValue;
 use std::alloc::Allocator;
 
 impl<T: FlowValue, A: Allocator + Copy> SharedCore<T, A> {
-    /// Takes values that the subscriber can receive, at most so many, where no emission waits for room. Returns how
-    /// many; whatever is left to receive, `next` gives.
+    /// Takes values that the subscriber can receive, at most so many, if no emission waits. Returns how many. `next`
+    /// returns what is left.
     ///
-    /// The subscriber is looked up once, moves once, and the ring drops values once.
+    /// It looks the subscriber up once, moves it once, and trims the ring once.
     pub(crate) fn take_held<B: Allocator>(
         &mut self,
         id: SubId,
