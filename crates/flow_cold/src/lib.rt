@@ -1,7 +1,7 @@
-//! Cold flows: chains of operators that are asked for one item at a time, each time they are collected anew.
+//! Cold flows: chains of operators that are asked for one item at a time, and run anew for each collection.
 //!
-//! A chain is a source and operators on it. `flow_operators` has those that take the caller's closures, the trait `Cold`
-//! and `collect_all`; all of it is reached from here. Begin here with `ScriptChain`, a chain that is built at run time.
+//! A chain is a source and operators on it. `flow_operators` has those that take closures, the trait `Cold` and
+//! `collect_all`; this crate exports all of it. Its own `ScriptChain` is a chain that is built at run time.
 #![tactic(auto)]
 
 mod script_chain;

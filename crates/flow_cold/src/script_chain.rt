@@ -21,8 +21,8 @@ pub use op::{Arithmetic, Joining, Op, Source, Spread, Test};
 
 /// A chain of whole numbers, at most 64 deep.
 ///
-/// It begins with a source, which is 1 deep, and grows by `then`: an operator is one deeper than its upstream, a zip one
-/// deeper than its deeper side.
+/// A source is 1 deep. `then` adds an operator: it is one deeper than its upstream, and a zip one deeper than its
+/// deeper side.
 pub struct ScriptChain {
     pub(crate) depth: u32,
     pub(crate) node: Node,
@@ -30,7 +30,7 @@ pub struct ScriptChain {
     ghost bounded: { depth ≤ 64 },
 }
 
-// Not derived: each crate that drops a chain would prove anew how each of its operators is dropped.
+// Not derived: each crate that drops a chain would prove again how its operators are dropped.
 impl Drop for ScriptChain {
     fn drop(self) {
         let Self { depth: _, node: _ } = self;

@@ -1,6 +1,6 @@
-//! The operators as methods of every chain, so that a chain reads in the order in which its items go.
+//! The operators as methods of every chain, so that a chain reads in the order in which its items pass.
 //!
-//! Each method is the constructor of its operator, with the constructor's contract.
+//! Each method is the constructor of its operator, and has the constructor's contract.
 ghost use Rattle.std.specs.Prelude.{◌≡◌, ◌↔◌, None, Ok, Bool, List, Result, IfOk, IfErr};
 ghost use Rattle.std.specs.Fn.{FnReturnsAt};
 ghost use Rattle.flow_law.specs.declared.chain.ChainFault.{ChainFault};
@@ -20,7 +20,7 @@ use flow_law::{ChainFault, FlowValue};
 
 /// Operators on any chain.
 pub trait Chain: Cold {
-    /// Gives what the closure makes of each item; its first fault ends the chain. See `Map::new`.
+    /// Emits what the closure makes of each item. The closure's first fault ends the chain. See `Map::new`.
     final fn map<U, F>(self, closure: F) -> Map<Self, F>
     where
         Self: Sized,
@@ -41,7 +41,7 @@ pub trait Chain: Cold {
         Map::new(self, closure)
     }
 
-    /// Gives what the closure makes of each item, which cannot fail. See `MapValue::new`.
+    /// Emits what the closure, which cannot fail, makes of each item. See `MapValue::new`.
     final fn map_value<U, F>(self, closure: F) -> MapValue<Self, F>
     where
         Self: Sized,
@@ -62,7 +62,7 @@ pub trait Chain: Cold {
         MapValue::new(self, closure)
     }
 
-    /// Gives the items that pass the test. See `Filter::new`.
+    /// Emits the items that pass the test. See `Filter::new`.
     final fn filter<F>(self, test: F) -> Filter<Self, F>
     where
         Self: Sized,
@@ -83,7 +83,7 @@ pub trait Chain: Cold {
         Filter::new(self, test)
     }
 
-    /// Gives the first `count` items; a count of 0 is refused. See `Take::new`.
+    /// Emits the first `count` items. Fails with `NotPositive` if `count` is 0. See `Take::new`.
     final fn take(self, count: u64) -> Result<Take<Self>, ChainFault>
     where
         Self: Sized,
@@ -103,7 +103,7 @@ pub trait Chain: Cold {
         Take::new(self, count)
     }
 
-    /// Gives the items after the first `count`. See `DropFirst::new`.
+    /// Emits the items after the first `count`. See `DropFirst::new`.
     final fn drop_first(self, count: u64) -> DropFirst<Self>
     where
         Self: Sized,
@@ -120,7 +120,7 @@ pub trait Chain: Cold {
         DropFirst::new(self, count)
     }
 
-    /// Gives the items before the first that does not pass the test. See `TakeWhile::new`.
+    /// Emits the items before the first one that fails the test. See `TakeWhile::new`.
     final fn take_while<F>(self, test: F) -> TakeWhile<Self, F>
     where
         Self: Sized,
@@ -141,7 +141,7 @@ pub trait Chain: Cold {
         TakeWhile::new(self, test)
     }
 
-    /// Drops the first items while they pass the test, and gives all others. See `DropWhile::new`.
+    /// Drops the first items while they pass the test, and emits all others. See `DropWhile::new`.
     final fn drop_while<F>(self, test: F) -> DropWhile<Self, F>
     where
         Self: Sized,
@@ -162,7 +162,7 @@ pub trait Chain: Cold {
         DropWhile::new(self, test)
     }
 
-    /// Gives `initial`, then what the closure makes of the last result and each item. See `Scan::new`.
+    /// Emits `initial`, then what the closure makes of the last result and each item. See `Scan::new`.
     final fn scan<U, F>(self, initial: U, closure: F) -> Scan<Self, U, F>
     where
         Self: Sized,
@@ -184,7 +184,8 @@ pub trait Chain: Cold {
         Scan::new(self, initial, closure)
     }
 
-    /// Gives the first item, then what the closure makes of the last result and each further item. See `RunningReduce::new`.
+    /// Emits the first item, then what the closure makes of the last result and each further item. See
+    /// `RunningReduce::new`.
     final fn running_reduce<F>(self, closure: F) -> RunningReduce<Self, F>
     where
         Self: Sized,
@@ -205,7 +206,7 @@ pub trait Chain: Cold {
         RunningReduce::new(self, closure)
     }
 
-    /// Drops each item that is the same as the one before. See `Distinct::new`.
+    /// Emits the items that differ from the one before. See `Distinct::new`.
     final fn distinct(self) -> Distinct<Self>
     where
         Self: Sized,
@@ -222,7 +223,7 @@ pub trait Chain: Cold {
         Distinct::new(self)
     }
 
-    /// Gives the items of the list that the closure makes of each item. See `Transform::new`.
+    /// Emits the items of the list that the closure makes of each item. See `Transform::new`.
     final fn transform<U, F>(self, closure: F) -> Transform<Self, U, F>
     where
         Self: Sized,
@@ -244,7 +245,8 @@ pub trait Chain: Cold {
         Transform::new(self, closure)
     }
 
-    /// Gives the items of the chain that the closure opens at each item, one chain after the other. See `FlatMapConcat::new`.
+    /// Emits the items of the chain that the closure makes of each item, one chain after the other. See
+    /// `FlatMapConcat::new`.
     final fn flat_map_concat<D, F>(self, closure: F) -> FlatMapConcat<Self, D, F>
     where
         Self: Sized,
@@ -269,7 +271,7 @@ pub trait Chain: Cold {
         FlatMapConcat::new(self, closure)
     }
 
-    /// Gives what the closure makes of each pair; this chain is the left side. See `Zip::new`.
+    /// Emits what the closure makes of each pair; this chain is the left side. See `Zip::new`.
     final fn zip<R, U, F>(self, right: R, closure: F) -> Zip<Self, R, F>
     where
         Self: Sized,

@@ -9,20 +9,20 @@ use flow_law::{ChainFault, FlowValue};
 #[derive(Debug, Drop)]
 pub enum Asked<T> {
     Item(T),
-    /// Nothing yet: ask again.
+    /// There is no item yet: ask again.
     Pending,
-    /// There is no more, until the chain is started anew.
+    /// There are no more items until `rewind`.
     End,
-    /// The chain failed. Ask again, and it answers the end.
+    /// The chain failed. Later asks answer `End`.
     Fault(ChainFault),
 }
 
-/// A cold flow, asked for one item at a time.
+/// A cold flow that is asked for one item at a time.
 ///
-/// Contracts see a chain as two runs, each an entry for every ask and then the end: the whole, and what is left of it.
-/// Both are said for each *reading* of the chain: a function for each closure that it keeps, which the closure computes,
-/// want of memory aside (`Reads`). A chain without closures has one reading. A closure that answers otherwise at another
-/// call computes no function, and then nothing is said of the chain's items; all else still holds.
+/// Contracts see a chain as two runs, each with an entry for every ask and then the end: the whole run, and the rest of
+/// it. Both are stated for each *reading* of the chain: a function for each of its closures, which the closure computes
+/// unless memory is refused (`Reads`). A chain without closures has one reading. A closure that gives two answers to
+/// one argument has no reading; then nothing is claimed of the chain's items, and everything else still holds.
 pub trait Cold: Drop {
     ghost use Rattle.flow_law.specs.declared.chain.End.{End};
     ghost use Rattle.flow_operators.specs.declared.cold.Asked.{Asked};
@@ -32,23 +32,23 @@ pub trait Cold: Drop {
     /// The readings of the chain's closures: a function for each of them.
     ghost Reading: { Type 0 };
 
-    /// That the caller's closures may be called. It is all that is asked of a closure.
+    /// That the closures may be called. Nothing else is asked of a closure.
     ghost CanAsk: { Self → Type 0 };
 
-    /// That the chain's closures compute the functions of a reading, want of memory aside.
+    /// That the closures compute the functions of a reading, unless memory is refused.
     ghost Reads: { Self → Reading → Type 0 };
 
     /// The run from the start, by a reading. No call changes it.
     ghost whole: { Self → Reading → ChainRun Self.Item };
 
-    /// What is left of the run, by a reading.
+    /// The rest of the run, by a reading.
     ghost rest: { Self → Reading → ChainRun Self.Item };
 
-    /// The chain is asked at most so often before its end, whatever its closures answer.
+    /// A bound on the asks before the end, whatever the closures answer.
     ghost most_asks: { Self → ℕ };
 
-    /// That no chain of this type is asked more than `limit` times before its end: so of a closure that opens such chains
-    /// it is known that they come to an end (`Chain::flat_map_concat`).
+    /// That no chain of this type is asked more than `limit` times before its end. So a closure may return such chains
+    /// to `Chain::flat_map_concat`.
     ghost IsLimited: { Type 0 };
 
     ghost limit: { ℕ };
@@ -56,14 +56,14 @@ pub trait Cold: Drop {
     /// That the chain has ended or failed since it was started.
     ghost IsOver: { Self → Type 0 };
 
-    /// That the chain has answered this end since it was started. It need not keep which: who asks is told.
+    /// That the chain has answered this end since it was started. A chain need not keep which end it was.
     ghost HasAnswered: { Self → End → Type 0 } = { λ _ _. Unit {0} };
 
-    /// What an ask does to the chains that stand behind: each gives just the entries that the answer needs.
-    /// A source has none.
+    /// What an ask does to the upstream chains: it takes just the entries that the answer needs. A source has no
+    /// upstream.
     ghost AsksBehind: { Self → Reading → Asked Self.Item → Self → Type 0 };
 
-    /// Takes the next entry off what is left. Want of memory may come in place of it, and ends the chain.
+    /// Takes the next entry of the rest. It may fail with `OutOfMemory` instead, which ends the chain.
     fn ask(&mut self) -> Asked<Self::Item>
         requires { CanAsk self.old }
         ensures callable { CanAsk self.new }
@@ -75,10 +75,10 @@ pub trait Cold: Drop {
         ensures answered { OnEnd result (HasAnswered self.new) }
         ensures behind { (¬ IsOver self.old) → (m : Reading) → Reads self.old m
             → AsksBehind self.old m result self.new }
-        // A chain that is over is left as it is, and so is all that stands behind it.
+        // A chain that is over does not change, and neither do its upstream chains.
         ensures end { IsOver self.old → (result ≡ Asked.End) × self.new ≡ self.old };
 
-    /// Starts the chain anew, whatever was taken before.
+    /// Starts the chain from the beginning, whatever was taken before.
     fn rewind(&mut self)
         requires { CanAsk self.old }
         ensures callable { CanAsk self.new }

@@ -7,17 +7,18 @@ use crate::cold::{Asked, Cold};
 use flow_law::{ChainFault, End};
 use std::alloc::{Allocator, Global};
 
-/// What a collection gave.
+/// What a collection returned.
 #[derive(Debug, Drop)]
 pub struct Collected<T, A: Allocator = Global> {
     pub items: Vec<T, A>,
     pub end: End,
 }
 
-/// Starts the chain anew, and asks it to its end. A turn that pends is followed by the next ask.
+/// Starts the chain from the beginning, and collects its items up to its end. After `Pending` it asks again.
 ///
-/// It is refused where memory is wanted for the list of items; the items so far are dropped then. What the chain itself
-/// is refused is its end.
+/// # Errors
+/// `OutOfMemory` if the list of items has no room; the items are dropped. A fault inside the chain is its end, and no
+/// error.
 pub fn collect_all<C: Cold, A: Allocator>(
     alloc: A,
     chain: &mut C,
@@ -28,10 +29,10 @@ pub fn collect_all<C: Cold, A: Allocator>(
     ensures whole { (m : C.Reading) → C.whole chain.new m ≡ C.whole chain.old m }
     ensures collects { IfOk result (λ collected. (m : C.Reading) → C.Reads chain.old m
         → Collects (C.whole chain.old m) collected.items.items collected.end) }
-    // The end is the chain's own last answer. So is want of memory in place of one; the items before it are given.
+    // The end is the last answer of the chain, also if memory was refused in it. The items before it are returned.
     ensures over { IfOk result (λ _. C.IsOver chain.new) }
     ensures answered { IfOk result (λ collected. C.HasAnswered chain.new collected.end) }
-    // The list had no room for the item that came last.
+    // The list had no room for the last item.
     ensures memory { IfErr result (λ fault. fault ≡ ChainFault.OutOfMemory) }
     ensures refused { IfErr result (λ _. (m : C.Reading) → C.Reads chain.old m
         → StandsAfterItem (C.whole chain.old m) (C.rest chain.new m)) }

@@ -1,9 +1,8 @@
 //! How often a chain can still be asked.
 ghost use Rattle.flow_operators.specs.Asking.{LawAsksLeft};
 
-/// How often a chain can still be asked before its end is the length of what is left of its run. By this law the clause
-/// `gives` of `Cold::ask` says that an ask which gives an item, or pends, takes one entry off, and that at the end none is
-/// left.
+/// Proves that a chain can still be asked as often as the rest of its run is long. With the clause `gives` of
+/// `Cold::ask`: each ask that answers an item or `Pending` takes one entry, and at the end none is left.
 pub fn law_asks_left<T>()
     ensures { LawAsksLeft T }
 {}

@@ -1,36 +1,35 @@
-//! Cold flows: sources and operators over the caller's closures, asked for one item at a time.
+//! Cold flows: sources and operators over closures, asked for one item at a time.
 //!
-//! Begin with the trait `Cold`: what an ask answers, what it leaves, and what it does to the chains that stand
-//! behind. A chain is a source (`OfList`, `OfRange`, `Scripted`) and operators on it (`Map`, `Filter`, `Take` and the
-//! others). It does nothing until it is asked. `collect_all` gathers what it gives, and `Streamed` makes a stream of
-//! it.
+//! Begin with the trait `Cold`, which says what an ask answers and what it leaves. A chain is a source (`OfList`,
+//! `OfRange`, `Scripted`) and operators on it (`Map`, `Filter`, `Take` and others). It does nothing until it is asked.
+//! `collect_all` collects its items, and `Streamed` makes a stream of it.
 //!
-//! `Chain` has the operators as methods, and `Terminal` has `fold`, `first`, `any`, `for_each` and others: so one writes
+//! `Chain` has the operators as methods, and `Terminal` has `fold`, `first`, `any`, `for_each` and others:
 //! `OfRange::new(1, 10).filter(|x| x % 2 == 0).map_value(|x| x / 2).take(3)?`.
 //!
-//! Callers take these names from `flow_cold`, which also has chains that are built at run time.
+//! Programs import these names from `flow_cold`, which also has chains that are built at run time.
 //!
-//! # Asking and starting anew
-//! `ask` answers an item, `Pending`, the end or a fault; after the end or a fault it answers the end, until `rewind`
-//! starts the producer anew. No operator asks ahead: an ask takes off what stands behind just what its answer needs.
+//! # Asking
+//! `ask` answers an item, `Pending`, the end or a fault. After the end or a fault it answers the end until `rewind`. No
+//! operator asks ahead: an ask takes from the upstream just what its answer needs.
 //!
 //! # What a chain promises
-//! A chain has two runs: the whole, which no call changes, and the rest. `ask` takes the first entry off the rest (clause
-//! `gives`), takes off the chains behind an operator just what its answer needs (`behind`), and can be made at most
-//! `most_asks` times before the end (`fewer`). A constructor, and a method of `Chain`, says what the operator's run is
-//! (`whole`) and what that means by lists (`meaning`). A method of `Terminal` starts the chain anew, and says what it
-//! comes to by the chain's items and its end. A fault is one that the chain answered last, or that a call of the closure
-//! answered; after the second the chain is just after the item of that call.
+//! A chain has two runs: the whole, which no call changes, and the rest. `ask` takes the first entry of the rest
+//! (clause `gives`), takes from the upstream just what its answer needs (`behind`), and can be made at most `most_asks`
+//! times before the end (`fewer`). A constructor, and a method of `Chain`, says what the operator's run is (`whole`)
+//! and what that means for lists (`meaning`). A method of `Terminal` starts the chain from the beginning; its result is
+//! stated by the chain's items and end. A fault is the last answer of the chain, or the answer of a call of the
+//! closure; after the latter the chain is just after the item of that call.
 //!
 //! # Closures
-//! Operators take plain closures. All that is asked of one is that it may be called. What is said of a chain's items is
-//! said for each *reading* of its closures: a function for each of them that it computes, want of memory aside
-//! (`Cold::Reading`, `Cold::Reads`). So who wants to know more than that the program is safe names these functions in a
-//! contract of his own, and nothing at the call.
+//! Operators take plain closures, of which nothing is asked but that they may be called. Claims about items are stated
+//! for each *reading* of the closures: a function for each of them, which it computes unless memory is refused
+//! (`Cold::Reading`, `Cold::Reads`). To prove more than safety, name these functions in a contract of your own; nothing
+//! is written at the call.
 //!
 //! # Faults
-//! A closure that makes items may answer a fault, as `x.checked_mul(k).ok_or(ChainFault::Overflow)` does. It ends the
-//! chain, and of that item nothing is given. The closure of `map_value` cannot fail: it answers the item alone.
+//! A closure that makes items may answer a fault, as `x.checked_mul(k).ok_or(ChainFault::Overflow)` does. The fault
+//! ends the chain, and no item comes of that call. The closure of `map_value` cannot fail: it returns the item itself.
 #![tactic(auto)]
 
 mod chain;

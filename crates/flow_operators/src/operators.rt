@@ -1,4 +1,4 @@
-//! What is made of a chain's items.
+//! The operators.
 
 mod distinct;
 mod drop_first;

@@ -1,4 +1,4 @@
-//! Where a chain's items come from.
+//! The sources of chains.
 
 mod of_list;
 mod of_range;

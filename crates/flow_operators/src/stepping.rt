@@ -1,4 +1,4 @@
-//! What the terminal operators stand on. Nothing here starts a chain anew: each goes on where the chain stands.
+//! Steps of the terminal operators. None of them starts a chain from the beginning.
 ghost use Rattle.std.specs.Prelude.{◌≡◌, ◌⊎◌, ◌<◌, Bool, Result, filter, IfOk, IfErr, IfSome};
 ghost use Rattle.std.specs.Fn.{FnReturnsAt};
 ghost use Rattle.flow_law.specs.declared.chain.ChainFault.{ChainFault};
@@ -12,7 +12,7 @@ use crate::cold::{Asked, Cold};
 use crate::operators::passes;
 use flow_law::ChainFault;
 
-/// Takes the next item, and passes over turns that pend. The chain's fault is the answer where it comes first.
+/// Takes the next item, and asks again after `Pending`. Returns the chain's fault if that comes first.
 pub(crate) fn next_item<C: Cold>(chain: &mut C) -> Result<Option<C::Item>, ChainFault>
     requires { C.CanAsk chain.old }
     ensures callable { C.CanAsk chain.new }
@@ -33,7 +33,7 @@ pub(crate) fn next_item<C: Cold>(chain: &mut C) -> Result<Option<C::Item>, Chain
     }
 }
 
-/// Makes the next result, which is what each function that the closure computes says of it.
+/// Returns the next result, which each function that the closure computes gives.
 fn next_result<A, B, U, F>(closure: &F, last: A, item: B) -> Result<U, ChainFault>
 where
     F: Fn(A, B) -> Result<U, ChainFault>,
@@ -45,7 +45,7 @@ where
     closure(last, item)
 }
 
-/// Makes a result of the last one and each item that is left.
+/// Makes a result of the last one and each item of the rest.
 pub(crate) fn fold_rest<C, U, F>(chain: &mut C, initial: U, closure: &F) -> Result<U, ChainFault>
 where
     C: Cold,
@@ -74,7 +74,7 @@ where
     }
 }
 
-/// Looks for an item that passes the test, or for one that does not, as `wanted` says.
+/// Returns the first item whose test answers `wanted`.
 pub(crate) fn find<C, F>(
     chain: &mut C,
     test: &F,

@@ -11,7 +11,7 @@ use flow_law::ChainFault;
 use futures::Stream;
 use futures::task::{Context, Poll};
 
-/// Gives a chain's items as a stream: a fault is its last item.
+/// Emits a chain's items as a stream. A fault is the last item.
 #[derive(Drop)]
 pub struct Streamed<C> {
     chain: C,
@@ -19,7 +19,7 @@ pub struct Streamed<C> {
 }
 
 impl<C: Cold> Streamed<C> {
-    /// Streams the chain from its start.
+    /// Makes a stream of the chain, from its beginning.
     pub fn new(mut chain: C) -> Self
         requires { C.CanAsk chain }
         ensures callable { ⟦<Streamed<C> as Stream>⟧.can_poll result }
@@ -43,7 +43,7 @@ impl<C: Cold> Stream for Streamed<C> {
     ghost yields = { λ s xs last. cond s.ended (Over xs last)
         ((m : C.Reading) → C.Reads s.chain m → Streams (C.rest s.chain m) xs last) };
 
-    // The trait's clauses, and: a fault is the chain's own last answer, also where it is out of memory.
+    // The trait's clauses, and: a fault is the chain's own last answer, also if it is `OutOfMemory`.
     fn poll_next(&mut self, cx: &mut Context<'_>) -> Poll<Option<Result<C::Item, ChainFault>>>
         requires { ⟦<Streamed<C> as Stream>⟧.can_poll self.old }
         ensures value { IfReady result (⟦<Streamed<C> as Stream>⟧.yields self.old []) }

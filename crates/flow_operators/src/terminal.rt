@@ -1,6 +1,6 @@
-//! What a chain comes to: the terminal operators, each of which starts the chain anew and asks it.
+//! The terminal operators. Each starts the chain from the beginning and asks it.
 //!
-//! A turn that pends is followed by the next ask. The chain's fault is the answer, as far as it is reached.
+//! After `Pending` they ask again. If the chain fails before the answer is known, they return its fault.
 ghost use Rattle.std.specs.Prelude.{◌≡◌, ◌⊎◌, Bool, Result, filter, IfOk, IfErr, IfSome};
 ghost use Rattle.std.specs.Fn.{FnReturnsAt};
 ghost use Rattle.flow_law.specs.declared.chain.ChainFault.{ChainFault};
@@ -18,8 +18,8 @@ use std::alloc::Allocator;
 
 /// Terminal operators on any chain.
 pub trait Terminal: Cold {
-    /// Gives the last of the results, each made of the one before and an item; `initial` where there is no item. The
-    /// closure's first fault is the answer, and then nothing more is asked.
+    /// Returns the last result, each made of the one before and an item, or `initial` if there is no item. Stops at the
+    /// closure's first fault, and returns it.
     final fn fold<U, F>(&mut self, initial: U, closure: F) -> Result<U, ChainFault>
     where
         U: Drop,
@@ -33,10 +33,10 @@ pub trait Terminal: Cold {
             → ComputesPairs (F.post closure) f
             → Follows (folded f initial (items (Self.whole self.old m)) (ending (Self.whole self.old m))) result }
         ensures over { IfOk result (λ _. Self.IsOver self.new) }
-        // After a fault of the closure the chain stands just after the item at which it was answered.
+        // After a fault of the closure the chain is just after the item at which it was answered.
         ensures stands { IfErr result (λ _. Self.IsOver self.new
             ⊎ ((m : Self.Reading) → Self.Reads self.old m → StandsAfterItem (Self.whole self.old m) (Self.rest self.new m))) }
-        // A fault is the chain's own last answer, or a call of the closure answered it. So is want of memory.
+        // A fault is the chain's own last answer, or the answer of a call of the closure. So is `OutOfMemory`.
         ensures answered { IfErr result (λ fault.
             Self.HasAnswered self.new (End.Failed fault) ⊎ CallFails (F.post closure) fault) }
     {
@@ -44,9 +44,8 @@ pub trait Terminal: Cold {
         fold_rest(self, initial, &closure)
     }
 
-    /// Gives the last of the results, the first of which is the first item, and each other is made of the one before and
-    /// a further item; `None` where there is no item. The closure's first fault is the answer, and then nothing more is
-    /// asked.
+    /// Returns the last result: the first is the first item, and each other is made of the one before and a further
+    /// item. Returns `None` if there is no item. Stops at the closure's first fault, and returns it.
     final fn reduce<F>(&mut self, closure: F) -> Result<Option<Self::Item>, ChainFault>
     where
         F: Fn(Self::Item, Self::Item) -> Result<Self::Item, ChainFault>,
@@ -59,10 +58,10 @@ pub trait Terminal: Cold {
             → ComputesPairs (F.post closure) f
             → Follows (reduced_to f (items (Self.whole self.old m)) (ending (Self.whole self.old m))) result }
         ensures over { IfOk result (λ _. Self.IsOver self.new) }
-        // After a fault of the closure the chain stands just after the item at which it was answered.
+        // After a fault of the closure the chain is just after the item at which it was answered.
         ensures stands { IfErr result (λ _. Self.IsOver self.new
             ⊎ ((m : Self.Reading) → Self.Reads self.old m → StandsAfterItem (Self.whole self.old m) (Self.rest self.new m))) }
-        // A fault is the chain's own last answer, or a call of the closure answered it. So is want of memory.
+        // A fault is the chain's own last answer, or the answer of a call of the closure. So is `OutOfMemory`.
         ensures answered { IfErr result (λ fault.
             Self.HasAnswered self.new (End.Failed fault) ⊎ CallFails (F.post closure) fault) }
     {
@@ -76,7 +75,7 @@ pub trait Terminal: Cold {
         }
     }
 
-    /// Gives the first item, or `None` where the chain completes without one. Nothing is asked after it.
+    /// Returns the first item, or `None` if the chain completes without one. It asks nothing after that item.
     final fn first(&mut self) -> Result<Option<Self::Item>, ChainFault>
         requires { Self.CanAsk self.old }
         ensures callable { Self.CanAsk self.new }
@@ -87,15 +86,15 @@ pub trait Terminal: Cold {
         ensures over { OnNoItem result (Self.IsOver self.new) }
         ensures stands { IfOk result (λ found. IfSome found (λ item. (m : Self.Reading) → Self.Reads self.old m
             → StandsAfter item (Self.whole self.old m) (Self.rest self.new m))) }
-        // A fault is the chain's own last answer. So is want of memory.
+        // A fault is the chain's own last answer. So is `OutOfMemory`.
         ensures answered { IfErr result (λ fault. Self.HasAnswered self.new (End.Failed fault)) }
     {
         self.rewind();
         next_item(self)
     }
 
-    /// Gives the first item that passes the test, or `None` where the chain completes without one. Nothing is asked after
-    /// it.
+    /// Returns the first item that passes the test, or `None` if the chain completes without one. It asks nothing after
+    /// that item.
     final fn first_where<F>(&mut self, test: F) -> Result<Option<Self::Item>, ChainFault>
     where
         F: Fn(&Self::Item) -> bool,
@@ -110,14 +109,14 @@ pub trait Terminal: Cold {
         ensures over { OnNoItem result (Self.IsOver self.new) }
         ensures stands { IfOk result (λ found. IfSome found (λ item. (m : Self.Reading) → Self.Reads self.old m
             → StandsAfter item (Self.whole self.old m) (Self.rest self.new m))) }
-        // A fault is the chain's own last answer. So is want of memory.
+        // A fault is the chain's own last answer. So is `OutOfMemory`.
         ensures answered { IfErr result (λ fault. Self.HasAnswered self.new (End.Failed fault)) }
     {
         self.rewind();
         find(self, &test, true)
     }
 
-    /// Tells whether some item passes the test. Nothing is asked after the first that does.
+    /// Returns whether an item passes the test. It asks nothing after the first one that does.
     final fn any<F>(&mut self, test: F) -> Result<bool, ChainFault>
     where
         F: Fn(&Self::Item) -> bool,
@@ -131,7 +130,7 @@ pub trait Terminal: Cold {
             → Follows (any_of p (items (Self.whole self.old m)) (ending (Self.whole self.old m))) result }
         ensures stands { IfOk result (λ _. Self.IsOver self.new
             ⊎ ((m : Self.Reading) → Self.Reads self.old m → StandsAfterItem (Self.whole self.old m) (Self.rest self.new m))) }
-        // A fault is the chain's own last answer. So is want of memory.
+        // A fault is the chain's own last answer. So is `OutOfMemory`.
         ensures over { IfErr result (λ _. Self.IsOver self.new) }
         ensures answered { IfErr result (λ fault. Self.HasAnswered self.new (End.Failed fault)) }
     {
@@ -143,7 +142,7 @@ pub trait Terminal: Cold {
         }
     }
 
-    /// Tells whether all items pass the test. Nothing is asked after the first that does not.
+    /// Returns whether all items pass the test. It asks nothing after the first one that fails.
     final fn all<F>(&mut self, test: F) -> Result<bool, ChainFault>
     where
         F: Fn(&Self::Item) -> bool,
@@ -157,7 +156,7 @@ pub trait Terminal: Cold {
             → Follows (all_of p (items (Self.whole self.old m)) (ending (Self.whole self.old m))) result }
         ensures stands { IfOk result (λ _. Self.IsOver self.new
             ⊎ ((m : Self.Reading) → Self.Reads self.old m → StandsAfterItem (Self.whole self.old m) (Self.rest self.new m))) }
-        // A fault is the chain's own last answer. So is want of memory.
+        // A fault is the chain's own last answer. So is `OutOfMemory`.
         ensures over { IfErr result (λ _. Self.IsOver self.new) }
         ensures answered { IfErr result (λ fault. Self.HasAnswered self.new (End.Failed fault)) }
     {
@@ -169,7 +168,7 @@ pub trait Terminal: Cold {
         }
     }
 
-    /// Gives the last item, or `None` where the chain completes without one.
+    /// Returns the last item, or `None` if the chain completes without one.
     final fn last(&mut self) -> Result<Option<Self::Item>, ChainFault>
         requires { Self.CanAsk self.old }
         ensures callable { Self.CanAsk self.new }
@@ -178,7 +177,7 @@ pub trait Terminal: Cold {
         ensures last { (m : Self.Reading) → Self.Reads self.old m
             → Follows (last_of (items (Self.whole self.old m)) (ending (Self.whole self.old m))) result }
         ensures over { Self.IsOver self.new }
-        // A fault is the chain's own last answer. So is want of memory.
+        // A fault is the chain's own last answer. So is `OutOfMemory`.
         ensures answered { IfErr result (λ fault. Self.HasAnswered self.new (End.Failed fault)) }
     {
         self.rewind();
@@ -191,7 +190,7 @@ pub trait Terminal: Cold {
         }
     }
 
-    /// Gives the item of a chain that has just one, and else `None`. Nothing is asked after a second item.
+    /// Returns the item of a chain that has exactly one, else `None`. It asks nothing after a second item.
     final fn single(&mut self) -> Result<Option<Self::Item>, ChainFault>
         requires { Self.CanAsk self.old }
         ensures callable { Self.CanAsk self.new }
@@ -201,7 +200,7 @@ pub trait Terminal: Cold {
             → Follows (single_of (items (Self.whole self.old m)) (ending (Self.whole self.old m))) result }
         ensures stands { IfOk result (λ _. Self.IsOver self.new
             ⊎ ((m : Self.Reading) → Self.Reads self.old m → StandsAfterItem (Self.whole self.old m) (Self.rest self.new m))) }
-        // A fault is the chain's own last answer. So is want of memory.
+        // A fault is the chain's own last answer. So is `OutOfMemory`.
         ensures over { IfErr result (λ _. Self.IsOver self.new) }
         ensures answered { IfErr result (λ fault. Self.HasAnswered self.new (End.Failed fault)) }
     {
@@ -215,7 +214,7 @@ pub trait Terminal: Cold {
         }
     }
 
-    /// Gives how many items the chain has. A number of more than 64 bits is Overflow.
+    /// Returns the number of items. Fails with `Overflow` if it needs more than 64 bits.
     final fn count(&mut self) -> Result<u64, ChainFault>
         requires { Self.CanAsk self.old }
         ensures callable { Self.CanAsk self.new }
@@ -224,10 +223,10 @@ pub trait Terminal: Cold {
         ensures counts { (m : Self.Reading) → Self.Reads self.old m
             → Follows (counted (items (Self.whole self.old m)) (ending (Self.whole self.old m))) result }
         ensures over { IfOk result (λ _. Self.IsOver self.new) }
-        // After a count that was too large the chain stands just after the item that made it so.
+        // After a count that is too large the chain is just after the item that made it so.
         ensures stands { IfErr result (λ _. Self.IsOver self.new
             ⊎ ((m : Self.Reading) → Self.Reads self.old m → StandsAfterItem (Self.whole self.old m) (Self.rest self.new m))) }
-        // A fault is the chain's own last answer, unless the count was too large. So is want of memory.
+        // A fault is the chain's own last answer, unless the count is too large. So is `OutOfMemory`.
         ensures answered { IfErr result (λ fault.
             (fault ≡ ChainFault.Overflow) ⊎ Self.HasAnswered self.new (End.Failed fault)) }
     {
@@ -244,7 +243,7 @@ pub trait Terminal: Cold {
         }
     }
 
-    /// Calls the closure at each item, in order. Its first fault is the answer, and then nothing more is asked.
+    /// Calls the closure with each item, in order. Stops at the closure's first fault, and returns it.
     final fn for_each<F>(&mut self, mut visit: F) -> Result<(), ChainFault>
     where
         F: FnMut(Self::Item) -> Result<(), ChainFault>,
@@ -256,10 +255,10 @@ pub trait Terminal: Cold {
         ensures visits { (m : Self.Reading) → Self.Reads self.old m → Visits (λ f x r g. F.step f x r g) visit
             (items (Self.whole self.old m)) (ending (Self.whole self.old m)) result }
         ensures over { IfOk result (λ _. Self.IsOver self.new) }
-        // After a fault of the closure the chain stands just after the item at which it was answered.
+        // After a fault of the closure the chain is just after the item at which it was answered.
         ensures stands { IfErr result (λ _. Self.IsOver self.new
             ⊎ ((m : Self.Reading) → Self.Reads self.old m → StandsAfterItem (Self.whole self.old m) (Self.rest self.new m))) }
-        // A fault is the chain's own last answer, or a call of the closure answered it. So is want of memory.
+        // A fault is the chain's own last answer, or the answer of a call of the closure. So is `OutOfMemory`.
         ensures answered { IfErr result (λ fault. Self.HasAnswered self.new (End.Failed fault)
             ⊎ VisitFails (λ f x r g. F.step f x r g) fault) }
     {
@@ -273,7 +272,7 @@ pub trait Terminal: Cold {
         }
     }
 
-    /// Gives all items, and the end. See `collect_all`.
+    /// Returns all items, and the end. See `collect_all`.
     final fn to_list<A: Allocator>(
         &mut self,
         alloc: A,

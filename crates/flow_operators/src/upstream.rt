@@ -1,4 +1,4 @@
-//! What every operator stands on: the chain behind it, and whether the operator has ended.
+//! The upstream of an operator, and whether the operator has ended.
 ghost use Rattle.std.specs.Prelude.{◌≡◌, ◌⊎◌, ◌<◌, true, false, IfOk, IfErr};
 ghost use Rattle.flow_operators.specs.Asking.{IsFinal, IsItem};
 ghost use Rattle.flow_operators.specs.Upstreams.{NextGives, answer_of, chain_of, is_ended, is_fault, left_of};
@@ -6,7 +6,7 @@ ghost use Rattle.flow_operators.specs.Upstreams.{NextGives, answer_of, chain_of,
 use crate::cold::{Asked, Cold};
 use flow_law::ChainFault;
 
-/// The chain behind an operator. Once the operator has ended, the chain is asked no more.
+/// The upstream of an operator. Once the operator has ended, the upstream is not asked any more.
 #[derive(Drop)]
 pub(crate) struct Upstream<C> {
     chain: C,
@@ -24,7 +24,7 @@ impl<C: Cold> Upstream<C> {
         }
     }
 
-    /// The chain's next item, or the answer in place of one, which the operator passes on. An end or a fault ends it.
+    /// Returns the upstream's next item, or the answer in place of one. An end or a fault ends the operator.
     pub(crate) fn next<U>(&mut self) -> Result<C::Item, Asked<U>>
         requires { C.CanAsk (chain_of self.old) }
         ensures callable { C.CanAsk (chain_of self.new) }

@@ -1,4 +1,4 @@
-//! What a node of a chain answers, in two words, so that it is handed back in two registers.
+//! What a node of a chain answers: two words, so that it is returned in two registers.
 ghost use Rattle.std.specs.Prelude.{◌≡◌};
 ghost use Rattle.flow_cold.specs.Answers.{asked_of, is_final};
 
@@ -6,7 +6,7 @@ use crate::script_chain::source_number::SourceNumber;
 use flow_law::ChainFault;
 use flow_operators::Asked;
 
-/// An item, a turn that pends, the end, or a fault. It says what an `Asked` says, without an enum inside an enum.
+/// An item, `Pending`, the end, or a fault. It is an `Asked` without an enum inside an enum.
 #[derive(Drop)]
 pub enum Answer {
     Item(i64),
@@ -20,7 +20,7 @@ pub enum Answer {
 }
 
 impl Answer {
-    /// The answer of a chain that failed.
+    /// Returns the answer of a chain that failed.
     pub fn failed(fault: ChainFault) -> Answer
         ensures { asked_of result ≡ Asked.Fault fault }
     {
@@ -33,7 +33,7 @@ impl Answer {
         }
     }
 
-    /// The same answer in two words.
+    /// Returns the same answer in two words.
     pub fn of(asked: Asked<i64>) -> Answer
         ensures { asked_of result ≡ asked }
     {
@@ -45,7 +45,7 @@ impl Answer {
         }
     }
 
-    /// The answer as callers of a chain get it.
+    /// Returns the answer as callers of a chain get it.
     pub fn asked(self) -> Asked<i64>
         ensures { result ≡ asked_of self }
     {
@@ -61,7 +61,7 @@ impl Answer {
         }
     }
 
-    /// Whether the chain is over with it.
+    /// Returns whether the chain is over after this answer.
     pub fn is_final(&self) -> bool
         ensures { result ≡ is_final (asked_of self.now) }
     {

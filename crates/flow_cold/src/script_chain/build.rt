@@ -27,7 +27,7 @@ pub enum Part {
 }
 
 impl Op {
-    /// How deep a chain is with this operator on it.
+    /// Returns the depth of a chain with this operator on it.
     fn depth_on(&self, depth: u32) -> Result<u32, ChainFault>
         requires { depth ≤ 64 }
         ensures { MatchResult result (AddsDepth self.now depth) (RefusesDepth self.now depth) }
@@ -48,7 +48,7 @@ impl Op {
         Ok(deepest + 1)
     }
 
-    /// The operator as it begins.
+    /// Returns the operator in its first state.
     fn begun(self) -> Part
         requires { ¬ TakesNone self }
         ensures whole { (r : ChainRun ℤ) → part_whole result r ≡ op_whole self r }
@@ -85,7 +85,7 @@ impl Op {
 }
 
 impl Part {
-    /// The tree with the upstream below this part.
+    /// Returns the tree with the upstream below this part.
     fn joined(self, alloc: Global, upstream: Box<Node>) -> Result<Node, ChainFault>
         ensures whole { IfOk result (λ node. node_whole node ≡ part_whole self (node_whole upstream.value)) }
         ensures rest { IfOk result (λ node. node_rest node ≡ part_rest self (node_rest upstream.value)) }
@@ -112,7 +112,7 @@ impl ScriptChain {
         node
     }
 
-    /// The chain of a source alone.
+    /// Makes a chain of a source.
     pub fn source(source: Source) -> ScriptChain
         ensures whole { ⟦<ScriptChain as Cold>⟧.whole result tt ≡ source_whole source }
         ensures rest { ⟦<ScriptChain as Cold>⟧.rest result tt ≡ source_rest source }
@@ -126,8 +126,11 @@ impl ScriptChain {
         ScriptChain { depth: 1, node }
     }
 
-    /// The chain with one more operator. A take of nothing is refused as `NotPositive`, then a chain that would be over 64
-    /// deep as `TooDeep`, then want of memory. Where it is refused the chain is dropped, and so is the operator.
+    /// Adds an operator.
+    ///
+    /// # Errors
+    /// `NotPositive` for a `take` of nothing, else `TooDeep` for a chain over 64 deep, else `OutOfMemory`. The chain
+    /// and the operator are dropped.
     #[tactic(auto, using(crate::proofs::OpLemmas::op_means))]
     pub fn then(self, alloc: Global, op: Op) -> Result<ScriptChain, ChainFault>
         ensures whole { IfOk result (λ chain. ⟦<ScriptChain as Cold>⟧.whole chain tt

@@ -1,4 +1,4 @@
-//! `dropWhile` of whole numbers: what it keeps while its chain is asked, and its step.
+//! `dropWhile` of whole numbers.
 ghost use Rattle.std.specs.Prelude.{◌≡◌, ℤ};
 ghost use Rattle.flow_law.specs.ChainRun.{ChainRun, gives};
 ghost use Rattle.flow_operators.specs.Behind.{after_drop_while};
@@ -10,7 +10,7 @@ ghost use Rattle.flow_cold.specs.Operators.{StepGives, after_step};
 use crate::script_chain::op::Test;
 use crate::script_chain::operator::Step;
 
-/// `dropping`: no item was given yet.
+/// While `dropping`, no item was emitted yet.
 #[derive(Drop)]
 pub struct DroppingWhile {
     pub test: Test,
@@ -18,7 +18,7 @@ pub struct DroppingWhile {
 }
 
 impl DroppingWhile {
-    /// Nothing while items pass, then the item.
+    /// Makes nothing of the items while they pass, then the item.
     pub fn on_item(&mut self, item: i64) -> Step
         ensures test { self.new.test ≡ self.old.test }
         ensures gives { (r : ChainRun ℤ)

@@ -1,4 +1,4 @@
-//! What a `flat_map` keeps of the inner numbers that are still to be given, and its steps.
+//! The inner numbers of a `flat_map` that have still to be emitted.
 ghost use Rattle.std.specs.Prelude.{◌≡◌, ℤ};
 ghost use Rattle.flow_law.specs.ChainRun.{ChainRun, gives};
 ghost use Rattle.flow_law.specs.OperatorRuns.{flat_map_run};
@@ -12,7 +12,7 @@ use crate::script_chain::numbers::last_of;
 use crate::script_chain::operator::Step;
 use flow_law::ChainFault;
 
-/// Unless it is closed, the numbers from `next` to `last` are still to be given.
+/// Unless it is closed, the numbers from `next` to `last` have still to be emitted.
 #[derive(Drop)]
 pub struct Following {
     pub count: u64,
@@ -22,7 +22,7 @@ pub struct Following {
 }
 
 impl Following {
-    /// No item has been met yet.
+    /// Begins before the first item.
     pub fn new(count: u64) -> Following
         ensures { result.count ≡ count }
     {
@@ -34,7 +34,7 @@ impl Following {
         }
     }
 
-    /// The next number, if one is left.
+    /// Returns the next number, if one is left.
     pub fn next_held(&mut self) -> Option<Result<i64, ChainFault>>
         ensures count { self.new.count ≡ self.old.count }
         ensures gives { (r : ChainRun ℤ) → HeldGives (following_rest self.old r) result
@@ -59,7 +59,7 @@ impl Following {
         Some(Ok(item))
     }
 
-    /// Begins the numbers that follow an item, unless the last of them is out of range.
+    /// Begins with the numbers that follow an item, unless the last of them is out of range.
     pub fn on_item(&mut self, item: i64) -> Step
         ensures count { self.new.count ≡ self.old.count }
         ensures gives { (r : ChainRun ℤ)
@@ -86,7 +86,7 @@ impl Following {
     }
 }
 
-/// `item` is still to be given `left` times.
+/// `item` has still to be emitted `left` times.
 #[derive(Drop)]
 pub struct Repeating {
     pub count: u64,
@@ -95,7 +95,7 @@ pub struct Repeating {
 }
 
 impl Repeating {
-    /// No item has been met yet.
+    /// Begins before the first item.
     pub fn new(count: u64) -> Repeating
         ensures { result.count ≡ count }
     {
@@ -106,7 +106,7 @@ impl Repeating {
         }
     }
 
-    /// The item once more, if it is to be given once more.
+    /// Returns the item once more, if it has to be emitted once more.
     pub fn next_held(&mut self) -> Option<Result<i64, ChainFault>>
         ensures count { self.new.count ≡ self.old.count }
         ensures gives { (r : ChainRun ℤ) → HeldGives (repeating_rest self.old r) result

@@ -1,4 +1,4 @@
-//! A chain of whole numbers as a tree: sources at its leaves, operators above them.
+//! A chain of whole numbers as a tree, with sources as its leaves and operators above them.
 ghost use Rattle.std.specs.Prelude.{◌≡◌, ◌≤◌, ℤ, true, false};
 ghost use Rattle.flow_law.specs.ChainRun.{ChainRun, gives};
 ghost use Rattle.flow_law.specs.OperatorRuns.{zip_run};
@@ -17,14 +17,14 @@ use crate::script_chain::operator::Operator;
 use crate::script_chain::pairing::Pairing;
 use flow_operators::{Cold, OfList, OfRange, Scripted};
 
-/// What an ask of an operator begins with.
+/// How an ask of an operator begins.
 #[derive(Clone, Copy)]
 pub enum Phase {
-    /// Its upstream is asked.
+    /// It asks the upstream.
     Ready,
-    /// What it holds back is given first.
+    /// It emits what it holds back.
     Holding,
-    /// The end, and the upstream is not asked again.
+    /// It answers the end, and does not ask the upstream.
     Over,
 }
 
@@ -45,14 +45,14 @@ pub enum Node {
     Zip(Box<Node>, Box<Node>, Pairing),
 }
 
-/// Gives the chain's next answer.
+/// Returns the chain's next answer.
 #[cycle(asking)]
 pub fn ask_node(node: &mut Node) -> Answer
     ensures whole { node_whole node.new ≡ node_whole node.old }
     ensures gives { AskGives (node_rest node.old) (asked_of result) (node_rest node.new) }
     ensures over { IsFinal (asked_of result) → IsNodeOver node.new }
     ensures behind { (¬ IsNodeOver node.old) → NodeAsksBehind node.old (asked_of result) node.new }
-    // So a take that has given its last item leaves all that stands behind it as it is.
+    // So a `take` that has emitted its last item does not change its upstream.
     ensures end { IsNodeOver node.old → (result ≡ Answer.End) × node.new ≡ node.old }
     ensures depth { node_depth node.new ≡ node_depth node.old }
     ensures size { size-Node node.new ≤ size-Node node.old }
@@ -78,7 +78,7 @@ pub fn ask_node(node: &mut Node) -> Answer
     }
 }
 
-/// Gives the next answer of an operator: its upstream is asked until there is one, where there is none without it.
+/// Returns the next answer of an operator: asks its upstream until there is one, unless it has one without it.
 // The box is passed, and not the node in it: each ask would save a register more, to keep the node's place.
 #[cycle(asking)]
 fn ask_stage(upstream: &mut Box<Node>, stage: &mut Stage) -> Answer
@@ -106,7 +106,7 @@ fn ask_stage(upstream: &mut Box<Node>, stage: &mut Stage) -> Answer
     }
 }
 
-/// Gives the answer of a zip that has a left item: its right side is asked.
+/// Returns the answer of a zip that has a left item: asks its right side.
 // Not inlined: each ask of any node would save two registers more, for this alone.
 #[cycle(asking)]
 #[inline(never)]
@@ -126,7 +126,7 @@ fn ask_right(right: &mut Node, pairing: &mut Pairing, first: i64) -> Answer
     pairing.on_right(first, asked)
 }
 
-/// Starts the chain anew.
+/// Starts the chain from the beginning.
 pub fn rewind_node(node: &mut Node)
     ensures whole { node_whole node.new ≡ node_whole node.old }
     ensures rest { node_rest node.new ≡ node_whole node.old }

@@ -62,14 +62,14 @@ impl Test {
     }
 }
 
-/// Whether each sum of `x` and an entry is in range.
+/// Returns whether each sum of `x` and an entry is in range.
 pub(crate) fn all_sums_fit(entries: &[i64], x: i64) -> bool
     ensures { result ≡ list_all (λ d. numbers.is_i64 (x +ℤ d)) entries.now }
 {
     entries.iter().all(|d| add(x, *d).is_ok())
 }
 
-/// The last of `count` numbers from `x` on; `count` is not 0.
+/// Returns the last of `count` numbers from `x` on; `count` is not 0.
 pub(crate) fn last_of(x: i64, before: u64) -> Result<i64, ChainFault>
     ensures { result ≡ numbers.ranged (x +ℤ pos before) }
 {

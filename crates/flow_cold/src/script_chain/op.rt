@@ -1,9 +1,9 @@
-//! What a chain that is built at run time is built of.
+//! The sources and operators of chains that are built at run time.
 
 use crate::script_chain::ScriptChain;
 use flow_operators::{OfList, OfRange, Scripted};
 
-/// Where a chain of whole numbers begins.
+/// A source of whole numbers.
 #[derive(Drop)]
 pub enum Source {
     List(OfList<i64>),
@@ -11,14 +11,14 @@ pub enum Source {
     Scripted(Scripted<i64>),
 }
 
-/// How a number makes a result of another.
+/// How two numbers make a result.
 #[derive(Clone, Copy, Debug, PartialEq, Eq)]
 pub enum Arithmetic {
     Add,
     Mul,
 }
 
-/// Which numbers pass.
+/// Which numbers pass a test.
 #[derive(Clone, Copy, Debug, PartialEq, Eq)]
 pub enum Test {
     Even,
@@ -28,7 +28,7 @@ pub enum Test {
     NotEqual(i64),
 }
 
-/// What is made of a pair: the sum, the product, or one side of it.
+/// What a pair becomes: its sum, its product, or one side of it.
 #[derive(Clone, Copy, Debug, PartialEq, Eq)]
 pub enum Joining {
     Add,
@@ -37,21 +37,21 @@ pub enum Joining {
     Right,
 }
 
-/// What an item is replaced by: itself and the numbers that follow it, or itself again and again.
+/// What replaces an item: the item and the numbers that follow it, or the item several times.
 #[derive(Clone, Copy, Debug, PartialEq, Eq)]
 pub enum Spread {
     Range,
     Repeat,
 }
 
-/// An operator on whole numbers. A result that is no `i64` is the fault `Overflow`, and of its item nothing is given.
+/// An operator on whole numbers. A result that is no `i64` is the fault `Overflow`, and no item comes of it.
 #[derive(Drop)]
 pub enum Op {
     /// item + k, or item * k
     Map { by: Arithmetic, k: i64 },
     /// The items that pass.
     Filter(Test),
-    /// The items before the first that does not pass.
+    /// The items before the first one that fails.
     TakeWhile(Test),
     /// For each entry of the list, in order, item + entry.
     Transform(Vec<i64>),
@@ -59,7 +59,7 @@ pub enum Op {
     Take(u64),
     /// All but the first items.
     DropFirst(u64),
-    /// The items from the first that does not pass.
+    /// The items from the first one that fails.
     DropWhile(Test),
     /// `from`, then the accumulator + item, or the accumulator * item.
     Scan { from: i64, by: Arithmetic },

@@ -1,4 +1,4 @@
-//! The operators with one upstream: what each makes of its upstream's items, one step at a time.
+//! The operators with one upstream: what each makes of an item.
 ghost use Rattle.std.specs.Prelude.{◌≡◌, ℤ};
 ghost use Rattle.flow_law.specs.ChainRun.{ChainRun, gives};
 ghost use Rattle.flow_cold.specs.OperatorAsks.{HeldLeaves, StepLeaves, after_held, after_ready};
@@ -12,7 +12,7 @@ use crate::script_chain::running_reduce::Reducing;
 use crate::script_chain::state::{Adding, Comparing, Dropping, Mapping, Scanning, Taking};
 use flow_law::ChainFault;
 
-/// An operator, in the state that it has while its chain is asked.
+/// An operator, in its state while the chain is asked.
 #[derive(Drop)]
 pub enum Operator {
     Map(Mapping),
@@ -29,21 +29,21 @@ pub enum Operator {
     Distinct(Comparing),
 }
 
-/// What comes of an item.
+/// What an operator makes of an item.
 #[derive(Drop)]
 pub enum Step {
     Item(i64),
     /// An item, after which the operator is over.
     Last(i64),
     Nothing,
-    /// Nothing yet: there are numbers to give before the upstream is asked again.
+    /// Nothing yet: there are numbers to emit before the upstream is asked again.
     Held,
     End,
     Fault(ChainFault),
 }
 
 impl Operator {
-    /// What its first ask begins with.
+    /// Returns how the first ask begins.
     pub fn first_phase(&self) -> Phase
         ensures { result ≡ first_phase self.now }
     {
@@ -53,7 +53,7 @@ impl Operator {
         }
     }
 
-    /// The next number that is held back, or the fault in its place. `None` where none is left.
+    /// Returns the next number that is held back, or the fault in its place, or `None` if none is left.
     pub fn next_held(&mut self) -> Option<Result<i64, ChainFault>>
         ensures whole { (r : ChainRun ℤ) → operator_whole self.new r ≡ operator_whole self.old r }
         ensures gives { (r : ChainRun ℤ)
@@ -71,7 +71,7 @@ impl Operator {
         }
     }
 
-    /// What is made of the upstream's next item, where nothing is held back.
+    /// Returns what the upstream's next item becomes, if nothing is held back.
     pub fn on_item(&mut self, item: i64) -> Step
         ensures whole { (r : ChainRun ℤ) → operator_whole self.new r ≡ operator_whole self.old r }
         ensures gives { (r : ChainRun ℤ)
@@ -112,7 +112,7 @@ impl Operator {
         }
     }
 
-    /// Starts anew.
+    /// Starts from the beginning.
     pub fn rewind(&mut self)
         ensures whole { (r : ChainRun ℤ) → operator_whole self.new r ≡ operator_whole self.old r }
         ensures rest { (r : ChainRun ℤ) → rest_in (first_phase self.new) self.new r ≡ operator_whole self.old r }

@@ -11,7 +11,7 @@ ghost use Rattle.flow_cold.specs.Pairing.{pairing_rest};
 use crate::script_chain::answer::Answer;
 use crate::script_chain::op::Joining;
 
-/// `kept` is a left item whose right one is still to come.
+/// `kept` is a left item that waits for its right one.
 #[derive(Drop)]
 pub struct Pairing {
     pub by: Joining,
@@ -20,7 +20,7 @@ pub struct Pairing {
 }
 
 impl Pairing {
-    /// No left item is kept yet.
+    /// Begins without a left item.
     pub fn new(by: Joining) -> Pairing
         ensures { result ≡ record { by = by; kept = None; ended = false } }
     {
@@ -31,7 +31,7 @@ impl Pairing {
         }
     }
 
-    /// What is made of a left side that gave no item. The right side is not asked.
+    /// Returns the answer if the left side gave no item. The right side is not asked.
     pub fn without_item(&mut self, answer: Answer) -> Answer
         requires runs { self.old.ended ≡ false }
         requires none { self.old.kept ≡ None }
@@ -49,7 +49,7 @@ impl Pairing {
         answer
     }
 
-    /// What is made of a left item and the right side's answer.
+    /// Returns the answer for a left item and the right side's answer.
     pub fn on_right(&mut self, first: i64, answer: Answer) -> Answer
         requires { self.old.ended ≡ false }
         ensures by { self.new.by ≡ self.old.by }

@@ -1,4 +1,4 @@
-//! `runningReduce` of whole numbers: what it keeps while its chain is asked, and its step.
+//! `runningReduce` of whole numbers.
 ghost use Rattle.std.specs.Prelude.{◌≡◌, ℤ};
 ghost use Rattle.flow_law.specs.ChainRun.{ChainRun, gives};
 ghost use Rattle.flow_law.specs.OperatorRuns.{running_reduce_run};
@@ -9,7 +9,7 @@ ghost use Rattle.flow_cold.specs.Operators.{StepGives, after_step};
 use crate::script_chain::op::Arithmetic;
 use crate::script_chain::operator::Step;
 
-/// `last` is the accumulator, if an item was given.
+/// `last` is the accumulator, once an item was emitted.
 #[derive(Drop)]
 pub struct Reducing {
     pub by: Arithmetic,
@@ -17,7 +17,7 @@ pub struct Reducing {
 }
 
 impl Reducing {
-    /// The first item, or the next accumulator, which is given.
+    /// Returns the first item, or the next accumulator.
     pub fn on_item(&mut self, item: i64) -> Step
         ensures by { self.new.by ≡ self.old.by }
         ensures gives { (r : ChainRun ℤ)

@@ -1,7 +1,7 @@
 //! The number of a source's fault, in a word of its own.
 ghost use Rattle.std.specs.Prelude.{◌≡◌, ◌<◌};
 
-/// The number that a source failed with. It fills a word, so that an answer is two words.
+/// The number with which a source failed. It fills a word, so that an answer is two words.
 #[derive(Clone, Copy, Drop)]
 pub struct SourceNumber {
     pub number: u64,
@@ -9,7 +9,7 @@ pub struct SourceNumber {
 }
 
 impl SourceNumber {
-    /// The number in a word.
+    /// Puts the number into a word.
     pub fn new(number: u32) -> SourceNumber
         ensures { result.number ≡ number }
     {
@@ -18,7 +18,7 @@ impl SourceNumber {
         }
     }
 
-    /// The number as the source gave it.
+    /// Returns the number.
     pub fn number(self) -> u32
         ensures { result ≡ self.number }
     {

@@ -12,7 +12,7 @@ use crate::script_chain::node::{Phase, Stage};
 use crate::script_chain::operator::{Operator, Step};
 
 impl Stage {
-    /// As it begins: a scan gives its initial value first.
+    /// Begins with an operator. A scan emits its initial value first.
     pub fn new(operator: Operator) -> Stage
         ensures { result ≡ record { operator = operator; phase = first_phase operator } }
     {
@@ -20,8 +20,8 @@ impl Stage {
         Stage { operator, phase }
     }
 
-    /// The next answer for which the upstream is not asked: the end of an operator that is over, or what is held back.
-    /// `None` where the upstream is to be asked.
+    /// Returns the next answer that needs no upstream: the end of an operator that is over, or what is held back.
+    /// `None` if the upstream has to be asked.
     pub fn next_alone(&mut self) -> Option<Answer>
         ensures whole { (r : ChainRun ℤ) → operator_whole self.new.operator r
             ≡ operator_whole self.old.operator r }
@@ -41,7 +41,7 @@ impl Stage {
         }
     }
 
-    /// The next answer of what is held back; `None` where the upstream is to be asked.
+    /// Returns the next answer that is held back, or `None` if the upstream has to be asked.
     fn next_held(&mut self) -> Option<Answer>
         requires { self.old.phase ≡ Phase.Holding }
         ensures whole { (r : ChainRun ℤ) → operator_whole self.new.operator r
@@ -67,7 +67,7 @@ impl Stage {
         }
     }
 
-    /// What is made of the upstream's answer; `None` where there is no answer yet.
+    /// Returns what the upstream's answer becomes, or `None` if there is no answer yet.
     pub fn on_answer(&mut self, answer: Answer) -> Option<Answer>
         requires { self.old.phase ≡ Phase.Ready }
         ensures whole { (r : ChainRun ℤ) → operator_whole self.new.operator r
@@ -91,7 +91,7 @@ impl Stage {
         }
     }
 
-    /// An answer that is no item passes. The operator is over where the chain is over with it.
+    /// Passes on an answer that is no item. The operator is over if the chain is.
     fn pass(&mut self, answer: Answer) -> Answer
         requires runs { self.old.phase ≡ Phase.Ready }
         requires no_item { ¬ IsItem (asked_of answer) }
@@ -109,7 +109,7 @@ impl Stage {
         answer
     }
 
-    /// A step of the operator as an answer of the chain.
+    /// Turns a step of the operator into an answer of the chain.
     fn answer(&mut self, step: Step) -> Option<Answer>
         requires { self.old.phase ≡ Phase.Ready }
         ensures operator { self.new.operator ≡ self.old.operator }
@@ -147,7 +147,7 @@ impl Stage {
         }
     }
 
-    /// Starts anew.
+    /// Starts from the beginning.
     pub fn rewind(&mut self)
         ensures whole { (r : ChainRun ℤ) → operator_whole self.new.operator r
             ≡ operator_whole self.old.operator r }

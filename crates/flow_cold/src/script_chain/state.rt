@@ -1,4 +1,4 @@
-//! What each operator with one upstream keeps while its chain is asked, and its steps.
+//! The states of the operators with one upstream, and their steps.
 ghost use Rattle.std.specs.Ordering.{int_eq};
 ghost use Rattle.std.specs.Prelude.{◌≡◌, ◌≢◌, suc, ℤ};
 ghost use Rattle.flow_law.specs.ChainRun.{ChainRun, gives};
@@ -13,14 +13,14 @@ use crate::script_chain::op::Arithmetic;
 use crate::script_chain::operator::Step;
 use flow_law::ChainFault;
 
-/// What a map computes of each item.
+/// What a map computes for each item.
 #[derive(Drop)]
 pub struct Mapping {
     pub by: Arithmetic,
     pub k: i64,
 }
 
-/// `more` is how many items are given after the first, `left` after the next one.
+/// `more` is the number of items after the first, `left` the number after the next one.
 #[derive(Drop)]
 pub struct Taking {
     pub more: u64,
@@ -28,7 +28,7 @@ pub struct Taking {
 }
 
 impl Taking {
-    /// None of the items was given yet; there are to be some.
+    /// Begins before the first item. The count is not 0.
     pub fn new(count: u64) -> Taking
         requires { count ≢ 0 }
         ensures more { suc result.more ≡ count }
@@ -38,7 +38,7 @@ impl Taking {
         Taking { more, left: more }
     }
 
-    /// The item; the last one where none may be given after it.
+    /// Returns the item, as the last one if no other may follow.
     pub fn on_item(&mut self, item: i64) -> Step
         ensures more { self.new.more ≡ self.old.more }
         ensures gives { (r : ChainRun ℤ) → StepGives (take_run (suc self.old.left) (gives item r)) result
@@ -54,7 +54,7 @@ impl Taking {
     }
 }
 
-/// `left` is how many items have still to be dropped.
+/// `left` is the number of items that have still to be dropped.
 #[derive(Drop)]
 pub struct Dropping {
     pub count: u64,
@@ -62,7 +62,7 @@ pub struct Dropping {
 }
 
 impl Dropping {
-    /// Nothing while items have to be dropped, then the item.
+    /// Makes nothing of the items that have to be dropped, then returns the item.
     pub fn on_item(&mut self, item: i64) -> Step
         ensures count { self.new.count ≡ self.old.count }
         ensures gives { (r : ChainRun ℤ) → StepGives (drop_run (gives item r) self.old.left) result
@@ -79,7 +79,7 @@ impl Dropping {
     }
 }
 
-/// The sums of `item` and the entries from `at` on are still to be given.
+/// The sums of `item` and the entries from `at` on have still to be emitted.
 #[derive(Drop)]
 pub struct Adding {
     pub entries: Vec<i64>,
@@ -88,7 +88,7 @@ pub struct Adding {
 }
 
 impl Adding {
-    /// No item has been met yet.
+    /// Begins before the first item.
     pub fn new(entries: Vec<i64>) -> Adding
         ensures { result.entries ≡ entries }
     {
@@ -99,7 +99,7 @@ impl Adding {
         }
     }
 
-    /// The next sum, if one is left.
+    /// Returns the next sum, if one is left.
     pub fn next_held(&mut self) -> Option<Result<i64, ChainFault>>
         ensures entries { self.new.entries ≡ self.old.entries }
         ensures gives { (r : ChainRun ℤ) → HeldGives (adding_rest self.old r) result
@@ -118,7 +118,7 @@ impl Adding {
         }
     }
 
-    /// Begins the sums of an item, unless one of them is out of range.
+    /// Begins with the sums of an item, unless one of them is out of range.
     pub fn on_item(&mut self, item: i64) -> Step
         ensures entries { self.new.entries ≡ self.old.entries }
         ensures gives { (r : ChainRun ℤ)
@@ -137,7 +137,7 @@ impl Adding {
     }
 }
 
-/// `begun`: the initial value was given. `last` is the accumulator.
+/// `begun`: the initial value was emitted. `last` is the accumulator.
 #[derive(Drop)]
 pub struct Scanning {
     pub initial: i64,
@@ -147,7 +147,7 @@ pub struct Scanning {
 }
 
 impl Scanning {
-    /// The initial value, if it was not given yet.
+    /// Returns the initial value, if it was not emitted yet.
     pub fn next_held(&mut self) -> Option<Result<i64, ChainFault>>
         ensures by { self.new.by ≡ self.old.by }
         ensures initial { self.new.initial ≡ self.old.initial }
@@ -163,7 +163,7 @@ impl Scanning {
         Some(Ok(self.initial))
     }
 
-    /// The next accumulator, which is given.
+    /// Returns the next accumulator.
     pub fn on_item(&mut self, item: i64) -> Step
         ensures by { self.new.by ≡ self.old.by }
         ensures initial { self.new.initial ≡ self.old.initial }
@@ -190,7 +190,7 @@ pub struct Comparing {
 }
 
 impl Comparing {
-    /// The item, unless it is the one before.
+    /// Returns the item, unless it is the same as the one before.
     pub fn on_item(&mut self, item: i64) -> Step
         ensures gives { (r : ChainRun ℤ) → StepGives
             (distinct_run int_eq self.old.last (gives item r)) result (distinct_run int_eq self.new.last r) }

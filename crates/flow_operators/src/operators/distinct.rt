@@ -1,4 +1,4 @@
-//! `distinctUntilChanged`: items that differ from the one before.
+//! `distinctUntilChanged`: the items that differ from the one before.
 ghost use Rattle.std.specs.Prelude.{◌≡◌, true, None};
 ghost use Rattle.flow_law.specs.Chain.{distinct_meaning, meaning_of};
 ghost use Rattle.flow_law.specs.OperatorRuns.{distinct_run, is_repeated};
@@ -64,7 +64,7 @@ impl<C: Cold> Cold for Distinct<C> {
     ghost limited = { λ l s. C.limited l (chain_of s.upstream) };
 }
 
-/// Whether `item` is the same as the last one.
+/// Returns whether `item` is the same as the last one.
 fn is_last<T: FlowValue>(last: &Option<T>, item: &T) -> bool
     ensures { result ≡ is_repeated T.is_same last.now item.now }
 {
@@ -75,7 +75,7 @@ fn is_last<T: FlowValue>(last: &Option<T>, item: &T) -> bool
 }
 
 impl<C: Cold> Distinct<C> {
-    /// Items are compared as values of flows are.
+    /// Drops repeated items of this chain. Items are compared by `FlowValue::same`.
     pub fn new(upstream: C) -> Self
         requires { C.CanAsk upstream }
         ensures callable { ⟦<Distinct<C> as Cold>⟧.CanAsk result }

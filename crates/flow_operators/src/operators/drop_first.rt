@@ -8,7 +8,7 @@ ghost use Rattle.flow_operators.specs.Upstreams.{chain_of, is_ended, left_of};
 use crate::cold::{Asked, Cold};
 use crate::upstream::Upstream;
 
-/// Gives a chain's items after the first `count`.
+/// Emits the items of a chain after the first `count`.
 #[derive(Drop)]
 pub struct DropFirst<C> {
     upstream: Upstream<C>,
@@ -64,7 +64,7 @@ impl<C: Cold> Cold for DropFirst<C> {
 }
 
 impl<C: Cold> DropFirst<C> {
-    /// A count of 0 gives the chain as it is.
+    /// Drops the first `count` items of this chain. With a count of 0 it emits all.
     pub fn new(upstream: C, count: u64) -> Self
         requires { C.CanAsk upstream }
         ensures callable { ⟦<DropFirst<C> as Cold>⟧.CanAsk result }

@@ -1,4 +1,4 @@
-//! `dropWhile`: the items from the first that does not pass.
+//! `dropWhile`: the items from the first one that fails a test.
 ghost use Rattle.std.specs.Prelude.{◌≡◌, ◌&&◌, true, Bool};
 ghost use Rattle.std.specs.Fn.{FnReturnsAt};
 ghost use Rattle.flow_law.specs.Chain.{drop_while_meaning, meaning_of};
@@ -12,8 +12,8 @@ use crate::cold::{Asked, Cold};
 use crate::operators::passing::passes;
 use crate::upstream::Upstream;
 
-/// Drops a chain's first items while they pass a test, and gives all others. What follows the first that does not pass
-/// is not tested.
+/// Drops the first items of a chain while they pass a test, and emits all others. Items after the first one that fails
+/// are not tested.
 #[derive(Drop)]
 pub struct DropWhile<C, F> {
     upstream: Upstream<C>,
@@ -69,7 +69,7 @@ impl<C: Cold, F: Fn(&C::Item) -> bool> Cold for DropWhile<C, F> {
     ghost limited = { λ l s. C.limited l (chain_of s.upstream) };
 }
 
-/// Tells whether items are dropped from this one on: they are while each passes.
+/// Returns whether this item is dropped, too: all before it were, and it passes.
 fn still_drops<T, F: Fn(&T) -> bool>(dropping: bool, test: &F, item: &T) -> bool
     requires { F.IsAlwaysCallable test.now }
     ensures { (p : T → Bool) → Decides (λ x b. FnReturnsAt F.Fn test.now x b) p → result ≡ (dropping && p item.now) }
@@ -78,7 +78,7 @@ fn still_drops<T, F: Fn(&T) -> bool>(dropping: bool, test: &F, item: &T) -> bool
 }
 
 impl<C: Cold, F: Fn(&C::Item) -> bool> DropWhile<C, F> {
-    /// The chain from where it stands, and the test that its first items are to pass to be dropped.
+    /// Drops the first items of this chain while they pass the test.
     pub fn new(upstream: C, test: F) -> Self
         requires upstream { C.CanAsk upstream }
         requires callable { F.IsAlwaysCallable test }

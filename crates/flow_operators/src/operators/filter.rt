@@ -11,7 +11,7 @@ use crate::cold::{Asked, Cold};
 use crate::operators::passing::passes;
 use crate::upstream::Upstream;
 
-/// Gives the items that pass a test.
+/// Emits the items that pass a test.
 #[derive(Drop)]
 pub struct Filter<C, F> {
     upstream: Upstream<C>,
@@ -65,7 +65,7 @@ impl<C: Cold, F: Fn(&C::Item) -> bool> Cold for Filter<C, F> {
 }
 
 impl<C: Cold, F: Fn(&C::Item) -> bool> Filter<C, F> {
-    /// The chain from where it stands, and the test that its items are to pass.
+    /// Emits the items of this chain that pass the test.
     pub fn new(upstream: C, test: F) -> Self
         requires upstream { C.CanAsk upstream }
         requires callable { F.IsAlwaysCallable test }

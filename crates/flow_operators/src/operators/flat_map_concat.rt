@@ -15,9 +15,9 @@ use crate::cold::{Asked, Cold};
 use crate::upstream::Upstream;
 use flow_law::ChainFault;
 
-/// Gives the items of the chain that a closure opens at each item, one chain after the other.
+/// Emits the items of the inner chain that a closure makes of each item, one chain after the other.
 ///
-/// An inner chain is started anew before it is asked. A fault of it ends the whole.
+/// An inner chain is started from its beginning before it is asked. Its fault ends the whole chain.
 #[derive(Drop)]
 pub struct FlatMapConcat<C, D, F> {
     upstream: Upstream<C>,
@@ -93,7 +93,7 @@ where
     ghost limited = { λ l s. Prim.grind (arith, common_steps, C.limited l.0 (chain_of s.upstream), D.limited l.1) };
 }
 
-/// Asks the open inner chain, and closes it at its end. With none open the answer is the end.
+/// Asks the open inner chain, and closes it at its end. If none is open, answers the end.
 fn ask_inner<D: Cold>(inner: &mut Option<D>) -> Asked<D::Item>
     requires { IfSome inner.old D.CanAsk }
     ensures callable { IfSome inner.new D.CanAsk }
@@ -119,7 +119,7 @@ fn ask_inner<D: Cold>(inner: &mut Option<D>) -> Asked<D::Item>
     }
 }
 
-/// Opens the chain of an item, which is the one that each function says that the closure computes. It stands at its start.
+/// Returns the chain of an item, which each function that the closure computes gives, at its start.
 fn open<A, D, F>(closure: &F, item: A) -> Result<D, ChainFault>
 where
     D: Cold,
@@ -148,9 +148,9 @@ where
 {
     ghost use Rattle.flow_law.specs.declared.chain.ChainFault.{ChainFault};
 
-    /// A fault that the closure answers ends the chain, too.
+    /// Flattens the chains that the closure makes of this chain's items. A fault of the closure ends the chain, too.
     ///
-    /// By a reading n of the inner chains, which is the same for all that are opened.
+    /// One reading of the inner chains serves all of them.
     pub fn new(upstream: C, closure: F) -> Self
         requires upstream { C.CanAsk upstream }
         requires callable { F.IsAlwaysCallable closure }

@@ -10,7 +10,7 @@ use crate::cold::{Asked, Cold};
 use crate::upstream::Upstream;
 use flow_law::{ChainFault, FlowValue};
 
-/// Gives what a closure makes of each item.
+/// Emits what a closure makes of each item.
 #[derive(Drop)]
 pub struct Map<C, F> {
     upstream: Upstream<C>,
@@ -73,7 +73,7 @@ where
 {
     ghost use Rattle.flow_law.specs.declared.chain.ChainFault.{ChainFault};
 
-    /// A fault that the closure answers ends the chain; of that item nothing is given.
+    /// Maps the items of this chain. A fault of the closure ends the chain, and no item comes of that call.
     pub fn new(upstream: C, closure: F) -> Self
         requires upstream { C.CanAsk upstream }
         requires callable { F.IsAlwaysCallable closure }

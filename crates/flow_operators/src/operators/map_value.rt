@@ -10,7 +10,7 @@ use crate::cold::{Asked, Cold};
 use crate::upstream::Upstream;
 use flow_law::FlowValue;
 
-/// Gives what a closure that cannot fail makes of each item.
+/// Emits what a closure that cannot fail makes of each item.
 #[derive(Drop)]
 pub struct MapValue<C, F> {
     upstream: Upstream<C>,
@@ -66,7 +66,7 @@ where
     U: FlowValue,
     F: Fn(C::Item) -> U,
 {
-    /// The chain from where it stands, and the closure that makes its items.
+    /// Maps the items of this chain.
     pub fn new(upstream: C, closure: F) -> Self
         requires upstream { C.CanAsk upstream }
         requires callable { F.IsAlwaysCallable closure }

@@ -1,4 +1,4 @@
-//! What the forms of `zip` stand on: pairs of the items of two chains.
+//! Pairs of the items of two chains, for `zip`.
 ghost use Rattle.std.specs.Prelude.{◌≡◌, ◌⊎◌, ◌<◌, true, false, None, IfOk, IfErr};
 ghost use Rattle.flow_operators.specs.Asking.{IsFinal};
 ghost use Rattle.flow_operators.specs.Pairs.{AsksSides, PairGives};
@@ -8,7 +8,7 @@ ghost use Rattle.flow_operators.specs.Upstreams.{WithAnswer};
 use crate::cold::{Asked, Cold};
 use crate::upstream::Upstream;
 
-/// Two chains, and an item of the left one for which the right one has pended. They have ended where the left side has.
+/// Two chains, and a left item whose right one has pended. The pairs have ended if the left side has.
 #[derive(Drop)]
 pub(crate) struct Pairs<L, R, A> {
     pub(crate) left: Upstream<L>,
@@ -30,7 +30,7 @@ impl<L: Cold, R: Cold> Pairs<L, R, L::Item> {
         }
     }
 
-    /// The next pair, or the answer in place of one.
+    /// Returns the next pair, or the answer in place of one.
     pub(crate) fn next<U>(&mut self) -> Result<(L::Item, R::Item), Asked<U>>
         requires left { L.CanAsk (left_chain self.old) }
         requires right { R.CanAsk (right_chain self.old) }

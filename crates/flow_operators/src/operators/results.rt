@@ -1,4 +1,4 @@
-//! What the forms of `scan` stand on: the results so far.
+//! The results so far, for `scan` and `running_reduce`.
 ghost use Rattle.std.specs.Prelude.{◌≡◌, ◌⊎◌, ◌<◌, true, false, None, IfOk, IfErr};
 ghost use Rattle.flow_operators.specs.Asking.{IsFinal};
 ghost use Rattle.flow_operators.specs.Results.{AsksScanned, KeepsResult, ResultGives};
@@ -9,7 +9,7 @@ use crate::cold::{Asked, Cold};
 use crate::upstream::Upstream;
 use flow_law::{ChainFault, FlowValue};
 
-/// A chain, the value that stands before its first item, and the last result; none before that value was given.
+/// A chain, the value before its first item, and the last result, which is `None` before that value was emitted.
 #[derive(Drop)]
 pub(crate) struct Results<C, U> {
     upstream: Upstream<C>,
@@ -31,7 +31,8 @@ impl<C: Cold, U: FlowValue> Results<C, U> {
         }
     }
 
-    /// The last result and the next item, or the answer in place of them. The first answer is the initial value.
+    /// Returns the last result and the next item, or the answer in place of them. The first answer is the initial
+    /// value.
     pub(crate) fn next(&mut self) -> Result<(U, C::Item), Asked<U>>
         requires { C.CanAsk (scanned self.old) }
         ensures callable { C.CanAsk (scanned self.new) }

@@ -1,4 +1,4 @@
-//! `runningReduce`: the first item, and then the results so far.
+//! `runningReduce`: the first item, then the results so far.
 ghost use Rattle.std.specs.Prelude.{◌≡◌, true, None, Result};
 ghost use Rattle.flow_law.specs.Chain.{running_reduce_meaning, meaning_of};
 ghost use Rattle.flow_law.specs.OperatorRuns.{running_reduce_run};
@@ -11,8 +11,8 @@ use crate::operators::last::keep_made;
 use crate::upstream::Upstream;
 use flow_law::ChainFault;
 
-/// Gives a chain's first item, then what a closure makes of the last result and each further item. Of no items it
-/// gives nothing.
+/// Emits the first item of a chain, then what a closure makes of the last result and each further item. It emits
+/// nothing if there is no item.
 #[derive(Drop)]
 pub struct RunningReduce<C: Cold, F> {
     upstream: Upstream<C>,
@@ -79,7 +79,7 @@ where
 {
     ghost use Rattle.flow_law.specs.declared.chain.ChainFault.{ChainFault};
 
-    /// A fault that the closure answers ends the chain.
+    /// Reduces the items of this chain. A fault of the closure ends the chain.
     pub fn new(upstream: C, closure: F) -> Self
         requires upstream { C.CanAsk upstream }
         requires callable { F.IsAlwaysCallable closure }

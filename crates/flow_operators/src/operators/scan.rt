@@ -1,4 +1,4 @@
-//! `scan`: the results so far.
+//! `scan`: an initial value, then the results so far.
 ghost use Rattle.std.specs.Prelude.{◌≡◌, ◌+◌, true, Result};
 ghost use Rattle.flow_law.specs.ChainRun.{gives};
 ghost use Rattle.flow_law.specs.Chain.{scan_meaning, meaning_of};
@@ -12,7 +12,7 @@ use crate::cold::{Asked, Cold};
 use crate::operators::results::Results;
 use flow_law::{ChainFault, FlowValue};
 
-/// Gives a first value, then what a closure makes of the last result and each item.
+/// Emits an initial value, then what a closure makes of the last result and each item.
 #[derive(Drop)]
 pub struct Scan<C, U, F> {
     results: Results<C, U>,
@@ -75,7 +75,7 @@ where
 {
     ghost use Rattle.flow_law.specs.declared.chain.ChainFault.{ChainFault};
 
-    /// The initial value is given without asking the upstream. A fault that the closure answers ends the chain.
+    /// Emits `initial` without asking the upstream, then the results. A fault of the closure ends the chain.
     pub fn new(upstream: C, initial: U, closure: F) -> Self
         requires upstream { C.CanAsk upstream }
         requires callable { F.IsAlwaysCallable closure }

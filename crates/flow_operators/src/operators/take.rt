@@ -11,7 +11,7 @@ use crate::cold::{Asked, Cold};
 use crate::upstream::Upstream;
 use flow_law::ChainFault;
 
-/// Gives the first `count` items of a chain. After the last of them the upstream is not asked again.
+/// Emits the first `count` items of a chain. After the last of them the upstream is not asked again.
 #[derive(Drop)]
 pub struct Take<C> {
     upstream: Upstream<C>,
@@ -20,7 +20,7 @@ pub struct Take<C> {
 }
 
 impl<C: Cold> Take<C> {
-    /// A count of 0 is refused, and the chain is dropped.
+    /// Takes the first `count` items of this chain. If `count` is 0, fails with `NotPositive` and drops the chain.
     pub fn new(upstream: C, count: u64) -> Result<Self, ChainFault>
         requires { C.CanAsk upstream }
         ensures callable { IfOk result ⟦<Take<C> as Cold>⟧.CanAsk }
@@ -70,7 +70,7 @@ impl<C: Cold> Cold for Take<C> {
     ghost AsksBehind = { λ old m result new.
         AsksOnce (C.rest (chain_of old.upstream) m) result (C.rest (chain_of new.upstream) m) };
 
-    // The trait's clauses, and how many items are left. After the last one the upstream is left as it is.
+    // The trait's clauses, and the number of items that are left. After the last item the upstream does not change.
     fn ask(&mut self) -> Asked<C::Item>
         requires { ⟦<Take<C> as Cold>⟧.CanAsk self.old }
         ensures callable { ⟦<Take<C> as Cold>⟧.CanAsk self.new }

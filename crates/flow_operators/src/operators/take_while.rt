@@ -1,4 +1,4 @@
-//! `takeWhile`: the items before the first that does not pass.
+//! `takeWhile`: the items before the first one that fails a test.
 ghost use Rattle.std.specs.Prelude.{◌≡◌, true, Bool};
 ghost use Rattle.std.specs.Fn.{FnReturnsAt};
 ghost use Rattle.flow_law.specs.Chain.{take_while_meaning, meaning_of};
@@ -11,7 +11,7 @@ use crate::cold::{Asked, Cold};
 use crate::operators::passing::passes;
 use crate::upstream::Upstream;
 
-/// Gives a chain's items while they pass a test. The first that does not pass is dropped, and ends the chain.
+/// Emits the items of a chain while they pass a test. The first one that fails is dropped, and ends the chain.
 #[derive(Drop)]
 pub struct TakeWhile<C, F> {
     upstream: Upstream<C>,
@@ -64,7 +64,7 @@ impl<C: Cold, F: Fn(&C::Item) -> bool> Cold for TakeWhile<C, F> {
 }
 
 impl<C: Cold, F: Fn(&C::Item) -> bool> TakeWhile<C, F> {
-    /// The chain from where it stands, and the test that ends it.
+    /// Emits the items of this chain while they pass the test.
     pub fn new(upstream: C, test: F) -> Self
         requires upstream { C.CanAsk upstream }
         requires callable { F.IsAlwaysCallable test }

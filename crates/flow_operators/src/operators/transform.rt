@@ -1,4 +1,4 @@
-//! `transform`: several items for each.
+//! `transform`: any number of items for each item.
 ghost use Rattle.std.specs.Prelude.{◌≡◌, ◌∷◌, ◌+◌, ◌*◌, ◌^◌, true, None, [], List, Result, MatchOption, length};
 ghost use Rattle.flow_law.specs.Chain.{transform_meaning, meaning_of};
 ghost use Rattle.flow_law.specs.OperatorRuns.{prepended, transform_run};
@@ -13,7 +13,7 @@ use crate::cold::{Asked, Cold};
 use crate::upstream::Upstream;
 use flow_law::{ChainFault, FlowValue};
 
-/// Gives the items of the list that a closure makes of each item.
+/// Emits the items of the list that a closure makes of each item.
 #[derive(Drop)]
 pub struct Transform<C, U: FlowValue, F> {
     upstream: Upstream<C>,
@@ -88,7 +88,7 @@ where
     ghost limited = { λ l s. Prim.grind (arith, common_steps, C.limited l (chain_of s.upstream)) };
 }
 
-/// Takes the next image off those that are kept in reverse.
+/// Takes the next image. The images are kept in reverse.
 fn next_image<U: FlowValue>(images: &mut Option<Vec<U>>) -> Option<U>
     ensures { MatchOption result
         (images_left (λ v. v.items) images.old ≡ [] × images.new ≡ None)
@@ -100,7 +100,7 @@ fn next_image<U: FlowValue>(images: &mut Option<Vec<U>>) -> Option<U>
     Some(image)
 }
 
-/// Makes the list of an item's images, which is what each function that the closure computes says of it.
+/// Returns the list of an item's images, which each function that the closure computes gives.
 fn images_of<A, U, F>(closure: &F, item: A) -> Result<Vec<U>, ChainFault>
 where
     U: FlowValue,
@@ -120,7 +120,7 @@ where
 {
     ghost use Rattle.flow_law.specs.declared.chain.ChainFault.{ChainFault};
 
-    /// A fault that the closure answers ends the chain; of that item nothing is given.
+    /// Transforms the items of this chain. A fault of the closure ends the chain, and no item comes of that call.
     pub fn new(upstream: C, closure: F) -> Self
         requires upstream { C.CanAsk upstream }
         requires callable { F.IsAlwaysCallable closure }

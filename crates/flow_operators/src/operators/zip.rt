@@ -10,10 +10,10 @@ use crate::cold::{Asked, Cold};
 use crate::operators::pairs::Pairs;
 use flow_law::{ChainFault, FlowValue};
 
-/// Gives what a closure makes of each pair, and ends as soon as one side does.
+/// Emits what a closure makes of each pair, and ends as soon as one side does.
 ///
-/// For each pair the left side is asked first. Where it pends, the right side is not asked; where the right side pends,
-/// the left item is kept.
+/// For each pair the left side is asked first. If it pends, the right side is not asked. If the right side pends, the
+/// left item is kept.
 #[derive(Drop)]
 pub struct Zip<L: Cold, R, F> {
     pairs: Pairs<L, R, L::Item>,
@@ -81,7 +81,7 @@ where
 {
     ghost use Rattle.flow_law.specs.declared.chain.ChainFault.{ChainFault};
 
-    /// A fault that the closure answers ends the chain.
+    /// Pairs the items of two chains. A fault of the closure ends the chain.
     pub fn new(left: L, right: R, closure: F) -> Self
         requires left { L.CanAsk left }
         requires right { R.CanAsk right }

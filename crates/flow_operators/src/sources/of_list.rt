@@ -7,7 +7,7 @@ use crate::cold::{Asked, Cold};
 use flow_law::{ChainFault, FlowValue};
 use std::alloc::{Allocator, Global};
 
-/// The items of a list, then the end.
+/// Emits the items of a list.
 #[derive(Drop)]
 pub struct OfList<T, A: Allocator = Global> {
     items: Vec<T, A>,
@@ -15,7 +15,7 @@ pub struct OfList<T, A: Allocator = Global> {
 }
 
 impl<T: FlowValue, A: Allocator> OfList<T, A> {
-    /// Each item is copied as it is given, so the list can be given again.
+    /// Makes a chain of this list. It emits a copy of each item, so the list can be emitted again.
     pub fn new(items: Vec<T, A>) -> Self
         ensures callable { ⟦<OfList<T, A> as Cold>⟧.CanAsk result }
         ensures reads { ⟦<OfList<T, A> as Cold>⟧.Reads result tt }

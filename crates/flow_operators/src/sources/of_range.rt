@@ -6,7 +6,7 @@ ghost use Rattle.std.proofs.Common.{arith};
 
 use crate::cold::{Asked, Cold};
 
-/// The numbers from `first` to `last`, both among them; none where `first` is above `last`.
+/// Emits the numbers from `first` to `last`, both included; none if `first` is above `last`.
 #[derive(Drop)]
 pub struct OfRange {
     first: i64,
@@ -16,7 +16,7 @@ pub struct OfRange {
 }
 
 impl OfRange {
-    /// No number is kept but the next.
+    /// Makes a chain of these numbers. It keeps only the next one.
     pub fn new(first: i64, last: i64) -> Self
         ensures callable { ⟦<OfRange as Cold>⟧.CanAsk result }
         ensures reads { ⟦<OfRange as Cold>⟧.Reads result tt }
@@ -45,7 +45,7 @@ impl Cold for OfRange {
 
     ghost rest = { λ s _. unless_ended s.ended (range_run s.next s.last) };
 
-    // The numbers of 64 bits are so many; the code knows that its own are among them.
+    // There are so many numbers of 64 bits; the code knows that its own are among them.
     ghost most_asks = { λ s. min (span_left s.ended s.next s.last) (2 ^ 64) };
 
     ghost IsLimited = { ⊤ };

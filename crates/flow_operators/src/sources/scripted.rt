@@ -1,4 +1,4 @@
-//! A scripted source.
+//! A source that follows a script.
 ghost use Rattle.std.specs.Prelude.{◌≡◌, ◌≤◌, ◌-◌, ◌^◌, drop, length, ⊤};
 ghost use Rattle.std.proofs.Common.{arith};
 
@@ -6,17 +6,17 @@ use crate::cold::{Asked, Cold};
 use flow_law::{ChainFault, FlowValue};
 use std::alloc::{Allocator, Global};
 
-/// An entry of a scripted source.
+/// An entry of a script.
 #[derive(Debug, Drop)]
 pub enum Entry<T> {
     Item(T),
-    /// One ask that pends.
+    /// One ask is answered by `Pending`.
     Pending,
     /// The source fails with this number.
     Fault(u32),
 }
 
-/// Items, turns that pend, and faults, in order. It ends at its first fault, or after its last entry.
+/// Emits items, pends and fails as its entries say. It ends at the first fault, or after the last entry.
 #[derive(Drop)]
 pub struct Scripted<T, A: Allocator = Global> {
     entries: Vec<Entry<T>, A>,
@@ -26,7 +26,7 @@ pub struct Scripted<T, A: Allocator = Global> {
 impl<T: FlowValue, A: Allocator> Scripted<T, A> {
     ghost use Rattle.flow_operators.specs.Sources.{scripted_run};
 
-    /// Each item is copied as it is given. Entries after the first fault are never reached.
+    /// Makes a chain of these entries. It emits a copy of each item. Entries after the first fault are never reached.
     pub fn new(entries: Vec<Entry<T>, A>) -> Self
         ensures callable { ⟦<Scripted<T, A> as Cold>⟧.CanAsk result }
         ensures reads { ⟦<Scripted<T, A> as Cold>⟧.Reads result tt }
