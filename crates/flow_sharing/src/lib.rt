@@ -1,27 +1,28 @@
-//! Cold flows shared by the subscribers of a hot flow (`shareIn`, `stateIn`).
+//! Cold flows that the subscribers of a hot flow share (`shareIn`, `stateIn`).
 //!
 //! A `Sharing` has a chain, a policy that says when the chain is collected (`SharingStarted`), and a hub: the hot flow
-//! that the chain's items go into. Nothing runs by itself: the caller drives it by `turn`, and hands in the moment. The
-//! page of crate `flow_turns` tells what a turn does, when the chain starts and stops, and how a sharing ends.
+//! into which the chain's items go. Nothing runs by itself: the caller calls `turn` with the moment. `flow_turns` says
+//! what a turn does, when the chain starts and stops, and how a sharing ends.
 //!
 //! # Which hub
-//! `share_in` and `state_in` make a sharing with a flow for one thread of its own (`CoreHub`, `StateHub`); subscribers use
-//! `subscribe`, `next` and `unsubscribe` of the sharing. A `SharedFlowHub`, `StateFlowHub` or `WordHub` stands for a flow for several threads that is lent: others subscribe to it,
-//! and emit into it, while the sharing runs.
+//! `share_in` and `state_in` make a sharing with a flow for one thread of its own (`CoreHub`, `StateHub`); callers use
+//! `subscribe`, `next` and `unsubscribe` of the sharing. A `SharedFlowHub`, `StateFlowHub` or `WordHub` stands for a
+//! lent flow for several threads: others subscribe to it, and emit into it, while the sharing runs.
 //!
 //! # A flow that others use
-//! A hub of a lent flow has two seats of it: one counts the subscribers, the other emits. No call of it waits. Where
-//! another caller is inside the flow, the turn reports `Busy`, and the next turn goes on there; over a `WordHub` no turn is
-//! busy.
+//! A hub of a lent flow has two seats: one counts the subscribers, the other one emits. None of its calls waits. If
+//! another caller is inside the flow, the turn reports `Busy`, and the next turn goes on there. Over a `WordHub` no
+//! turn is busy.
 //!
 //! # What a hub promises
-//! Contracts see a hub as its flow, its two seats, the number of its emission, and what a reset sets (`SeatedHub`). Each
-//! call is one event under one of the two seats, or Busy and one lost exchange (`SharedFlowHubDoes`, `StateFlowHubDoes`,
-//! `WordHubDoes`). `law_turn_over_shared_flow` and its like say what a whole turn is then (`TurnBySeats`).
+//! Contracts see a hub as its flow, its two seats, the number of its emission, and what a reset sets (`SeatedHub`).
+//! Each call is one event under one of the two seats, or `Busy` and one lost exchange (`SharedFlowHubDoes`,
+//! `StateFlowHubDoes`, `WordHubDoes`). `law_turn_over_shared_flow` and its like say what a whole turn then is
+//! (`TurnBySeats`).
 //!
-//! # What is lost
-//! Who drops a sharing drops its hub: the hub's seats are lost, and an emission that waits stays queued or offered. So
-//! take a turn that stops the sharing first, or `cancel` through `hub_mut`.
+//! # Dropping
+//! Dropping a sharing drops its hub: its seats are lost, and an emission that waits stays queued or offered. To avoid
+//! that, take a turn that stops the sharing first, or call `cancel` through `hub_mut`.
 #![tactic(auto)]
 
 mod laws;

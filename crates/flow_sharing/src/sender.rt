@@ -10,7 +10,7 @@ use flow_law::{FlowFault, FlowValue, Refused};
 use flow_shared::{Emission, Emitted, PolledNow, Seat, SharedFlow};
 use std::alloc::Allocator;
 
-/// A seat, or an emission that waits and has the seat.
+/// A seat, or an emission that waits and holds the seat.
 #[derive(Drop)]
 pub(crate) enum Sender<T: FlowValue, A: Allocator + Copy> {
     Idle(Seat<T, A>),
@@ -18,7 +18,7 @@ pub(crate) enum Sender<T: FlowValue, A: Allocator + Copy> {
 }
 
 impl<T: FlowValue, A: Allocator + Copy> Sender<T, A> {
-    /// Emits a value. True where the emission waits.
+    /// Emits a value, and returns whether the emission waits.
     pub(crate) fn put(self, call: (&SharedFlow<T, A>, T)) -> (Self, Result<bool, Refused<T>>)
         requires flow { (token_of self).table_id ≡ call.0.now.table_id }
         requires idle { emission_of self ≡ None }
@@ -43,7 +43,7 @@ impl<T: FlowValue, A: Allocator + Copy> Sender<T, A> {
         }
     }
 
-    /// Whether the emission, if there is one, still waits.
+    /// Returns whether the emission, if there is one, still waits.
     pub(crate) fn poll(self, flow: &SharedFlow<T, A>) -> (Self, Result<bool, FlowFault>)
         requires { (token_of self).table_id ≡ flow.now.table_id }
         ensures polls { PollBy flow.now.first (emission_of self) (token_of self) result.1
@@ -63,7 +63,7 @@ impl<T: FlowValue, A: Allocator + Copy> Sender<T, A> {
         }
     }
 
-    /// Takes the emission back, if there is one. True where it waited.
+    /// Cancels the emission, if there is one, and returns whether it waited.
     pub(crate) fn cancel(self, flow: &SharedFlow<T, A>) -> (Self, Result<bool, FlowFault>)
         requires { (token_of self).table_id ≡ flow.now.table_id }
         ensures cancels { CancelBy flow.now.first (emission_of self) (token_of self) result.1

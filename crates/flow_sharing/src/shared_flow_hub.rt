@@ -1,4 +1,4 @@
-//! A shared flow for several threads as the flow of a sharing.
+//! A shared flow for several threads as the hub of a sharing.
 ghost use Rattle.std.specs.Prelude.{◌≡◌, false};
 ghost use Rattle.flow_law.specs.Growth.{makes};
 ghost use Rattle.flow_law.specs.Tokens.{knowing};
@@ -12,13 +12,14 @@ use flow_turns::Hub;
 use std::alloc::{Allocator, Global};
 use std::marker::Model;
 
-/// A `SharedFlow` that is lent, into which a sharing emits beside other callers. Subscribers use the flow itself.
+/// A lent `SharedFlow` into which a sharing emits beside other callers. Subscribers use the flow itself.
 ///
-/// No call of it waits: where another caller is inside the flow it answers `Busy`, and the turn says so. What the turn
-/// had still to do, the next turn does.
+/// None of its calls waits: if another caller is inside the flow, it answers `Busy`, and the turn says so. The next
+/// turn does what was left.
 ///
-/// A hub that is dropped leaves its emission queued or offered, and its two seats are lost. To take the emission back,
-/// stop the sharing by a turn, or `cancel`.
+/// # Dropping
+/// Dropping a hub leaves its emission queued or offered, and its two seats are lost. To cancel the emission, stop the
+/// sharing by a turn, or call `cancel`.
 #[derive(Drop)]
 pub struct SharedFlowHub<'a, T: FlowValue, A: Allocator + Copy = Global> {
     flow: &'a SharedFlow<T, A>,
@@ -47,7 +48,7 @@ impl<'a, T: FlowValue, A: Allocator + Copy> Model for SharedFlowHub<'a, T, A> {
 }
 
 impl<'a, T: FlowValue, A: Allocator + Copy> SharedFlowHub<'a, T, A> {
-    /// A hub that has emitted nothing yet. Its two seats are made through this one, which stays the caller's.
+    /// Makes a hub that has emitted nothing. Its two seats are made through this one, which stays the caller's.
     pub fn new(flow: &'a SharedFlow<T, A>, seat: &mut Seat<T, A>) -> SharedFlowHub<'a, T, A>
         requires { seat.old.table_id ≡ flow.now.table_id }
         ensures hub { result ≡ seated flow.entry.now seat.old tt }

@@ -1,4 +1,4 @@
-//! A state flow for several threads as the flow of a sharing.
+//! A state flow for several threads as the hub of a sharing.
 ghost use Rattle.std.specs.Prelude.{◌≡◌, false};
 ghost use Rattle.flow_law.specs.Growth.{makes};
 ghost use Rattle.flow_law.specs.Tokens.{knowing};
@@ -10,11 +10,10 @@ use flow_turns::Hub;
 use std::alloc::{Allocator, Global};
 use std::marker::Model;
 
-/// A `StateFlow` that is lent, whose value a sharing sets beside other callers. Subscribers use the flow itself.
+/// A lent `StateFlow` whose value a sharing sets beside other callers. Subscribers use the flow itself.
 ///
-/// No item ever waits, and it is refused only as `Busy`, where another caller is inside the flow. The item is kept then,
-/// and the next turn sets it. A reset copies the initial value, and is refused where memory is wanting, too. A hub that is
-/// dropped loses its two seats.
+/// No item waits. It is refused only as `Busy`, if another caller is inside the flow; the next turn then sets it. A
+/// reset copies the initial value, and may also fail with `OutOfMemory`. Dropping a hub loses its two seats.
 #[derive(Drop)]
 pub struct StateFlowHub<'a, T: FlowValue, A: Allocator + Copy = Global> {
     flow: &'a StateFlow<T, A>,
@@ -45,8 +44,8 @@ impl<'a, T: FlowValue, A: Allocator + Copy> Model for StateFlowHub<'a, T, A> {
 }
 
 impl<'a, T: FlowValue, A: Allocator + Copy> StateFlowHub<'a, T, A> {
-    /// A hub that has set nothing yet. Its two seats are made through this one, which stays the caller's. `initial` is what
-    /// a reset sets: the value that the flow began with.
+    /// Makes a hub that has set nothing. Its two seats are made through this one, which stays the caller's. `initial`
+    /// is what a reset sets: the value with which the flow began.
     pub fn new(
         flow: &'a StateFlow<T, A>,
         seat: &mut StateSeat<T, A>,

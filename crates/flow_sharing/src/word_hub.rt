@@ -1,4 +1,4 @@
-//! A state flow without a lock as the flow of a sharing.
+//! A state flow without a lock as the hub of a sharing.
 ghost use Rattle.std.specs.Prelude.{◌≡◌, false};
 ghost use Rattle.flow_law.specs.Growth.{makes};
 ghost use Rattle.flow_law.specs.Tokens.{knowing};
@@ -9,10 +9,10 @@ use flow_turns::Hub;
 use flow_word::{WordSeat, WordState};
 use std::marker::Model;
 
-/// A `WordState` that is lent, whose value a sharing sets beside other callers. Subscribers use the flow itself.
+/// A lent `WordState` whose value a sharing sets beside other callers. Subscribers use the flow itself.
 ///
-/// No item ever waits and no call is refused: each is one atomic step, so a turn is never Busy. A hub that is dropped
-/// loses its two seats.
+/// No item waits and no call is refused: each is one atomic step, so a turn is never `Busy`. Dropping a hub loses its
+/// two seats.
 #[derive(Drop)]
 pub struct WordHub<'a, T: Packed> {
     flow: &'a WordState<T>,
@@ -43,8 +43,8 @@ impl<'a, T: Packed> Model for WordHub<'a, T> {
 }
 
 impl<'a, T: Packed> WordHub<'a, T> {
-    /// A hub that has set nothing yet. Its two seats are made through this one, which stays the caller's. `initial` is what
-    /// a reset sets: the value that the flow began with.
+    /// Makes a hub that has set nothing. Its two seats are made through this one, which stays the caller's. `initial`
+    /// is what a reset sets: the value with which the flow began.
     pub fn new(flow: &'a WordState<T>, seat: &mut WordSeat<T>, initial: T) -> WordHub<'a, T>
         requires { seat.old.table_id ≡ flow.now.table_id }
         ensures hub { result ≡ seated flow.entry.now seat.old initial }

@@ -1,4 +1,4 @@
-//! How a sharing over a word state sleeps, and how its run is asked to stop.
+//! How the driver of a sharing over a word state sleeps, and how its run is asked to stop.
 use crate::word_hub::WordHub;
 use flow_law::Packed;
 use flow_turns::{HubWatch, StopSignal, WatchedHub};
@@ -7,7 +7,7 @@ use std::sync::Wait;
 use std::sync::atomic::{AtomicBool, Ordering};
 use std::time::Duration;
 
-/// The driver of a sharing over a word state, which is about to sleep.
+/// The driver of a sharing over a word state, registered to be woken.
 #[derive(Drop)]
 pub struct WordWatch<'a> {
     watch: CountWatch<'a>,
@@ -31,10 +31,10 @@ impl<'a, T: Packed> WatchedHub for WordHub<'a, T> {
     }
 }
 
-/// Asks the runs of sharings over a word state to stop. Each run that was given it ends.
+/// Asks the runs of sharings over a word state to stop. It ends each run to which it was passed.
 ///
 /// # Source
-/// `cancel` of the scope that `shareIn` and `stateIn` launch in.
+/// `cancel` of the scope in which `shareIn` and `stateIn` launch.
 #[derive(Drop)]
 pub struct WordStop<'a, T: Packed> {
     flow: &'a WordState<T>,
@@ -42,7 +42,7 @@ pub struct WordStop<'a, T: Packed> {
 }
 
 impl<'a, T: Packed> WordStop<'a, T> {
-    /// Returns a signal that asks nothing yet.
+    /// Returns a signal that has not asked yet.
     pub fn new(flow: &'a WordState<T>) -> WordStop<'a, T> {
         WordStop {
             flow,

@@ -1,11 +1,11 @@
-//! What a turn answers, by its command and by what its calls came to.
+//! The report of a turn, from its command and the answers of its calls.
 ghost use Rattle.std.specs.Prelude.{◌≡◌};
 ghost use Rattle.flow_law.specs.SharingTurn.{refusal, reported};
 
 use flow_law::report::{Event, Report, ShareFault};
 use flow_law::{Command, FlowFault};
 
-/// A call of the hub was refused: busy is an event, each other refusal a fault.
+/// Reports a refused call of the hub: `Busy` is an event, each other refusal a fault.
 pub(crate) fn refusal_of(fault: FlowFault) -> Result<Event, ShareFault>
     ensures { result ≡ refusal fault }
 {
@@ -15,7 +15,7 @@ pub(crate) fn refusal_of(fault: FlowFault) -> Result<Event, ShareFault>
     }
 }
 
-/// What a turn answers that had this command.
+/// Reports a turn that had this command.
 pub(crate) fn report_of(
     command: Command,
     outcome: Result<Event, ShareFault>,

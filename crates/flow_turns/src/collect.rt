@@ -1,4 +1,4 @@
-//! The last step of a turn: while the sharing runs, one item at most goes into the flow.
+//! The last step of a turn: while the sharing runs, at most one item goes into the flow.
 ghost use Rattle.std.specs.Prelude.{◌≡◌, ◌≢◌, None, MatchResult, false, Err};
 ghost use Rattle.flow_law.specs.SharingCalls.{polls};
 ghost use Rattle.flow_law.specs.SharingTurn as steps;
@@ -14,7 +14,7 @@ use flow_cold::{Asked, Cold};
 use flow_law::report::{Event, ShareFault};
 use flow_law::{FlowFault, Refused};
 
-/// Asks the chain, once in a turn. The answer is the chain's own, also where it is out of memory.
+/// Asks the chain, once in a turn. The answer is the chain's own, also if it is `OutOfMemory`.
 fn ask_chain<C: Cold>(chain: &mut C) -> Asked<C::Item>
     requires { C.CanAsk chain.old }
     ensures callable { C.CanAsk chain.new }
@@ -27,7 +27,7 @@ fn ask_chain<C: Cold>(chain: &mut C) -> Asked<C::Item>
 }
 
 impl<C: Cold, H: Hub<Item = C::Item>> Sharing<C, H> {
-    /// Puts an item, which is kept where the hub refuses it.
+    /// Puts an item, which is kept if the hub refuses it.
     fn put(&mut self, item: C::Item) -> Result<Event, ShareFault>
         requires callable { CanRun C.CanAsk self.old }
         requires free { H.waits self.old.hub ≡ false }
@@ -89,7 +89,7 @@ impl<C: Cold, H: Hub<Item = C::Item>> Sharing<C, H> {
         }
     }
 
-    /// Whether an emission waits.
+    /// Returns whether an emission waits.
     fn is_waiting(&mut self) -> Result<bool, FlowFault>
         requires { CanRun C.CanAsk self.old }
         ensures callable { CanRun C.CanAsk self.new }
@@ -104,7 +104,7 @@ impl<C: Cold, H: Hub<Item = C::Item>> Sharing<C, H> {
         self.hub.poll()
     }
 
-    /// While it runs, polls an emission that waits, and else sends the next item.
+    /// While the sharing runs, polls an emission that waits; if none waits, sends the next item.
     pub(crate) fn collect(&mut self) -> Result<Event, ShareFault>
         requires { CanRun C.CanAsk self.old }
         ensures callable { CanRun C.CanAsk self.new }

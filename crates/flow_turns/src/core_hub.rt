@@ -1,4 +1,4 @@
-//! A shared flow for one thread as the flow of a sharing.
+//! A shared flow for one thread as the hub of a sharing.
 ghost use Rattle.std.specs.Prelude.{◌≡◌, false};
 
 use crate::hub::Hub;
@@ -10,14 +10,14 @@ use std::alloc::{Allocator, Global};
 #[derive(Drop)]
 pub struct CoreHub<T: FlowValue, A: Allocator + Copy = Global> {
     pub(crate) core: SharedCore<T, A>,
-    /// The number of the sharing's emission, where it waited when it was last asked.
+    /// The number of the sharing's emission, if it waited at the last poll.
     pub(crate) emission: Option<u64>,
 }
 
 impl<T: FlowValue, A: Allocator + Copy> CoreHub<T, A> {
     ghost use Rattle.flow_turns.specs.CoreHub.{core_of};
 
-    /// A hub that has emitted nothing into the core.
+    /// Makes a hub that has emitted nothing into the core.
     pub fn new(core: SharedCore<T, A>) -> Self
         ensures core { core_of result ≡ core }
         ensures waits { ⟦<CoreHub<T, A> as Hub>⟧.waits result ≡ false }

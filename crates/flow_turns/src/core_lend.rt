@@ -1,4 +1,4 @@
-//! The core of a shared flow's hub, lent to the caller.
+//! The core of a `CoreHub`, lent to the caller.
 ghost use Rattle.std.specs.Prelude.{◌≡◌};
 ghost use Rattle.std.specs.Borrow.{sem};
 ghost use Rattle.flow_turns.specs.CoreHub.{core_of};
@@ -10,14 +10,14 @@ use flow_law::FlowValue;
 use std::alloc::Allocator;
 
 impl<T: FlowValue, A: Allocator + Copy> CoreHub<T, A> {
-    /// The core, to look at.
+    /// Lends the core, to look at.
     pub fn core(&self) -> &SharedCore<T, A>
         ensures { result.now ≡ core_of self.now }
     {
         &self.core
     }
 
-    /// The core, to subscribe and to receive.
+    /// Lends the core, to subscribe and to receive.
     pub fn core_mut(&mut self) -> &mut SharedCore<T, A>
         ensures* writes_back { sem 𝓛 (LendsCore T.row A.row T.FlowValue A.Allocator self.entry result) }
         ensures core { result.now ≡ core_of self.old }

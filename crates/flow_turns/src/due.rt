@@ -1,5 +1,4 @@
-//! The steps of a turn that come before it collects: what the command asks for, and what is due, the cancel and then
-//! the reset.
+//! The steps of a turn before it collects: obeying the command, and then the cancel and the reset that are due.
 ghost use Rattle.std.specs.Prelude.{◌≡◌, ◌||◌, true, false, IfOk};
 ghost use Rattle.flow_law.specs.SharingTurn as steps;
 ghost use Rattle.flow_turns.specs.SharingViews.{chain_of, has_ended, CanRun, KeepsReadings};
@@ -40,14 +39,14 @@ impl<C: Cold, H: Hub<Item = C::Item>> Sharing<C, H> {
         }
     }
 
-    /// Whether a cancel or a reset is due.
+    /// Returns whether a cancel or a reset is due.
     fn is_work_due(&self) -> bool
         ensures { result ≡ (self.now.cancel_due || self.now.reset_due) }
     {
         self.cancel_due || self.reset_due
     }
 
-    /// Takes the hub's emission back, if a cancel or a reset is due. The cancel stays due if the hub refuses it.
+    /// Cancels the hub's emission if a cancel or a reset is due. The cancel stays due if the hub refuses it.
     pub(crate) fn cancel_if_due(&mut self) -> Result<(), FlowFault>
         requires { CanRun C.CanAsk self.old }
         ensures callable { CanRun C.CanAsk self.new }
@@ -66,7 +65,7 @@ impl<C: Cold, H: Hub<Item = C::Item>> Sharing<C, H> {
         Ok(())
     }
 
-    /// Makes the flow forget what it replays, if that is due. The reset stays due if the hub refuses it.
+    /// Resets the flow if that is due. The reset stays due if the hub refuses it.
     pub(crate) fn reset_if_due(&mut self) -> Result<(), FlowFault>
         requires callable { CanRun C.CanAsk self.old }
         requires free { self.old.reset_due ≡ true → H.waits self.old.hub ≡ false }

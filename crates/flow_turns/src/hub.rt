@@ -8,40 +8,40 @@ use flow_law::{FlowFault, Refused};
 
 /// A flow with one sender of its own, which has at most one emission that waits.
 ///
-/// What the calls do is said by the hub itself, in `does`: for a flow of one thread by what its core stands for, for a
-/// flow of several threads by the events that its history gains.
+/// The hub says in `does` what its calls do: by what its core stands for, or, for a flow of several threads, by the
+/// events that its history gains.
 pub trait Hub: Drop {
     type Item;
 
-    /// Whether the hub has an emission that waited when it was last asked.
+    /// Whether the hub has an emission that waited at the last poll.
     ghost waits: { Self → Bool };
 
-    /// A call, the hub before it, what it answers, and the hub after it.
+    /// A call, the hub before it, its answer, and the hub after it.
     ghost does: { (c : HubCall Self.Item) → Self → HubAnswer c → Self → Type 0 };
 
-    /// How many subscribers there are.
+    /// Counts the subscribers.
     fn count(&mut self) -> Result<u64, FlowFault>
         ensures counts { HubStep does waits counts self.old result self.new }
         ensures memory { IfErr result (λ fault. fault ≢ FlowFault.OutOfMemory) };
 
-    /// Emits a value. True where the emission waits. The value is handed back where it is refused.
+    /// Emits a value, and returns whether the emission waits. An error returns the value.
     fn put(&mut self, value: Self::Item) -> Result<bool, Refused<Self::Item>>
         requires { waits self.old ≡ false }
         ensures puts { HubStep does waits (puts value) self.old (put_answer result) self.new }
         ensures handed_back { IfErr result (λ refused. refused.value ≡ value) };
 
-    /// Whether the hub's emission still waits.
+    /// Returns whether the hub's emission still waits.
     fn poll(&mut self) -> Result<bool, FlowFault>
         ensures polls { HubStep does waits polls self.old result self.new }
         ensures memory { IfErr result (λ fault. fault ≢ FlowFault.OutOfMemory) };
 
-    /// Takes the hub's emission back, if it still waits. True where it did.
+    /// Cancels the hub's emission, and returns whether it waited.
     fn cancel(&mut self) -> Result<bool, FlowFault>
         ensures cancels { HubStep does waits cancels self.old result self.new }
         ensures memory { IfErr result (λ fault. fault ≢ FlowFault.OutOfMemory) };
 
-    /// The flow forgets what it replays: a shared flow empties its replay cache, a state flow goes back to its initial
-    /// value. Call it while no emission of the hub waits.
+    /// Resets the flow: a shared flow empties its replay cache, a state flow gets its initial value again. Call it
+    /// while no emission of the hub waits.
     fn reset(&mut self) -> Result<(), FlowFault>
         requires { waits self.old ≡ false }
         ensures { HubStep does waits resets self.old result self.new };

@@ -1,4 +1,4 @@
-//! The flow of a sharing, lent to the caller.
+//! The hub of a sharing, lent to the caller.
 ghost use Rattle.std.specs.Prelude.{◌≡◌};
 ghost use Rattle.std.specs.Borrow.{sem};
 ghost use Rattle.flow_turns.specs.Lending.{LendsHub};
@@ -9,18 +9,18 @@ use crate::sharing::Sharing;
 use flow_cold::Cold;
 
 impl<C: Cold, H: Hub<Item = C::Item>> Sharing<C, H> {
-    /// The flow into which the sharing emits, to look at.
+    /// Lends the hub, to look at.
     pub fn hub(&self) -> &H
         ensures { result.now ≡ hub_of self.now }
     {
         &self.hub
     }
 
-    /// The flow into which the sharing emits, to subscribe and to receive.
+    /// Lends the hub, to subscribe and to receive.
     ///
-    /// Who emits or cancels through it acts as the sharing does. A turn then still takes its steps and keeps its account.
-    /// But an emission that the caller leaves waiting while the sharing does not run may wait on after a turn that
-    /// answers `Idle`.
+    /// A caller that emits or cancels through it acts as the sharing does. A turn then still takes its steps and keeps
+    /// its account. But an emission that the caller leaves waiting while the sharing does not run may still wait after
+    /// a turn that answers `Idle`.
     pub fn hub_mut(&mut self) -> &mut H
         ensures* writes_back { sem 𝓛 (LendsHub C.row H.row C.Item.row self.entry result) }
         ensures hub { result.now ≡ hub_of self.old }

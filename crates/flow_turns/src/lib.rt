@@ -1,39 +1,40 @@
-//! The turns of a sharing: a cold flow is collected into a hot one while a policy says so (`shareIn`, `stateIn`).
+//! The turns of a sharing: a policy starts and stops the collection of a cold flow into a hot one (`shareIn`,
+//! `stateIn`).
 //!
-//! Programs take these names from crate `flow_sharing`, which adds the hubs of flows for several threads.
+//! Programs import these names from `flow_sharing`, which adds the hubs of flows for several threads.
 //!
 //! A `Sharing` has a chain, a policy that says when the chain is collected (`SharingStarted`), and a hub: the hot flow
-//! that the chain's items go into. `share_in` and `state_in` make one with a flow of its own, to which callers subscribe by
-//! `subscribe`, `next` and `unsubscribe` of the sharing. Nothing runs by itself: the caller drives it by `turn`, and hands
-//! in the moment.
+//! into which the chain's items go. `share_in` and `state_in` make one with a flow of its own; callers use `subscribe`,
+//! `next` and `unsubscribe` of the sharing. Nothing runs by itself: the caller calls `turn` with the moment.
 //!
 //! # A turn
-//! The subscribers are counted and the count is observed. While the sharing runs, one item at most is emitted: an emission
-//! that still waits for subscribers is polled first, and the next item follows in the turn that finds it done.
+//! A turn counts the subscribers, and the policy observes the count. While the sharing runs, at most one item is
+//! emitted. An emission that still waits is polled first; the next item follows in the turn that finds it done.
 //!
 //! # Start and stop
 //! A start collects the chain from its beginning. A stop drops an item that the flow has not accepted, and cancels an
-//! emission that waits. The subscribers keep what they have.
+//! emission that waits. The subscribers still receive what was emitted.
 //!
 //! # What a turn promises
-//! A turn takes the steps of the documented turn (clause `turn`). Its answer means what it says of the items that the flow
-//! has accepted since the last start (`means`). A reset that is due is made in this turn, after the cancel, or stays due if
-//! the hub was busy or refused it (`resets`). What is true between turns is true again afterwards (`between`). No emission
-//! of the sharing waits while it does not run, unless a caller left one (`quiet`). A fault of the chain is the chain's own
-//! last answer (`answered`). `law_turn_over_core` and `law_turn_over_state_core` say that this is the same turn over the
-//! documented flow that the core stands for.
+//! A turn takes the steps of the documented turn (clause `turn`). Its report is true of the items that the flow has
+//! accepted since the last start (`means`). A due reset is made in this turn, after the cancel, or stays due if the hub
+//! was busy or refused it (`resets`). What holds between turns holds again afterwards (`between`). No emission of the
+//! sharing waits while it does not run, unless a caller left one (`quiet`). A fault of the chain is the chain's own
+//! last answer (`answered`). `law_turn_over_core` and `law_turn_over_state_core` say that this is the same turn over
+//! the documented flow for which the core stands.
 //!
-//! # When the flow forgets
-//! Some time after the stop the flow forgets what it replays, where the policy says so (`expire`): a shared flow empties its
-//! replay cache, a state flow goes back to its initial value. It does so at the first turn that finds the time come; a
-//! subscriber who is counted by that turn starts the chain again instead, and nothing is forgotten.
+//! # Reset
+//! If the policy says so (`expire`), the flow is reset some time after the stop: a shared flow empties its replay
+//! cache, a state flow gets its initial value again. This happens in the first turn after that time. If that turn
+//! counts a subscriber, it starts the chain again instead, and nothing is reset.
 //!
-//! # How it ends
-//! A chain that ends normally is asked again only after a stop and a start. A chain that fails ends the sharing: one turn
-//! answers the fault, and every later one `Ended`. Subscribers notice neither.
+//! # The end
+//! A chain that ends normally is asked again only after a stop and a start. A chain that fails ends the sharing: one
+//! turn answers the fault, and every later one `Ended`. Subscribers notice neither.
 //!
-//! # Refusals
-//! Where the flow refuses an item, or is busy, the turn says so, and the next one goes on there. The observation stands.
+//! # Errors
+//! If the flow refuses an item, or is busy, the turn reports it, and the next turn goes on there. The observation
+//! counts.
 #![tactic(auto)]
 
 mod answers;

@@ -1,8 +1,8 @@
-//! When a sharing runs, told from the numbers of subscribers (`SharingStarted`).
+//! When a sharing runs, depending on the number of subscribers (`SharingStarted`).
 //!
-//! A policy keeps no list of observations: the last moment, the first moment of the zero counts at the end, and whether
-//! it runs are enough; they tell whether a reset was due, too. Its clauses speak of every list of observations that leads
-//! to what it keeps.
+//! A policy keeps no list of observations. It keeps the last moment, the first moment of the zero counts at the end,
+//! and whether it runs, which also show whether a reset was due. Its clauses speak of every list of observations that
+//! leads to what it keeps.
 ghost use Rattle.std.specs.Prelude.{◌≡◌, ◌≤◌, ◌<◌, [], true, false, None, IfOk, OnErr};
 ghost use Rattle.std.specs.Option.{ForSome};
 ghost use Rattle.flow_law.specs.Sharing.{command_of, runs_after, is_past_expiry};
@@ -10,32 +10,31 @@ ghost use Rattle.flow_law.specs.Sharing.{command_of, runs_after, is_past_expiry}
 use flow_law::{Command, NEVER, Started};
 use thiserror::Error;
 
-/// An observation is refused whose moment is before the last one.
+/// The moment of an observation is before the last one.
 #[derive(Clone, Copy, Debug, PartialEq, Eq, Error)]
 #[error("the moment is before the last one, {last}")]
 pub struct Backwards {
-    /// The last moment that was accepted.
+    /// The last accepted moment.
     pub last: u64,
 }
 
-/// Says at each observation whether the sharing is to start or to stop, and whether its flow is to forget what it
-/// replays.
+/// Says at each observation whether the sharing starts or stops, and whether its flow is reset.
 ///
-/// A `Sharing` has one of its own; alone it serves who drives a chain by other means.
+/// A `Sharing` has one of its own. Use it without one to drive a chain by other means.
 #[derive(Drop)]
 pub struct Policy {
     started: Started,
-    /// The last moment, at first 0.
+    /// The last moment, 0 before the first observation.
     last: u64,
-    /// The first moment of the zero counts at the end, where they follow a positive count. Only a policy that stops
-    /// keeps it.
+    /// The first moment of the zero counts at the end, if they follow a positive count. Only a policy that stops keeps
+    /// it.
     since: Option<u64>,
     running: bool,
     ghost in_order: { ForSome since (λ moment. moment ≤ last) },
     ghost apart: { running ≡ true → is_past_expiry started last since ≡ false },
 }
 
-/// The command, by whether it ran and runs, and by whether the reset was due and is due. None is due while it runs.
+/// Returns the command: whether it ran and runs, and whether the reset was due and is due. None is due while it runs.
 fn change(ran: bool, runs: bool, was_expired: bool, expired: bool) -> Command
     requires ran { ran ≡ true → was_expired ≡ false }
     requires runs { runs ≡ true → expired ≡ false }
@@ -50,7 +49,7 @@ fn change(ran: bool, runs: bool, was_expired: bool, expired: bool) -> Command
     }
 }
 
-/// Returns the moment that is so much later. `None` if it never comes.
+/// Returns the moment that is so much later, or `None` if it never comes.
 fn later(moment: u64, time: u64) -> Option<u64> {
     if time == NEVER {
         None
@@ -62,7 +61,7 @@ fn later(moment: u64, time: u64) -> Option<u64> {
 impl Policy {
     ghost use Rattle.flow_turns.specs.Policy.{HasSeen, runs, GivesSince, GivesRunning, Observes};
 
-    /// A policy that has observed nothing, and does not run.
+    /// Makes a policy that has observed nothing, and does not run.
     pub fn new(started: Started) -> Self
         ensures nothing { HasSeen started result [] }
     {
@@ -74,19 +73,19 @@ impl Policy {
         }
     }
 
-    /// Whether it runs since the last observation.
+    /// Returns whether it runs since the last observation.
     pub(crate) fn is_running(&self) -> bool
         ensures { result ≡ runs self.now }
     {
         self.running
     }
 
-    /// Returns the last moment that was accepted, at first 0.
+    /// Returns the last accepted moment, 0 before the first observation.
     pub(crate) fn last(&self) -> u64 {
         self.last
     }
 
-    /// Returns the next moment at which it asks for a stop or a reset if no subscriber comes. `None` if there is none.
+    /// Returns the next moment of a stop or a reset if no subscriber comes, or `None` if there is none.
     pub(crate) fn next_moment(&self) -> Option<u64> {
         let Started::WhileSubscribed { stop, expire } = self.started else {
             return None;
@@ -103,7 +102,7 @@ impl Policy {
         }
     }
 
-    /// The first moment of the zero counts at the end, after one more observation.
+    /// Returns the first moment of the zero counts at the end, after one more observation.
     fn since_after(&self, now: u64, count: u64) -> Option<u64>
         requires { self.now.last ≤ now }
         ensures since { GivesSince self.now (record { moment = now; count = count }) result }
@@ -124,7 +123,7 @@ impl Policy {
         }
     }
 
-    /// Whether it runs, after one more observation.
+    /// Returns whether it runs, after one more observation.
     fn runs_after(&self, since: Option<u64>, now: u64, count: u64) -> bool
         requires in_order { ForSome since (λ moment. moment ≤ now) }
         requires subscribed { 0 < count → since ≡ None }
@@ -144,7 +143,7 @@ impl Policy {
         }
     }
 
-    /// Whether the reset is due at a moment, where the counts are zero since that one.
+    /// Returns whether the reset is due at a moment, if the counts are zero since `since`.
     fn is_past_expiry(&self, since: Option<u64>, now: u64) -> bool
         requires { ForSome since (λ moment. moment ≤ now) }
         ensures { result ≡ is_past_expiry self.now.started now since }
@@ -160,10 +159,10 @@ impl Policy {
         }
     }
 
-    /// Accepts the number of subscribers at a moment, in milliseconds, and says what it asks for. A moment before the last
-    /// one is refused, and nothing has changed then.
+    /// Accepts the number of subscribers at a moment, in milliseconds, and returns the command. A moment before the
+    /// last one is refused, and changes nothing.
     pub fn observe(&mut self, now: u64, count: u64) -> Result<Command, Backwards>
-        // Whatever was observed before, the command is the one of those observations and the new one.
+        // For all earlier observations that lead here, the command is the one of those observations and the new one.
         ensures observes { Observes self.old (record { moment = now; count = count }) result self.new }
         ensures runs { IfOk result (λ command. runs self.new ≡ runs_after command (runs self.old)) }
         ensures unchanged { OnErr result (self.new ≡ self.old) }

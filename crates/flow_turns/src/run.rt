@@ -1,4 +1,4 @@
-//! A sharing that is run by one call, which sleeps while there is nothing to do.
+//! Running a sharing by one call, which sleeps while there is nothing to do.
 ghost use Rattle.std.specs.Prelude.{◌≡◌, ◌≤◌, Err, IfErr};
 ghost use Rattle.flow_law.specs.declared.chain.End.{End};
 ghost use Rattle.flow_turns.specs.SharingViews.{chain_of, CanRun, KeepsReadings};
@@ -16,15 +16,15 @@ use std::time::{Clock, Duration};
 pub trait WatchedHub: Hub {
     type Watch: HubWatch;
 
-    /// Counts the driver among those that a change wakes. It takes one more turn after that, and then sleeps or drops the
-    /// result.
+    /// Registers the driver to be woken by a change. The driver takes one more turn after that, and then sleeps or
+    /// drops the result.
     fn watch(&self) -> Self::Watch;
 }
 
-/// A driver that is about to sleep.
+/// A driver that is registered to be woken.
 pub trait HubWatch: Drop {
-    /// Sleeps until a subscriber has come or gone since the driver was counted, until the run was asked to stop, or for
-    /// `most`, if that is given. It may return early.
+    /// Sleeps until a subscriber has come or gone since the driver was registered, until the run was asked to stop, or
+    /// for `most`, if that is given. It may return early.
     fn sleep<R: Wait>(self, rt: &R, most: Option<Duration>);
 }
 
@@ -46,15 +46,16 @@ fn moment_of<R: Clock>(clock: &R, last: u64) -> u64 {
 }
 
 impl<C: Cold, H: WatchedHub<Item = C::Item>> Sharing<C, H> {
-    /// Returns how long the driver may sleep while no subscriber comes or goes. `None` if the policy waits for no moment.
+    /// Returns how long the driver may sleep if no subscriber comes or goes, or `None` if the policy waits for no
+    /// moment.
     fn most_to_sleep<R: Clock>(&self, rt: &R) -> Option<Duration> {
         let next = self.policy.next_moment()?;
         let now = moment_of(rt, self.policy.last());
         Some(Duration::from_millis(next.saturating_sub(now)))
     }
 
-    /// Rests after a turn that came to this. If there is nothing to do, the first such turn counts the driver among the
-    /// sleepers, and the next one sends it to sleep.
+    /// Rests after a turn with this event. If there is nothing to do, the first such turn registers the driver, and the
+    /// next one sends it to sleep.
     fn rest<R: Wait + Clock>(
         &self,
         rt: &R,
@@ -79,13 +80,13 @@ impl<C: Cold, H: WatchedHub<Item = C::Item>> Sharing<C, H> {
 
     /// Takes turns until the run is asked to stop.
     ///
-    /// The moments are those of the clock, in milliseconds, from the last moment of an earlier turn on. The driver sleeps
-    /// while the sharing does not run, while its emission waits, and when the chain has ended; it is woken when a subscriber
-    /// comes or goes, and at the moment of the stop or of the expiry.
+    /// The moments are those of the clock, in milliseconds, and none is before the last moment of an earlier turn. The
+    /// driver sleeps while the sharing does not run, while its emission waits, and when the chain has ended. It is
+    /// woken when a subscriber comes or goes, and at the moment of the stop or of the expiry.
     ///
     /// # Errors
-    /// What a turn was refused by: the sharing has ended (`Chain`, `Ended`), or the flow refused a call (`Flow`); after that
-    /// one `run` or `turn` goes on there.
+    /// The fault of the last turn: the sharing has ended (`Chain`, `Ended`), or the flow refused a call (`Flow`). After
+    /// `Flow`, call `run` or `turn` to go on.
     ///
     /// # Source
     /// The coroutine that `shareIn` and `stateIn` launch.

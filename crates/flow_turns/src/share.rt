@@ -19,13 +19,14 @@ use flow_law::report::ShareFault;
 use flow_law::{Config, FlowValue, Overflow, Started};
 use std::alloc::Allocator;
 
-/// The least number of values that a shared chain keeps for its subscribers.
+/// The least number of values that a shared chain keeps for slow subscribers.
 const LEAST_BUFFER: u32 = 64;
 
 /// Shares a chain by a shared flow of its own (`shareIn`). The flow keeps `replay` values for new subscribers, and at
-/// least 64 for slow ones; where a subscriber is further behind, the chain waits. `limit` is the most numbers that the
-/// flow issues. It is refused as `Flow(TooLarge)` where `replay` is over 65,536, and else if it is out of memory; the chain is
-/// dropped then.
+/// least 64 for slow ones; if a subscriber is further behind, the chain waits. The flow issues at most `limit` numbers.
+///
+/// # Errors
+/// `Flow(TooLarge)` if `replay` is over 65,536, else `Flow(OutOfMemory)`. The chain is dropped.
 pub fn share_in<C: Cold, A: Allocator + Copy>(
     alloc: A,
     chain: C,
@@ -59,9 +60,11 @@ pub fn share_in<C: Cold, A: Allocator + Copy>(
     }
 }
 
-/// Shares a chain by a state flow of its own (`stateIn`), which has the value `initial` until the chain gives an item, and
-/// again when the flow forgets what it replays. `limit` is the most numbers that the flow issues. It is refused only where
-/// there is no memory for a copy of `initial`.
+/// Shares a chain by a state flow of its own (`stateIn`). Its value is `initial` until the chain emits an item, and after
+/// a reset. The flow issues at most `limit` numbers.
+///
+/// # Errors
+/// `Flow(OutOfMemory)` if `initial` cannot be copied. The chain is dropped.
 pub fn state_in<C: Cold, A: Allocator + Copy>(
     alloc: A,
     chain: C,

@@ -1,4 +1,4 @@
-//! A cold flow, the policy that starts and stops it, and the flow into which its items go.
+//! A cold flow, the policy that starts and stops it, and its hub.
 use crate::policy::Policy;
 use flow_cold::Cold;
 
@@ -8,11 +8,11 @@ pub struct Sharing<C: Cold, H> {
     pub(crate) chain: C,
     pub(crate) hub: H,
     pub(crate) policy: Policy,
-    /// An item that the chain gave and the hub has not accepted.
+    /// An item of the chain that the hub has not accepted.
     pub(crate) kept: Option<C::Item>,
-    /// The hub's emission is still to be cancelled, since a stop.
+    /// Since a stop, the hub's emission has still to be cancelled.
     pub(crate) cancel_due: bool,
-    /// The flow is still to forget what it replays, since a stop and its expiry.
+    /// Since a stop and its expiry, the flow has still to be reset.
     pub(crate) reset_due: bool,
     /// The chain has ended normally since the last start.
     pub(crate) completed: bool,

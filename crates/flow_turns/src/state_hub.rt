@@ -1,4 +1,4 @@
-//! A state flow for one thread as the flow of a sharing.
+//! A state flow for one thread as the hub of a sharing.
 ghost use Rattle.std.specs.Prelude.{◌≡◌, false};
 ghost use Rattle.flow_turns.specs.StateHub.{state_core_of, initial_of};
 
@@ -7,8 +7,8 @@ use flow_core::StateCore;
 use flow_law::{FlowFault, FlowValue, Refused};
 use std::alloc::{Allocator, Global};
 
-/// A `StateCore` whose value a sharing sets. No item ever waits, none is refused, and it is never busy. A reset copies the
-/// initial value, and is refused where memory is wanting.
+/// A `StateCore` whose value a sharing sets. No item waits or is refused, and it is never busy. A reset copies the
+/// initial value, and may fail with `OutOfMemory`.
 #[derive(Drop)]
 pub struct StateHub<T: FlowValue, A: Allocator + Copy = Global> {
     pub(crate) core: StateCore<T, A>,
@@ -17,7 +17,7 @@ pub struct StateHub<T: FlowValue, A: Allocator + Copy = Global> {
 }
 
 impl<T: FlowValue, A: Allocator + Copy> StateHub<T, A> {
-    /// A hub that has set nothing yet. `initial` is what a reset sets: the value that the core began with.
+    /// Makes a hub that has set nothing. `initial` is what a reset sets: the value with which the core began.
     pub fn new(core: StateCore<T, A>, initial: T) -> Self
         ensures core { state_core_of result ≡ core }
         ensures initial { initial_of result ≡ initial }

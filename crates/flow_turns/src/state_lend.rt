@@ -1,4 +1,4 @@
-//! The core of a state flow's hub, lent to the caller.
+//! The core of a `StateHub`, lent to the caller.
 ghost use Rattle.std.specs.Prelude.{◌≡◌};
 ghost use Rattle.std.specs.Borrow.{sem};
 ghost use Rattle.flow_turns.specs.StateHub.{state_core_of};
@@ -10,14 +10,14 @@ use flow_law::FlowValue;
 use std::alloc::Allocator;
 
 impl<T: FlowValue, A: Allocator + Copy> StateHub<T, A> {
-    /// The core, to look at.
+    /// Lends the core, to look at.
     pub fn core(&self) -> &StateCore<T, A>
         ensures { result.now ≡ state_core_of self.now }
     {
         &self.core
     }
 
-    /// The core, to subscribe and to receive.
+    /// Lends the core, to subscribe and to receive.
     pub fn core_mut(&mut self) -> &mut StateCore<T, A>
         ensures* writes_back { sem 𝓛 (LendsStateCore T.row A.row T.FlowValue A.Allocator self.entry result) }
         ensures core { result.now ≡ state_core_of self.old }

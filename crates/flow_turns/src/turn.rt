@@ -1,7 +1,7 @@
-//! Turns of a sharing: the caller drives them, and hands in the moment.
+//! Turns of a sharing. The caller drives them, and passes the moment.
 //!
-//! A turn takes the steps of `turn_steps` of flow_law in their order: count, observe, obey the command, cancel, reset,
-//! collect.
+//! A turn takes the steps of `turn_steps` of `flow_law` in their order: count, observe, obey the command, cancel,
+//! reset, collect.
 ghost use Rattle.std.specs.Prelude.{◌≡◌, ◌≢◌, [], false, IsTrue, ◌↔◌, Err};
 ghost use Rattle.flow_law.specs.SharingCalls.{counts};
 ghost use Rattle.flow_law.specs.SharingTurn.{at_rest};
@@ -18,7 +18,7 @@ use flow_law::report::{Event, Report, ShareFault};
 use flow_law::{Command, FlowFault, Started};
 
 impl<C: Cold, H: Hub<Item = C::Item>> Sharing<C, H> {
-    /// A sharing that has not observed anything. The hub has no emission that waits.
+    /// Makes a sharing that has observed nothing. The hub has no emission that waits.
     pub fn new(chain: C, started: Started, hub: H) -> Self
         requires callable { C.CanAsk chain }
         requires free { H.waits hub ≡ false }
@@ -43,7 +43,7 @@ impl<C: Cold, H: Hub<Item = C::Item>> Sharing<C, H> {
         }
     }
 
-    /// How many subscribers there are.
+    /// Counts the subscribers.
     fn counted(&mut self) -> Result<u64, FlowFault>
         requires { CanRun C.CanAsk self.old }
         ensures callable { CanRun C.CanAsk self.new }
@@ -55,8 +55,7 @@ impl<C: Cold, H: Hub<Item = C::Item>> Sharing<C, H> {
         self.hub.count()
     }
 
-    /// The steps of a turn that follow its command: the chain is started or stopped, what is due is done, and then an item
-    /// goes into the flow.
+    /// Takes the steps after the command: starts or stops the chain, does what is due, and then emits an item.
     fn carry_out(&mut self, command: Command) -> Result<Event, ShareFault>
         requires { CanRun C.CanAsk self.old }
         ensures callable { CanRun C.CanAsk self.new }
@@ -78,17 +77,17 @@ impl<C: Cold, H: Hub<Item = C::Item>> Sharing<C, H> {
         self.collect()
     }
 
-    /// One turn at the moment `now`, in milliseconds: the subscribers are counted, the chain is started or stopped as the
-    /// policy says, and while it runs one item at most goes into the flow.
+    /// Takes one turn at the moment `now`, in milliseconds: counts the subscribers, starts or stops the chain as the
+    /// policy says, and emits at most one item while the sharing runs.
     ///
-    /// An emission that waits is polled first, and only once it is done the next item follows, in the same turn. What a
-    /// refusal leaves undone (an item in hand, a cancel, a reset) is where the next turn goes on.
+    /// An emission that waits is polled first; once it is done the next item follows, in the same turn. What a refusal
+    /// leaves undone (a kept item, a cancel, a reset) is what the next turn begins with.
     pub fn turn(&mut self, now: u64) -> Result<Report, ShareFault>
         requires { CanRun C.CanAsk self.old }
         ensures callable { CanRun C.CanAsk self.new }
         ensures reads { KeepsReadings C.Reads (chain_of self.old) (chain_of self.new) }
 
-        // The steps of the turn, and what has been observed after it.
+        // The steps of the turn, and what was observed after it.
         ensures turn { (m : C.Reading) → C.Reads (chain_of self.old) m
             → TakesTurn (λ c. C.whole c m) (λ c. C.rest c m) H.does H.waits now self.old result self.new }
 
@@ -96,10 +95,10 @@ impl<C: Cold, H: Hub<Item = C::Item>> Sharing<C, H> {
         ensures ended { has_ended self.new ≡ ended_after result (has_ended self.old) }
         ensures refused_after_end { IsTrue (has_ended self.old) ↔ (result ≡ Err ShareFault.Ended) }
 
-        // A fault of the chain is the chain's own last answer. So is an answer that it is out of memory.
+        // A fault of the chain is the chain's own last answer. So is `OutOfMemory`.
         ensures answered { FaultWasAnswered C.HasAnswered result self.new }
 
-        // What the answer means for the items that the flow has accepted since the last start.
+        // What the report means for the items that the flow has accepted since the last start.
         ensures means { (m : C.Reading) → C.Reads (chain_of self.old) m
             → MeansAnswer (λ c. C.whole c m) (λ c. C.rest c m) H.does H.waits self.old result self.new }
         ensures resets { (m : C.Reading) → C.Reads (chain_of self.old) m

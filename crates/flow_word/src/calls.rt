@@ -1,4 +1,4 @@
-//! The value, and seats.
+//! Making a word state and its seats, and reading and setting the value.
 ghost use Rattle.std.specs.Prelude.{◌≡◌, IfOk, IfErr};
 ghost use Rattle.flow_law.specs.declared.call.StateCall.TheVariants as call;
 ghost use Rattle.flow_law.specs.declared.call.StateReply.TheVariants as reply;
@@ -15,11 +15,13 @@ use flow_law::{FlowFault, Packed};
 use std::alloc::Global;
 
 impl<T: Packed> WordState<T> {
-    /// A state flow with this value, which nobody subscribed to, and its first seat. It issues at most
-    /// `limit` numbers to subscribers. `Err` is want of memory: no other call needs any.
+    /// Makes a state flow with this value, and its first seat. It issues at most `limit` numbers to subscribers.
     ///
-    /// Every other seat is made through this one, or through one that was made so. Once all seats and all
-    /// subscriptions are dropped nobody can call the flow any more.
+    /// Every other seat is made through this one, or through one that was made so. Once all seats and subscriptions are
+    /// dropped, no call can be made any more.
+    ///
+    /// # Errors
+    /// `OutOfMemory`. No other call takes memory.
     pub fn new(
         alloc: Global,
         initial: T,
@@ -46,11 +48,10 @@ impl<T: Packed> WordState<T> {
         }
     }
 
-    /// Makes a seat through another. Call it for each thread that is to call the flow, before the thread
-    /// starts.
+    /// Makes a seat through another one. Call it for each thread, before the thread starts.
     ///
-    /// The new seat has seen what its maker had seen, and has a name of its own. A seat that is dropped is
-    /// lost: nobody calls under its name any more, and the flow goes on.
+    /// The new seat has seen what its maker had seen, and has a name of its own. If it is dropped, no call is made
+    /// under its name any more, and the flow goes on.
     pub fn seat(&self, seat: &mut WordSeat<T>) -> WordSeat<T>
         requires { seat.old.table_id ≡ self.now.table_id }
         ensures maker { seat.new ≡ knowing seat.old (makes seat.old.knows) }
@@ -61,7 +62,7 @@ impl<T: Packed> WordState<T> {
         }
     }
 
-    /// The pack of the current value, by a call of `value`.
+    /// Returns the pack of the current value, by a call of `value`.
     pub(crate) fn word(&self, seat: &mut WordSeat<T>) -> u64
         requires { seat.old.table_id ≡ self.now.table_id }
         ensures packs { T.packs result }
@@ -71,7 +72,7 @@ impl<T: Packed> WordState<T> {
         self.table.shared.load::<Read>(&mut seat.seat, 0)
     }
 
-    /// `compare_and_set`, by packs.
+    /// Does `compare_and_set` by packs.
     pub(crate) fn exchange(&self, seat: &mut WordSeat<T>, expect: u64, update: u64) -> bool
         requires flow { seat.old.table_id ≡ self.now.table_id }
         requires packs { T.packs expect × T.packs update }
@@ -89,10 +90,10 @@ impl<T: Packed> WordState<T> {
         won
     }
 
-    /// The current value.
+    /// Returns the current value.
     ///
-    /// Call it to read the state at any time, without a subscription. Another caller may set the value
-    /// right after; to set what depends on the value that was read, `update` or `compare_and_set`.
+    /// Another caller may set the value right after. Call `update` or `compare_and_set` to set a value that depends on
+    /// the current one.
     pub fn value(&self, seat: &mut WordSeat<T>) -> T
         requires { seat.old.table_id ≡ self.now.table_id }
         ensures { CallsAtOnceIn state_flow self.now.first seat.old call.GetValue (reply.Got result) seat.new }
@@ -100,11 +101,10 @@ impl<T: Packed> WordState<T> {
         T::unpack(self.word(seat))
     }
 
-    /// Makes this the current value. Setting a value that is equal to the current one does nothing: no
-    /// subscriber gets it again.
+    /// Sets the current value. Setting a value that is equal to the current one does nothing: no subscriber gets it
+    /// again.
     ///
-    /// Updates are conflated: a slow subscriber skips values that were set fast, and gets the most recent
-    /// one. Call it where the new value does not depend on the current one.
+    /// A slow subscriber skips values and gets the most recent one.
     pub fn set(&self, seat: &mut WordSeat<T>, value: T)
         requires { seat.old.table_id ≡ self.now.table_id }
         ensures { CallsAtOnceIn state_flow self.now.first seat.old (call.Set value) reply.Done seat.new }
@@ -116,12 +116,10 @@ impl<T: Packed> WordState<T> {
         }
     }
 
-    /// Atomically compares the current value with `expect` and sets it to `update` if it is equal to
-    /// `expect`. The result is `true` if the value was set to `update`, and `false` otherwise.
+    /// Sets the value to `update` if it is equal to `expect`, and returns whether it was. Both happen in one event.
     ///
-    /// If both `expect` and `update` are equal to the current value, the result is `true`, and subscribers
-    /// get nothing new. Call it where the new value depends on the one that was read: at `false` another
-    /// caller was faster, so read the value and try again, which is what `update` does.
+    /// If both are equal to the current value, returns `true`, and subscribers get nothing new. At `false` another
+    /// caller was faster: read the value and try again, as `update` does.
     pub fn compare_and_set(&self, seat: &mut WordSeat<T>, expect: T, update: T) -> bool
         requires { seat.old.table_id ≡ self.now.table_id }
         ensures { CallsAtOnceIn state_flow self.now.first seat.old (call.CompareAndSet expect update)

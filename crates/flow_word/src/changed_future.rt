@@ -13,9 +13,9 @@ use std::marker::Model;
 
 /// Waits until the value differs from the one that a reader got last, and gives the reader and the value.
 ///
-/// A poll that finds nothing leaves its task's waker with the flow, and looks once more; the call that changes the value
-/// wakes the task. If no waker can be kept at that moment, the task asks to be polled again. After Ready a poll is pending
-/// and calls nothing.
+/// A poll that finds nothing leaves its task's waker with the flow, and looks once more. The call that changes the
+/// value wakes the task. If no waker can be kept at that moment, the task asks to be polled again. After `Ready` a poll
+/// is pending and calls nothing.
 ///
 /// # Dropping
 /// Dropping it loses no value, but leaves the subscription in the flow, and perhaps a waker: its task may be woken once
@@ -49,7 +49,7 @@ impl<'a, T: Packed> WordReader<'a, T> {
 }
 
 impl<'a, T: Packed> ChangedFuture<'a, T> {
-    /// Ends the future, and returns the reader. `None` after Ready, when the answer had it.
+    /// Ends the future, and returns the reader, or `None` after `Ready`, when the answer had it.
     pub fn into_reader(self) -> Option<WordReader<'a, T>>
         ensures { result ≡ self.entry }
     {

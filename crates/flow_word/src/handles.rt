@@ -1,4 +1,4 @@
-//! Handles: a token beside the word state that it is of, so that no call has to be shown that they belong together.
+//! Handles: a token with its word state, so that no caller has to show that they belong together.
 mod many;
 mod reader;
 mod setter;

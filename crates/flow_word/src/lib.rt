@@ -1,26 +1,25 @@
 //! A state flow without a lock, for values that fit a word.
 //!
-//! A `WordState` is a `MutableStateFlow` of kotlinx.coroutines over two words that change in single atomic
-//! steps: the pack of the current value, and how many subscriptions were made and how many there are. So a
-//! call waits for nobody: `value`, `set`, `compare_and_set`, `next`, `unsubscribe` and `subscription_count`
-//! are one step each, need no memory and cannot fail.
+//! A `WordState` is a `MutableStateFlow` of kotlinx.coroutines. It is two words that change in single atomic steps: one
+//! has the current value, the other one the numbers of subscriptions made and of subscribers. So no call waits for
+//! another caller: `value`, `set`, `compare_and_set`, `next`, `unsubscribe` and `subscription_count` are one step each,
+//! take no memory and cannot fail.
 //!
 //! # Tokens
-//! As with the flows behind a gate, a caller holds a token: a seat or a subscription. `new` gives the first
-//! seat, and `seat` makes more, one for each thread. A token is used with the flow that it came from; each
-//! call asks for that by `table_id`.
+//! A caller holds a token: a seat or a subscription. `new` makes the first seat, and `seat` makes more, one for each
+//! thread. A token is used with the flow that made it; each call requires that by `table_id`. Handles (`WordSetter`,
+//! `WordReader`) are tokens with their flow, and require nothing.
 //!
 //! # What each call promises
-//! What each call of a `StateFlow` promises, in the same words: the token has then seen a history of the
-//! flow that begins with all that it had seen, goes on with events of others, and ends with this call and
-//! this reply.
+//! The same as a call of a `StateFlow`, in the same words: the token has then seen a history of the flow that begins
+//! with all that it had seen, goes on with events of others, and ends with this call and this reply.
 //!
 //! # Trying again
-//! `subscribe` and the updates by a function try again where another caller was faster. They take `rt`, and
-//! nothing says that they ever win.
+//! `subscribe` and the updates try again if another caller was faster. They take `rt`, and no contract says that they
+//! ever succeed.
 //!
-//! # What is lost
-//! A seat that is dropped is lost. A subscription that is dropped stays and is counted.
+//! # Dropping
+//! A dropped seat makes no more calls. A dropped subscription stays in the flow, and is counted.
 #![tactic(auto)]
 
 mod calls;

@@ -1,4 +1,4 @@
-//! What two callers have seen, made one history.
+//! Meetings: two callers have then seen one history.
 ghost use Rattle.std.specs.Prelude.{◌≡◌};
 ghost use Rattle.flow_law.specs.StateFlow.{state_flow};
 ghost use Rattle.flow_law.specs.Tokens.{MeetsIn};
@@ -35,11 +35,11 @@ impl<T: Packed> WordState<T> {
         *other = shared.split_seat::<Part>(one);
     }
 
-    /// Makes what two seats have seen one history: both have then seen all that was done so far. Nothing is
-    /// called.
+    /// Lets two seats meet: both have then seen one history, which has all that was done so far. It makes no call of
+    /// the flow.
     ///
-    /// Call it where what one caller did is to count for another, as after a thread has ended and its seat
-    /// came back.
+    /// Call it if a caller relies on what the other one did, for instance after a thread has ended and returned its
+    /// seat.
     pub fn meet(&self, one: &mut WordSeat<T>, other: &mut WordSeat<T>)
         requires { (one.old.table_id ≡ self.now.table_id) × (other.old.table_id ≡ self.now.table_id) }
         ensures { MeetsIn state_flow self.now.first one.old other.old one.new other.new }
@@ -47,7 +47,7 @@ impl<T: Packed> WordState<T> {
         self.meet_by(&mut one.seat, &mut other.seat);
     }
 
-    /// `meet` of a subscription and a seat.
+    /// Lets a subscription and a seat meet, as `meet` does.
     pub fn meet_subscription(&self, subscription: &mut WordSubscription<T>, seat: &mut WordSeat<T>)
         requires { (subscription.old.token.table_id ≡ self.now.table_id)
             × (seat.old.table_id ≡ self.now.table_id) }

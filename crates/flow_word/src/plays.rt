@@ -1,4 +1,4 @@
-//! What each step on a word tells. Nothing here runs.
+//! What each step on a word proves. Nothing here runs.
 ghost use Rattle.std.specs.Prelude.{[], ◌++◌, map};
 ghost use Rattle.flow_law.specs.Growth.{makes, child};
 ghost use Rattle.flow_word.specs.View.{with_knows, first_of, others_of};
@@ -43,7 +43,7 @@ impl<T: Packed> Play<(), Sequence<Known<T>>> for Receive {
     ghost then = { receives T.packs T.value_of };
 }
 
-/// One subscriber fewer.
+/// A decrement of the number of subscribers, for `unsubscribe`.
 pub(crate) struct Leave;
 
 impl<T: Packed> Play<(), Sequence<Known<T>>> for Leave {
@@ -57,14 +57,14 @@ impl<T: Packed> Play<(), Sequence<Known<T>>> for FindRoom {
     ghost then = { finds_room T.value_of };
 }
 
-/// An exchange of the counts for those with one subscription more.
+/// An exchange of the counts for those with one more subscription.
 pub(crate) struct Enter;
 
 impl<T: Packed> Play<(), Sequence<Known<T>>> for Enter {
     ghost then = { enters T.packs T.value_of };
 }
 
-/// A token is made through another.
+/// Making a token through another one.
 pub(crate) struct Make;
 
 impl<T> Split<Sequence<Known<T>>> for Make {
@@ -73,7 +73,7 @@ impl<T> Split<Sequence<Known<T>>> for Make {
     ghost right = { map (with_knows child) };
 }
 
-/// A view of no token, to stand in for one that is taken out of its place.
+/// A view of no token, in place of one that is taken out.
 pub(crate) struct Blank;
 
 impl<T> Split<Sequence<Known<T>>> for Blank {
@@ -82,7 +82,7 @@ impl<T> Split<Sequence<Known<T>>> for Blank {
     ghost right = { λ v. [] };
 }
 
-/// Two tokens meet in one view.
+/// Joining two tokens in one view.
 pub(crate) struct Meet;
 
 impl<T> Join<Sequence<Known<T>>> for Meet {
@@ -105,7 +105,7 @@ impl<T: Packed> Play<(), Sequence<Known<T>>> for Look {
     ghost then = { looks T.value_of };
 }
 
-/// They part again.
+/// Splitting the view again.
 pub(crate) struct Part;
 
 impl<T> Split<Sequence<Known<T>>> for Part {

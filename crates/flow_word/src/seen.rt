@@ -1,4 +1,4 @@
-//! What holds of all that a token has seen.
+//! The laws of what a token has seen.
 ghost use Rattle.std.specs.Prelude.{◌≡◌, ℕ};
 ghost use Rattle.flow_law.specs.Conflation.{Conflates};
 ghost use Rattle.flow_law.specs.Current.{Converges};
@@ -24,8 +24,8 @@ impl<T: Packed> WordState<T> {
         self.table.shared.load::<Look>(seat, 0);
     }
 
-    /// Proves the laws of state flows for what the seat has seen, no matter who made the flow. It makes
-    /// no call of the flow and changes nothing.
+    /// Proves the laws of state flows for what the seat has seen, whichever caller made the flow. It makes no call of
+    /// the flow and changes nothing.
     ///
     /// Call it on a lent flow, to conclude what a subscriber received, or that it comes to the current value.
     pub fn seen(&self, seat: &mut WordSeat<T>)

@@ -1,4 +1,4 @@
-//! The threads and the tasks that sleep until a word of the flow changes.
+//! The threads and tasks that sleep until a word of the flow changes.
 ghost use Rattle.std.specs.Prelude.{◌≡◌};
 ghost use Rattle.futures.specs.Task.{IsArmed, Keeps};
 
@@ -10,24 +10,24 @@ use std::sync::atomic::Ordering::SeqCst;
 use std::sync::{Mutex, Wait};
 use std::time::Duration;
 
-/// The threads and the tasks that sleep until a word changes.
+/// The threads and tasks that sleep until a word changes.
 ///
-/// A sleeper is counted in `waiting` before it looks at the word, and sleeps only if it found nothing. A caller that has
-/// changed the word looks at `waiting` after that. All these steps have one order, so a sleeper sees the change, or the
-/// caller sees the sleeper.
+/// A sleeper is counted in `waiting` before it looks at the word, and sleeps only if it found nothing. A caller that
+/// has changed the word looks at `waiting` after that. All these steps have one order, so either the sleeper sees the
+/// change, or the caller sees the sleeper.
 #[derive(Drop)]
 pub(crate) struct WordSleepers {
-    /// The threads that are about to sleep or do, and one more if a task has left its waker.
+    /// The number of threads that sleep or are about to, plus one if a task has left its waker.
     waiting: AtomicU64,
-    /// How many changes found a sleeper. The threads sleep on it.
+    /// The number of changes that found a sleeper. The threads sleep on it.
     epoch: AtomicU64,
-    /// 1 if a change has not woken the tasks yet. A caller that finds the list taken leaves it at 1 for the one that has
-    /// the list.
+    /// 1 if a change has not woken the tasks yet. A caller that finds the list taken leaves it at 1 for the caller that
+    /// has the list.
     is_missed: AtomicU64,
     tasks: Mutex<Sleepers<Global>>,
 }
 
-/// A thread that is counted among the sleepers. Dropping it takes it out of the count.
+/// A thread that is counted among the sleepers. Dropping this ends that.
 pub(crate) struct Announced<'a> {
     sleepers: &'a WordSleepers,
     epoch: u64,

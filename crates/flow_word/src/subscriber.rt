@@ -13,11 +13,11 @@ use flow_law::{FlowFault, Next, Packed};
 use std::sync::Wait;
 use std::thread;
 
-/// What the counts grow by at a subscription: one number, and one subscriber.
+/// What a subscription adds to the counts: one number, and one subscriber.
 const ENTRY: u64 = (1 << 32) + 1;
 
 impl<T: Packed> WordState<T> {
-    /// One try: `None` where another caller changed the counts in between.
+    /// Tries once. Returns `None` if another caller changed the counts in between.
     fn try_subscribe(
         &self,
         seat: &mut WordSeat<T>,
@@ -48,11 +48,13 @@ impl<T: Packed> WordState<T> {
         }))
     }
 
-    /// A new subscriber, which gets the current value first. `Err` is `Exhausted`, where the flow has
-    /// issued as many numbers as its limit allows.
+    /// Subscribes. The subscriber gets the current value first.
     ///
-    /// The subscription has a seat of its own, which is made through this one. Where another caller
-    /// subscribes or unsubscribes at the same moment it lets other threads go first, and tries again.
+    /// The subscription has a seat of its own, made through this one. If another caller subscribes or unsubscribes at
+    /// the same moment, lets other threads go first, and tries again.
+    ///
+    /// # Errors
+    /// `Exhausted` if the flow has issued as many numbers as its limit allows.
     pub fn subscribe<R: Wait>(
         &self,
         rt: &R,
@@ -71,9 +73,9 @@ impl<T: Packed> WordState<T> {
         unreachable!()
     }
 
-    /// The current value, where it is not the last that the subscriber got; `Empty` where it is.
+    /// Returns the current value, or `Empty` if the subscriber got that value last.
     ///
-    /// A slow subscriber skips values that were set fast, and gets the most recent one.
+    /// A slow subscriber skips values and gets the most recent one.
     pub fn next(&self, subscription: &mut WordSubscription<T>) -> Next<T>
         requires { subscription.old.token.table_id ≡ self.now.table_id }
         ensures called { NextsIn state_flow self.now.first subscription.old (Ok result) subscription.new }
@@ -89,7 +91,7 @@ impl<T: Packed> WordState<T> {
         }
     }
 
-    /// Ends the subscription. Its seat comes back, for other calls.
+    /// Ends the subscription, and returns its seat, for other calls.
     pub fn unsubscribe(&self, subscription: WordSubscription<T>) -> WordSeat<T>
         requires { subscription.token.table_id ≡ self.now.table_id }
         ensures { UnsubscribesIn state_flow self.now.first subscription result }
@@ -100,8 +102,7 @@ impl<T: Packed> WordState<T> {
         WordSeat { seat }
     }
 
-    /// How many subscribers there are. A subscription that was dropped is counted: only `unsubscribe` ends
-    /// one.
+    /// Counts the subscribers. A dropped subscription is counted: only `unsubscribe` ends one.
     pub fn subscription_count(&self, seat: &mut WordSeat<T>) -> u64
         requires { seat.old.table_id ≡ self.now.table_id }
         ensures { CallsAtOnceIn state_flow self.now.first seat.old call.SubscriptionCount

@@ -1,4 +1,4 @@
-//! The flow, and the tokens of its callers.
+//! A word state, and the tokens of its callers.
 ghost use Rattle.std.specs.Prelude.{◌≡◌};
 ghost use Rattle.futures.specs.Task.{IsArmed, Keeps};
 ghost use Rattle.flow_law.specs.Tokens.{origin, numbered};
@@ -14,12 +14,12 @@ use futures::task::Context;
 use std::alloc::Global;
 use std::marker::Model;
 
-/// A state flow (`MutableStateFlow`) of a value that fits a word, for callers on several threads, none of
-/// whom waits for another.
+/// A state flow (`MutableStateFlow`) of a value that fits a word, for callers on several threads. No caller waits for
+/// another.
 #[derive(Drop)]
 pub struct WordState<T: Packed> {
-    /// Word 0 is the pack of the current value; word 1 is how many numbers were issued, times 2^32, and how
-    /// many subscribers there are.
+    /// Word 0 is the pack of the current value. Word 1 is the number of issued numbers, times 2^32, plus the number of
+    /// subscribers.
     pub(crate) table: Table<(), Sequence<Known<T>>, Start, WordRule, Global>,
     pub(crate) limit: u32,
     /// The callers that sleep until the value changes.
@@ -52,9 +52,9 @@ impl<T: Packed> Model for WordState<T> {
     ghost invariant = { λ w. (w.table.shared.table_id.words ≡ 2) × (w.table.shared.key.limit ≡ w.limit) };
 }
 
-/// A seat at a word state: who has it may call the flow. Contracts see the history that it has seen.
+/// A seat at a word state, by which a caller calls the flow. Contracts see the history that it has seen.
 ///
-/// A seat that is dropped is lost; the flow goes on without it.
+/// If a seat is dropped, no call is made under its name any more. The flow goes on.
 #[derive(Drop)]
 pub struct WordSeat<T> {
     pub(crate) seat: Seat<(), Sequence<Known<T>>>,
@@ -68,10 +68,9 @@ impl<T> Model for WordSeat<T> {
     ghost invariant = { λ s. IsIdle s.seat };
 }
 
-/// A subscription to a word state: a seat of its own, its number, and the pack of the last value that it
-/// got.
+/// A subscription to a word state: a seat of its own, its number, and the pack of the last value that it got.
 ///
-/// A subscription that is dropped stays and is counted. Its seat is lost. To end it, `unsubscribe`.
+/// A dropped subscription stays, and is counted; its seat is lost. Call `unsubscribe` to end it.
 #[derive(Drop)]
 pub struct WordSubscription<T: Packed> {
     pub(crate) seat: Seat<(), Sequence<Known<T>>>,

@@ -8,7 +8,7 @@ use std::sync::Wait;
 use std::thread;
 
 impl<T: Packed> WordState<T> {
-    /// The packs of the value that was read and of the function's answer, in the round that was won.
+    /// Returns the packs of the value that was read and of the function's answer, in the round that succeeded.
     fn rounds<R: Wait, F: Fn(T) -> T>(&self, rt: &R, seat: &mut WordSeat<T>, f: F) -> (u64, u64)
         requires flow { seat.old.table_id ≡ self.now.table_id }
         requires callable { F.IsAlwaysCallable f }
@@ -28,11 +28,11 @@ impl<T: Packed> WordState<T> {
         unreachable!()
     }
 
-    /// Updates the value atomically by a function of its value.
+    /// Updates the value by a function of it.
     ///
-    /// The function may be called several times: once in each round, of which all but the last were lost
-    /// because another caller set the value in between. Nobody waits while it runs. After a lost round other
-    /// threads go first.
+    /// The function may be called several times: once in each round, of which all but the last were lost because
+    /// another caller set the value in between. No caller waits while it runs. After a lost round other threads go
+    /// first.
     pub fn update<R: Wait, F: Fn(T) -> T>(&self, rt: &R, seat: &mut WordSeat<T>, f: F)
         requires flow { seat.old.table_id ≡ self.now.table_id }
         requires callable { F.IsAlwaysCallable f }
@@ -43,7 +43,7 @@ impl<T: Packed> WordState<T> {
         self.rounds(rt, seat, f);
     }
 
-    /// As `update`; the value that was there before.
+    /// Updates the value as `update` does, and returns the value that was there before.
     pub fn get_and_update<R: Wait, F: Fn(T) -> T>(&self, rt: &R, seat: &mut WordSeat<T>, f: F) -> T
         requires flow { seat.old.table_id ≡ self.now.table_id }
         requires callable { F.IsAlwaysCallable f }
@@ -53,7 +53,7 @@ impl<T: Packed> WordState<T> {
         T::unpack(self.rounds(rt, seat, f).0)
     }
 
-    /// As `update`; the value that was set.
+    /// Updates the value as `update` does, and returns the value that was set.
     pub fn update_and_get<R: Wait, F: Fn(T) -> T>(&self, rt: &R, seat: &mut WordSeat<T>, f: F) -> T
         requires flow { seat.old.table_id ≡ self.now.table_id }
         requires callable { F.IsAlwaysCallable f }

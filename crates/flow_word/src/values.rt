@@ -12,12 +12,12 @@ use std::marker::Model;
 
 /// The values that a reader receives, as a stream without an end.
 ///
-/// A poll that finds nothing leaves its task's waker with the flow, and looks once more; the call that changes the value
-/// wakes the task. If no waker can be kept at that moment, the task asks to be polled again.
+/// A poll that finds nothing leaves its task's waker with the flow, and looks once more. The call that changes the
+/// value wakes the task. If no waker can be kept at that moment, the task asks to be polled again.
 ///
 /// # Dropping
-/// Dropping it leaves the subscription in the flow, and perhaps a waker: its task may be woken once more. Call `into_reader`
-/// to get the reader back.
+/// Dropping it leaves the subscription in the flow, and perhaps a waker: its task may be woken once more. Call
+/// `into_reader` to get the reader back.
 ///
 /// # Source
 /// `StateFlow.collect`.

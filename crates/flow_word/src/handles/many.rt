@@ -1,4 +1,4 @@
-//! Callers that each have a thread of their own, and what they have done once these threads have ended.
+//! Callers with a thread each, and what they have done once these threads have ended.
 ghost use Rattle.std.specs.Prelude.{◌≡◌, ◌∷◌, ℕ, ◌<◌, All, IfOk, length, map, slice_index_or, vec_len};
 ghost use Rattle.flow_law.specs.Rounds.{OnlyMeets, MeetsInTurn, IsFinalValue};
 ghost use Rattle.flow_law.specs.StateFlow.{state_flow};

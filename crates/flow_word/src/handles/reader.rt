@@ -12,8 +12,9 @@ use crate::token::{WordState, WordSubscription};
 use flow_law::{Next, Packed};
 use std::marker::Model;
 
-/// A subscription, and the word state that it is to. Contracts see both.
+/// A subscription, and its word state. Contracts see both.
 ///
+/// # Dropping
 /// Dropping it leaves the subscription in the flow, where it is still counted. Call `unsubscribe` to end it.
 #[derive(Drop)]
 pub struct WordReader<'a, T: Packed> {
@@ -91,7 +92,7 @@ impl<'a, T: Packed> WordReader<'a, T> {
         self.flow.seen_by_subscription(&mut self.subscription);
     }
 
-    /// Gives the subscription back, for the flow's own calls.
+    /// Returns the subscription, for the flow's own calls.
     pub fn into_subscription(self) -> WordSubscription<T>
         ensures subscription { result ≡ self.entry.subscription }
         ensures flow { result.token.table_id ≡ self.entry.flow.table_id }

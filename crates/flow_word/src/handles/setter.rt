@@ -16,9 +16,10 @@ use flow_law::{Exhausted, Packed};
 use std::marker::Model;
 use std::sync::Wait;
 
-/// A seat, and the word state that it is of. Contracts see both.
+/// A seat, and its word state. Contracts see both.
 ///
-/// Dropping it drops its seat: no caller has that name any more, and the flow is not changed.
+/// # Dropping
+/// Dropping it drops its seat: no caller has that name any more, and the flow does not change.
 #[derive(Drop)]
 pub struct WordSetter<'a, T: Packed> {
     pub(crate) flow: &'a WordState<T>,
@@ -152,7 +153,7 @@ impl<'a, T: Packed> WordSetter<'a, T> {
         self.flow.seen(&mut self.seat);
     }
 
-    /// Gives the seat back, for the flow's own calls.
+    /// Returns the seat, for the flow's own calls.
     pub fn into_seat(self) -> WordSeat<T>
         ensures token { result ≡ self.entry.token }
         ensures flow { result.table_id ≡ self.entry.flow.table_id }
