@@ -1,4 +1,4 @@
-//! What becomes of an emission, with the token that its caller has then.
+//! The answers of emissions, with the token that the caller then has.
 ghost use Rattle.flow_law.specs.declared.history.Said.{Said};
 ghost use Rattle.flow_law.specs.declared.call.SharedCall.{SharedCall};
 ghost use Rattle.flow_law.specs.declared.call.SharedReply.{SharedReply};
@@ -16,7 +16,8 @@ use std::marker::Model;
 
 /// A suspended emission: the seat of its emitter, and the number of its value.
 ///
-/// An emission that is dropped stays queued or offered, and its seat is lost. To end its wait, `cancel` it.
+/// # Dropping
+/// A dropped emission stays queued or offered, and its seat is lost. Call `cancel` to end its wait.
 #[derive(Drop)]
 pub struct Emission<T: FlowValue, A: Allocator + Copy = Global> {
     pub(crate) seat: flow_gate::Seat<Attended<SharedCore<T, A>, A>, A>,
@@ -35,9 +36,9 @@ impl<T: FlowValue, A: Allocator + Copy> Model for Emission<T, A> {
 #[derive(Drop)]
 pub enum Emitted<T: FlowValue, A: Allocator + Copy = Global> {
     Done(FlowSeat<SharedCore<T, A>, A>),
-    /// The emitter is to wait: `poll_emit` tells for how long, and `cancel` ends the wait.
+    /// The emitter has to wait: `poll_emit` returns whether it still does, and `cancel` ends the wait.
     Queued(Emission<T, A>),
-    /// With the value. `FlowFault::Busy` comes from `emit_now` alone.
+    /// Nothing was emitted. Only `emit_now` answers `FlowFault::Busy`.
     Refused(FlowSeat<SharedCore<T, A>, A>, T, FlowFault),
 }
 
@@ -62,6 +63,6 @@ pub enum Polled<T: FlowValue, A: Allocator + Copy = Global> {
 pub enum PolledNow<T: FlowValue, A: Allocator + Copy = Global> {
     Done(FlowSeat<SharedCore<T, A>, A>),
     Waiting(Emission<T, A>),
-    /// Another caller was inside. The emission is as it was.
+    /// Another caller was inside. The emission is unchanged.
     Busy(Emission<T, A>),
 }

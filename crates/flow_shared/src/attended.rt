@@ -1,4 +1,4 @@
-//! What the gate of a flow guards: the core, and the callers that sleep until the core has something for them.
+//! The state that a flow's gate guards: the core, and the callers that sleep until the core has something for them.
 ghost use Rattle.std.specs.Prelude.{◌≡◌, ℕ, List, [], IsOk};
 ghost use Rattle.std.specs.Bool.{OnTrue};
 ghost use Rattle.flow_law.specs.History.{replied};
@@ -14,9 +14,9 @@ use flow_sleepers::{Sleepers, Waiter, Woken};
 use futures::task::Poll;
 use std::alloc::{Allocator, Global};
 
-/// A core, and the callers that sleep: readers, under their subscribers' numbers, and emitters, under the numbers of their
-/// emissions. Who sleeps has nothing yet: a call that gives readers something or ends an emission takes those out, and they
-/// are woken.
+/// A core, and the callers that sleep: readers, under their subscribers' numbers, and emitters, under the numbers of
+/// their emissions. A caller that sleeps has nothing yet: a call that gives it something, or ends its emission, removes
+/// and wakes it.
 pub struct Attended<S: FlowCore, A: Allocator + Copy = Global> {
     pub(crate) core: S,
     readers: Sleepers<A>,
@@ -25,7 +25,7 @@ pub struct Attended<S: FlowCore, A: Allocator + Copy = Global> {
     done: Woken<A>,
 }
 
-// Not derived, as that of `Flow`.
+// Not derived, for the reason given at `Flow`.
 impl<S: FlowCore + Drop, A: Allocator + Copy> Drop for Attended<S, A> {
     fn drop(self) {
         let Self {
@@ -64,7 +64,7 @@ fn is_same(one: Option<u64>, other: Option<u64>) -> bool
 }
 
 impl<S: FlowCore, A: Allocator + Copy> Attended<S, A> {
-    /// Returns the core with nobody asleep.
+    /// Returns the core with no sleepers.
     pub(crate) fn new(alloc: A, core: S) -> Self
         ensures core { result.core ≡ core }
         ensures alone { (result.readers ≡ []) × (result.emitters ≡ []) }
@@ -78,7 +78,7 @@ impl<S: FlowCore, A: Allocator + Copy> Attended<S, A> {
         }
     }
 
-    /// Returns the core. Who sleeps is woken.
+    /// Returns the core. Sleepers are woken.
     pub(crate) fn into_core(self) -> S
         ensures { result ≡ self.core }
     {
@@ -92,7 +92,7 @@ impl<S: FlowCore, A: Allocator + Copy> Attended<S, A> {
         core
     }
 
-    /// Wakes the subscriber of this number, and the owner of the emission of that one, if they sleep.
+    /// Wakes the subscriber of the first number, and the owner of the emission of the second, if they sleep.
     fn wake_ended(&mut self, ended: Option<u64>, cancelled: Option<u64>)
         ensures core { self.new.core ≡ self.old.core }
         ensures readers { self.new.readers ≡ without ended self.old.readers }
@@ -102,7 +102,7 @@ impl<S: FlowCore, A: Allocator + Copy> Attended<S, A> {
         wake(&mut self.emitters, cancelled);
     }
 
-    /// Takes all readers out, to be woken.
+    /// Removes all readers; they are woken later.
     fn wake_readers(&mut self)
         ensures core { self.new.core ≡ self.old.core }
         ensures readers { self.new.readers ≡ [] }
@@ -113,7 +113,7 @@ impl<S: FlowCore, A: Allocator + Copy> Attended<S, A> {
         }
     }
 
-    /// Takes all readers out if they have something now: if the value was set, or if the core's mark is not this one.
+    /// Removes all readers if they have something now: if the value was set, or if the core's mark has changed.
     fn wake_readers_if_due(&mut self, is_set: bool, mark: u64)
         ensures core { self.new.core ≡ self.old.core }
         ensures readers { Rests S.sleeping S.stands_as self.old.core is_set mark self.old.readers self.new.readers }
@@ -124,7 +124,7 @@ impl<S: FlowCore, A: Allocator + Copy> Attended<S, A> {
         }
     }
 
-    /// Wakes the emitters whose emissions have ended, where this was the first emission that waited.
+    /// Removes and wakes the emitters whose emissions have ended. `first` was the first emission that waited.
     fn wake_emitters_if_due(&mut self, first: Option<u64>)
         ensures core { self.new.core ≡ self.old.core }
         ensures readers { self.new.readers ≡ self.old.readers }
@@ -143,14 +143,14 @@ impl<S: FlowCore, A: Allocator + Copy> Attended<S, A> {
         }
     }
 
-    /// Returns whether nobody sleeps.
+    /// Returns whether no caller sleeps.
     fn is_alone(&self) -> bool
         ensures { OnTrue result ((self.now.readers ≡ []) × (self.now.emitters ≡ [])) }
     {
         self.readers.is_empty() && self.emitters.is_empty()
     }
 
-    /// Makes a call of the core, and takes out those who have something after it.
+    /// Makes a call of the core, and removes the sleepers that have something after it.
     #[inline]
     pub(crate) fn call<C: CoreCall<S>>(&mut self, call: C) -> C::Answer
         ensures documented { (name : List ℕ) → Documents S.kind (AttendedAs S.sleeping S.stands_as)
@@ -163,8 +163,8 @@ impl<S: FlowCore, A: Allocator + Copy> Attended<S, A> {
         self.call_and_take_out(call)
     }
 
-    /// Makes a call of the core, and takes out those who have something after it. It is a call of its own, so that a call with
-    /// nobody asleep saves no registers for it.
+    /// Makes a call of the core, and takes out those who have something after it. It is a call of its own, so that a
+    /// call with nobody asleep saves no registers for it.
     #[cold]
     #[inline(never)]
     fn call_and_take_out<C: CoreCall<S>>(&mut self, call: C) -> C::Answer

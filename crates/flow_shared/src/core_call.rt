@@ -1,4 +1,4 @@
-//! What a call does once its caller is inside the gate: the call of the core, and leaving with the event that names it.
+//! Calls inside the gate: the call of the core, and leaving with the event that names it.
 ghost use Rattle.std.specs.Prelude.{◌≡◌, ℕ, List};
 ghost use Rattle.flow_law.specs.History.{MayCall};
 ghost use Rattle.flow_law.specs.Standing.{Documents};
@@ -21,13 +21,13 @@ use std::snapshot::Snapshot;
 pub(crate) trait CoreCall<S: FlowCore> {
     type Answer;
 
-    /// The call as histories have it, where the next token that is made through the caller's gets this name.
+    /// The call as histories have it, if the next token that is made through the caller's gets this name.
     ghost call: { Self → List ℕ → S.Call };
 
     /// The answer as histories have it.
     ghost reply: { Self.Answer → S.Reply };
 
-    /// What is true of an answer besides.
+    /// What else holds of an answer.
     ghost also: { Self → Self.Answer → Type 0 };
 
     fn run(self, core: &mut S) -> Self::Answer
@@ -48,7 +48,7 @@ pub(crate) trait CoreCall<S: FlowCore> {
         ensures { (c : Self) (name : List ℕ) → result ≡ S.sleeping.is_set (call c name) (reply answer.now) };
 }
 
-/// Leaves the gate, and then wakes those who have something.
+/// Leaves the gate, and then wakes the callers that have something.
 #[inline]
 pub(crate) fn leave_and_wake<S: FlowCore, A: Allocator + Copy, W: Adds<Said<S::Call, S::Reply>>, X>(
     held: Held<'_, Attended<S, A>, A>,
@@ -83,7 +83,7 @@ fn leave_then_wake<S: FlowCore, A: Allocator + Copy, W: Adds<Said<S::Call, S::Re
 
 /// A call whose caller sleeps if the reply is a wait.
 pub(crate) trait SleepingCall<S: FlowCore, A: Allocator + Copy>: CoreCall<S> {
-    /// The answer tells the caller to wait.
+    /// The answer says that the caller has to wait.
     ghost is_wait: { Self.Answer → Type 0 };
 
     /// Makes the call. If the answer is to wait, the caller sleeps, or it asks again.
@@ -95,7 +95,7 @@ pub(crate) trait SleepingCall<S: FlowCore, A: Allocator + Copy>: CoreCall<S> {
         ensures kept { W.keeps waiter.old waiter.new };
 }
 
-/// As `call_core`, for a caller that sleeps if the reply is a wait.
+/// Does the same as `call_core`. If the reply is a wait, the caller sleeps.
 pub(crate) fn call_core_or_sleep<
     S: FlowCore,
     A: Allocator + Copy,

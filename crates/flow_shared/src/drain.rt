@@ -1,4 +1,4 @@
-//! Taking all that a subscriber of a flow for several threads can receive now.
+//! Taking all values that a subscriber can receive now.
 ghost use Rattle.std.specs.Prelude.{◌≡◌, ◌≢◌, ◌+◌, ◌≤◌, Ok, IsOk};
 ghost use Rattle.std.specs.Result.{OnErr};
 ghost use Rattle.std.specs.Vec.{vec_len, vec_capacity};
@@ -25,7 +25,7 @@ use std::marker::Brand;
 use std::snapshot::Snapshot;
 use std::sync::Wait;
 
-/// `next` of a core again and again, each value into a list that has room for all.
+/// Calls `next` of a core for each value. The list has room for all.
 fn take_values<S: FlowCore, A: Allocator + Copy, B: Allocator>(
     state: &mut Attended<S, A>,
     id: SubId,
@@ -47,7 +47,7 @@ fn take_values<S: FlowCore, A: Allocator + Copy, B: Allocator>(
     Ok(Drained::Most)
 }
 
-/// The same of the core inside a gate, and leaving with the events that name the calls.
+/// Takes values of the core inside a gate, and leaves with the events that name the calls.
 fn take_inside<S: FlowCore, A: Allocator + Copy, B: Allocator>(
     held: Held<'_, Attended<S, A>, A>,
     id: SubId,
@@ -71,7 +71,7 @@ fn take_inside<S: FlowCore, A: Allocator + Copy, B: Allocator>(
 }
 
 impl<S: FlowCore + Drop, A: Allocator + Copy> Flow<S, A> {
-    /// `next` of a subscriber again and again, under one entry: no other caller comes between.
+    /// Takes values under one entry: no other caller comes between.
     fn take<R: Wait, B: Allocator>(
         &self,
         rt: &R,
@@ -98,7 +98,7 @@ impl<S: FlowCore + Drop, A: Allocator + Copy> Flow<S, A> {
         ended
     }
 
-    /// The same, under one entry for all that the list has room for.
+    /// Takes values, under one entry for all that the list has room for.
     fn drain_by<R: Wait, B: Allocator>(
         &self,
         rt: &R,
@@ -130,13 +130,15 @@ impl<S: FlowCore + Drop, A: Allocator + Copy> Flow<S, A> {
         Ok(Drained::Most)
     }
 
-    /// Takes what the subscriber can receive now, at most `most` values, to the end of the list: what `next`
-    /// answers, again and again, in order. `Ok` says why it stopped.
+    /// Appends what the subscriber can receive now, at most `most` values, to the list, just as so many calls of `next`
+    /// would return it. `Ok` says why it stopped.
     ///
-    /// Room for a value is made before it is taken. So where memory is wanting the value is still in the flow, those
-    /// before it are in the list, and the call can be made again. All that the list has room for is taken under one
-    /// entry, which costs little more than one `next`: call it with a list that is kept. Other callers come between two
-    /// values only where the list has to grow.
+    /// All that the list has room for is taken under one entry, which costs little more than one `next`: pass a list
+    /// that is kept. Other callers come between two values only if the list has to grow.
+    ///
+    /// # Errors
+    /// `OutOfMemory` if the list has no room or a copy was refused. That value is still in the flow, the values before
+    /// it are in the list, and a later call continues.
     pub fn drain<R: Wait, B: Allocator>(
         &self,
         rt: &R,
@@ -151,7 +153,7 @@ impl<S: FlowCore + Drop, A: Allocator + Copy> Flow<S, A> {
         ensures flow { subscription.new.token.table_id ≡ subscription.old.token.table_id }
         ensures number { subscription.new.number ≡ subscription.old.number }
         ensures live { result ≢ Ok Gone }
-        // Where copies are always given it ends before its time only with a list that is full and cannot grow.
+        // If copies are always given, it stops early only with a list that is full and cannot grow.
         ensures full { S.Item.IsAlwaysCopied → OnErr result (IsFull values.new) }
     {
         let id = subscription.id;

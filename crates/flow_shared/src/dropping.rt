@@ -1,7 +1,7 @@
 //! What becomes of a subscription or an emission whose handle or future is dropped.
 //!
-//! A drop has no `rt`, so it cannot wait. It makes the call that does not wait. While other callers are inside the flow it
-//! lets other threads go first and tries again, `TRIES` times at most.
+//! A drop has no `rt`, so it cannot wait. It makes the call that does not wait. While other callers are inside the flow
+//! it lets other threads go first and tries again, `TRIES` times at most.
 ghost use Rattle.std.specs.Prelude.{◌≡◌, ◌+◌, IfOk, IfErr};
 ghost use Rattle.flow_shared.specs.Calls.{Unsubscribes, UnsubscribesNow};
 ghost use Rattle.flow_shared.specs.SharedReplies.{Cancels};
@@ -35,7 +35,8 @@ impl<S: FlowCore + Drop, A: Allocator + Copy> Flow<S, A> {
         }
     }
 
-    /// Ends the subscription within so many tries. `Err` is the subscription, if another caller was inside at each of them.
+    /// Ends the subscription within so many tries. `Err` is the subscription, if another caller was inside at each of
+    /// them.
     pub(crate) fn unsubscribe_within(
         &self,
         subscription: FlowSubscription<S, A>,

@@ -1,4 +1,4 @@
-//! A value on its way into a shared flow, as a future.
+//! Emitting a value into a shared flow, as a future that is polled.
 ghost use Rattle.std.specs.Prelude.{◌≡◌, ⊤, true};
 ghost use Rattle.futures.specs.Task.{Covers, Keeps};
 ghost use Rattle.futures.specs.Poll.{IfReady, OnPending};
@@ -17,37 +17,35 @@ use std::marker::Model;
 use std::mem;
 use std::sync::Wait;
 
-/// What an `EmitFuture` gives: its seat, and where the flow refused the value that, too.
+/// The output of an `EmitFuture`: its seat and, if the flow refused it, the value.
 #[derive(Drop)]
 pub enum Sent<T: FlowValue, A: Allocator + Copy = Global> {
-    /// The flow took the value (under `DropLatest` it may have dropped it), and nobody is waited for any more.
+    /// The flow took the value (under `DropLatest` it may have dropped it), and the emitter need not wait.
     Done(Seat<T, A>),
-    /// `OutOfMemory`, or `Exhausted` where the flow has issued as many numbers as its limit allows. Nothing was
-    /// emitted, and the value comes back.
+    /// `Exhausted` if the flow has issued as many numbers as its limit allows, or `OutOfMemory`. Nothing was emitted,
+    /// and this has the value.
     Refused(Seat<T, A>, T, FlowFault),
 }
 
-/// How far an `EmitFuture` is.
+/// The stage of an `EmitFuture`.
 #[derive(Drop)]
 pub enum EmitStage<T: FlowValue, A: Allocator + Copy = Global> {
     /// The value was not emitted yet.
     Fresh(Seat<T, A>, T),
-    /// It was, and waits in the flow.
+    /// The value was emitted, and waits in the flow.
     Waiting(Emission<T, A>),
     /// The future was ready.
     Ended,
 }
 
-/// Emits a value once, and is ready when the emitter need not wait any more (`MutableSharedFlow.emit`, which
-/// suspends).
+/// Emits a value once, and is ready when the emitter need not wait any more (`MutableSharedFlow.emit`, which suspends).
 ///
-/// A poll makes one call of the flow that does not wait: `emit_now`, and later `poll_now` of the emission. Each
-/// pending poll asks to be polled again, since no call of a flow wakes anybody. After Ready a poll is pending and
-/// calls nothing.
+/// A poll makes one call of the flow that does not wait: `emit_now`, and later `poll_now` of the emission. Each pending
+/// poll asks to be polled again; `SendFuture` is woken instead. After `Ready` a poll is pending and calls nothing.
 ///
 /// # Dropping
-/// Dropping the future cancels its emission if that waits, as dropping a `BoundEmission` does, and loses its seat. Call `cancel`
-/// to get the seat back.
+/// Dropping the future cancels its emission if that waits, as dropping a `BoundEmission` does, and loses its seat. Call
+/// `cancel` to get the seat back.
 pub struct EmitFuture<'a, T: FlowValue, A: Allocator + Copy = Global> {
     flow: &'a SharedFlow<T, A>,
     stage: EmitStage<T, A>,
@@ -71,7 +69,7 @@ impl<'a, T: FlowValue, A: Allocator + Copy> Model for EmitFuture<'a, T, A> {
 }
 
 impl<'a, T: FlowValue, A: Allocator + Copy> EmitFuture<'a, T, A> {
-    /// A future that is to emit this value through this seat. Nothing is emitted before it is polled.
+    /// Returns a future that emits this value through this seat. Nothing is emitted before it is polled.
     pub fn new(flow: &'a SharedFlow<T, A>, seat: Seat<T, A>, value: T) -> EmitFuture<'a, T, A>
         requires { seat.table_id ≡ flow.now.table_id }
         ensures { result ≡ emitting flow.now (Fresh seat value) }
@@ -82,10 +80,10 @@ impl<'a, T: FlowValue, A: Allocator + Copy> EmitFuture<'a, T, A> {
         }
     }
 
-    /// Ends the future, and answers its seat and whether the value was still on its way. It was, too, where no poll
-    /// came before, or busy ones alone. None after Ready: the answer had the seat.
+    /// Ends the future, and returns its seat and whether the value was still on its way. It was, too, if no poll came
+    /// before, or only busy ones. Returns `None` after `Ready`, when the answer had the seat.
     ///
-    /// A queued value is lost. An offered one is no more for those who have not received it.
+    /// A queued value is never emitted. An offered one is withdrawn from the subscribers that have not received it.
     pub fn cancel<R: Wait>(self, rt: &R) -> Option<(Seat<T, A>, bool)>
         ensures { Cancels self.entry result }
     {
@@ -97,7 +95,7 @@ impl<'a, T: FlowValue, A: Allocator + Copy> EmitFuture<'a, T, A> {
         }
     }
 
-    /// The first poll that is not busy: the value is emitted.
+    /// Emits the value, at the first poll that is not busy.
     fn emit(&mut self, seat: Seat<T, A>, value: T) -> Poll<Sent<T, A>>
         requires { (self.old.stage ≡ Ended) × (seat.table_id ≡ self.old.flow.table_id) }
         ensures flow { self.new.flow ≡ self.old.flow }
@@ -118,7 +116,7 @@ impl<'a, T: FlowValue, A: Allocator + Copy> EmitFuture<'a, T, A> {
         }
     }
 
-    /// Whether the emission still waits.
+    /// Asks whether the emission still waits.
     fn ask(&mut self, emission: Emission<T, A>) -> Poll<Sent<T, A>>
         requires { (self.old.stage ≡ Ended) × (emission.token.table_id ≡ self.old.flow.table_id) }
         ensures flow { self.new.flow ≡ self.old.flow }
@@ -134,7 +132,7 @@ impl<'a, T: FlowValue, A: Allocator + Copy> EmitFuture<'a, T, A> {
         }
     }
 
-    /// One poll, but for what it asks of the task.
+    /// Does what a poll does, except that it does not ask to be polled again.
     fn advance(&mut self) -> Poll<Sent<T, A>>
         ensures flow { self.new.flow ≡ self.old.flow }
         ensures polls { EmitPolls self.old.flow self.old.stage result self.new.stage }

@@ -22,7 +22,7 @@ pub struct Flow<S: FlowCore, A: Allocator + Copy = Global> {
     pub(crate) gate: Gate<Attended<S, A>, A>,
 }
 
-// Not derived: each crate that drops a flow would prove anew how its gate is dropped.
+// Not derived: each crate that drops a flow would prove again how its gate is dropped.
 impl<S: FlowCore + Drop, A: Allocator + Copy> Drop for Flow<S, A> {
     fn drop(self) {
         let Self { gate: _ } = self;
@@ -78,8 +78,8 @@ impl<S: FlowCore + Drop, A: Allocator + Copy> Flow<S, A> {
         }
     }
 
-    /// As `call_by_now`, for a caller that sleeps if the reply is a wait. If another caller is inside, the task that is
-    /// polled asks to be polled again.
+    /// Does the same as `call_by_now`. If the reply is a wait, the caller sleeps. If another caller is inside, the task
+    /// asks to be polled again.
     pub(crate) fn call_by_or_sleep<C: SleepingCall<S, A>>(
         &self,
         seat: flow_gate::Seat<Attended<S, A>, A>,
@@ -107,7 +107,7 @@ impl<S: FlowCore + Drop, A: Allocator + Copy> Flow<S, A> {
         }
     }
 
-    /// As `call_by`, for a caller that sleeps if the reply is a wait.
+    /// Does the same as `call_by`. If the reply is a wait, the caller sleeps.
     pub(crate) fn call_by_asleep<R: Wait, C: SleepingCall<S, A>, W: Waiter<A>>(
         &self,
         rt: &R,
@@ -127,7 +127,7 @@ impl<S: FlowCore + Drop, A: Allocator + Copy> Flow<S, A> {
         call_core_or_sleep(held, call, waiter)
     }
 
-    /// A call through a seat.
+    /// Makes a call through a seat.
     #[inline]
     pub(crate) fn call<R: Wait, C: CoreCall<S>>(
         &self,
@@ -148,7 +148,7 @@ impl<S: FlowCore + Drop, A: Allocator + Copy> Flow<S, A> {
         answer
     }
 
-    /// As `call`, for a caller that sleeps if the reply is a wait.
+    /// Does the same as `call`. If the reply is a wait, the caller sleeps.
     pub(crate) fn call_asleep<R: Wait, C: SleepingCall<S, A>, W: Waiter<A>>(
         &self,
         rt: &R,
@@ -170,7 +170,7 @@ impl<S: FlowCore + Drop, A: Allocator + Copy> Flow<S, A> {
         answer
     }
 
-    /// The same, which does not wait. Where another caller is inside the call comes back.
+    /// Makes a call through a seat without waiting. If another caller is inside, returns the call.
     pub(crate) fn call_now<C: CoreCall<S>>(
         &self,
         seat: &mut FlowSeat<S, A>,
@@ -192,7 +192,8 @@ impl<S: FlowCore + Drop, A: Allocator + Copy> Flow<S, A> {
         answer
     }
 
-    /// As `call_now`, for a caller that sleeps if the reply is a wait, and asks to be polled again if another is inside.
+    /// Does the same as `call_now`. If the reply is a wait, the caller sleeps; if another caller is inside, it asks to
+    /// be polled again.
     pub(crate) fn call_or_sleep<C: SleepingCall<S, A>>(
         &self,
         seat: &mut FlowSeat<S, A>,
@@ -217,11 +218,11 @@ impl<S: FlowCore + Drop, A: Allocator + Copy> Flow<S, A> {
         answer
     }
 
-    /// Makes a seat through another. Call it for each thread that is to call the flow, before the thread starts, or for
-    /// one more emission that may wait.
+    /// Makes a seat through another one. Call it for each thread, before the thread starts, or for one more emission
+    /// that may wait.
     ///
-    /// The new seat has seen what its maker had seen, and has a name of its own. A seat that is dropped is lost: nobody
-    /// calls under its name any more, and the flow goes on.
+    /// The new seat has seen what its maker had seen, and has a name of its own. If it is dropped, no call is made
+    /// under its name any more, and the flow goes on.
     pub fn seat(&self, seat: &mut FlowSeat<S, A>) -> FlowSeat<S, A>
         requires { seat.old.table_id ≡ self.now.table_id }
         ensures maker { seat.new ≡ knowing seat.old (makes seat.old.knows) }
@@ -233,7 +234,7 @@ impl<S: FlowCore + Drop, A: Allocator + Copy> Flow<S, A> {
         }
     }
 
-    /// Proves that what the seat has seen is a history of the flow. It calls nothing and does not wait.
+    /// Proves that what the seat has seen is a history of the flow. It makes no call and does not wait.
     pub(crate) fn look(&self, seat: &mut FlowSeat<S, A>)
         requires { seat.old.table_id ≡ self.now.table_id }
         ensures unchanged { seat.new ≡ seat.old }
@@ -243,12 +244,11 @@ impl<S: FlowCore + Drop, A: Allocator + Copy> Flow<S, A> {
         self.gate.look(inside);
     }
 
-    /// Ends the flow, and gives its core: what all calls so far led to, for one thread. `None` only where somebody who
-    /// was inside never left.
+    /// Ends the flow, and returns its core, for one thread: what all calls so far led to. Returns `None` only if a
+    /// caller that was inside never left.
     ///
-    /// It is no event of the history, waits for nobody and needs no memory. Call it where all threads have ended; what
-    /// calls of other seats did is found in the core, too. The seats, subscriptions and emissions that are left are of
-    /// no further use.
+    /// It is no event of the history, does not wait and takes no memory. Call it when all threads have ended; the core
+    /// also has what calls of other seats did. Seats, subscriptions and emissions that are left are of no further use.
     pub fn close(self, seat: FlowSeat<S, A>) -> Option<S>
         requires { seat.table_id ≡ self.table_id }
         ensures { IfSome result (ClosesAs S.kind self S.stands_as seat) }

@@ -1,9 +1,10 @@
-//! Handles: a token beside the flow that it is of, so that no call has to be shown that they belong together.
+//! Handles: a token with its flow, so that no caller has to show that they belong together.
 //!
 //! # Names
 //! The plain name is the flow's own call: it takes `rt`, and waits while another caller is inside the flow. A name that
-//! begins with `try_` is the same call without `rt`: it answers at once, and may be Busy. One name is the documentation's:
-//! `try_emit` takes `rt` and never waits for room. The emission that waits for nobody at all is `emit_now`.
+//! begins with `try_` is the same call without `rt`: it answers at once, and may be `Busy`. The exception is
+//! `try_emit`, as in kotlinx.coroutines: it takes `rt`, and does not wait for room. `emit_now` is the emission that
+//! waits for nothing.
 //!
 //! `receive`, `changed` and `send` wait for a value and for room: the thread sleeps until another call wakes it.
 mod awaiting;

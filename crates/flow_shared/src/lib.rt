@@ -1,26 +1,30 @@
 //! Shared and state flows for callers on several threads.
 //!
 //! A `SharedFlow` is a `MutableSharedFlow` of kotlinx.coroutines, a `StateFlow` a `MutableStateFlow`. Each is a gate (a
-//! lock with tokens, crate `flow_gate`) around the flow for one thread (crate `flow_core`).
+//! lock with tokens, `flow_gate`) around the flow for one thread (`flow_core`).
 //!
-//! # Tokens
-//! A caller holds a token: a seat, a subscription or a suspended emission. `new` gives the first seat, and `seat` makes
-//! more, one for each thread. A call takes its token and gives it back, so two calls through one token never overlap.
-//! A token is used with the flow that it came from; each call asks for that by the flow's `table_id`.
+//! # Handles and tokens
+//! A caller holds a token: a seat, a subscription or a suspended emission. `new` makes the first seat, and `seat` makes
+//! more, one for each thread. A call takes its token and returns it, so two calls through one token never overlap. A
+//! token is used with the flow that made it; each call requires that by the flow's `table_id`. A handle (`Emitter`,
+//! `Setter`, `Reader`, `StateReader`) is a token with its flow, and requires nothing: begin with `flow.emitter(seat)`
+//! or `flow.setter(seat)`.
 //!
 //! # What each call promises
-//! The one word is `Calls` (for a state flow alone `StateCalls`): the token has then seen a history of the flow that begins with
-//! all that it had seen, goes on with events of others, and ends with this call and this reply. The history is legal (each
-//! reply is the documented flow's at that point) and owned (nobody speaks for another's subscription or emission).
+//! The word is `Calls` (of a state flow `StateCalls`): the token has then seen a history of the flow that begins with
+//! all that it had seen, goes on with events of others, and ends with this call and this reply. The history is legal
+//! (each reply is the documented flow's at that point) and owned (no caller speaks for another one's subscription or
+//! emission).
 //!
 //! # Waiting
-//! A call that takes `rt` waits while another caller is inside the flow. A call whose name ends in `_now` does not: it
-//! answers `FlowFault::Busy` there, and has done nothing. Neither waits for room or for a value: `emit` answers `Queued`,
-//! and `next` answers `Empty`. Three calls of handles do, `send`, `receive` and `changed`: the thread sleeps meanwhile.
+//! A call that takes `rt` waits while another caller is inside the flow. A call whose name ends in `_now`, or of a
+//! handle begins with `try_`, does not: it answers `Busy`, and has done nothing. Neither waits for room or for a value:
+//! `emit` answers `Queued`, and `next` answers `Empty`. `send`, `receive`, `changed` and `wait_for` of handles wait for
+//! these: the thread sleeps meanwhile.
 //!
 //! # Dropping
-//! A seat that is dropped is lost. A subscription that is dropped stays, and may block emitters for good. An emission that
-//! is dropped stays queued or offered. A handle or a future ends the subscription or the emission that it holds.
+//! A seat that is dropped is lost. A subscription that is dropped stays, and may block emitters for good. An emission
+//! that is dropped stays queued or offered. A handle or a future ends the subscription or the emission that it holds.
 #![tactic(auto)]
 
 mod answers;

@@ -1,4 +1,4 @@
-//! The next value of a subscription to a shared flow, as a future.
+//! The next value of a subscription to a shared flow, as a future that is polled.
 ghost use Rattle.std.specs.Prelude.{◌≡◌, ⊤, true, Some, None};
 ghost use Rattle.futures.specs.Task.{Covers, Keeps};
 ghost use Rattle.futures.specs.Poll.{IfReady, OnPending};
@@ -13,15 +13,15 @@ use futures::task::{Context, Poll};
 use std::alloc::{Allocator, Global};
 use std::marker::Model;
 
-/// What a `NextFuture` gives: its subscription, with a value or why there is none.
+/// The output of a `NextFuture`: its subscription, with a value or an error.
 pub type Received<T, A = Global> = (Subscription<T, A>, Result<T, FlowFault>);
 
-/// Waits for what a subscriber receives next (a collector of a `SharedFlow` suspends until there is a value), and
-/// gives it with the subscription.
+/// Waits for the next value of a subscriber (a collector of a `SharedFlow` suspends until there is one), and gives it
+/// with the subscription.
 ///
 /// A poll makes one call of the flow that does not wait, `next_now`. Each pending poll (there is no value yet, or
-/// another caller was inside) asks to be polled again, since no call of a flow wakes anybody. After Ready a poll is
-/// pending and calls nothing. The answer is a value, or `OutOfMemory`: the value is then still in the flow.
+/// another caller was inside) asks to be polled again; `ReceiveFuture` is woken instead. After `Ready` a poll is
+/// pending and calls nothing. The output is a value, or `OutOfMemory`: the value is then still in the flow.
 ///
 /// # Dropping
 /// Dropping the future ends its subscription, as dropping a `Reader` does. Call `into_subscription` to keep it.
@@ -47,7 +47,7 @@ impl<'a, T: FlowValue, A: Allocator + Copy> Model for NextFuture<'a, T, A> {
     ghost invariant = { λ f. IsTo f.flow.now.table_id f.subscription };
 }
 
-/// What a call of the flow gives a future to answer: nothing where it is to ask again.
+/// Returns what an answer of the flow gives the future to answer: nothing if it has to ask again.
 pub(crate) fn given_by<T: FlowValue>(
     answer: Result<Next<T>, FlowFault>,
 ) -> Option<Result<T, FlowFault>>
@@ -61,7 +61,7 @@ pub(crate) fn given_by<T: FlowValue>(
 }
 
 impl<'a, T: FlowValue, A: Allocator + Copy> NextFuture<'a, T, A> {
-    /// A future that waits for the subscription's next value. Nothing is received before it is polled.
+    /// Returns a future that waits for the subscription's next value. Nothing is received before it is polled.
     pub fn new(flow: &'a SharedFlow<T, A>, subscription: Subscription<T, A>) -> NextFuture<'a, T, A>
         requires { subscription.token.table_id ≡ flow.now.table_id }
         ensures { result ≡ receiving flow.now (Some subscription) }
@@ -72,7 +72,7 @@ impl<'a, T: FlowValue, A: Allocator + Copy> NextFuture<'a, T, A> {
         }
     }
 
-    /// Ends the future, and gives the subscription back. None after Ready, where the answer had it.
+    /// Ends the future, and returns the subscription, or `None` after `Ready`, when the answer had it.
     pub fn into_subscription(self) -> Option<Subscription<T, A>>
         ensures { result ≡ self.entry.subscription }
     {
@@ -83,7 +83,7 @@ impl<'a, T: FlowValue, A: Allocator + Copy> NextFuture<'a, T, A> {
         subscription
     }
 
-    /// One call of the flow.
+    /// Makes one call of the flow.
     fn ask(&mut self, subscription: Subscription<T, A>) -> Poll<Received<T, A>>
         requires { (self.old.subscription ≡ None)
             × (subscription.token.table_id ≡ self.old.flow.table_id) }
@@ -102,7 +102,7 @@ impl<'a, T: FlowValue, A: Allocator + Copy> NextFuture<'a, T, A> {
         }
     }
 
-    /// One poll, but for what it asks of the task.
+    /// Does what a poll does, except that it does not ask to be polled again.
     fn advance(&mut self) -> Poll<Received<T, A>>
         ensures flow { self.new.flow ≡ self.old.flow }
         ensures polls { NextPolls self.old.flow self.old.subscription result self.new.subscription }

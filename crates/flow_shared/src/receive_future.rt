@@ -14,12 +14,12 @@ use futures::task::{Context, Poll};
 use std::alloc::{Allocator, Global};
 use std::marker::Model;
 
-/// Waits for what a subscriber receives next, as a `NextFuture`, and is woken when there is something.
+/// Waits for the next value of a subscriber, as a `NextFuture` does, and is woken when there is one.
 ///
-/// A poll makes one call of the flow that does not wait. If there is nothing to receive it leaves the task's waker inside
-/// the flow; the call that gives subscribers something takes it out and wakes the task, once it has left the flow. If
-/// another caller is inside the flow, or no waker can be kept for want of memory, the task asks to be polled again.
-/// After Ready a poll is pending and calls nothing.
+/// A poll makes one call of the flow that does not wait. If there is nothing to receive, it leaves the task's waker
+/// inside the flow; the call that gives subscribers something removes it, and wakes the task once it has left the flow.
+/// If another caller is inside the flow, or memory for the waker is refused, the task asks to be polled again. After
+/// `Ready` a poll is pending and calls nothing.
 ///
 /// # Dropping
 /// Dropping the future ends its subscription, as dropping a `Reader` does. Its task may be woken once more. Call
@@ -61,7 +61,7 @@ impl<'a, T: FlowValue, A: Allocator + Copy> ReceiveFuture<'a, T, A> {
         }
     }
 
-    /// Ends the future, and returns the subscription. None after Ready, where the answer had it.
+    /// Ends the future, and returns the subscription, or `None` after `Ready`, when the answer had it.
     pub fn into_subscription(self) -> Option<Subscription<T, A>>
         ensures { result ≡ self.entry.subscription }
     {
@@ -72,7 +72,7 @@ impl<'a, T: FlowValue, A: Allocator + Copy> ReceiveFuture<'a, T, A> {
         subscription
     }
 
-    /// One call of the flow.
+    /// Makes one call of the flow.
     fn ask(
         &mut self,
         subscription: Subscription<T, A>,
@@ -97,7 +97,7 @@ impl<'a, T: FlowValue, A: Allocator + Copy> ReceiveFuture<'a, T, A> {
         }
     }
 
-    /// One poll, but for what it says of itself.
+    /// Does what a poll does, except for what it proves of the future.
     fn advance(&mut self, cx: &mut Context<'_>) -> Poll<Received<T, A>>
         ensures flow { self.new.flow ≡ self.old.flow }
         ensures polls { NextPolls self.old.flow self.old.subscription result self.new.subscription }

@@ -1,4 +1,4 @@
-//! A value on its way into a shared flow, as a future that is woken.
+//! Emitting a value into a shared flow, as a future that is woken.
 ghost use Rattle.std.specs.Prelude.{◌≡◌, ⊤};
 ghost use Rattle.futures.specs.Task.{IsArmed, Covers, Keeps};
 ghost use Rattle.futures.specs.Poll.{IfReady, OnPending};
@@ -18,16 +18,16 @@ use std::marker::Model;
 use std::mem;
 use std::sync::Wait;
 
-/// Emits a value once, as an `EmitFuture`, and is woken when its emission ends.
+/// Emits a value once, as an `EmitFuture` does, and is woken when its emission ends.
 ///
-/// A poll makes one call of the flow that does not wait: `emit`, and later `poll` of the emission. If the emission waits
-/// it leaves the task's waker inside the flow; the call that ends the emission takes it out and wakes the task. If another
-/// caller is inside the flow, or no waker can be kept for want of memory, the task asks to be polled again. After Ready
-/// a poll is pending and calls nothing.
+/// A poll makes one call of the flow that does not wait: `emit`, and later `poll` of the emission. If the emission
+/// waits, it leaves the task's waker inside the flow; the call that ends the emission removes it, and wakes the task.
+/// If another caller is inside the flow, or memory for the waker is refused, the task asks to be polled again. After
+/// `Ready` a poll is pending and calls nothing.
 ///
 /// # Dropping
-/// Dropping the future cancels its emission if that waits, as dropping a `BoundEmission` does, and loses its seat. Call `cancel`
-/// to get the seat back.
+/// Dropping the future cancels its emission if that waits, as dropping a `BoundEmission` does, and loses its seat. Call
+/// `cancel` to get the seat back.
 pub struct SendFuture<'a, T: FlowValue, A: Allocator + Copy = Global> {
     flow: &'a SharedFlow<T, A>,
     stage: EmitStage<T, A>,
@@ -51,7 +51,7 @@ impl<'a, T: FlowValue, A: Allocator + Copy> Model for SendFuture<'a, T, A> {
 }
 
 impl<'a, T: FlowValue, A: Allocator + Copy> SendFuture<'a, T, A> {
-    /// A future that is to emit this value through this seat. Nothing is emitted before it is polled.
+    /// Returns a future that emits this value through this seat. Nothing is emitted before it is polled.
     pub fn new(flow: &'a SharedFlow<T, A>, seat: Seat<T, A>, value: T) -> SendFuture<'a, T, A>
         requires { seat.table_id ≡ flow.now.table_id }
         ensures { result ≡ emitting flow.now (Fresh seat value) }
@@ -62,10 +62,10 @@ impl<'a, T: FlowValue, A: Allocator + Copy> SendFuture<'a, T, A> {
         }
     }
 
-    /// Ends the future, and answers its seat and whether the value was still on its way. It was, too, where no poll
-    /// came before, or busy ones alone. None after Ready: the answer had the seat.
+    /// Ends the future, and returns its seat and whether the value was still on its way. It was, too, if no poll came
+    /// before, or only busy ones. Returns `None` after `Ready`, when the answer had the seat.
     ///
-    /// A queued value is lost. An offered one is no more for those who have not received it.
+    /// A queued value is never emitted. An offered one is withdrawn from the subscribers that have not received it.
     pub fn cancel<R: Wait>(self, rt: &R) -> Option<(Seat<T, A>, bool)>
         ensures { Cancels self.entry result }
     {
@@ -77,7 +77,7 @@ impl<'a, T: FlowValue, A: Allocator + Copy> SendFuture<'a, T, A> {
         }
     }
 
-    /// The first poll that is not busy: the value is emitted.
+    /// Emits the value, at the first poll that is not busy.
     fn emit(&mut self, seat: Seat<T, A>, value: T, cx: &mut Context<'_>) -> Poll<Sent<T, A>>
         requires { (self.old.stage ≡ Ended) × (seat.table_id ≡ self.old.flow.table_id) }
         ensures flow { self.new.flow ≡ self.old.flow }
@@ -100,7 +100,7 @@ impl<'a, T: FlowValue, A: Allocator + Copy> SendFuture<'a, T, A> {
         }
     }
 
-    /// Whether the emission still waits.
+    /// Asks whether the emission still waits.
     fn ask(&mut self, emission: Emission<T, A>, cx: &mut Context<'_>) -> Poll<Sent<T, A>>
         requires { (self.old.stage ≡ Ended) × (emission.token.table_id ≡ self.old.flow.table_id) }
         ensures flow { self.new.flow ≡ self.old.flow }
@@ -118,7 +118,7 @@ impl<'a, T: FlowValue, A: Allocator + Copy> SendFuture<'a, T, A> {
         }
     }
 
-    /// One poll, but for what it asks of the task.
+    /// Does what a poll does, except for what it proves of the future.
     fn advance(&mut self, cx: &mut Context<'_>) -> Poll<Sent<T, A>>
         ensures flow { self.new.flow ≡ self.old.flow }
         ensures polls { EmitPolls self.old.flow self.old.stage result self.new.stage }

@@ -28,8 +28,8 @@ mod subscribe;
 
 use calls::{ReplayCache, ResetReplayCache};
 
-/// A shared flow (`MutableSharedFlow`) for callers on several threads: what one emits each subscriber receives, and new
-/// subscribers get the replay cache first.
+/// A shared flow (`MutableSharedFlow`) for callers on several threads. Each subscriber receives what is emitted, and a
+/// new one receives the replay cache first.
 pub type SharedFlow<T, A = Global> = Flow<SharedCore<T, A>, A>;
 
 /// A seat at a shared flow.
@@ -39,10 +39,10 @@ pub type Seat<T, A = Global> = FlowSeat<SharedCore<T, A>, A>;
 pub type Subscription<T, A = Global> = FlowSubscription<SharedCore<T, A>, A>;
 
 impl<T: FlowValue, A: Allocator + Copy> Flow<SharedCore<T, A>, A> {
-    /// A flow that nobody emitted into and nobody subscribed to, and its first seat.
+    /// Makes a flow, and its first seat. Every other seat is made through this one, or through one that was made so.
     ///
-    /// Refused as `TooLarge` or `NeedsBuffer` where the configuration is, then for want of memory. Every other seat is
-    /// made through the first one, or through one that was made so.
+    /// # Errors
+    /// `TooLarge` or `NeedsBuffer` if no flow can have this configuration, else `OutOfMemory`.
     pub fn new(alloc: A, config: Config) -> Result<(SharedFlow<T, A>, Seat<T, A>), FlowFault>
         ensures { MatchResult result
             (λ made. (config_fault config ≡ None) × Begins (first_state config) made)
@@ -55,7 +55,8 @@ impl<T: FlowValue, A: Allocator + Copy> Flow<SharedCore<T, A>, A> {
         }
     }
 
-    /// What a new subscriber would get first, where nothing is offered: copies of at most `replay` values.
+    /// Returns the replay cache: copies of at most `replay` values. A new subscriber receives them first, unless a
+    /// value is being offered.
     pub fn replay_cache<R: Wait>(
         &self,
         rt: &R,
@@ -68,7 +69,7 @@ impl<T: FlowValue, A: Allocator + Copy> Flow<SharedCore<T, A>, A> {
         self.call(rt, seat, ReplayCache)
     }
 
-    /// Empties the cache for new subscribers. Old ones keep what they have still to receive.
+    /// Empties the replay cache. Present subscribers still receive the values that they have not received.
     pub fn reset_replay_cache<R: Wait>(&self, rt: &R, seat: &mut Seat<T, A>)
         requires { seat.old.table_id ≡ self.now.table_id }
         ensures { Calls self.now seat.old call.ResetReplayCache reply.Reset seat.new }
@@ -76,7 +77,7 @@ impl<T: FlowValue, A: Allocator + Copy> Flow<SharedCore<T, A>, A> {
         self.call(rt, seat, ResetReplayCache)
     }
 
-    /// `reset_replay_cache`, where nobody is inside. It is never refused otherwise.
+    /// Empties the replay cache if no other caller is inside; otherwise returns `Busy`.
     pub fn reset_now(&self, seat: &mut Seat<T, A>) -> Result<(), FlowFault>
         requires { seat.old.table_id ≡ self.now.table_id }
         ensures { ResetsNow self.now seat.old result seat.new }

@@ -22,8 +22,8 @@ mod value;
 
 use calls::{ReplayCache, ResetReplayCache};
 
-/// A state flow (`MutableStateFlow`) for callers on several threads: one current value, which any of them may read and
-/// set, and of which each subscriber gets the most recent that it has not got already.
+/// A state flow (`MutableStateFlow`) for callers on several threads. It has one current value, which every caller may
+/// read and set; a subscriber receives the most recent value that it has not received.
 pub type StateFlow<T, A = Global> = Flow<StateCore<T, A>, A>;
 
 /// A seat at a state flow.
@@ -33,11 +33,13 @@ pub type StateSeat<T, A = Global> = FlowSeat<StateCore<T, A>, A>;
 pub type StateSubscription<T, A = Global> = FlowSubscription<StateCore<T, A>, A>;
 
 impl<T: FlowValue, A: Allocator + Copy> Flow<StateCore<T, A>, A> {
-    /// A state flow with this value, which nobody subscribed to, and its first seat. It issues at most `limit` numbers
-    /// to subscribers. `Err` is want of memory; the value is dropped then.
+    /// Makes a state flow with this value, and its first seat. It issues at most `limit` numbers to subscribers.
     ///
-    /// Every other seat is made through this one, or through one that was made so. Once all seats and all subscriptions
-    /// are dropped nobody can call the flow any more.
+    /// Every other seat is made through this one, or through one that was made so. Once all seats and subscriptions are
+    /// dropped, no call can be made any more.
+    ///
+    /// # Errors
+    /// `OutOfMemory`; the value is dropped.
     pub fn new(
         alloc: A,
         initial: T,
@@ -53,10 +55,9 @@ impl<T: FlowValue, A: Allocator + Copy> Flow<StateCore<T, A>, A> {
         }
     }
 
-    /// A snapshot of the replay cache: that of a state flow is a copy of its current value alone. `Err` is want of
-    /// memory.
+    /// Returns a list of the current value, which is a state flow's replay cache. The only error is `OutOfMemory`.
     ///
-    /// Call it where a state flow is used as a shared flow; `value` gives the value itself.
+    /// Use it if a state flow takes the place of a shared flow; `value` returns the value itself.
     pub fn replay_cache<R: Wait>(
         &self,
         rt: &R,
@@ -69,9 +70,7 @@ impl<T: FlowValue, A: Allocator + Copy> Flow<StateCore<T, A>, A> {
         self.call(rt, seat, ReplayCache)
     }
 
-    /// Always refused as `Unsupported`: a state flow has a value at any time, so its replay cache cannot be reset.
-    ///
-    /// It is there for callers who use a state flow as a shared flow. To go back to the first value, `set` it.
+    /// Fails with `Unsupported`, always: a state flow has a value at any time. To go back to the first value, `set` it.
     pub fn reset_replay_cache<R: Wait>(
         &self,
         rt: &R,

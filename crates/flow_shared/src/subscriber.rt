@@ -1,4 +1,4 @@
-//! The calls of subscribers, of any kind of flow for several threads.
+//! The calls of subscribers, for every kind of flow.
 ghost use Rattle.std.specs.Prelude.{◌≡◌, ◌≢◌, ◌⊎◌, ℕ, true, Ok, IsOk, IfErr, ⊤};
 ghost use Rattle.flow_law.specs.History.{replied};
 ghost use Rattle.flow_law.specs.declared.fault.FlowFault.TheVariants.{OutOfMemory, Exhausted};
@@ -152,12 +152,14 @@ impl<S: FlowCore> CoreCall<S> for Count {
 }
 
 impl<S: FlowCore + Drop, A: Allocator + Copy> Flow<S, A> {
-    /// A new subscriber. It gets the replay cache of a shared flow first, or the value that is offered, and the current
-    /// value of a state flow. `Err` is want of memory, or `Exhausted` where the flow has issued as many numbers as its
-    /// limit allows.
+    /// Adds a subscriber. It receives first the replay cache of a shared flow, or the value that is being offered, or
+    /// the current value of a state flow.
     ///
-    /// The subscription has a seat of its own, which is made through this one. Who does not read blocks the emitters of a
-    /// shared flow or loses values, as the strategy says, until `unsubscribe`.
+    /// The subscription has a seat of its own, made through this one. A subscriber that does not read blocks the
+    /// emitters of a shared flow or loses values, depending on the strategy, until `unsubscribe`.
+    ///
+    /// # Errors
+    /// `Exhausted` if the flow has issued as many numbers as its limit allows, else `OutOfMemory`.
     pub fn subscribe<R: Wait>(
         &self,
         rt: &R,
@@ -172,11 +174,11 @@ impl<S: FlowCore + Drop, A: Allocator + Copy> Flow<S, A> {
         Ok(FlowSubscription { seat: made, id })
     }
 
-    /// What the subscriber receives next; `Empty` where it has all. `Err` is want of memory: it then gets the value at a
-    /// later call.
+    /// Returns what the subscriber receives next, or `Empty` if it has received all values. The only error is
+    /// `OutOfMemory`; a later call returns the value.
     ///
-    /// In a shared flow it makes room, so queued values may be emitted by it. A slow subscriber of a state flow skips
-    /// values that were set fast, and gets the most recent one.
+    /// In a shared flow it makes room, so queued values may be emitted. A slow subscriber of a state flow skips values
+    /// and gets the most recent one.
     pub fn next<R: Wait>(
         &self,
         rt: &R,
@@ -193,7 +195,7 @@ impl<S: FlowCore + Drop, A: Allocator + Copy> Flow<S, A> {
         self.call(rt, &mut subscription.seat, TakeNext { id })
     }
 
-    /// `next`, where nobody is inside.
+    /// Returns what `next` returns if no other caller is inside; otherwise the error is `Busy`.
     pub fn next_now(
         &self,
         subscription: &mut FlowSubscription<S, A>,
@@ -209,7 +211,7 @@ impl<S: FlowCore + Drop, A: Allocator + Copy> Flow<S, A> {
         }
     }
 
-    /// As `next`, for a caller that sleeps if it receives nothing.
+    /// Does the same as `next`. If there is nothing to receive, the caller sleeps.
     pub(crate) fn next_asleep<R: Wait, W: Waiter<A>>(
         &self,
         rt: &R,
@@ -228,8 +230,8 @@ impl<S: FlowCore + Drop, A: Allocator + Copy> Flow<S, A> {
         self.call_asleep(rt, &mut subscription.seat, TakeNext { id }, waiter)
     }
 
-    /// As `next_now`, for a caller that sleeps where it receives nothing. If another caller is inside, the task that is
-    /// polled asks to be polled again.
+    /// Does the same as `next_now`. If there is nothing to receive, the caller sleeps. If another caller is inside, the
+    /// task asks to be polled again.
     pub(crate) fn next_or_sleep(
         &self,
         subscription: &mut FlowSubscription<S, A>,
@@ -247,7 +249,7 @@ impl<S: FlowCore + Drop, A: Allocator + Copy> Flow<S, A> {
         }
     }
 
-    /// Ends the subscription. Emitters who waited for it alone go on. Its seat comes back, for other calls.
+    /// Ends the subscription, and returns its seat, for other calls. Emissions that waited only for it are done.
     pub fn unsubscribe<R: Wait>(
         &self,
         rt: &R,
@@ -261,7 +263,7 @@ impl<S: FlowCore + Drop, A: Allocator + Copy> Flow<S, A> {
         seat
     }
 
-    /// How many subscribers there are. A subscription that was dropped is counted: only `unsubscribe` ends one.
+    /// Counts the subscribers. A dropped subscription is counted: only `unsubscribe` ends one.
     pub fn subscription_count<R: Wait>(&self, rt: &R, seat: &mut FlowSeat<S, A>) -> u64
         requires { seat.old.table_id ≡ self.now.table_id }
         ensures { Counts S.kind self.now seat.old result seat.new }
@@ -269,7 +271,7 @@ impl<S: FlowCore + Drop, A: Allocator + Copy> Flow<S, A> {
         self.call(rt, seat, Count)
     }
 
-    /// As `subscription_count`, where nobody is inside. It is never refused otherwise.
+    /// Counts the subscribers if no other caller is inside; otherwise returns `Busy`.
     pub fn count_now(&self, seat: &mut FlowSeat<S, A>) -> Result<u64, FlowFault>
         requires { seat.old.table_id ≡ self.now.table_id }
         ensures { CountsNow S.kind self.now seat.old result seat.new }
@@ -280,10 +282,11 @@ impl<S: FlowCore + Drop, A: Allocator + Copy> Flow<S, A> {
         }
     }
 
-    /// Makes what two seats have seen one history: both have then seen all that was done so far. Nothing is called, and
-    /// nobody waits.
+    /// Lets two seats meet: both have then seen one history, which has all that was done so far. It makes no call of
+    /// the flow and does not wait.
     ///
-    /// Call it where what one caller did is to count for another, as after a thread has ended and its seat came back.
+    /// Call it if a caller relies on what the other one did, for instance after a thread has ended and returned its
+    /// seat.
     pub fn meet(&self, one: &mut FlowSeat<S, A>, other: &mut FlowSeat<S, A>)
         requires { (one.old.table_id ≡ self.now.table_id) × (other.old.table_id ≡ self.now.table_id) }
         ensures { Meets S.kind self.now one.old other.old one.new other.new }
@@ -295,7 +298,7 @@ impl<S: FlowCore + Drop, A: Allocator + Copy> Flow<S, A> {
         other.seat = Some(second);
     }
 
-    /// `meet` of a subscription and a seat.
+    /// Lets a subscription and a seat meet, as `meet` does.
     pub fn meet_subscription(
         &self,
         subscription: &mut FlowSubscription<S, A>,

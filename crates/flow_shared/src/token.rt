@@ -13,12 +13,12 @@ use flow_core::{FlowCore, SubId};
 use std::alloc::{Allocator, Global};
 use std::marker::Model;
 
-/// A seat at a flow: who has it may call the flow. Contracts see the history that it has seen.
+/// A seat at a flow, by which a caller calls it. Contracts see the history that it has seen.
 ///
-/// A seat that is dropped is lost; the flow goes on without it.
+/// If a seat is dropped, no call is made under its name any more. The flow goes on.
 #[derive(Drop)]
 pub struct FlowSeat<S: FlowCore, A: Allocator + Copy = Global> {
-    /// It is there but in the middle of a call.
+    /// `None` only in the middle of a call.
     pub(crate) seat: Option<flow_gate::Seat<Attended<S, A>, A>>,
 }
 
@@ -32,8 +32,8 @@ impl<S: FlowCore, A: Allocator + Copy> Model for FlowSeat<S, A> {
 
 /// A subscription to a flow: a seat of its own, and its number.
 ///
-/// A subscription that is dropped stays and is counted; it may block the emitters of a shared flow, and costs a state
-/// flow one value. Its seat is lost. To end it, `unsubscribe`.
+/// A dropped subscription stays and is counted: it may block the emitters of a shared flow, and costs a state flow one
+/// value. Its seat is lost. Call `unsubscribe` to end it.
 #[derive(Drop)]
 pub struct FlowSubscription<S: FlowCore, A: Allocator + Copy = Global> {
     pub(crate) seat: FlowSeat<S, A>,

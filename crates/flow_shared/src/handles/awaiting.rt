@@ -13,7 +13,8 @@ use flow_law::FlowValue;
 use std::alloc::Allocator;
 
 impl<'a, T: FlowValue, A: Allocator + Copy> FlowCaller<'a, SharedCore<T, A>, A> {
-    /// Returns a future that emits a value, and is woken when its emission is done. Nothing is emitted before it is polled.
+    /// Returns a future that emits a value, and is woken when its emission is done. Nothing is emitted before it is
+    /// polled.
     pub fn into_send(self, value: T) -> SendFuture<'a, T, A>
         ensures { result ≡ emitting self.entry.flow (Fresh self.entry.token value) }
     {
@@ -23,7 +24,8 @@ impl<'a, T: FlowValue, A: Allocator + Copy> FlowCaller<'a, SharedCore<T, A>, A> 
 }
 
 impl<'a, T: FlowValue, A: Allocator + Copy> FlowReader<'a, SharedCore<T, A>, A> {
-    /// Returns a future that waits for the next value, and is woken when there is one. Nothing is received before it is polled.
+    /// Returns a future that waits for the next value, and is woken when there is one. Nothing is received before it is
+    /// polled.
     pub fn into_receive(self) -> ReceiveFuture<'a, T, A>
         ensures { result ≡ receiving self.entry.flow (Some self.entry.subscription) }
     {

@@ -1,4 +1,4 @@
-//! A seat that is bound to its flow.
+//! A seat bound to its flow.
 ghost use Rattle.std.specs.Prelude.{◌≡◌};
 ghost use Rattle.flow_law.specs.Growth.{makes, child};
 ghost use Rattle.flow_law.specs.HandleFaults.{answer_by, busy_fault, number_fault};
@@ -16,9 +16,10 @@ use std::alloc::{Allocator, Global};
 use std::marker::Model;
 use std::sync::Wait;
 
-/// A seat, and the flow that it is of: an `Emitter` of a shared flow, a `Setter` of a state flow. Contracts see both.
+/// A seat and its flow: an `Emitter` of a shared flow, or a `Setter` of a state flow. Contracts see both.
 ///
-/// Dropping it drops its seat: no caller has that name any more, and the flow is not changed.
+/// # Dropping
+/// Dropping it drops its seat: no caller has that name any more, and the flow does not change.
 #[derive(Drop)]
 pub struct FlowCaller<'a, S: FlowCore, A: Allocator + Copy = Global> {
     pub(crate) flow: &'a Flow<S, A>,
@@ -56,8 +57,8 @@ impl<'a, S: FlowCore + Drop, A: Allocator + Copy> FlowCaller<'a, S, A> {
         FlowCaller::new(self.flow, made)
     }
 
-    /// Subscribes. The reader gets the replay cache of a shared flow first, or the value that is offered, and the current
-    /// value of a state flow.
+    /// Subscribes. The reader gets the replay cache of a shared flow first, or the value that is offered, and the
+    /// current value of a state flow.
     ///
     /// A subscriber that does not read blocks the emitters of a shared flow or loses values, depending on the strategy,
     /// until `unsubscribe`.
@@ -72,7 +73,8 @@ impl<'a, S: FlowCore + Drop, A: Allocator + Copy> FlowCaller<'a, S, A> {
         }
     }
 
-    /// Counts the subscribers. A subscription whose token was dropped is counted; one whose handle was dropped has ended.
+    /// Counts the subscribers. A subscription whose token was dropped is counted; one whose handle was dropped has
+    /// ended.
     pub fn subscription_count<R: Wait>(&mut self, rt: &R) -> u64
         ensures flow { self.new.flow ≡ self.old.flow }
         ensures counted { Counts S.kind self.old.flow self.old.token result self.new.token }
@@ -94,7 +96,8 @@ impl<'a, S: FlowCore + Drop, A: Allocator + Copy> FlowCaller<'a, S, A> {
 
     /// Joins what two callers of one flow have seen: afterwards both have seen one history, with all calls so far.
     ///
-    /// Call it when one caller relies on what another did, for example after a thread has ended and returned its handle.
+    /// Call it when one caller relies on what another did, for example after a thread has ended and returned its
+    /// handle.
     pub fn meet(&mut self, other: &mut FlowCaller<'_, S, A>)
         requires { other.old.flow.table_id ≡ self.old.flow.table_id }
         ensures flow { (self.new.flow ≡ self.old.flow) × (other.new.flow ≡ other.old.flow) }
@@ -115,7 +118,7 @@ impl<'a, S: FlowCore + Drop, A: Allocator + Copy> FlowCaller<'a, S, A> {
             .meet_subscription(&mut reader.subscription, &mut self.seat);
     }
 
-    /// Gives the seat back, for the flow's own calls.
+    /// Returns the seat, for the flow's own calls.
     pub fn into_seat(self) -> FlowSeat<S, A>
         ensures token { result ≡ self.entry.token }
         ensures flow { result.table_id ≡ self.entry.flow.table_id }

@@ -1,4 +1,4 @@
-//! An emission that waits, bound to its flow.
+//! A waiting emission bound to its flow.
 ghost use Rattle.std.specs.Prelude.{◌≡◌};
 ghost use Rattle.flow_law.specs.declared.call.SharedCall.TheVariants as call;
 ghost use Rattle.flow_law.specs.declared.call.SharedReply.TheVariants as reply;
@@ -18,11 +18,11 @@ use std::alloc::{Allocator, Global};
 use std::marker::Model;
 use std::sync::Wait;
 
-/// A suspended emission, and the flow that it is in. It has its emitter's seat.
+/// A suspended emission and its flow. It has its emitter's seat.
 ///
 /// # Dropping
-/// Dropping it cancels the emission, as `cancel` does, without waiting. If other callers hold the flow at each of many tries,
-/// its value stays queued or offered.
+/// Dropping it cancels the emission, as `cancel` does, without waiting. If other callers hold the flow at each of many
+/// tries, its value stays queued or offered.
 pub struct BoundEmission<'a, T: FlowValue, A: Allocator + Copy = Global> {
     flow: &'a SharedFlow<T, A>,
     emission: Emission<T, A>,
@@ -46,7 +46,7 @@ impl<'a, T: FlowValue, A: Allocator + Copy> Model for BoundEmission<'a, T, A> {
     ghost invariant = { λ e. e.emission.token.table_id ≡ e.flow.now.table_id };
 }
 
-/// What `emit` and `emit_now` of an emitter answer.
+/// The answer of `emit` and `emit_now` of an emitter.
 #[derive(Drop)]
 pub enum EmitAnswer<'a, T: FlowValue, E, A: Allocator + Copy = Global> {
     Done(Emitter<'a, T, A>),
@@ -56,7 +56,7 @@ pub enum EmitAnswer<'a, T: FlowValue, E, A: Allocator + Copy = Global> {
     Refused(Emitter<'a, T, A>, Rejected<T, E>),
 }
 
-/// What `poll` of an emission answers.
+/// The answer of `poll` of an emission.
 #[derive(Drop)]
 pub enum PollAnswer<'a, T: FlowValue, A: Allocator + Copy = Global> {
     Done(Emitter<'a, T, A>),
@@ -84,8 +84,8 @@ impl<'a, T: FlowValue, A: Allocator + Copy> BoundEmission<'a, T, A> {
         BoundEmission { flow, emission }
     }
 
-    /// Returns whether the emission still waits. If it does not, its value was emitted and received, and the answer has its
-    /// emitter.
+    /// Returns whether the emission still waits. If it does not, its value was emitted and received, and the answer has
+    /// its emitter.
     pub fn poll<R: Wait>(self, rt: &R) -> PollAnswer<'a, T, A>
         ensures flow { polled_flow result ≡ self.entry.flow }
         ensures polls { Polls self.entry.flow self.entry.emission (polled_by result) }
@@ -137,7 +137,7 @@ impl<'a, T: FlowValue, A: Allocator + Copy> BoundEmission<'a, T, A> {
         }
     }
 
-    /// Gives the emission back, for the flow's own calls.
+    /// Returns the emission, for the flow's own calls.
     pub fn into_emission(self) -> Emission<T, A>
         ensures emission { result ≡ self.entry.emission }
         ensures flow { result.token.table_id ≡ self.entry.flow.table_id }

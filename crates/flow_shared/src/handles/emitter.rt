@@ -42,8 +42,8 @@ impl<T: FlowValue, A: Allocator + Copy> Flow<SharedCore<T, A>, A> {
 }
 
 impl<'a, T: FlowValue, A: Allocator + Copy> FlowCaller<'a, SharedCore<T, A>, A> {
-    /// Emits a value if it need not wait for room, and returns `true` if the flow took it or, under `DropLatest`, dropped
-    /// it. At `false` an `emit` would wait; the value is dropped, and the flow is not changed.
+    /// Emits a value if it need not wait for room, and returns `true` if the flow took it or, under `DropLatest`,
+    /// dropped it. At `false` an `emit` would wait; the value is dropped, and the flow is not changed.
     ///
     /// It waits while another caller holds the flow.
     ///
@@ -102,7 +102,7 @@ impl<'a, T: FlowValue, A: Allocator + Copy> FlowCaller<'a, SharedCore<T, A>, A> 
         }
     }
 
-    /// Subscribes. The reader gets these values before any value of the flow (`onSubscription`). An error has them back.
+    /// Subscribes. The reader gets these values before any value of the flow (`onSubscription`). An error returns them.
     pub fn subscribe_with<R: Wait>(
         &mut self,
         rt: &R,
@@ -153,8 +153,8 @@ impl<'a, T: FlowValue, A: Allocator + Copy> FlowCaller<'a, SharedCore<T, A>, A> 
         }
     }
 
-    /// Proves the laws of shared flows for what the caller has seen. It makes no call of the flow, changes nothing and does
-    /// not wait.
+    /// Proves the laws of shared flows for what the caller has seen. It makes no call of the flow, changes nothing and
+    /// does not wait.
     pub fn seen(&mut self)
         ensures unchanged { self.new ≡ self.old }
         ensures history { IsHistory shared_flow self.new.flow.first self.new.token.knows.seen }

@@ -1,4 +1,4 @@
-//! From the fault of a flow's own call to the error of a handle's.
+//! The errors of handles, made from the faults of a flow's own calls.
 ghost use Rattle.std.specs.Prelude.{◌≡◌, ◌≢◌, ◌⊎◌, Ok, IfErr};
 ghost use Rattle.flow_law.specs.HandleFaults.{answer_by, memory_fault, number_fault, emit_now_fault, try_next_fault};
 ghost use Rattle.flow_law.specs.declared.outcome.Drained.TheVariants.{Gone};
@@ -39,7 +39,7 @@ pub(crate) fn try_next_error(fault: FlowFault) -> TryNextError
     }
 }
 
-/// How a drain ended that was not told that its subscriber is gone.
+/// Returns how a drain ended whose subscriber is not gone.
 pub(crate) fn drain_end(ended: Result<Drained, FlowFault>) -> Result<DrainEnd, OutOfMemory>
     requires live { ended ≢ Ok Gone }
     requires memory { IfErr ended (λ fault. fault ≡ FlowFault.OutOfMemory) }

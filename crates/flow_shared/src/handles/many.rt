@@ -1,4 +1,4 @@
-//! Callers and readers that each have a thread of their own, and what they have done once these threads have ended.
+//! Callers and readers with a thread each, and what they have done once these threads have ended.
 ghost use Rattle.std.specs.Prelude.{◌≡◌, ◌∷◌, ◌++◌, ℕ, ◌<◌, All, IfOk, length, map, slice_index_or, vec_len};
 ghost use Rattle.flow_law.specs.Closed.{makes_many, nth_child};
 ghost use Rattle.flow_law.specs.Handles.{called_by};
@@ -40,7 +40,8 @@ impl<'a, S: FlowCore + Drop, A: Allocator + Copy> FlowCaller<'a, S, A> {
 
     /// Meets each of the other callers, one after the other.
     ///
-    /// Each of them has then seen what this caller had seen before, and this caller has seen what each of them had seen.
+    /// Each of them has then seen what this caller had seen before, and this caller has seen what each of them had
+    /// seen.
     pub fn meet_all(&mut self, others: &mut [FlowCaller<'_, S, A>])
         requires { All (λ c. c.flow.table_id ≡ self.old.flow.table_id) others.old }
         ensures flow { self.new.flow ≡ self.old.flow }
@@ -78,8 +79,8 @@ impl<'a, S: FlowCore + Drop, A: Allocator + Copy> FlowCaller<'a, S, A> {
         }
     }
 
-    /// Proves that a history of the flow has all that this caller, the others and the readers did, and nothing else under
-    /// their names. Call it once their threads have ended.
+    /// Proves that a history of the flow has all that this caller, the others and the readers did, and nothing else
+    /// under their names. Call it once their threads have ended.
     ///
     /// All meet, the subscribers are counted, and all meet again: because of the first round nothing is left out of the
     /// history, and the second round shows that none of them has done more.

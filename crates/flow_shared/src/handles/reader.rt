@@ -1,4 +1,4 @@
-//! A subscription that is bound to its flow.
+//! A subscription bound to its flow.
 ghost use Rattle.std.specs.Prelude.{◌≡◌, IsOk, IfErr};
 ghost use Rattle.std.specs.Result.{OnErr};
 ghost use Rattle.flow_law.specs.declared.errors.TryNextError.TheVariants as try_next;
@@ -21,11 +21,11 @@ use std::alloc::{Allocator, Global};
 use std::marker::Model;
 use std::sync::Wait;
 
-/// A subscription, and the flow that it is to. Contracts see both.
+/// A subscription and its flow. Contracts see both.
 ///
 /// # Dropping
-/// Dropping the reader ends its subscription, as `unsubscribe` does, without waiting. If other callers hold the flow at each
-/// of many tries, the subscription stays in the flow.
+/// Dropping the reader ends its subscription, as `unsubscribe` does, without waiting. If other callers hold the flow at
+/// each of many tries, the subscription stays in the flow.
 pub struct FlowReader<'a, S: FlowCore, A: Allocator + Copy = Global> {
     pub(crate) flow: &'a Flow<S, A>,
     pub(crate) subscription: FlowSubscription<S, A>,
@@ -92,8 +92,8 @@ impl<'a, S: FlowCore + Drop, A: Allocator + Copy> FlowReader<'a, S, A> {
     /// # Errors
     /// `OutOfMemory` if the value could not be copied: a later call returns it.
     ///
-    /// In a shared flow it makes room, so queued values may be emitted. A slow subscriber of a state flow skips values and
-    /// gets the most recent one.
+    /// In a shared flow it makes room, so queued values may be emitted. A slow subscriber of a state flow skips values
+    /// and gets the most recent one.
     pub fn next<R: Wait>(&mut self, rt: &R) -> Result<Option<S::Item>, OutOfMemory>
         ensures flow { self.new.flow ≡ self.old.flow }
         ensures called { NextsOf S.kind self.old.flow self.old.subscription
@@ -124,8 +124,8 @@ impl<'a, S: FlowCore + Drop, A: Allocator + Copy> FlowReader<'a, S, A> {
     /// Appends what the subscriber can receive now to the list, at most `most` values.
     ///
     /// # Errors
-    /// `OutOfMemory` if the list has no room or a value could not be copied. That value is still in the flow, the values
-    /// before it are in the list, and a later call continues.
+    /// `OutOfMemory` if the list has no room or a value could not be copied. That value is still in the flow, the
+    /// values before it are in the list, and a later call continues.
     pub fn drain<R: Wait, B: Allocator>(
         &mut self,
         rt: &R,

@@ -1,4 +1,4 @@
-//! What holds of all that a reader has seen.
+//! The laws of what a reader has seen.
 ghost use Rattle.std.specs.Prelude.{◌≡◌, ℕ, IsSome};
 ghost use Rattle.flow_law.specs.Conflation.{Conflates};
 ghost use Rattle.flow_law.specs.Current.{Converges, IsThere};
@@ -17,8 +17,8 @@ use flow_law::FlowValue;
 use std::alloc::Allocator;
 
 impl<'a, T: FlowValue, A: Allocator + Copy> FlowReader<'a, SharedCore<T, A>, A> {
-    /// Proves the laws of shared flows for what the subscription has seen. It makes no call of the flow, changes nothing and
-    /// does not wait.
+    /// Proves the laws of shared flows for what the subscription has seen. It makes no call of the flow, changes
+    /// nothing and does not wait.
     ///
     /// Call it to conclude what the subscriber received, or that no value waits in the queue.
     pub fn seen(&mut self)

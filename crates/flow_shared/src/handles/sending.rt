@@ -14,12 +14,12 @@ use std::sync::Wait;
 use std::time::{Clock, Duration};
 
 impl<'a, T: FlowValue, A: Allocator + Copy> FlowCaller<'a, SharedCore<T, A>, A> {
-    /// Emits a value, and waits until the emission is done: the thread sleeps, and the call that ends the emission wakes it.
-    /// If there is no memory for its waker, it lets other threads go first and asks again.
+    /// Emits a value, and waits until the emission is done: the thread sleeps, and the call that ends the emission
+    /// wakes it. If there is no memory for its waker, it lets other threads go first and asks again.
     ///
     /// # Errors
-    /// `Exhausted` if the flow has issued as many numbers as its limit allows, `OutOfMemory` if the value would have to wait
-    /// and there is no memory for it. Nothing was emitted, and the error has the value.
+    /// `Exhausted` if the flow has issued as many numbers as its limit allows, `OutOfMemory` if the value would have to
+    /// wait and there is no memory for it. Nothing was emitted, and the error has the value.
     ///
     /// # Source
     /// `MutableSharedFlow.emit`, which suspends.
@@ -38,8 +38,8 @@ impl<'a, T: FlowValue, A: Allocator + Copy> FlowCaller<'a, SharedCore<T, A>, A> 
         }
     }
 
-    /// Emits a value as `send` does, and cancels the emission if it is not done within `limit`. If the clock cannot be read,
-    /// an emission that has to wait is cancelled.
+    /// Emits a value as `send` does, and cancels the emission if it is not done within `limit`. If the clock cannot be
+    /// read, an emission that has to wait is cancelled.
     ///
     /// A cancelled value is lost, for those subscribers that have not received it.
     ///

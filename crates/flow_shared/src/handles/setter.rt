@@ -34,8 +34,8 @@ impl<T: FlowValue, A: Allocator + Copy> Flow<StateCore<T, A>, A> {
 impl<'a, T: FlowValue, A: Allocator + Copy> FlowCaller<'a, StateCore<T, A>, A> {
     /// Returns a copy of the current value.
     ///
-    /// Another caller may set the value right after. Call `update` or `compare_and_set` to set a value that depends on the
-    /// current one.
+    /// Another caller may set the value right after. Call `update` or `compare_and_set` to set a value that depends on
+    /// the current one.
     pub fn value<R: Wait>(&mut self, rt: &R) -> Result<T, OutOfMemory>
         ensures flow { self.new.flow ≡ self.old.flow }
         ensures called { StateCalls self.old.flow self.old.token call.GetValue
@@ -48,7 +48,8 @@ impl<'a, T: FlowValue, A: Allocator + Copy> FlowCaller<'a, StateCore<T, A>, A> {
         }
     }
 
-    /// Sets the current value. Setting a value that is equal to the current one does nothing: no subscriber gets it again.
+    /// Sets the current value. Setting a value that is equal to the current one does nothing: no subscriber gets it
+    /// again.
     pub fn set<R: Wait>(&mut self, rt: &R, value: T)
         ensures flow { self.new.flow ≡ self.old.flow }
         ensures called { StateCalls self.old.flow self.old.token (call.Set value) reply.Done self.new.token }
@@ -114,8 +115,8 @@ impl<'a, T: FlowValue, A: Allocator + Copy> FlowCaller<'a, StateCore<T, A>, A> {
         }
     }
 
-    /// Proves the laws of state flows for what the caller has seen. It makes no call of the flow, changes nothing and does
-    /// not wait.
+    /// Proves the laws of state flows for what the caller has seen. It makes no call of the flow, changes nothing and
+    /// does not wait.
     pub fn seen(&mut self)
         ensures unchanged { self.new ≡ self.old }
         ensures history { IsStateHistory self.new.flow.first self.new.token.knows.seen }

@@ -43,8 +43,8 @@ impl<'a, S: FlowCore + Drop, A: Allocator + Copy> FlowReader<'a, S, A> {
 }
 
 impl<'a, T: FlowValue, A: Allocator + Copy> FlowReader<'a, SharedCore<T, A>, A> {
-    /// Takes the next value as `receive` does, and returns `None` if there is none within `limit`. If the clock cannot be
-    /// read, it asks once.
+    /// Takes the next value as `receive` does, and returns `None` if there is none within `limit`. If the clock cannot
+    /// be read, it asks once.
     ///
     /// # Errors
     /// `OutOfMemory` if the value could not be copied: a later call returns it.
@@ -66,8 +66,8 @@ impl<'a, T: FlowValue, A: Allocator + Copy> FlowReader<'a, SharedCore<T, A>, A> 
 }
 
 impl<'a, T: FlowValue, A: Allocator + Copy> FlowReader<'a, StateCore<T, A>, A> {
-    /// Takes the current value as `changed` does, and returns `None` if it does not change within `limit`. If the clock cannot
-    /// be read, it asks once.
+    /// Takes the current value as `changed` does, and returns `None` if it does not change within `limit`. If the clock
+    /// cannot be read, it asks once.
     ///
     /// # Errors
     /// `OutOfMemory` if the value could not be copied: a later call returns it, or a newer one.

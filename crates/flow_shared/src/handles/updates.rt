@@ -39,8 +39,8 @@ impl<'a, T: FlowValue, A: Allocator + Copy> FlowCaller<'a, StateCore<T, A>, A> {
 
     /// Updates the value by a function of it, and returns the value that was there before.
     ///
-    /// The function may be called several times: if another caller sets the value in between, the update reads again. No
-    /// other caller waits while it runs.
+    /// The function may be called several times: if another caller sets the value in between, the update reads again.
+    /// No other caller waits while it runs.
     ///
     /// # Errors
     /// `OutOfMemory` if the value could not be copied or the function refuses. Then the update has set nothing.
@@ -90,8 +90,8 @@ impl<'a, T: FlowValue, A: Allocator + Copy> FlowCaller<'a, StateCore<T, A>, A> {
         }
     }
 
-    /// Updates the value by a function of it, as `get_and_update` does, and returns the value that was set: a copy of it,
-    /// which is made before it is set.
+    /// Updates the value by a function of it, as `get_and_update` does, and returns the value that was set: a copy of
+    /// it, which is made before it is set.
     pub fn update_and_get<R: Wait, F: Fn(&T) -> Result<T, OutOfMemory>>(
         &mut self,
         rt: &R,

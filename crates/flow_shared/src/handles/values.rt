@@ -12,7 +12,7 @@ use futures::task::{Context, Poll};
 use std::alloc::{Allocator, Global};
 use std::marker::Model;
 
-/// What a poll answers to the answer of the flow.
+/// Turns the answer of the flow into that of a poll.
 fn polled<T>(answer: Result<Next<T>, FlowFault>) -> Poll<Result<T, OutOfMemory>>
     ensures { result ≡ polled_by answer }
 {
@@ -48,8 +48,8 @@ impl<'a, S: FlowCore + Drop, A: Allocator + Copy> FlowReader<'a, S, A> {
 
 /// The values that a reader receives. The stream does not end.
 ///
-/// A poll makes one call of the flow that does not wait, as a `ReceiveFuture` does. An item is `OutOfMemory` if a value could
-/// not be copied; the value is then the next item.
+/// A poll makes one call of the flow that does not wait, as a `ReceiveFuture` does. An item is `OutOfMemory` if a value
+/// could not be copied; the value is then the next item.
 ///
 /// # Dropping
 /// Dropping the stream ends its subscription, as dropping its reader does. Call `into_reader` to keep it.
@@ -77,7 +77,7 @@ impl<'a, S: FlowCore + Drop, A: Allocator + Copy> FlowValues<'a, S, A> {
         reader
     }
 
-    /// One poll of its reader.
+    /// Polls the reader once.
     fn advance(&mut self, cx: &mut Context<'_>) -> Poll<Result<S::Item, OutOfMemory>>
         ensures flow { self.new.flow ≡ self.old.flow }
         ensures polls { PollsNext S.kind self.old.flow self.old.subscription result self.new.subscription }

@@ -15,8 +15,8 @@ use std::sync::Wait;
 use std::time::{Clock, Duration};
 
 impl<'a, T: FlowValue, A: Allocator + Copy> FlowReader<'a, StateCore<T, A>, A> {
-    /// Waits for the first value that passes a test, and returns it. The subscriber gets the values up to that one, each as
-    /// `changed` gives it; a value that it got before is not tested again.
+    /// Waits for the first value that passes a test, and returns it. The subscriber gets the values up to that one,
+    /// each as `changed` gives it; a value that it got before is not tested again.
     ///
     /// # Errors
     /// `OutOfMemory` if a value could not be copied: a later call tests it, or a newer one.
@@ -47,7 +47,8 @@ impl<'a, T: FlowValue, A: Allocator + Copy> FlowReader<'a, StateCore<T, A>, A> {
         unreachable!()
     }
 
-    /// Waits as `wait_for` does, for no longer than `limit`, and returns `None` if no value has passed the test by then.
+    /// Waits as `wait_for` does, for no longer than `limit`, and returns `None` if no value has passed the test by
+    /// then.
     ///
     /// # Errors
     /// `OutOfMemory` if a value could not be copied: a later call tests it, or a newer one.

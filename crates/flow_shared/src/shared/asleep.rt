@@ -1,4 +1,4 @@
-//! Emissions whose owners sleep while they wait.
+//! Emissions of callers that sleep while these wait.
 ghost use Rattle.std.specs.Prelude.{◌≡◌, ℕ, List, true, IfErr};
 ghost use Rattle.flow_law.specs.declared.call.SharedCall.TheVariants as call;
 ghost use Rattle.flow_law.specs.declared.call.SharedReply.TheVariants as reply;
@@ -40,7 +40,7 @@ impl<T: FlowValue, A: Allocator + Copy> Attended<SharedCore<T, A>, A> {
         }
     }
 
-    /// Emits a value. If the emitter is to wait, the caller sleeps.
+    /// Emits a value. If the emission has to wait, the caller sleeps.
     pub(crate) fn emit_or_sleep<W: Waiter<A>>(
         &mut self,
         waiter: &mut W,
@@ -110,8 +110,8 @@ impl<T: FlowValue, A: Allocator + Copy> SleepingCall<SharedCore<T, A>, A> for Po
 }
 
 impl<T: FlowValue, A: Allocator + Copy> Flow<SharedCore<T, A>, A> {
-    /// As `emit_now`, for a caller that sleeps while its emission waits. If another caller is inside, the task that is
-    /// polled asks to be polled again.
+    /// Does the same as `emit_now`. If the emission waits, the caller sleeps. If another caller is inside, the task
+    /// asks to be polled again.
     pub(crate) fn emit_or_sleep(
         &self,
         seat: Seat<T, A>,
@@ -137,8 +137,8 @@ impl<T: FlowValue, A: Allocator + Copy> Flow<SharedCore<T, A>, A> {
         }
     }
 
-    /// As `poll_now`, for a caller that sleeps while its emission waits. If another caller is inside, the task that is
-    /// polled asks to be polled again.
+    /// Does the same as `poll_now`. If the emission waits, the caller sleeps. If another caller is inside, the task
+    /// asks to be polled again.
     pub(crate) fn poll_or_sleep(
         &self,
         emission: Emission<T, A>,

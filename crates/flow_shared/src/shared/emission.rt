@@ -17,7 +17,7 @@ use flow_law::{Emit, FlowValue, Refused};
 use std::alloc::Allocator;
 use std::sync::Wait;
 
-/// The answer to an emission, with the token that its caller has then.
+/// Returns the answer to an emission, with the token that the caller then has.
 pub(super) fn answered<T: FlowValue, A: Allocator + Copy>(
     seat: flow_gate::Seat<Attended<SharedCore<T, A>, A>, A>,
     answer: Result<Emit, Refused<T>>,
@@ -39,8 +39,8 @@ pub(super) fn answered<T: FlowValue, A: Allocator + Copy>(
 }
 
 impl<T: FlowValue, A: Allocator + Copy> Flow<SharedCore<T, A>, A> {
-    /// Emits a value, if it need not wait for subscribers: `true` where the flow took it or, under `DropLatest`,
-    /// dropped it. At `false` an `emit` would wait; the value is dropped then, and nothing has changed.
+    /// Emits a value if it need not wait for subscribers, and returns `true` if the flow took it or, under
+    /// `DropLatest`, dropped it. At `false` an `emit` would wait; the value is dropped, and nothing changes.
     pub fn try_emit<R: Wait>(
         &self,
         rt: &R,
@@ -55,10 +55,10 @@ impl<T: FlowValue, A: Allocator + Copy> Flow<SharedCore<T, A>, A> {
         self.call(rt, seat, TryEmit { value })
     }
 
-    /// Emits a value, or puts it where it waits.
+    /// Emits a value, or queues it.
     ///
-    /// The seat goes with the emission: a caller who waits makes no other call through it. At `Queued`, `poll_emit` tells
-    /// for how long the emission waits, and `cancel` ends the wait.
+    /// The seat goes with the emission: a caller that waits makes no other call through it. At `Queued`, `poll_emit`
+    /// returns whether the emission still waits, and `cancel` ends the wait.
     pub fn emit<R: Wait>(&self, rt: &R, seat: Seat<T, A>, value: T) -> Emitted<T, A>
         requires { seat.table_id ≡ self.now.table_id }
         ensures emits { Emits self.now seat value result }
@@ -69,7 +69,8 @@ impl<T: FlowValue, A: Allocator + Copy> Flow<SharedCore<T, A>, A> {
         answered(own, answer)
     }
 
-    /// Whether the emission still waits. Where it does not, it was emitted and received, and its seat comes back.
+    /// Returns whether the emission still waits. If it does not, it was emitted and received, and the answer has its
+    /// seat.
     pub fn poll_emit<R: Wait>(&self, rt: &R, emission: Emission<T, A>) -> Polled<T, A>
         requires { emission.token.table_id ≡ self.now.table_id }
         ensures { Polls self.now emission result }
@@ -83,9 +84,9 @@ impl<T: FlowValue, A: Allocator + Copy> Flow<SharedCore<T, A>, A> {
         }
     }
 
-    /// Ends the wait of an emission, and answers whether it waited.
+    /// Cancels an emission, and returns whether it waited.
     ///
-    /// A queued value is lost. An offered one is no more for those who have not received it.
+    /// A queued value is never emitted. An offered one is withdrawn from the subscribers that have not received it.
     pub fn cancel<R: Wait>(&self, rt: &R, emission: Emission<T, A>) -> (Seat<T, A>, bool)
         requires { emission.token.table_id ≡ self.now.table_id }
         ensures { Calls self.now emission.token (call.Cancel emission.number)

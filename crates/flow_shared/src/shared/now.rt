@@ -1,4 +1,4 @@
-//! Emissions that do not wait: where another caller is inside they answer `Busy` and have done nothing.
+//! Emissions that do not wait: if another caller is inside, they answer `Busy` and have done nothing.
 ghost use Rattle.std.specs.Prelude.{◌≡◌};
 ghost use Rattle.flow_shared.specs.SharedReplies.{EmitsNow, PollsNow, CancelsNow};
 
@@ -13,7 +13,7 @@ use flow_law::{FlowFault, FlowValue};
 use std::alloc::Allocator;
 
 impl<T: FlowValue, A: Allocator + Copy> Flow<SharedCore<T, A>, A> {
-    /// `emit`, where nobody is inside.
+    /// Emits a value as `emit` does if no other caller is inside; otherwise returns it with `Busy`.
     pub fn emit_now(&self, seat: Seat<T, A>, value: T) -> Emitted<T, A>
         requires { seat.table_id ≡ self.now.table_id }
         ensures { EmitsNow self.now seat value result }
@@ -32,7 +32,7 @@ impl<T: FlowValue, A: Allocator + Copy> Flow<SharedCore<T, A>, A> {
         }
     }
 
-    /// `poll_emit`, where nobody is inside.
+    /// Polls an emission as `poll_emit` does if no other caller is inside; otherwise returns it as `Busy`.
     pub fn poll_now(&self, emission: Emission<T, A>) -> PolledNow<T, A>
         requires { emission.token.table_id ≡ self.now.table_id }
         ensures { PollsNow self.now emission result }
@@ -50,7 +50,7 @@ impl<T: FlowValue, A: Allocator + Copy> Flow<SharedCore<T, A>, A> {
         }
     }
 
-    /// `cancel`, where nobody is inside. Else the emission comes back.
+    /// Cancels an emission as `cancel` does if no other caller is inside; otherwise returns it.
     pub fn cancel_now(&self, emission: Emission<T, A>) -> Result<(Seat<T, A>, bool), Emission<T, A>>
         requires { emission.token.table_id ≡ self.now.table_id }
         ensures { CancelsNow self.now emission result }

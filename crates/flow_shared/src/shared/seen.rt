@@ -1,4 +1,4 @@
-//! What holds of all that a token of a shared flow has seen.
+//! The laws of what a token of a shared flow has seen.
 ghost use Rattle.std.specs.Prelude.{◌≡◌, ℕ, IsSome};
 ghost use Rattle.flow_law.specs.History.{IsHistory};
 ghost use Rattle.flow_law.specs.Lagging.{EachLags};
@@ -15,8 +15,8 @@ use flow_law::FlowValue;
 use std::alloc::Allocator;
 
 impl<T: FlowValue, A: Allocator + Copy> Flow<SharedCore<T, A>, A> {
-    /// Proves the laws of shared flows for what the seat has seen, no matter who made the flow. It makes no call of the
-    /// flow, changes nothing and does not wait.
+    /// Proves the laws of shared flows for what the seat has seen, whichever caller made the flow. It makes no call of
+    /// the flow, changes nothing and does not wait.
     ///
     /// Call it on a lent flow, to conclude what a subscriber received or missed, how long an emission waits, or that no
     /// value waits in the queue.

@@ -1,4 +1,4 @@
-//! Emissions whose threads sleep while they wait.
+//! Emissions of threads that sleep while these wait.
 ghost use Rattle.std.specs.Prelude.{◌≡◌, IfErr};
 ghost use Rattle.flow_sleepers.specs.Waiters.{IsToldToWait};
 ghost use Rattle.flow_shared.specs.EmitFutures.{Ends};
@@ -18,7 +18,7 @@ use std::alloc::Allocator;
 use std::sync::Wait;
 
 impl<T: FlowValue, A: Allocator + Copy> Flow<SharedCore<T, A>, A> {
-    /// As `emit`, for a caller that sleeps while its emission waits.
+    /// Does the same as `emit`. If the emission waits, the caller sleeps.
     pub(super) fn emit_asleep<R: Wait, W: Waiter<A>>(
         &self,
         rt: &R,
@@ -36,7 +36,7 @@ impl<T: FlowValue, A: Allocator + Copy> Flow<SharedCore<T, A>, A> {
         answered(own, answer)
     }
 
-    /// As `poll_emit`, for a caller that sleeps while its emission waits.
+    /// Does the same as `poll_emit`. If the emission waits, the caller sleeps.
     pub(super) fn poll_asleep<R: Wait, W: Waiter<A>>(
         &self,
         rt: &R,

@@ -1,4 +1,4 @@
-//! Subscribers of a shared flow for several threads that get values of their own first.
+//! Subscribers of a shared flow that get values of their own first.
 ghost use Rattle.std.specs.Prelude.{◌≡◌, ◌⊎◌, IfErr};
 ghost use Rattle.flow_law.specs.History.{fault_alone};
 ghost use Rattle.flow_law.specs.declared.fault.FlowFault.TheVariants.{OutOfMemory, Exhausted};
@@ -49,10 +49,9 @@ impl<T: FlowValue, A: Allocator + Copy> CoreCall<SharedCore<T, A>> for Subscribe
 }
 
 impl<T: FlowValue, A: Allocator + Copy> Flow<SharedCore<T, A>, A> {
-    /// A new subscriber, who gets these values of its own before any value of the flow (`onSubscription`).
+    /// Adds a subscriber, as `subscribe` does. It gets these values before any value of the flow (`onSubscription`).
     ///
-    /// They take no number and are in no cache, no strategy drops them, and they block no emitter. A refusal hands them
-    /// back. All else is as with `subscribe`.
+    /// They take no number, are in no replay cache, are never dropped, and block no emitter. An error returns them.
     pub fn subscribe_with<R: Wait>(
         &self,
         rt: &R,

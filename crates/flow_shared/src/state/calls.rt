@@ -1,4 +1,4 @@
-//! The calls that state flows alone have.
+//! The calls that only state flows have.
 ghost use Rattle.std.specs.Prelude.{◌≡◌, Err, IsOk, ⊤};
 ghost use Rattle.flow_law.specs.declared.fault.FlowFault.TheVariants.{Unsupported};
 ghost use Rattle.flow_law.specs.declared.call.StateCall.TheVariants as call;

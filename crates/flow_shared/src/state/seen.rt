@@ -1,4 +1,4 @@
-//! What holds of all that a token of a state flow has seen.
+//! The laws of what a token of a state flow has seen.
 ghost use Rattle.std.specs.Prelude.{◌≡◌, ℕ};
 ghost use Rattle.flow_law.specs.Conflation.{Conflates};
 ghost use Rattle.flow_law.specs.Current.{Converges, IsThere};
@@ -11,8 +11,8 @@ use flow_law::FlowValue;
 use std::alloc::Allocator;
 
 impl<T: FlowValue, A: Allocator + Copy> Flow<StateCore<T, A>, A> {
-    /// Proves the laws of state flows for what the seat has seen, no matter who made the flow. It makes no call of the
-    /// flow, changes nothing and does not wait.
+    /// Proves the laws of state flows for what the seat has seen, whichever caller made the flow. It makes no call of
+    /// the flow, changes nothing and does not wait.
     ///
     /// Call it on a lent flow, to conclude what a subscriber received, or that it comes to the current value.
     pub fn seen(&self, seat: &mut StateSeat<T, A>)
