@@ -1,4 +1,4 @@
-//! The calls and replies of flows, as histories have them. Contracts alone speak of them; no value of these types is made.
+//! The calls and replies of flows, as histories have them. Only contracts use these types; no value of them is made.
 ghost use Rattle.std.specs.Prelude.{◌≡◌};
 
 use crate::fault::FlowFault;
@@ -24,7 +24,7 @@ pub enum SharedCall<T> {
     SubscriptionCount,
 }
 
-/// What a shared flow replies.
+/// A reply of a shared flow.
 pub enum SharedReply<T> {
     Emitted(Emit),
     /// Of `try_emit`, `poll`, `cancel` and `unsubscribe`.
@@ -55,7 +55,7 @@ pub enum StateCall<T> {
     ResetReplayCache,
 }
 
-/// What a state flow replies.
+/// A reply of a state flow.
 pub enum StateReply<T> {
     Done,
     Got(T),

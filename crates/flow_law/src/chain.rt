@@ -3,22 +3,22 @@ ghost use Rattle.std.specs.Prelude.{◌≡◌};
 
 use thiserror::Error;
 
-/// Why a chain failed. A fault ends the chain; the items before it were given.
+/// Why a chain failed. A fault ends the chain; the items before it were emitted.
 #[derive(Clone, Copy, Debug, PartialEq, Eq, Error)]
 pub enum ChainFault {
-    /// Memory was wanted and not given. The chain can be started anew.
+    /// Memory was refused. The chain can be started again.
     #[error("out of memory")]
     OutOfMemory,
     /// A result is outside the range of its type.
     #[error("a result is outside the range of its type")]
     Overflow,
-    /// `take` wants a positive count.
+    /// `take` needs a positive count.
     #[error("`take` wants a positive count")]
     NotPositive,
-    /// The source failed, with a number of its own.
+    /// The source failed with this number.
     #[error("the source failed with {0}")]
     Source(u32),
-    /// A chain that is built at run time may be 64 deep.
+    /// A chain that is built at run time is at most 64 deep.
     #[error("a chain may be 64 deep")]
     TooDeep,
 }

@@ -1,22 +1,22 @@
-//! How a shared flow is made.
+//! The configuration of a shared flow.
 ghost use Rattle.std.specs.Prelude.{◌≡◌};
 
-/// What an emission does where some subscriber has a whole buffer of values still to receive (`BufferOverflow`).
-/// Without a subscriber the strategy has no effect.
+/// What an emission does if a subscriber has a whole buffer of values still to receive (`BufferOverflow`). Without a
+/// subscriber the strategy has no effect.
 #[derive(Clone, Copy, Debug, PartialEq, Eq)]
 pub enum Overflow {
     /// The emitter waits.
     Suspend,
-    /// The oldest values are dropped for those who have not received them.
+    /// The oldest values are dropped for the subscribers that have not received them.
     DropOldest,
     /// The new value is dropped.
     DropLatest,
 }
 
-/// How a shared flow keeps its values, and how many numbers it may issue.
+/// How many values a shared flow keeps, and how many numbers it may issue.
 ///
-/// `replay` values are kept for new subscribers, and `extra` more for slow ones (`extraBufferCapacity`). Together they
-/// may come to 65,536. Each subscription, and each value that is accepted, takes one number; `limit` of them are issued.
+/// It keeps `replay` values for new subscribers, and `extra` more for slow ones (`extraBufferCapacity`), together at
+/// most 65,536. Each subscription and each accepted value takes one number; the flow issues at most `limit` of them.
 #[derive(Clone, Copy, Debug, PartialEq, Eq)]
 pub struct Config {
     pub replay: u32,
@@ -26,8 +26,7 @@ pub struct Config {
 }
 
 impl Config {
-    /// The defaults of `MutableSharedFlow()`: no value is kept for new subscribers, none for slow ones, emitters wait, and
-    /// there is no limit.
+    /// Returns the defaults of `MutableSharedFlow()`: replay 0, no extra buffer, emitters wait, and no limit.
     pub const fn new() -> Self
         ensures { result ≡ record { replay = 0; extra = 0; overflow = Overflow.Suspend; limit = 18446744073709551615 } }
     {
@@ -39,28 +38,28 @@ impl Config {
         }
     }
 
-    /// So many values for new subscribers.
+    /// Keeps so many values for new subscribers.
     pub const fn replay(self, replay: u32) -> Self
         ensures { result ≡ record self { replay = replay } }
     {
         Config { replay, ..self }
     }
 
-    /// So many values more for slow subscribers (`extraBufferCapacity`).
+    /// Keeps so many more values for slow subscribers (`extraBufferCapacity`).
     pub const fn extra(self, extra: u32) -> Self
         ensures { result ≡ record self { extra = extra } }
     {
         Config { extra, ..self }
     }
 
-    /// What an emission does where some subscriber is a whole buffer behind (`onBufferOverflow`).
+    /// Sets what an emission does if a subscriber is a whole buffer behind (`onBufferOverflow`).
     pub const fn overflow(self, overflow: Overflow) -> Self
         ensures { result ≡ record self { overflow = overflow } }
     {
         Config { overflow, ..self }
     }
 
-    /// The flow issues at most so many numbers.
+    /// Lets the flow issue at most so many numbers.
     pub const fn limit(self, limit: u64) -> Self
         ensures { result ≡ record self { limit = limit } }
     {

@@ -1,4 +1,4 @@
-//! Why the call of a handle is refused: for each kind of call an error that lists only what this call can answer.
+//! The errors of handles: for each kind of call, an error that lists only what the call can answer.
 ghost use Rattle.std.specs.Prelude.{◌≡◌};
 ghost use Rattle.flow_law.specs.HandleFaults.{memory_fault, limit_fault, busy_fault, unsupported_fault, number_fault, emit_now_fault, try_next_fault};
 
@@ -6,7 +6,7 @@ use crate::fault::FlowFault;
 use std::fmt::{Debug, Display};
 use thiserror::Error;
 
-/// Memory was wanted and not given. The call can be made again.
+/// Memory was refused. The call can be made again.
 #[derive(Clone, Copy, Debug, PartialEq, Eq, Error)]
 #[error("out of memory")]
 pub struct OutOfMemory;
@@ -21,12 +21,12 @@ pub struct Exhausted;
 #[error("another caller was inside the flow")]
 pub struct Busy;
 
-/// A state flow keeps its value: its replay cache cannot be reset.
+/// A state flow always has a value, so its replay cache cannot be reset.
 #[derive(Clone, Copy, Debug, PartialEq, Eq, Error)]
 #[error("a state flow's replay cache cannot be reset")]
 pub struct Unsupported;
 
-/// Why a call that is to issue a number is refused: an `emit` or a `subscribe`.
+/// Why a call that issues a number fails: an `emit` or a `subscribe`.
 #[derive(Clone, Copy, Debug, PartialEq, Eq, Error)]
 pub enum NumberError {
     #[error("out of memory")]
@@ -36,7 +36,7 @@ pub enum NumberError {
     Exhausted,
 }
 
-/// Why an `emit_now` is refused.
+/// Why an `emit_now` fails.
 #[derive(Clone, Copy, Debug, PartialEq, Eq, Error)]
 pub enum EmitNowError {
     #[error("out of memory")]
@@ -49,7 +49,7 @@ pub enum EmitNowError {
     Busy,
 }
 
-/// Why a `try_next` is refused.
+/// Why a `try_next` fails.
 #[derive(Clone, Copy, Debug, PartialEq, Eq, Error)]
 pub enum TryNextError {
     #[error("out of memory")]
@@ -59,7 +59,7 @@ pub enum TryNextError {
     Busy,
 }
 
-/// A refused call of a handle hands its value back, with the reason.
+/// The value of a refused call of a handle, with the reason.
 #[derive(Debug, PartialEq, Eq, Drop, Error)]
 #[error_bound(T: Debug, E: Debug + Display)]
 #[error("{error}")]

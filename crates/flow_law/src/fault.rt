@@ -1,4 +1,4 @@
-//! Why a call is refused.
+//! Why a call of a flow is refused.
 ghost use Rattle.std.specs.Prelude.{◌≡◌};
 
 use std::fmt::Debug;
@@ -7,19 +7,19 @@ use thiserror::Error;
 /// Why a call of a flow was refused. A refused call has changed nothing.
 #[derive(Clone, Copy, Debug, PartialEq, Eq, Error)]
 pub enum FlowFault {
-    /// Memory was wanted and not given. The call can be made again.
+    /// Memory was refused. The call can be made again.
     #[error("out of memory")]
     OutOfMemory,
-    /// `replay` and `extra` come to more than 65,536.
+    /// `replay + extra` is over 65,536.
     #[error("a flow keeps at most 65536 values, `replay` and `extra` together")]
     TooLarge,
-    /// Only `Overflow::Suspend` does without a buffer.
+    /// A strategy that drops values needs a buffer.
     #[error("a strategy that drops values needs a buffer")]
     NeedsBuffer,
     /// The flow has issued as many numbers as its limit allows.
     #[error("the flow has issued as many numbers as its limit allows")]
     Exhausted,
-    /// A state flow keeps its value: its replay cache cannot be reset.
+    /// A state flow always has a value, so its replay cache cannot be reset.
     #[error("a state flow's replay cache cannot be reset")]
     Unsupported,
     /// Another caller was inside the flow at that moment. Nothing was done.
@@ -27,7 +27,7 @@ pub enum FlowFault {
     Busy,
 }
 
-/// A refused call hands its value back. `?` makes it a `FlowFault` where a function answers that, and drops the value.
+/// The value of a refused call, with the reason. `?` makes it a `FlowFault`, and drops the value.
 #[derive(Debug, PartialEq, Eq, Drop, Error)]
 #[error_bound(T: Debug)]
 #[error("{fault}")]

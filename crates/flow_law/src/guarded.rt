@@ -1,12 +1,12 @@
-//! What a lock guards whose tokens have seen histories.
+//! What a lock guards if its tokens have seen histories.
 ghost use Rattle.std.specs.Prelude.{List};
 ghost use Rattle.flow_law.specs.declared.history.Event.{Event};
 
-/// A state that one caller at a time may change. It says, for contracts, for which histories it stands.
+/// A state that one caller at a time may change. For contracts, it says for which histories it stands.
 pub trait Guarded {
     /// What one event says.
     type Said;
 
-    /// From the state that all began with: a state, and a history that it stands for.
+    /// The first state, a state, and a history for which it stands.
     ghost stands: { Self → Self → List (Event Self.Said) → Type 0 };
 }

@@ -3,8 +3,8 @@ ghost use Rattle.std.specs.Prelude.{◌≡◌};
 
 use crate::sequence::Sequence;
 
-/// One event of a history: the name of the token through which the call was made, and what the event says. Contracts
-/// alone speak of events; no value of this type is made.
+/// One event of a history: the name of the token through which the call was made, and what the event says. Only
+/// contracts use events; no value of this type is made.
 pub struct Event<E> {
     pub name: Sequence<u64>,
     pub what: E,
@@ -16,13 +16,13 @@ pub struct Said<C, R> {
     pub reply: R,
 }
 
-/// What a token of a flow for several threads knows. Contracts alone speak of it; no value of this type is made.
+/// What a token of a flow for several threads knows. Only contracts use it; no value of this type is made.
 pub struct Knowledge<E> {
-    /// The first seat's name is empty, and the j-th that is made through a seat has that seat's name followed by j.
+    /// The first seat's name is empty. The j-th seat made through a seat has that seat's name followed by j.
     pub name: Sequence<u64>,
-    /// How many seats were made through it.
+    /// The number of seats made through it.
     pub made: u64,
-    /// How many exchanges at the gate it lost.
+    /// The number of exchanges at the gate that it lost.
     pub lost: u64,
     /// The history that it has seen.
     pub seen: Sequence<Event<E>>,

@@ -1,8 +1,7 @@
 //! The types, definitions and laws of flows.
 //!
-//! Nothing runs here but copies and comparisons of values. `specs/` says what a shared flow, a state flow and a
-//! chain are, what a history of one is, and when a core stands for a state. Each crate above is proved against these
-//! definitions, and cites nothing else of its neighbours.
+//! Only copies and comparisons of values run here. `specs/` says what a shared flow, a state flow and a chain are, what
+//! a history of one is, and when a core stands for a state. Each crate above is proved against these definitions.
 #![tactic(auto)]
 
 mod call;

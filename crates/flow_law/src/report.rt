@@ -1,4 +1,4 @@
-//! What a turn of a sharing reports, and why it is refused.
+//! The report of a sharing's turn, and why one is refused.
 ghost use Rattle.std.specs.Prelude.{◌≡◌};
 
 use crate::chain::ChainFault;
@@ -6,7 +6,7 @@ use crate::fault::FlowFault;
 use crate::sharing::Command;
 use thiserror::Error;
 
-/// What a turn came to.
+/// What happened in a turn.
 #[derive(Clone, Copy, Debug, PartialEq, Eq)]
 pub enum Event {
     /// Another caller was inside the flow at that moment. The next turn goes on there.
@@ -30,24 +30,24 @@ pub enum Event {
 pub struct Report {
     /// What the number of subscribers asked for.
     pub command: Command,
-    /// What came of it.
+    /// What happened.
     pub event: Event,
 }
 
 /// Why a turn was refused, or no sharing was made.
 #[derive(Clone, Copy, Debug, PartialEq, Eq, Error)]
 pub enum ShareFault {
-    /// The moment is before the last one, which it carries. The subscribers were counted, and nothing was observed.
+    /// The moment is before the last one, which this has. The subscribers were counted, and nothing was observed.
     #[error("the moment is before the last one, {0}")]
     Backwards(u64),
-    /// A turn before has answered a fault of the chain. Nothing has changed.
+    /// An earlier turn has answered a fault of the chain. Nothing has changed.
     #[error("the sharing has ended by a fault of its chain")]
     Ended,
-    /// The chain failed. It is told once, and the sharing has ended.
+    /// The chain failed, and the sharing has ended. Later turns answer `Ended`.
     #[error("the chain failed: {0}")]
     Chain(ChainFault),
-    /// The flow refused a call. The command of the observation stands, though no report carries it, and the next turn
-    /// goes on there.
+    /// The flow refused a call. The command of the observation holds, though no report has it, and the next turn goes
+    /// on there.
     #[error("the flow refused a call: {0}")]
     Flow(FlowFault),
 }

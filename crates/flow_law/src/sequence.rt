@@ -1,10 +1,10 @@
-//! Lists, as contracts speak of them.
+//! Lists, for contracts.
 ghost use Rattle.std.specs.Prelude.{◌≡◌, List, []};
 
 use std::marker::{Model, PhantomData};
 
-/// A list in a type of which contracts alone speak. No value of this type is made, so it has no room for items, and
-/// nothing is to be dropped with it.
+/// A list in a type that only contracts use. No value of this type is made, so it has no room for items, and nothing is
+/// dropped with it.
 #[derive(Drop)]
 pub struct Sequence<T> {
     items: PhantomData<T>,

@@ -1,10 +1,10 @@
-//! When a cold flow that is shared runs (`SharingStarted`).
+//! When a shared cold flow runs (`SharingStarted`).
 ghost use Rattle.std.specs.Prelude.{◌≡◌};
 
 /// A `stop` or an `expire` that never comes.
 pub const NEVER: u64 = u64::MAX;
 
-/// When the sharing of a cold flow starts and stops, by the number of subscribers (`SharingStarted`).
+/// When the sharing of a cold flow starts and stops, depending on the number of subscribers (`SharingStarted`).
 #[derive(Clone, Copy, Debug, PartialEq, Eq)]
 pub enum Started {
     /// From the first observation on. It never stops.
@@ -12,22 +12,22 @@ pub enum Started {
     /// From the first subscriber on. It never stops.
     Lazily,
     /// While there are subscribers, and `stop` milliseconds longer (`stopTimeoutMillis`). It starts again with the next
-    /// subscriber. `expire` milliseconds after the stop the flow forgets what it replays (`replayExpirationMillis`): a
-    /// shared flow empties its replay cache, a state flow goes back to its initial value.
-    /// A `stop` of `NEVER` means that it never stops once it has started, an `expire` of `NEVER` that nothing is forgotten.
+    /// subscriber. `expire` milliseconds after the stop the flow is reset (`replayExpirationMillis`): a shared flow
+    /// empties its replay cache, a state flow gets its initial value again. With a `stop` of `NEVER` it never stops
+    /// once it has started, and with an `expire` of `NEVER` the flow is never reset.
     WhileSubscribed { stop: u64, expire: u64 },
 }
 
 /// What an observation asks of a sharing.
 #[derive(Clone, Copy, Debug, PartialEq, Eq)]
 pub enum Command {
-    /// It did not run and runs now: the cold flow is collected from its beginning.
+    /// Run: the cold flow is collected from its beginning.
     Start,
-    /// It ran and runs no more.
+    /// Stop running.
     Stop,
-    /// The time has come to forget what the flow replays. The sharing does not run: it stops now, or has stopped before.
+    /// Reset the flow. The sharing does not run: it stops now, or has stopped before.
     StopAndReset,
-    /// It goes on running, or goes on resting.
+    /// Go on running, or not running.
     Keep,
 }
 
@@ -35,6 +35,6 @@ pub enum Command {
 #[derive(Clone, Copy, Debug, PartialEq, Eq)]
 pub struct SharingObservation {
     pub moment: u64,
-    /// How many subscribers there were.
+    /// The number of subscribers.
     pub count: u64,
 }

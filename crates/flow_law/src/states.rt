@@ -1,16 +1,16 @@
-//! The states of documented flows. Contracts alone speak of them; no value of these types is made.
+//! The states of documented flows. Only contracts use these types; no value of them is made.
 ghost use Rattle.std.specs.Prelude.{◌≡◌};
 
 use crate::config::Config;
 use crate::sequence::Sequence;
 
-/// A value with the number that it took when it was accepted.
+/// A value with the number that was issued to it when it was accepted.
 pub struct Numbered<T> {
     pub value: T,
     pub number: u64,
 }
 
-/// A subscriber: its number, what is left of its own first values, and how many emitted values lie behind it.
+/// A subscriber: its number, what is left of its own first values, and its position among the emitted values.
 pub struct Subscriber<T> {
     pub number: u64,
     pub own: Sequence<T>,
@@ -22,13 +22,13 @@ pub struct SharedFlowState<T> {
     pub config: Config,
     /// Every value ever emitted, in order. It is never cut.
     pub emitted: Sequence<Numbered<T>>,
-    /// How many values had been emitted at the last reset.
+    /// The number of values that had been emitted at the last reset.
     pub reset_mark: u64,
     /// The values whose emitters wait, the first one in front.
     pub queue: Sequence<Numbered<T>>,
     /// In the order in which they subscribed, so in the order of their numbers.
     pub subscribers: Sequence<Subscriber<T>>,
-    /// How many numbers were issued. The next one is one more.
+    /// The number of numbers issued. The next number is one more.
     pub issued: u64,
 }
 
@@ -40,19 +40,19 @@ pub struct StateSubscriber<T> {
 
 /// The state of a documented state flow.
 pub struct StateFlowState<T> {
-    /// The most numbers that it issues.
+    /// The greatest number of numbers that it issues.
     pub limit: u64,
     pub value: T,
     /// In the order in which they subscribed.
     pub subscribers: Sequence<StateSubscriber<T>>,
-    /// How many numbers were issued. The next one is one more.
+    /// The number of numbers issued. The next number is one more.
     pub issued: u64,
 }
 
 /// A documented shared flow into which a sharing emits.
 pub struct EmittingFlow<T> {
     pub flow: SharedFlowState<T>,
-    /// The number of the sharing's emission, where it waited when it was last asked.
+    /// The number of the sharing's emission, if it waited at the last poll.
     pub waiting: Option<u64>,
 }
 

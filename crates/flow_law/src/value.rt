@@ -24,7 +24,7 @@ pub trait FlowValue: Drop {
     /// Whether two values are the same.
     ghost is_same: { Self → Self → Bool };
 
-    /// That a copy of any value of the type is always given, since it needs no memory. A type that does not say so claims
+    /// That a copy of any value of the type never fails, because it takes no memory. A type that does not say so claims
     /// nothing.
     ghost IsAlwaysCopied: { Type 0 } = { ⊥ };
 
@@ -34,10 +34,10 @@ pub trait FlowValue: Drop {
         ensures memory { IfErr result (λ fault. fault ≡ FlowFault.OutOfMemory) }
         ensures given { IsAlwaysCopied → IsOk result };
 
-    /// Whether both are the same value.
+    /// Returns whether both are the same value.
     fn same(&self, other: &Self) -> bool
         ensures { result ≡ is_same self.now other.now };
 
-    /// It holds of equal values and of no others.
+    /// It holds of equal values, and of no others.
     ghost is_same_exact: { (x y : Self) → IsTrue (is_same x y) ↔ x ≡ y };
 }

@@ -1,4 +1,4 @@
-//! Boxed values as values of flows: each is what its box contains.
+//! Boxed values as values of flows. A box is what it contains.
 ghost use Rattle.std.specs.Prelude.{◌≡◌, ◌↔◌, IsTrue};
 ghost use Rattle.flow_law.specs.Values.{exact_eq, exact_partial_eq, exact_hash};
 
@@ -9,7 +9,7 @@ use std::fmt;
 use std::hash::{Hash, Hasher};
 use std::marker::Model;
 
-/// A boxed value. Two are the same where what they contain is.
+/// A boxed value. Two are the same if their contents are.
 #[derive(Drop)]
 pub struct Boxed<T: FlowValue, A: Allocator + Copy = Global> {
     boxed: Box<T, A>,

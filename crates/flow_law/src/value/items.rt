@@ -1,4 +1,4 @@
-//! Lists as values of flows: each is its values in order, wherever they lie and however much room there is.
+//! Lists as values of flows. A list is its values in order, wherever they are stored and however much room there is.
 ghost use Rattle.std.specs.Prelude.{◌≡◌, ◌↔◌, IsTrue, IfOk, IfErr};
 ghost use Rattle.std.specs.Fmt.{debug_list};
 ghost use Rattle.std.specs.Hash as fed;
@@ -11,7 +11,7 @@ use std::fmt;
 use std::hash::{Hash, Hasher};
 use std::marker::Model;
 
-/// A list of values. Two are the same where their values are, in order.
+/// A list of values. Two are the same if their values are, in order.
 #[derive(Drop)]
 pub struct Items<T: FlowValue, A: Allocator + Copy = Global> {
     values: Vec<T, A>,
@@ -60,7 +60,7 @@ fn copies<T: FlowValue, A: Allocator>(alloc: A, values: &[T]) -> Result<Vec<T, A
     Ok(copies)
 }
 
-/// Whether two lists have the same values in order.
+/// Returns whether two lists have the same values in order.
 fn is_same_slice<T: FlowValue>(values: &[T], others: &[T]) -> bool
     ensures { result ≡ is_same_list T.is_same values.now others.now }
 {

@@ -1,4 +1,4 @@
-//! Values that fit a word of 64 bits, for flows that keep their value in one.
+//! Values that fit a word of 64 bits, for flows that keep their value in one word.
 ghost use Rattle.std.specs.Char.{IsScalar};
 ghost use Rattle.std.specs.Int.{cast_signed};
 ghost use Rattle.std.specs.Prelude.{◌≡◌, ℕ, ◌^◌, ◌<◌, ◌==◌};
@@ -6,9 +6,8 @@ ghost use Rattle.std.proofs.Common.{sym, ◌∙◌};
 ghost use Rattle.flow_law.specs.Packs.{below_word, short_below, byte_below, bit_below, scalar_below, none_below, bit_once, signed_once};
 ghost use mir.Syntax.{w8, w16, w32, w64};
 
-/// A type whose values are packed into a word: a value has one pack, and two values never share one.
-///
-/// So words are compared in place of values.
+/// A type whose values are packed into a word. A value has one pack, and two values never share one, so words are
+/// compared instead of values.
 pub trait Packed {
     /// Which words are packs.
     ghost packs: { ℕ → Type 0 };
@@ -16,12 +15,12 @@ pub trait Packed {
     /// The value of a pack.
     ghost value_of: { ℕ → Self };
 
-    /// The pack of the value.
+    /// Returns the pack of the value.
     fn pack(self) -> u64
         ensures packs { packs result }
         ensures value { value_of result ≡ self };
 
-    /// The value of a pack.
+    /// Returns the value of a pack.
     fn unpack(word: u64) -> Self
         requires { packs word }
         ensures { result ≡ value_of word };
@@ -33,7 +32,7 @@ pub trait Packed {
     ghost one_pack: { (v w : ℕ) → packs v → packs w → value_of v ≡ value_of w → v ≡ w };
 }
 
-/// A type whose packs fit half a word, so that two of them, or one and a mark, fit a whole one.
+/// A type whose packs fit half a word, so that two of them, or one and a mark, fit a whole word.
 pub trait Half: Packed {
     ghost packs_half: { (w : ℕ) → Self.Packed.packs w → w < 2 ^ 32 };
 }
