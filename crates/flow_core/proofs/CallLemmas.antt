@@ -80,7 +80,7 @@ module _ {T : Type 0} where
       ap (λ o. next_from number o s) none ∙ ap (λ o. option_map_or (λ position. read number position s) o (answer Gone s)) at
       ∙ ap (λ o. option_map_or (λ value. answer (Value value) (settle (advance number (p + 1) s))) o (answer Empty s)) here
 
-  -- a `next` that has a value to copy may be refused for want of memory
+  -- a `next` that has a value to copy may be refused with `OutOfMemory`
   pub next_wants_memory : (number : ℕ) (v : T) (s after : SharedFlowState T) → own_of number s.subscribers ≡ [] → next number s ≡ answer (Value v) after
       → Replies s (call.TakeNext number) (reply.Refused OutOfMemory)
   next_wants_memory number v s after none all =

@@ -1,4 +1,4 @@
--- How a drain ends before it has taken enough: no value is there, the subscriber is gone, a call is refused, or memory is wanting.
+-- How a drain ends before it has taken enough: no value is there, the subscriber is gone, a call is refused, or memory is refused.
 use Rattle.std.proofs.Common.{◌≡◌, ◌≢◌, ℕ, ◌<◌, true, List, inl, inr, refl, sym, subst}
 use Rattle.std.specs.Prelude.{Result, Ok, Err}
 use Rattle.std.specs.Result.{is_ok, OnOk, IsErr}

@@ -7,7 +7,7 @@
 //!
 //! # Stopping
 //! Where a thread is refused memory, or one cannot be made, a flag is set that every thread reads while it waits. All
-//! then stop, and the answer is want of memory.
+//! then stop, and the answer is out of memory.
 #![tactic(auto)]
 
 mod caller;

@@ -45,7 +45,7 @@ draws_written known left old new bytes text drawn (Ok u) taken end is tells whol
 draws_written known left old new bytes text drawn (Err f) taken end is tells whole front fault =
     subst (λ f. Draws known old new (Err f)) (sym fault) (draws_front known left old new bytes text drawn front.0 taken end is tells front.1)
 
--- a refusal may be told as want of memory
+-- a refusal may be reported as out of memory
 memory-draws : (fault : ScriptFault) (known old mid : Option (List ℕ)) → IsRefusal fault → Draws known old mid (Err fault) → Draws known old mid (Err OutOfMemory)
 memory-draws OutOfMemory known old mid is draws = absurd is
 memory-draws ReadFailed known old mid is draws = absurd is

@@ -41,7 +41,7 @@ fn tell_usage<W: Write>(output: &mut Watched<W>) -> u8
     tell(output, "usage: flow_draw [--text | --explain]\n", REFUSED)
 }
 
-/// Tells why the arguments were not read: want of memory, or else that they are wrong.
+/// Tells why the arguments were not read: out of memory, or else that they are wrong.
 pub fn refuse_arguments<W: Write>(output: &mut Watched<W>, kind: ErrorKind) -> u8
     requires { has_failed output.old ≡ false }
     ensures memory { kind ≡ ErrorKind.OutOfMemory → Tells (has_failed output.new)
@@ -128,7 +128,7 @@ fn draw_script<R: Read, W: Write, E: Write>(
 ///
 /// Where a script is refused, `errors` gets some lines for people, which say where and why.
 ///
-/// 0: the script was drawn; 2: the script or the arguments were refused; 3: a read or a write failed; 4: want of memory.
+/// 0: the script was drawn; 2: the script or the arguments were refused; 3: a read or a write failed; 4: out of memory.
 /// After a write that failed no line is printed.
 pub fn run<R: Read, W: Write, E: Write>(
     alloc: Global,

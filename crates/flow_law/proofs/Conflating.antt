@@ -320,7 +320,7 @@ module _ {T : Type 0} where
   answered u limit room s m ReplayCache r a is = subst (λ k. Kept u limit room s m ReplayCache k) (sym is) (cached u limit (suc room) s m a, less u limit room s m a)
   answered u limit room s m ResetReplayCache r a is = (tt, less u limit room s m a)
 
-  -- want of memory
+  -- out of memory
   short : (u limit room : ℕ) (s : StateFlowState T) (m : Beside T) (c : StateCall T) → Along u limit (suc room) s m → MayNeedMemory s c → Kept u limit room s m c (Refused OutOfMemory)
   short u limit room s m GetValue a h = (tt, less u limit room s m a)
   short u limit room s m (Set x) a h = absurd h

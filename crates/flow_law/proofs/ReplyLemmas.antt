@@ -1,4 +1,4 @@
--- Each reply of a flow is the documented one, or want of memory.
+-- Each reply of a flow is the documented one, or out of memory.
 use Rattle.std.proofs.Common.{inl, inr, ◌≡◌, ◌⊎◌, not, ◌&&◌, refl}
 use Rattle.std.specs.Prelude.{IsTrue}
 use Rattle.flow_law.specs.declared.fault.FlowFault.TheVariants.{OutOfMemory}

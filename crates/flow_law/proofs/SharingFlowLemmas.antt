@@ -119,7 +119,7 @@ module _ {T : Type 0} where
 
 -- ---- a state flow
 
--- it is not refused but for want of memory
+-- it is not refused except with `OutOfMemory`
 abbrev IsAmple : {R : Type 0} → Result R FlowFault → Type 0
 IsAmple (Ok r) = Unit {0}
 IsAmple (Err fault) = fault ≡ OutOfMemory

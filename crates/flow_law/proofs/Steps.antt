@@ -322,7 +322,7 @@ module _ {T : Type 0} where
   answer_good u b s m sound usable h call.ResetReplayCache = (quiet u b s (forget s) m (boxed_same u b s (forget s) m h refl refl (omega arith) (λ p at. at) refl) refl, sym (append-nil m.taken))
   answer_good u b s m sound usable h call.SubscriptionCount = idle u b (window s) s m h
 
-  -- each legal reply, want of memory included
+  -- each legal reply, `OutOfMemory` included
   pub event_good : (u : ℕ) (b : Beginning T) (s : SharedFlowState T) (m : Mailbox T) → Sound s → (s.config.overflow ≡ DropOldest → 0 < capacity s) → Boxed u s m b
       → (c : SharedCall T) (r : SharedReply T) → Replies s c r → Good u s m b c r (after s c r)
   event_good u b s m sound usable h c r legal = elim (replies_cases s c r legal) as (λ _. Good u s m b c r (after s c r)) [

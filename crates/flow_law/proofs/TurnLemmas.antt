@@ -111,7 +111,7 @@ module _ {T H F : Type 0} (does : (c : HubCall T) → H → HubAnswer c → H �
 
 -- ---- a flow that answers by a function
 
--- want of memory, of the hub or of the chain
+-- out of memory, of the hub or of the chain
 abbrev LacksMemory : {T : Type 0} → (c : TurnCall T) → TurnAnswer c → Type 0
 LacksMemory (to_hub call) answer = answer ≡ Err OutOfMemory
 LacksMemory {T} asks answer = ◌≡◌ {A = ChainAnswer T} answer (end (Failed chain_fault.OutOfMemory))
@@ -222,7 +222,7 @@ module _ {T F : Type 0} (does : (c : HubCall T) → F → HubAnswer c → F → 
       ]
   call-plays either rewinds s t a told = inl (ap (λ (x : ChainAndHub T F). record { result = a; state = x }) (sym told))
 
-  -- where the answer tells no want of memory, the turn is the one over a flow that answers so
+  -- where the answer does not say that memory was refused, the turn is the one over a flow that answers so
   pub turn-plays : ((c : HubCall T) (f g : F) (a : HubAnswer c) → does c f a g → (reply c f ≡ record { result = a; state = g }) ⊎ (a ≡ Err OutOfMemory))
       → (started : Started) (now : ℕ) (seen : List SharingObservation) (s : SharingState T) (old new : ChainAndHub T F) (turned : Turned T)
       → Takes (CallDoes does) (turn_steps started now seen s) old turned new → HadMemory turned.answer

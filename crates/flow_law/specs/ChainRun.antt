@@ -42,7 +42,7 @@ module _ {T : Type 0} where
   list_run [] = ends Completed
   list_run (x ∷ xs) = gives x (list_run xs)
 
-  -- all items and the end, or a first part of the items and want of memory
+  -- all items and the end, or a first part of the items and out of memory
   abbrev pub Collects : ChainRun T → List T → End → Type 0
   Collects r xs e =
       ((xs ≡ items r) × (e ≡ ending r))

@@ -44,7 +44,7 @@ config_fault config =
     if nat_lt largest_capacity (config.replay + config.extra) then Some TooLarge
     else (if (config.replay + config.extra == 0) && not (needs_no_buffer config.overflow) then Some NeedsBuffer else None)
 
--- why no flow was made of a configuration: for its fault, and for want of memory only where it has none
+-- why no flow was made of a configuration: for its fault, and with `OutOfMemory` only if it has none
 abbrev pub NoFlow : Config → FlowFault → Type 0
 NoFlow config fault = (config_fault config ≡ Some fault) ⊎ ((config_fault config ≡ None) × (fault ≡ OutOfMemory))
 

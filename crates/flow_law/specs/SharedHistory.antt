@@ -52,7 +52,7 @@ module _ {T : Type 0} where
   hands_out (reply.Cached (v ∷ vs)) = true
   hands_out _ = false
 
-  -- The calls that may be refused for want of memory, by the state too: those that make the queue or the subscribers more, or
+  -- The calls that may be refused with `OutOfMemory`, by the state too: those that make the queue or the subscribers more, or
   -- that copy a value. Room for the values that a flow keeps is made with the flow, so no `try_emit` needs any.
   abbrev pub may_need_memory : SharedFlowState T → SharedCall T → Bool
   may_need_memory s (call.Emit v) = is_suspended (emit_case s)
@@ -62,7 +62,7 @@ module _ {T : Type 0} where
   may_need_memory s call.ReplayCache = hands_out (answer_to call.ReplayCache s).reply
   may_need_memory s _ = false
 
-  -- Want of memory is a reply to a call that may need memory and is not refused otherwise. Any other reply is the flow's own.
+  -- Out of memory is a reply to a call that may need memory and is not refused otherwise. Any other reply is the flow's own.
   abbrev pub Replies : SharedFlowState T → SharedCall T → SharedReply T → Type 0
   Replies s c (reply.Refused OutOfMemory) = IsTrue (may_need_memory s c && not (is_refused (answer_to c s).reply))
   Replies s c r = r ≡ (answer_to c s).reply

@@ -71,7 +71,7 @@ module _ {T : Type 0} where
   rest_after (pends r) = r
   rest_after (ends e) = ends Completed
 
-  -- the first entry of what is left, which is taken off it. Want of memory may come in its place, and ends the chain
+  -- the first entry of what is left, which is taken off it. `OutOfMemory` may come in its place, and ends the chain
   abbrev pub AskDoes : ChainRun T → ChainAnswer T → ChainRun T → Type 0
   AskDoes old (item x) new = old ≡ gives x new
   AskDoes old pending new = old ≡ pends new
@@ -85,7 +85,7 @@ module _ {T H : Type 0} where
   CallDoes does asks old answer new = AskDoes old.rest answer new.rest × (new ≡ record old { rest = new.rest })
   CallDoes does rewinds old answer new = new ≡ record old { rest = old.whole }
 
-  -- a call of a turn, by what the hub answers; a chain never wants memory
+  -- a call of a turn, by what the hub answers; a chain is never refused memory
   abbrev pub call_reply : ((c : HubCall T) → H → After (HubAnswer c) H) → (c : TurnCall T) → ChainAndHub T H → After (TurnAnswer c) (ChainAndHub T H)
   call_reply reply (to_hub call) both = record { result = (reply call both.hub).result; state = record both { hub = (reply call both.hub).state } }
   call_reply reply asks both = record { result = first_answer both.rest; state = record both { rest = rest_after both.rest } }

@@ -1,4 +1,4 @@
--- What a documented flow answers a sharing. A turn over it is `flow_turn`, want of memory aside.
+-- What a documented flow answers a sharing. A turn over it is `flow_turn`, unless memory is refused.
 -- Begin with `shared_reply` and `state_reply`.
 use Rattle.std.specs.Prelude.{◌≡◌, ◌≢◌, ◌⊎◌, ℕ, Bool, true, false, if◌then◌else◌, List, length, Option, Some, None, Result, Ok, Err}
 use Rattle.flow_law.specs.declared.fault.FlowFault.{FlowFault}
@@ -58,7 +58,7 @@ module _ {T : Type 0} where
   }
   shared_reply resets s = record { result = Ok tt; state = record s { flow = (flow.reset_replay_cache s.flow).after } }
 
-  -- a put may be refused for want of memory
+  -- a put may be refused with `OutOfMemory`
   abbrev pub MayLackMemory : HubCall T → EmittingFlow T → Type 0
   MayLackMemory counts s = ⊥
   MayLackMemory (puts x) s = Replies s.flow (call.Emit x) (reply.Refused OutOfMemory)
@@ -66,7 +66,7 @@ module _ {T : Type 0} where
   MayLackMemory cancels s = ⊥
   MayLackMemory resets s = ⊥
 
-  -- the flow answers, or is refused for want of memory and does nothing
+  -- the flow answers, or is refused with `OutOfMemory` and does nothing
   abbrev pub SharedDoes : (c : HubCall T) → EmittingFlow T → HubAnswer c → EmittingFlow T → Type 0
   SharedDoes call old answer new =
       (shared_reply call old ≡ record { result = answer; state = new })
@@ -87,7 +87,7 @@ module _ {T : Type 0} where
   state_reply cancels s = record { result = Ok false; state = s }
   state_reply resets s = record { result = Ok tt; state = with_value s.initial s }
 
-  -- the flow answers; or a reset is refused for want of memory, to copy the initial value, and does nothing
+  -- the flow answers; or a reset is refused with `OutOfMemory`, to copy the initial value, and does nothing
   abbrev pub StateDoes : (c : HubCall T) → StateAndInitial T → HubAnswer c → StateAndInitial T → Type 0
   StateDoes call old answer new =
       (state_reply call old ≡ record { result = answer; state = new })
@@ -99,7 +99,7 @@ module _ {T : Type 0} where
 abbrev pub flow_turn : {T F : Type 0} → ((c : HubCall T) → F → After (HubAnswer c) F) → Started → ℕ → List SharingObservation → SharingState T → ChainAndHub T F → After (Turned T) (ChainAndHub T F)
 flow_turn reply started now seen s both = plays (call_reply reply) (turn_steps started now seen s) both
 
--- the answer tells no want of memory
+-- the answer does not say that memory was refused
 abbrev pub HadMemory : {R : Type 0} → Result R ShareFault → Type 0
 HadMemory (Err (Flow OutOfMemory)) = ⊥
 HadMemory (Err (Chain chain_fault.OutOfMemory)) = ⊥
@@ -110,17 +110,17 @@ abbrev pub IsNotBusy : Result Report ShareFault → Type 0
 IsNotBusy (Ok report) = report.event ≢ event.Busy
 IsNotBusy (Err fault) = Unit {0}
 
--- an answer of a turn over a flow that refuses nothing but for want of memory, and in which nothing waits
+-- an answer of a turn over a flow that refuses nothing except with `OutOfMemory`, and in which nothing waits
 abbrev pub IsAtOnce : Result Report ShareFault → Type 0
 IsAtOnce (Ok report) = (report.event ≢ event.Busy) × (report.event ≢ event.Queued) × (report.event ≢ event.Waiting)
 IsAtOnce (Err (Flow fault)) = fault ≡ OutOfMemory
 IsAtOnce (Err fault) = Unit {0}
 
--- A turn over a documented flow, from `old` to `new`. `reply` is what the flow answers, `does` has want of memory, too.
+-- A turn over a documented flow, from `old` to `new`. `reply` is what the flow answers, `does` also allows `OutOfMemory`.
 pub record DocumentedTurn {T F : Type 0} (does : (c : HubCall T) → F → HubAnswer c → F → Type 0) (reply : (c : HubCall T) → F → After (HubAnswer c) F) (Is : Result Report ShareFault → Type 0) (started : Started) (now : ℕ) (seen : List SharingObservation) (s : SharingState T) (old : ChainAndHub T F) (turned : Turned T) (new : ChainAndHub T F) : Type 0 where
   -- its steps
   pub steps : Takes (CallDoes does) (turn_steps started now seen s) old turned new
-  -- what it comes to, where the answer tells no want of memory
+  -- what it comes to, where the answer does not say that memory was refused
   pub computed : HadMemory turned.answer → flow_turn reply started now seen s old ≡ record { result = turned; state = new }
   pub answered : Is turned.answer
   -- no cancel is left for a later turn

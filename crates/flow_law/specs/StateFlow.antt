@@ -74,7 +74,7 @@ module _ {T : Type 0} where
   IsDue v None = ⊥
   IsDue v (Some last) = last ≢ Some v
 
-  -- the calls that may be refused for want of memory: those that copy a value, and a new subscriber
+  -- the calls that may be refused with `OutOfMemory`: those that copy a value, and a new subscriber
   abbrev pub MayNeedMemory : StateFlowState T → StateCall T → Type 0
   MayNeedMemory s GetValue = Unit {0}
   MayNeedMemory s ReplayCache = Unit {0}

@@ -85,7 +85,7 @@ module _ {T H : Type 0} (does : (c : HubCall T) → H → HubAnswer c → H → 
   OutcomeMeans before accepted (Ok Pending) t new = Accounts accepted t new × (before ≡ pends new.rest)
   OutcomeMeans before accepted (Ok Completed) t new = Accounts accepted t new × (t.kept ≡ None) × (before ≡ ends AtEnd)
   OutcomeMeans before accepted (Err (Flow fault)) t new = HasAccount accepted t new × WasRefused fault new × (fault ≢ LockTaken)
-  -- after want of memory the chain has lost its place, and nothing is claimed of what is left
+  -- after `OutOfMemory` the chain has lost its place, and nothing is claimed of what is left
   OutcomeMeans before accepted (Err (Chain fault)) t new =
       (fault ≢ OutOfMemory → Accounts accepted t new × (before ≡ ends (Failed fault))) × (t.ended ≡ true)
   OutcomeMeans before accepted (Err Ended) t new = ⊥

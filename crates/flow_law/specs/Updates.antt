@@ -48,7 +48,7 @@ module _ {T E : Type 0} (Gives : T → Result T E → Type 0) where
   RefusesOrKeepsNone x = Refuses x ⊎ ((y : T) × Accepts x y)
 
 module _ {Id T : Type 0} (first : StateFlowState T) where
-  -- a read that was refused for want of memory, or of a value x at which the update stops
+  -- a read that was refused with `OutOfMemory`, or of a value x at which the update stops
   abbrev pub ReadsInVain : (T → Type 0) → StateToken Id T → StateToken Id T → Type 0
   ReadsInVain Stops before after = CallsIn state_flow first before GetValue (Refused fault.OutOfMemory) after ⊎ ((x : T) × CallsIn state_flow first before GetValue (Got x) after × Stops x)
 

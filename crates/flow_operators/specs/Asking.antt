@@ -4,7 +4,7 @@
 --   Pending        pends r               r
 --   End            ends Completed        ends Completed
 --   Fault f        ends (Failed f)       ends Completed
--- Want of memory may come in place of any answer. The chain is over then, too.
+-- Out of memory may come in place of any answer. The chain is over then, too.
 use Rattle.std.specs.Prelude.{◌≡◌, ◌⊎◌, ◌+◌, List, [], ◌∷◌, ◌++◌, length, Option, Some, None}
 use Rattle.flow_law.specs.declared.chain.ChainFault.TheVariants.{OutOfMemory}
 use Rattle.flow_law.specs.declared.chain.End.{End}

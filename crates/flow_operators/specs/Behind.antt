@@ -20,7 +20,7 @@ after_ask (gives x r) = r
 after_ask (pends r) = r
 after_ask (ends e) = ends Completed
 
--- asked once: `before` and `after` are what the upstream had left and has left; it may have failed for want of memory
+-- asked once: `before` and `after` are what the upstream had left and has left; it may have failed with `OutOfMemory`
 abbrev pub AsksOnce : {A B : Type 0} → ChainRun A → Asked B → ChainRun A → Type 0
 AsksOnce before result after = (after ≡ after_ask before) ⊎ ((result ≡ Fault OutOfMemory) × (after ≡ ends Completed))
 

@@ -1,10 +1,10 @@
 -- What a caller's closure answers. It computes a function where each answer that it may give at x is the function's at x.
--- Want of memory may come in place of any answer, at one call and not at another.
+-- Out of memory may come in place of any answer, at one call and not at another.
 use Rattle.std.specs.Prelude.{◌≡◌, ◌⊎◌, Bool, Result, Ok, Err}
 use Rattle.flow_law.specs.declared.chain.ChainFault.{ChainFault}
 use Rattle.flow_law.specs.declared.chain.ChainFault.TheVariants.{OutOfMemory}
 
--- the answer is the one that is meant, or want of memory
+-- the answer is the one that is meant, or out of memory
 abbrev pub Follows : {B : Type 0} → Result B ChainFault → Result B ChainFault → Type 0
 Follows meant (Ok y) = meant ≡ Ok y
 Follows meant (Err fault) = (meant ≡ Err fault) ⊎ (fault ≡ OutOfMemory)

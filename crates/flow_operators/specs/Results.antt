@@ -32,7 +32,7 @@ module _ {C U : Type 0} where
   abbrev pub most_results : (C → ℕ) → Results C U → ℕ
   most_results most s = most s.upstream.chain + unless_begun (has_begun s.last) 1
 
-  -- what was made of an item is the answer and the last result; it may have failed for want of memory
+  -- what was made of an item is the answer and the last result; it may have failed with `OutOfMemory`
   abbrev pub KeepsResult : Result U ChainFault → Asked U → Results C U → Type 0
   KeepsResult made (Item y) new = (made ≡ Ok y) × (new.last ≡ Some y) × (new.upstream.ended ≡ false)
   KeepsResult made Pending new = ⊥

@@ -25,7 +25,7 @@ module _ {T : Type 0} where
   First x k [] last = last ≡ Some (Ok x)
   First x k (y ∷ ys) last = (y ≡ Ok x) × k ys last
 
-  -- the items of a run, and its fault as the last; want of memory may come in place of an answer
+  -- the items of a run, and its fault as the last; `OutOfMemory` may come in place of an answer
   abbrev pub Streams : ChainRun T → List (Result T ChainFault) → Option (Result T ChainFault) → Type 0
   Streams (gives x r) xs last = First x (Streams r) xs last ⊎ Last (Err OutOfMemory) xs last
   Streams (pends r) xs last = Streams r xs last ⊎ Last (Err OutOfMemory) xs last

@@ -5,7 +5,7 @@
 --   [2], Completed         Ok 2          Ok (Some 2)      Ok (Some 2)    Ok (Some 2)    Ok (Some 2)    Ok 1         Ok true      Ok true
 --   [], Completed          Ok 0          Ok None          Ok None        Ok None        Ok None        Ok 0         Ok false     Ok true
 --   [], Failed fault       Err fault, each of them
--- Want of memory may come in place of any answer (`Follows`).
+-- Out of memory may come in place of any answer (`Follows`).
 use Rattle.std.specs.Prelude.{◌≡◌, ◌⊎◌, ℕ, ◌^◌, nat_lt, Bool, true, false, not, cond, List, [], ◌∷◌, length, filter, Option, Some, None, Result, Ok, Err}
 use Rattle.std.specs.List.{list_all, list_any}
 use Rattle.flow_law.specs.declared.chain.ChainFault.{ChainFault}

@@ -25,7 +25,7 @@ crowd_lines size received = subscriber_lines 1 received ++ lined (codes "emitted
 abbrev pub IsCrowdText : {A : Type 0} → CrowdSize → String A → Type 0
 IsCrowdText size text = (received : List Received) × (string_bytes text ≡ crowd_lines size received)
 
--- The lines of what the subscribers got were printed, with status 0; or want of memory or of a thread was told.
+-- The lines of what the subscribers got were printed, with status 0; or `out of memory` was printed.
 abbrev pub RunsCrowd : CrowdSize → Bool → Option (List ℕ) → Option (List ℕ) → ℕ → Type 0
 RunsCrowd size failed old new answered =
     ((received : List Received) × Tells failed old new (crowd_lines size received) 0 answered)

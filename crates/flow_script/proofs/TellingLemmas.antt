@@ -12,7 +12,7 @@ refusal-is ReadFailed memory read write = absurd (read refl)
 refusal-is WriteFailed memory read write = absurd (write refl)
 refusal-is _ memory read write = tt
 
--- the refusal is told, or want of memory in its place
+-- the refusal is reported, or out of memory in its place
 pub tells-refusal : (fault : ScriptFault) (failed : Bool) (old new : Option (List ℕ)) (answered : ℕ) → IsRefusal fault
     → (Tells failed old new (fault_line fault) 2 answered ⊎ Tells failed old new memory_line 4 answered)
     → (told : ScriptFault) × ((told ≡ fault) ⊎ (IsRefusal fault × (told ≡ OutOfMemory))) × TellsFault told failed old new answered
@@ -27,7 +27,7 @@ tells-refusal (UnknownName at) failed old new answered is (inl tells) = (Unknown
 tells-refusal (DuplicateName at) failed old new answered is (inl tells) = (DuplicateName at, inl refl, tells)
 tells-refusal (TooLarge at) failed old new answered is (inl tells) = (TooLarge at, inl refl, tells)
 
--- a refusal may be told as want of memory
+-- a refusal may be reported as out of memory
 pub memory-plays : (fault : ScriptFault) (known old mid : Option (List ℕ)) → IsRefusal fault → Plays known old mid (Err fault) → Plays known old mid (Err OutOfMemory)
 memory-plays OutOfMemory known old mid is plays = absurd is
 memory-plays ReadFailed known old mid is plays = absurd is

@@ -43,7 +43,7 @@ pub record Played (S C R : Type 0) : Type 0 where
   pub try_emit : ℤ → C
   -- the call of a step that not every kind has, by the numbers of emissions. A name that stands for no number makes none
   pub own_call : FlowStep → List (Option ℕ) → Option C
-  -- the documented reply, want of memory aside
+  -- the documented reply, unless memory is refused
   pub reply_to : C → S → R
   pub answer : C → R → Answer
 
@@ -92,7 +92,7 @@ module _ {S C R : Type 0} (kind : Kind ℤ S C R) (played : Played S C R) where
 
   -- What holds of each kind that scripts play on. No clause but the law of a core cites this.
   pub record HasAnswers : Type 0 where
-    -- it is not want of memory
+    -- it is not `OutOfMemory`
     pub is_told : R → Bool
     -- a reply that is told is the documented one
     pub documented : (s : S) (call : C) (reply : R) → kind.Replies s call reply → is_told reply ≡ true → reply ≡ played.reply_to call s

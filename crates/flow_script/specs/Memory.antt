@@ -1,4 +1,4 @@
--- The faults that a line tells: all but want of memory, which ends a script.
+-- The faults that a line tells: all but out of memory, which ends a script.
 use Rattle.flow_law.specs.declared.fault.FlowFault.{FlowFault}
 use Rattle.flow_law.specs.declared.fault.FlowFault.TheVariants as flow_fault
 use Rattle.flow_law.specs.declared.chain.ChainFault.{ChainFault}

@@ -28,7 +28,7 @@ Shows (Share sharing) (player.share p) = ShowsSharing Emits sharing p
 Shows (StateIn sharing) (player.state_in p) = ShowsSharing (λ hub s. state_flow_of hub ≡ s) sharing p
 Shows _ _ = ⊥
 
--- the player before the first step, or why no sharing is made: want of memory is no fault of the script
+-- the player before the first step, or why no sharing is made: out of memory is no fault of the script
 abbrev pub MakesSharing : Head → Result Player ShareFault → Type 0
 MakesSharing head (Ok made) = (p : player.Player) × (player_of head ≡ Ok p) × Shows made p
 MakesSharing head (Err fault) = (player_of head ≡ Err (turn_refused fault)) ⊎ (fault ≡ Flow OutOfMemory)

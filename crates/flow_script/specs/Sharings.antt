@@ -24,7 +24,7 @@ module _ {H F : Type 0} (Stands : H → F → Type 0) where
     pub both : with_hub (both_of sharing) p.both.hub ≡ p.both
     pub flow : Stands sharing.hub p.both.hub
 
--- want of memory aside, a turn over a hub that stands for a flow is the documented turn with it
+-- out of memory aside, a turn over a hub that stands for a flow is the documented turn with it
 abbrev pub TurnsAsDocumented : {H F : Type 0} → ((c : HubCall ℤ) → H → HubAnswer c → H → Type 0) → (H → Bool) → (H → F → Type 0) → ((c : HubCall ℤ) → F → After (HubAnswer c) F) → Type 0
 TurnsAsDocumented {H} {F} does waits Stands reply =
     (started : Started) (now : ℕ) (seen : List SharingObservation) (s : SharingState ℤ) (f : F) (old new : ChainAndHub ℤ H) (turned : Turned ℤ) →

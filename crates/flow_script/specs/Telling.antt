@@ -20,7 +20,7 @@ fault_line (DuplicateName step) = lined (codes "script refused 7 DuplicateName a
 fault_line (TooLarge step) = lined (codes "script refused 8 TooLarge at step " ++ decimal step)
 fault_line WriteFailed = lined (codes "write failed")
 
--- 2: the script was refused; 3: a read or a write failed; 4: want of memory
+-- 2: the script was refused; 3: a read or a write failed; 4: out of memory
 abbrev pub fault_status : ScriptFault → ℕ
 fault_status OutOfMemory = 4
 fault_status ReadFailed = 3

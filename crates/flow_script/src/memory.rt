@@ -1,4 +1,4 @@
-//! Which faults are want of memory. No line tells those: they end the script.
+//! Which faults are out of memory. No line tells those: they end the script.
 ghost use Rattle.std.specs.Prelude.{◌≡◌, ◌↔◌, false, true};
 ghost use Rattle.flow_script.specs.Memory.{IsToldFlowFault, IsToldChainFault, IsToldFault, IsToldEnd};
 
@@ -23,7 +23,7 @@ pub fn is_chain_memory(fault: ChainFault) -> bool
     }
 }
 
-/// Whether a turn was refused, or no sharing was made, for want of memory.
+/// Whether a turn was refused, or no sharing was made, with `OutOfMemory`.
 pub fn is_memory(fault: ShareFault) -> bool
     ensures { (result ≡ false) ↔ IsToldFault fault }
 {
@@ -34,7 +34,7 @@ pub fn is_memory(fault: ShareFault) -> bool
     }
 }
 
-/// Whether a collection ended for want of memory.
+/// Whether a collection ended because memory was refused.
 pub fn ends_for_memory(end: End) -> bool
     ensures { (result ≡ false) ↔ IsToldEnd end }
 {

@@ -27,7 +27,7 @@ pub trait ScriptHub: Hub<Item = i64> {
     /// What a step does on the documented flow.
     ghost flow: { FlowStep → Self.State → Numbers → Turn Self.State };
 
-    /// What the documented flow answers the sharing, want of memory aside.
+    /// What the documented flow answers the sharing, unless memory is refused.
     ghost reply: { (c : HubCall ℤ) → Self.State → After (HubAnswer c) Self.State };
 
     /// Plays a step on the hub's flow.

@@ -22,7 +22,7 @@ module _ {T S C R : Type 0} (kind : Kind T S C R) (law : Lawful kind) (flow : Or
   ended_fault s u fault (inl called) = next_fault kind law flow.first s.token.knows u.token.knows s.number (Err fault) called.0.1
   ended_fault s u fault (inr none) = none.0
 
-  -- a drain is refused for want of memory alone
+  -- a drain is refused only with `OutOfMemory`
   pub drain_fault : (most : ℕ) (s u : NumberedToken (Said C R)) (old new : List T) (result : Result Drained FlowFault) → DrainsBy (NextsOf kind flow) most s old result new u → IfErr result (λ f. f ≡ why.OutOfMemory)
   drain_fault most s u old new (Ok end) d = tt
   drain_fault most s u old new (Err fault) d = ended_fault d.last u fault d.ended

@@ -76,7 +76,7 @@ module _ {T S C R : Type 0} (kind : Kind T S C R) (law : Lawful kind) (flow : Or
   given_fault : (fault : FlowFault) → CallsAtOnceIn kind flow.first s.token (kind.take_next s.number) (kind.refused fault) u.token → (fault ≡ OutOfMemory) ⊎ (fault ≡ Busy)
   given_fault fault called = inl (next_fault_of kind law flow.first s.token.knows u.token.knows s.number (Err fault) called.0.1)
 
-  -- a `next` that does not wait is refused for want of memory, or is Busy
+  -- a `next` that does not wait is refused with `OutOfMemory`, or is Busy
   pub next_now_fault : (fault : FlowFault) → NextsNow kind flow s (Err fault) u → (fault ≡ OutOfMemory) ⊎ (fault ≡ Busy)
   next_now_fault OutOfMemory h = given_fault OutOfMemory h.1
   next_now_fault TooLarge h = given_fault TooLarge h.1

@@ -46,7 +46,7 @@ module _ {T : Type 0} where
   Says (s, Ok v) r = r ≡ reply.Received (Value v)
   Says (s, Err fault) r = r ≡ reply.Refused fault
 
-  -- where nothing was received, it was for want of memory
+  -- where nothing was received, memory was refused
   abbrev pub IsRefusedIfDue : Received T → Type 0
   IsRefusedIfDue r = IfErr r.1 (λ fault. fault ≡ OutOfMemory)
 

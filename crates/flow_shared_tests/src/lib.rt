@@ -1,5 +1,5 @@
 //! Callers of flows for several threads, of which is proved what they conclude from the contracts of the calls that they make, and
-//! tests of worked examples by one caller and by several threads, of sharings, and of want of memory.
+//! tests of worked examples by one caller and by several threads, of sharings, and of out of memory.
 //!
 //! A worked example is a list of steps, each with what it is to answer. Another module takes the steps. All of it is for tests,
 //! and so proved once, with them. Tests of what stands on flows for threads stand here, too: each crate of tests is linked, and

@@ -19,7 +19,7 @@ pub struct Caller<'a> {
     pub state: StateCaller<'a>,
     pub number: u32,
     pub dice: Pcg32,
-    /// What the thread found. `None` for want of memory.
+    /// What the thread found. `None` if memory is refused.
     pub found: Option<Found>,
 }
 

@@ -13,7 +13,7 @@ use std::thread::yield_now;
 /// How often an emission that waits is polled before it is cancelled.
 const POLLS: u32 = 100;
 
-/// Emits a value. Where it waits too long it is cancelled. Whether it was emitted; `None` for want of memory.
+/// Emits a value. Where it waits too long it is cancelled. Whether it was emitted; `None` if memory is refused.
 fn emit<R: Wait>(rt: &R, flow: &SharedFlow<Value>, seat: Seat<Value>, value: Value) -> Option<bool>
     requires { seat.table_id ≡ flow.now.table_id }
 {

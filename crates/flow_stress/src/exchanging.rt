@@ -10,7 +10,7 @@ use std::alloc::AllocGlobal;
 use std::random::RandomSource;
 use std::sync::Wait;
 
-/// Emits a value. `None` for want of memory.
+/// Emits a value. `None` if memory is refused.
 fn send<R: Wait + RandomSource + AllocGlobal>(
     rt: &R,
     flow: &SharedFlow<Value>,
@@ -26,7 +26,7 @@ fn send<R: Wait + RandomSource + AllocGlobal>(
     }
 }
 
-/// Waits for the next value. `None` for want of memory.
+/// Waits for the next value. `None` if memory is refused.
 fn receive<R: Wait + RandomSource + AllocGlobal>(
     rt: &R,
     flow: &SharedFlow<Value>,
@@ -43,7 +43,7 @@ fn receive<R: Wait + RandomSource + AllocGlobal>(
 }
 
 /// Emits the values of this emitter, and receives one after each. There is one, since its own comes, or a newer one. `None` for
-/// want of memory.
+/// out of memory.
 fn exchange<R: Wait + RandomSource + AllocGlobal>(
     rt: &R,
     flow: &SharedFlow<Value>,

@@ -17,7 +17,7 @@ const CALLS: u32 = 64;
 /// How many further subscriptions a reader without a value makes at most.
 const LATE: u32 = 20_000;
 
-/// Calls `next` in either way, as the dice say, and leaves. A live subscription is never gone. `None` for want of memory.
+/// Calls `next` in either way, as the dice say, and leaves. A live subscription is never gone. `None` if memory is refused.
 fn read<R: Wait>(
     rt: &R,
     flow: &SharedFlow<Value>,

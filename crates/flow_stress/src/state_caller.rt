@@ -35,7 +35,7 @@ impl<'a> StateCaller<'a> {
         Some((value, u64::from(is_set)))
     }
 
-    /// Subscribes, reads twice, and leaves. `None` for want of memory.
+    /// Subscribes, reads twice, and leaves. `None` if memory is refused.
     fn reads_in_order<R: Wait>(&mut self, rt: &R, last: u64) -> Option<bool> {
         let mut subscription = self.flow.subscribe(rt, &mut self.seat).ok()?;
         let first = self.flow.next(rt, &mut subscription);
@@ -44,7 +44,7 @@ impl<'a> StateCaller<'a> {
         Some(are_in_order(last, first.ok()?, second.ok()?))
     }
 
-    /// So many rounds of calls, as the dice say. The value never falls. `None` for want of memory.
+    /// So many rounds of calls, as the dice say. The value never falls. `None` if memory is refused.
     pub fn add_all<R: Wait>(&mut self, rt: &R, dice: &mut Pcg32, rounds: u32) -> Option<Found> {
         let mut last = 0;
         let mut found = NOTHING;
@@ -61,7 +61,7 @@ impl<'a> StateCaller<'a> {
         Some(found)
     }
 
-    /// Everybody has left, and no addition is lost or doubled. `None` for want of memory.
+    /// Everybody has left, and no addition is lost or doubled. `None` if memory is refused.
     pub fn check<R: Wait>(&mut self, rt: &R, found: &mut Found) -> Option<()> {
         let subscribers = self.flow.subscription_count(rt, &mut self.seat);
         let value = self.flow.value(rt, &mut self.seat).ok()?;

@@ -25,7 +25,7 @@ impl<'a> Caller<'a> {
         Some(others)
     }
 
-    /// Everybody has left, and no addition is lost or doubled. `None` for want of memory.
+    /// Everybody has left, and no addition is lost or doubled. `None` if memory is refused.
     fn check<R: Wait>(&mut self, rt: &R, found: &mut Found) -> Option<()> {
         found.check(self.suspending.is_left(rt));
         found.check(self.dropping.is_left(rt));
@@ -71,7 +71,7 @@ fn sum(callers: &[Caller<'_>]) -> Option<Found> {
     Some(all)
 }
 
-/// Puts new flows under the calls of all threads. `None` for want of memory.
+/// Puts new flows under the calls of all threads. `None` if memory is refused.
 pub fn stress<R: Threads + Wait + RandomSource + AllocGlobal + Sync>(
     rt: &R,
     alloc: Global,

@@ -28,7 +28,7 @@ LawTurnOverCore T A =
     (g : EmittingFlow T) × Emits new.hub g
     × DocumentedTurn SharedDoes shared_reply IsNotBusy started now seen s (with_hub old f) turned (with_hub new g)
 
--- A turn over a state core is a turn over the documented state flow that it is. Nothing waits, and nothing is refused but for want of memory.
+-- A turn over a state core is a turn over the documented state flow that it is. Nothing waits, and nothing is refused except with `OutOfMemory`.
 abbrev pub LawTurnOverStateCore : Type 0 → Type 0 → Type 0
 LawTurnOverStateCore T A =
     (started : Started) (now : ℕ) (seen : List SharingObservation) (s : SharingState T)

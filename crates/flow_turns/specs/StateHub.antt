@@ -33,7 +33,7 @@ module _ {T A : Type 0} where
   CallsCore old call reply new = StateConforms old.core call reply new.core × (new.initial ≡ old.initial)
 
   -- A put is a `set` of the core, and a reset a `set` of the initial value, of which a copy is made. Polls and cancels do nothing, and nothing
-  -- is refused but a reset for want of memory.
+  -- is refused but a reset with `OutOfMemory`.
   abbrev pub StateHubDoes : (c : HubCall T) → StateHub T A → HubAnswer c → StateHub T A → Type 0
   StateHubDoes counts old (Ok count) new = CallsCore old call.SubscriptionCount (reply.Counted count) new
   StateHubDoes counts old (Err fault) new = ⊥

@@ -80,7 +80,7 @@ fn with_operator(alloc: Global, chain: ScriptChain, op: Op) -> Result<Build, Scr
     }
 }
 
-/// Want of memory is the script's fault; any other refusal is what the chain's collection tells.
+/// Out of memory is the script's fault; any other refusal is what the chain's collection tells.
 fn refused(fault: ChainFault) -> Result<Build, ScriptFault>
     ensures memory { fault ≡ ChainFault.OutOfMemory → result ≡ Err ScriptFault.OutOfMemory }
     ensures told { fault ≢ ChainFault.OutOfMemory → result ≡ Ok (Err fault) }
@@ -168,7 +168,7 @@ fn chain_at(
 
 /// The chain of an object with the keys `from`, a source, and `ops`, a list of operators; `at` is the number of its step, which
 /// a fault tells. `BadShape` where anything in it has another form, also within a zip; else `TooLarge` where a limit is
-/// passed. A chain that cannot be built, as one that is too deep, is no fault: that is the inner `Err`. Want of memory comes in
+/// passed. A chain that cannot be built, as one that is too deep, is no fault: that is the inner `Err`. Out of memory comes in
 /// place of any answer.
 pub fn chain_in(
     alloc: Global,

@@ -59,7 +59,7 @@ pub type Looked = Result<(), Ended>;
 pub const EXPECTED: &str = "\n  expected: ";
 
 /// What is told of a script. It begins with the place of what is wrong, or with the key or the value that stands there, and ends with
-/// `end` or `end_near`. Where memory is wanting something is left out, and the end says so.
+/// `end` or `end_near`. If memory is refused something is left out, and the end says so.
 #[derive(Drop)]
 pub struct Report {
     /// The part of the script that is told of, if it is known: 0 is the head, and steps count from 1.

@@ -25,7 +25,7 @@ pub struct FlowPlayer<'a, T: Numbered, S: FlowCore<Item = T> + Drop, A: Allocato
 
 /// A core whose flows for several threads take steps of their own beside those of subscribers.
 pub trait Played<T: Numbered, A: Allocator + Copy>: FlowCore<Item = T> + Drop {
-    /// Takes a step, and compares what it answers. `Err` where it is refused for want of memory.
+    /// Takes a step, and compares what it answers. `Err` if memory is refused.
     fn take<R: Wait + Abort>(
         player: &mut FlowPlayer<'_, T, Self, A>,
         rt: &R,

@@ -19,7 +19,7 @@ pub struct Reader<'a, S: FlowCore + Drop, A: Allocator + Copy = Global> {
 }
 
 impl<'a, T: Numbered, S: FlowCore<Item = T> + Drop, A: Allocator + Copy> Reader<'a, S, A> {
-    /// Receives, and compares what comes. `Err` where it is refused for want of memory.
+    /// Receives, and compares what comes. `Err` if memory is refused.
     pub fn next<R: Wait + Abort>(
         &mut self,
         rt: &R,
@@ -30,7 +30,7 @@ impl<'a, T: Numbered, S: FlowCore<Item = T> + Drop, A: Allocator + Copy> Reader<
         Ok(compare(rt, place, &by_number(next), wanted))
     }
 
-    /// Takes at most so many values, compares why it stopped, and the values. `Err` where it is refused for want of memory.
+    /// Takes at most so many values, compares why it stopped, and the values. `Err` if memory is refused.
     pub fn drain<R: Wait + Abort>(
         &mut self,
         rt: &R,

@@ -1,4 +1,4 @@
-//! A sharing over a state flow, a reset, and a chain, that are refused for want of memory.
+//! A sharing over a state flow, a reset, and a chain, that are refused with `OutOfMemory`.
 use crate::compare::compare;
 use flow_cold::OfList;
 use flow_law::Command::{Keep, Start};

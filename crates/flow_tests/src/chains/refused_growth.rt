@@ -1,4 +1,4 @@
-//! Chains that want memory: those whose closures take it, and those that are built at run time. After a refusal a collection
+//! Chains that take memory: those whose closures take it, and those that are built at run time. After a refusal a collection
 //! gives all.
 
 use crate::chains::gives::gives_once;

@@ -43,7 +43,7 @@ pub enum Call {
     /// The subscriber's own first values, and the number of the new subscription. Where it is refused the values come back.
     SubscribeWith(&'static [i64], Result<u64, FlowFault>),
     Next(usize, Next<i64>),
-    /// It is refused for want of memory.
+    /// It is refused with `OutOfMemory`.
     NextRefused(usize),
     /// A subscriber, and whether the subscription was there.
     Unsubscribe(usize, bool),

@@ -72,7 +72,7 @@ fn first_of(fault: ScriptFault, next: ScriptFault) -> ScriptFault
     }
 }
 
-/// Of a fault and what is found next in the same part of a script, the fault that refuses it: a bad form, or want of memory,
+/// Of a fault and what is found next in the same part of a script, the fault that refuses it: a bad form, or out of memory,
 /// comes before a limit. Where nothing is wrong with what is found next, it is the first one.
 pub fn first_fault<T>(fault: ScriptFault, next: &Result<T, ScriptFault>) -> ScriptFault
     ensures { result ≡ results.first_fault fault next.now }
