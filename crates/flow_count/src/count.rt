@@ -47,7 +47,7 @@ fn count_all<R: Threads + Wait + Sync>(rt: &R, callers: &mut [WordSetter<'_, i64
     );
 }
 
-/// All callers make their updates, and then the value is read.
+/// Returns all callers make their updates, and then the value is read.
 fn count_and_read<R: Threads + Wait + Sync>(
     rt: &R,
     maker: &mut WordSetter<'_, i64>,

@@ -74,8 +74,8 @@ fn pass_between<'a, F: OneFlow + Send, R: Threads + Wait + Sync>(
 
 /// One thread sets the value and sends a message of it; another waits for the message and then reads the value.
 ///
-/// Returns `None` if there is no memory for the channel or the message. What the reader found is the value that was set, or
-/// one that another caller set after it.
+/// Returns `None` if there is no memory for the channel or the message. What the reader found is the value that was
+/// set, or one that another caller set after it.
 pub fn pass_on<'a, R: Threads + Wait + Sync>(
     rt: &R,
     alloc: Global,

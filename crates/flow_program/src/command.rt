@@ -20,8 +20,8 @@ pub fn crowd_of(args: &[String]) -> Option<CrowdSize>
     }
 }
 
-/// Returns the count that the arguments name: the word `count`, and how many threads, and updates of each thread. `None`
-/// for other arguments, or if a number is out of its range.
+/// Returns the count that the arguments name: the word `count`, and how many threads, and updates of each thread.
+/// `None` for other arguments, or if a number is out of its range.
 pub fn count_of(args: &[String]) -> Option<CountSize>
     ensures { result ≡ count_of args.now }
 {
@@ -50,7 +50,7 @@ fn count_sized(threads: &str, updates: &str) -> Option<CountSize>
     CountSize::new(threads, updates)
 }
 
-/// The number that a text of one to five ASCII digits writes.
+/// Returns the number that a text of one to five ASCII digits writes.
 fn number_in(text: &str) -> Option<u32>
     ensures { result ≡ number_in text.now }
 {
@@ -61,7 +61,7 @@ fn number_in(text: &str) -> Option<u32>
     }
 }
 
-/// The number that at most five digits write.
+/// Returns the number that at most five digits write.
 fn read_short(text: &str) -> Option<u32>
     requires digits { all_ascii_digits text.now ≡ true }
     requires some { 0 < length text.now }

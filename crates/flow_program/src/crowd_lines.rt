@@ -5,7 +5,7 @@ ghost use Rattle.flow_program.specs.CrowdLines.{crowd_lines, subscriber_line, su
 use flow_crowd::{CrowdSize, Received};
 use std::alloc::{AllocError, Global};
 
-/// What each subscriber got, by its number from 1, and how many values were emitted.
+/// Returns what each subscriber got, by its number from 1, and how many values were emitted.
 pub fn crowd_text(
     alloc: Global,
     received: &[Received],

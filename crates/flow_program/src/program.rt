@@ -31,7 +31,7 @@ fn tell_usage<W: Write>(output: &mut Watched<W>) -> u8
     )
 }
 
-/// Tells why the arguments were not read: out of memory, or else that they are wrong.
+/// Says why the arguments were not read: out of memory, or else that they are wrong.
 pub fn refuse_arguments<W: Write>(output: &mut Watched<W>, kind: ErrorKind) -> u8
     requires { has_failed output.old ≡ false }
     ensures memory { kind ≡ ErrorKind.OutOfMemory → Tells (has_failed output.new)
@@ -45,7 +45,7 @@ pub fn refuse_arguments<W: Write>(output: &mut Watched<W>, kind: ErrorKind) -> u
     }
 }
 
-/// The lines of a crowd that has run. `None` if memory or a thread is refused.
+/// Returns the lines of a crowd that has run. `None` if memory or a thread is refused.
 fn crowd_lines<H: Threads + Wait + Sync>(rt: &H, alloc: Global, size: CrowdSize) -> Option<String>
     ensures { IfSome result (IsCrowdText size) }
 {
@@ -70,7 +70,7 @@ fn tell_crowd<H: Threads + Wait + Sync, W: Write>(
     }
 }
 
-/// The line of a count that has run. `None` if memory is refused.
+/// Returns the line of a count that has run. `None` if memory is refused.
 fn count_line<H: Threads + Wait + Sync>(rt: &H, alloc: Global, size: CountSize) -> Option<String>
     ensures { IfSome result (λ line. string_bytes line ≡ count_line size) }
 {
@@ -124,8 +124,8 @@ fn play_script<R: Read, W: Write>(
 /// Plays the script that is read, or runs the crowd or the count that the arguments name, and answers the program's
 /// status. The arguments, without the program's name, are looked at before anything is read.
 ///
-/// 0: the script was played, or the threads ran; 2: the script or the arguments were refused; 3: a read or a write failed;
-/// 4: out of memory or of threads. Every line goes to `output`. After a write that failed no line is printed.
+/// 0: the script was played, or the threads ran; 2: the script or the arguments were refused; 3: a read or a write
+/// failed; 4: out of memory or of threads. Every line goes to `output`. After a write that failed no line is printed.
 pub fn run<H: Threads + Wait + Sync + AllocGlobal, R: Read, W: Write>(
     rt: &H,
     args: &[String],

@@ -49,8 +49,8 @@ pub struct NotMade {
 /// What is seen of the flow and the subscriber of a step beside its answer.
 #[derive(Clone, Copy)]
 pub struct Seen {
-    /// How many values the step emitted, and `None` where its flow is no shared flow. A step that makes room emits values that
-    /// waited.
+    /// How many values the step emitted, and `None` where its flow is no shared flow. A step that makes room emits
+    /// values that waited.
     pub emitted: Option<u64>,
     /// How many values the subscriber of the step has still to receive after it.
     pub lag: Option<u64>,

@@ -18,7 +18,7 @@ fn add_chain_fault(text: &mut String, fault: ChainFault) -> Result<(), AllocErro
     }
 }
 
-/// A line that ends with a fault of a chain.
+/// Adds a line that ends with a fault of a chain.
 pub fn add_with_chain_fault(
     text: &mut String,
     before: &str,
@@ -40,7 +40,7 @@ fn add_end(text: &mut String, end: End) -> Result<(), AllocError>
     }
 }
 
-/// The line of what was collected.
+/// Adds the line of what was collected.
 pub fn add_collected(text: &mut String, items: &[i64], end: End) -> Result<(), AllocError>
     ensures { OnOk result
         (lines.AddsLine (lines.list_text items.now ++ lines.end_text end) text.old text.new) }

@@ -8,15 +8,16 @@
 //! refusal, which is the meaning's own fault; a first part of the text after a write that failed.
 //!
 //! # Playing
-//! A `Player` is what the steps on one flow are played on: `flow_steps` has the steps that every kind of flow has, `shared_calls`,
-//! `state_calls` and `sharing_steps` those of one kind. `row` plays a step on the flow at its place, `collecting` collects a chain.
+//! A `Player` is what the steps on one flow are played on: `flow_steps` has the steps that every kind of flow has,
+//! `shared_calls`, `state_calls` and `sharing_steps` those of one kind. `row` plays a step on the flow at its place,
+//! `collecting` collects a chain.
 //!
-//! Each step has one `Answer`, and beside it what is seen of its flow (`Seen`). A call that was out of memory has none: it ends the
-//! script as `ScriptFault::OutOfMemory`.
+//! Each step has one `Answer`, and beside it what is seen of its flow (`Seen`). A call that was out of memory has none:
+//! it ends the script as `ScriptFault::OutOfMemory`.
 //!
 //! # Lines
-//! The text of a script has a line for each answer (`text_of`): `lines` has those of flows, `chain_lines` those of collections,
-//! `share_lines` those of turns.
+//! The text of a script has a line for each answer (`text_of`): `lines` has those of flows, `chain_lines` those of
+//! collections, `share_lines` those of turns.
 #![tactic(auto)]
 
 mod answer;

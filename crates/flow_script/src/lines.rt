@@ -6,7 +6,7 @@ ghost use Rattle.flow_script.specs.Lines as lines;
 use flow_law::{FlowFault, Next};
 use std::alloc::AllocError;
 
-/// A line that says just this.
+/// Adds a line that says just this.
 pub fn add_line(text: &mut String, line: &str) -> Result<(), AllocError>
     ensures { OnOk result (lines.AddsLine line.now text.old text.new) }
 {
@@ -23,7 +23,7 @@ fn add_more_items(text: &mut String, values: &[i64]) -> Result<(), AllocError>
     Ok(())
 }
 
-/// A list, in a line that is not ended.
+/// Adds a list, in a line that is not ended.
 pub fn add_items(text: &mut String, values: &[i64]) -> Result<(), AllocError>
     ensures { OnOk result (lines.Adds (lines.list_text values.now) text.old text.new) }
 {
@@ -35,7 +35,7 @@ pub fn add_items(text: &mut String, values: &[i64]) -> Result<(), AllocError>
     text.push(']')
 }
 
-/// The line of a replay cache.
+/// Adds the line of a replay cache.
 pub fn add_list(text: &mut String, values: &[i64]) -> Result<(), AllocError>
     ensures { OnOk result (lines.AddsLine (lines.list_text values.now) text.old text.new) }
 {
@@ -43,7 +43,7 @@ pub fn add_list(text: &mut String, values: &[i64]) -> Result<(), AllocError>
     text.push('\n')
 }
 
-/// The line of an answer that is `true` or `false`.
+/// Adds the line of an answer that is `true` or `false`.
 pub fn add_test(text: &mut String, test: bool) -> Result<(), AllocError>
     ensures { OnOk result (lines.AddsLine (lines.test_text test) text.old text.new) }
 {
@@ -54,7 +54,7 @@ pub fn add_test(text: &mut String, test: bool) -> Result<(), AllocError>
     }
 }
 
-/// The line of a poll: whether the emission still waits.
+/// Adds the line of a poll: whether the emission still waits.
 pub fn add_wait(text: &mut String, waits: bool) -> Result<(), AllocError>
     ensures { OnOk result (lines.AddsLine (lines.wait_text waits) text.old text.new) }
 {
@@ -65,7 +65,7 @@ pub fn add_wait(text: &mut String, waits: bool) -> Result<(), AllocError>
     }
 }
 
-/// The line of what a subscriber receives.
+/// Adds the line of what a subscriber receives.
 pub fn add_next(text: &mut String, next: &Next<i64>) -> Result<(), AllocError>
     ensures { OnOk result (lines.AddsLine (lines.next_text next.now) text.old text.new) }
 {
@@ -76,21 +76,21 @@ pub fn add_next(text: &mut String, next: &Next<i64>) -> Result<(), AllocError>
     }
 }
 
-/// The line of a state flow's value.
+/// Adds the line of a state flow's value.
 pub fn add_value(text: &mut String, value: i64) -> Result<(), AllocError>
     ensures { OnOk result (lines.AddsLine (signed_decimal value) text.old text.new) }
 {
     writeln!(text, "{value}")
 }
 
-/// The line of a number of subscribers.
+/// Adds the line of a number of subscribers.
 pub fn add_count(text: &mut String, count: u64) -> Result<(), AllocError>
     ensures { OnOk result (lines.AddsLine (decimal count) text.old text.new) }
 {
     writeln!(text, "{count}")
 }
 
-/// The number and the name of a fault of a flow.
+/// Returns the number and the name of a fault of a flow.
 fn flow_fault_text(fault: FlowFault) -> &'static str
     ensures { result.now ≡ lines.flow_fault_text fault }
 {
@@ -104,7 +104,7 @@ fn flow_fault_text(fault: FlowFault) -> &'static str
     }
 }
 
-/// A line that ends with a fault of a flow.
+/// Adds a line that ends with a fault of a flow.
 pub fn add_with_flow_fault(
     text: &mut String,
     before: &str,

@@ -23,7 +23,7 @@ pub fn is_chain_memory(fault: ChainFault) -> bool
     }
 }
 
-/// Whether a turn was refused, or no sharing was made, with `OutOfMemory`.
+/// Returns whether a turn was refused, or no sharing was made, with `OutOfMemory`.
 pub fn is_memory(fault: ShareFault) -> bool
     ensures { (result ≡ false) ↔ IsToldFault fault }
 {
@@ -34,7 +34,7 @@ pub fn is_memory(fault: ShareFault) -> bool
     }
 }
 
-/// Whether a collection ended because memory was refused.
+/// Returns whether a collection ended because memory was refused.
 pub fn ends_for_memory(end: End) -> bool
     ensures { (result ≡ false) ↔ IsToldEnd end }
 {

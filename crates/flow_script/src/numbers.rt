@@ -39,12 +39,12 @@ impl Numbers {
         *self.subscribers.get(place)?
     }
 
-    /// How many names of subscribers were introduced.
+    /// Returns how many names of subscribers were introduced.
     pub fn subscribers(&self) -> usize {
         self.subscribers.len()
     }
 
-    /// The next name of an emission, and its number where it waits.
+    /// Adds the next name of an emission, and its number where it waits.
     pub fn add_emission(&mut self, number: Option<u64>) -> Result<(), ScriptFault>
         ensures added { OnOk result (numbers_of self.new ≡ with_emission number (numbers_of self.old)) }
         ensures fault { IfErr result (λ fault. fault ≡ ScriptFault.OutOfMemory) }
@@ -54,7 +54,7 @@ impl Numbers {
             .map_err(|_| ScriptFault::OutOfMemory)
     }
 
-    /// The next name of a subscriber, unless its subscription was refused.
+    /// Adds the next name of a subscriber, unless its subscription was refused.
     pub fn add_subscriber(&mut self, id: Option<SubId>) -> Result<(), ScriptFault>
         ensures added { OnOk result (
             numbers_of self.new ≡ with_subscriber (option_map number_of id) (numbers_of self.old)) }

@@ -13,7 +13,7 @@ fn flow_at(row: &[Option<PlayedFlow>], place: usize) -> Option<&PlayedFlow> {
     row.get(place)?.as_ref()
 }
 
-/// The subscriber that a step introduces, or that receives by it.
+/// Returns the subscriber that a step introduces, or that receives by it.
 fn subscriber_of(row: &[Option<PlayedFlow>], step: &Step) -> Option<Subscriber> {
     match step {
         Step::Flow(flow, FlowStep::Next(place)) => Some(Subscriber {
@@ -35,7 +35,7 @@ fn lag_of(row: &[Option<PlayedFlow>], named: Option<Subscriber>) -> Option<u64> 
     flow_at(row, named.flow)?.lag(named.place)
 }
 
-/// The place of the flow that a step is about.
+/// Returns the place of the flow that a step is about.
 fn place_of(step: &Step) -> Option<usize> {
     match step {
         Step::Flow(place, _) | Step::SubscribeWith(place, _) => Some(*place),
@@ -43,12 +43,12 @@ fn place_of(step: &Step) -> Option<usize> {
     }
 }
 
-/// How many values the flow at a place has emitted, where it is a shared flow.
+/// Returns how many values the flow at a place has emitted, where it is a shared flow.
 fn emission_count(row: &[Option<PlayedFlow>], place: Option<usize>) -> Option<u64> {
     flow_at(row, place?)?.emission_count()
 }
 
-/// The moment of a turn.
+/// Returns the moment of a turn.
 fn moment_of(step: &Step) -> Option<u64> {
     match step {
         Step::Flow(_, FlowStep::Turn(at)) => Some(*at),
@@ -83,7 +83,7 @@ pub fn seen_step(
     })
 }
 
-/// How many values the subscribers that steps introduced have still to receive.
+/// Returns how many values the subscribers that steps introduced have still to receive.
 pub fn last_lags(
     alloc: Global,
     row: &[Option<PlayedFlow>],

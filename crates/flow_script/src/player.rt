@@ -29,7 +29,7 @@ pub enum Player {
     StateIn(Sharing<ScriptChain, StateHub<i64>>),
 }
 
-/// The chain from its beginning, unless it could not be built.
+/// Returns the chain from its beginning, unless it could not be built.
 fn rewound(chain: Build) -> Result<ScriptChain, ShareFault>
     ensures { Rewinds chain result }
 {
@@ -71,7 +71,7 @@ impl Player {
         Ok(Player::StateIn(sharing))
     }
 
-    /// A flow before the first step.
+    /// Returns a flow before the first step.
     pub fn new(alloc: Global, flow: ScriptFlow) -> Result<Self, Refusal>
         ensures { Makes (head_of_flow flow) result }
     {
@@ -95,7 +95,7 @@ impl Player {
         }
     }
 
-    /// The shared flow that the steps are played on, where it is one.
+    /// Returns the shared flow that the steps are played on, where it is one.
     pub fn shared_core(&self) -> Option<&SharedCore<i64>> {
         match self {
             Player::Shared(core) => Some(core),
@@ -104,7 +104,7 @@ impl Player {
         }
     }
 
-    /// A subscription with first values of its own. Only a shared flow that is not a chain's has it.
+    /// Returns a subscription with first values of its own. Only a shared flow that is not a chain's has it.
     pub fn subscribe_with(
         &mut self,
         numbers: &mut Numbers,

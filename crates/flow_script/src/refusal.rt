@@ -48,7 +48,8 @@ pub fn call_refusal(fault: FlowFault) -> Result<Answer, ScriptFault>
     Ok(Answer::Refused(fault))
 }
 
-/// Returns the answer of a turn that was refused, or of a chain that was not shared. Out of memory has none: it ends the script.
+/// Returns the answer of a turn that was refused, or of a chain that was not shared. Out of memory has none: it ends
+/// the script.
 pub fn turn_refusal(fault: ShareFault) -> Result<Answer, ScriptFault>
     ensures answer { IfOk result (AnswersTurn fault) }
     ensures memory { IfErr result (λ fault. fault ≡ ScriptFault.OutOfMemory) }

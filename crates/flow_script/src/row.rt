@@ -35,17 +35,17 @@ impl PlayedFlow {
         }
     }
 
-    /// How many values it has emitted, where it is a shared flow.
+    /// Returns how many values it has emitted, where it is a shared flow.
     pub fn emission_count(&self) -> Option<u64> {
         Some(self.player.shared_core()?.emission_count())
     }
 
-    /// How many names of subscribers were introduced.
+    /// Returns how many names of subscribers were introduced.
     pub fn subscribers(&self) -> usize {
         self.numbers.subscribers()
     }
 
-    /// How many values the subscriber of the name at a place has still to receive.
+    /// Returns how many values the subscriber of the name at a place has still to receive.
     pub fn lag(&self, place: usize) -> Option<u64> {
         let id = self.numbers.subscriber_at(place)?;
         self.player.shared_core()?.lag(id)
@@ -78,7 +78,7 @@ fn add_refused(
     Ok(())
 }
 
-/// A flow that was made takes its place before the first step, and the script goes on.
+/// Adds a flow that was made, before the first step, and the script goes on.
 fn add_made(
     alloc: Global,
     row: &mut Vec<Option<PlayedFlow>>,
@@ -92,7 +92,7 @@ fn add_made(
     Ok(true)
 }
 
-/// A flow with a name that was not made leaves its place empty, and the script goes on.
+/// Adds a flow with a name that was not made: its place stays empty, and the script goes on.
 fn add_not_made(
     row: &mut Vec<Option<PlayedFlow>>,
     not_made: &mut Vec<NotMade>,
@@ -110,7 +110,7 @@ fn add_not_made(
     Ok(true)
 }
 
-/// A flow without a name that was not made ends the script.
+/// Adds a flow without a name that was not made, and returns that the script ends.
 fn end_not_made(not_made: &mut Vec<NotMade>, refused: Refusal) -> Result<bool, ScriptFault>
     ensures ends { (named : NamedHead) (row : List (Option Kept)) → named.name ≡ None
         → Makes named.flow (Err refused)

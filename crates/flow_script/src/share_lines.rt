@@ -33,7 +33,7 @@ fn event_text(event: Event) -> &'static str
     }
 }
 
-/// The line of a turn.
+/// Adds the line of a turn.
 pub fn add_report(text: &mut String, report: Report) -> Result<(), AllocError>
     ensures { OnOk result (lines.AddsLine (lines.report_text report) text.old text.new) }
 {
@@ -42,7 +42,7 @@ pub fn add_report(text: &mut String, report: Report) -> Result<(), AllocError>
     add_line(text, event_text(report.event))
 }
 
-/// The line of a turn that was refused, or of a chain that was not shared.
+/// Adds the line of a turn that was refused, or of a chain that was not shared.
 pub fn add_share_fault(text: &mut String, fault: ShareFault) -> Result<(), AllocError>
     ensures { OnOk result (lines.AddsLine (lines.share_fault_text fault) text.old text.new) }
 {

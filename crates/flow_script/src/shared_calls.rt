@@ -75,7 +75,7 @@ fn reset(core: &mut SharedCore<i64>, numbers: &Numbers) -> Result<Answer, Script
     Ok(Answer::Reset)
 }
 
-/// A subscription with first values of its own.
+/// Returns a subscription with first values of its own.
 pub fn subscribe_with(
     core: &mut SharedCore<i64>,
     numbers: &mut Numbers,

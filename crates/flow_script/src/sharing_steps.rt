@@ -30,7 +30,7 @@ fn turn<H: ScriptHub>(
     }
 }
 
-/// Whether a step only reads the flow, as those may who share a chain.
+/// Returns whether a step only reads the flow, as those may who share a chain.
 fn is_reading(step: FlowStep) -> bool
     ensures { result ≡ meaning.is_reading step }
 {

@@ -48,7 +48,7 @@ fn compare_and_set(
     Ok(Answer::Tested(core.compare_and_set(&expect, update)))
 }
 
-/// A state flow keeps its value: this is refused.
+/// Refuses a reset: a state flow always has a value.
 fn reset(core: &mut StateCore<i64>, numbers: &Numbers) -> Result<Answer, ScriptFault>
     ensures plays { IfOk result (Follows IsState (own_turn state_flow plays_state FlowStep.Reset)
         core.old core.new numbers.now numbers.now) }

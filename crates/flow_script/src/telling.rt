@@ -29,7 +29,7 @@ pub fn tell<W: Write>(output: &mut Watched<W>, line: &str, status: u8) -> u8
     }
 }
 
-/// Tells that memory was wanting.
+/// Says that memory was refused.
 pub fn tell_memory<W: Write>(output: &mut Watched<W>) -> u8
     requires { has_failed output.old ≡ false }
     ensures { Tells (has_failed output.new)
@@ -38,7 +38,7 @@ pub fn tell_memory<W: Write>(output: &mut Watched<W>) -> u8
     tell(output, "out of memory\n", OUT_OF_MEMORY)
 }
 
-/// The line of a fault.
+/// Returns the line of a fault.
 fn line_of(alloc: Global, fault: ScriptFault) -> Result<String, AllocError>
     ensures { IfOk result (λ line. string_bytes line ≡ fault_line fault) }
 {
@@ -67,7 +67,7 @@ fn add_fault(line: &mut String, fault: ScriptFault) -> Result<(), AllocError>
     }
 }
 
-/// Tells the refusal of a script. Where there is no memory for its line, that is told.
+/// Prints the refusal of a script. Where there is no memory for its line, that is told.
 fn refuse<W: Write>(alloc: Global, output: &mut Watched<W>, fault: ScriptFault) -> u8
     requires { has_failed output.old ≡ false }
     ensures { Tells (has_failed output.new) (W.contents (inner_of output.old))
@@ -82,7 +82,8 @@ fn refuse<W: Write>(alloc: Global, output: &mut Watched<W>, fault: ScriptFault) 
     }
 }
 
-/// Tells why a script was not played, and answers the status of that. After a write that failed nothing more is printed.
+/// Says why a script was not played, and answers the status of that. After a write that failed nothing more is
+/// printed.
 pub fn tell_fault<W: Write>(alloc: Global, output: &mut Watched<W>, fault: ScriptFault) -> u8
     requires { has_failed output.old ≡ write_failed fault }
     ensures { (told : ScriptFault) × ((told ≡ fault) ⊎ (IsRefusal fault × (told ≡ ScriptFault.OutOfMemory)))

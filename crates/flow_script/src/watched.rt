@@ -28,7 +28,7 @@ impl<I> Watched<I> {
         }
     }
 
-    /// Whether a call failed so far, or a write of some bytes took none.
+    /// Returns whether a call failed so far, or a write of some bytes took none.
     pub fn failed(&self) -> bool
         ensures { result ≡ has_failed self.now }
     {

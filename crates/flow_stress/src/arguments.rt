@@ -12,7 +12,7 @@ pub struct Size {
 
 pub const MOST_THREADS: u32 = 64;
 
-/// The seed, the number of threads, from 4 on, and that of their rounds. `None` where the words are no such.
+/// Returns the seed, the number of threads, from 4 on, and that of their rounds. `None` where the words are no such.
 pub fn size_of(words: &[String]) -> Option<Size> {
     let [seed, threads, rounds] = words else {
         return None;

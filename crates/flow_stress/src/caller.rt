@@ -9,8 +9,8 @@ use std::alloc::AllocGlobal;
 use std::random::RandomSource;
 use std::sync::Wait;
 
-/// A caller of each flow: one that suspends, one that drops the oldest, a state flow without a lock and one behind a gate. The
-/// dice choose the calls.
+/// A caller of each flow: one that suspends, one that drops the oldest, a state flow without a lock and one behind a
+/// gate. The dice choose the calls.
 #[derive(Drop)]
 pub struct Caller<'a> {
     pub suspending: SharedCaller<'a>,
@@ -24,7 +24,7 @@ pub struct Caller<'a> {
 }
 
 impl<'a> Caller<'a> {
-    /// The caller of this number, for a thread of its own.
+    /// Returns the caller of this number, for a thread of its own.
     pub fn another(&mut self, size: Size, number: u32) -> Caller<'a> {
         Caller {
             suspending: self.suspending.another(),

@@ -42,8 +42,8 @@ fn receive<R: Wait + RandomSource + AllocGlobal>(
     }
 }
 
-/// Emits the values of this emitter, and receives one after each. There is one, since its own comes, or a newer one. `None` for
-/// out of memory.
+/// Emits the values of this emitter, and receives one after each. There is one, since its own comes, or a newer one.
+/// `None` if memory is refused.
 fn exchange<R: Wait + RandomSource + AllocGlobal>(
     rt: &R,
     flow: &SharedFlow<Value>,

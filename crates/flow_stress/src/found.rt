@@ -1,6 +1,7 @@
 //! What a thread found.
 
-/// How often something was wrong, how many values it has read of a shared flow, and how much it has added to each state flow.
+/// How often something was wrong, how many values it has read of a shared flow, and how much it has added to each state
+/// flow.
 #[derive(Clone, Copy)]
 pub struct Found {
     pub wrong: u64,
@@ -26,7 +27,7 @@ impl Found {
         }
     }
 
-    /// What both found.
+    /// Returns what both found.
     pub fn plus(self, other: Found) -> Found {
         Found {
             wrong: self.wrong.saturating_add(other.wrong),

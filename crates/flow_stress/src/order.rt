@@ -1,4 +1,5 @@
-//! Whether what a subscriber gets is in order: of each emitter as that emitted it, and nothing twice; and of a value that never falls.
+//! Whether what a subscriber gets is in order: of each emitter as that emitted it, and nothing twice; and of a value
+//! that never falls.
 use crate::arguments::MOST_THREADS;
 use crate::found::{Found, NOTHING};
 use flow_law::Next;
@@ -42,8 +43,8 @@ impl Order {
     }
 }
 
-/// What a new subscriber received of a value that never falls: first one that is no less than this, and then a greater one, or
-/// none.
+/// Returns what a new subscriber received of a value that never falls: first one that is no less than this, and then a
+/// greater one, or none.
 pub fn are_in_order(last: u64, first: Next<u64>, second: Next<u64>) -> bool {
     match (first, second) {
         (Next::Value(first), Next::Value(second)) => last <= first && first < second,

@@ -17,7 +17,8 @@ const CALLS: u32 = 64;
 /// How many further subscriptions a reader without a value makes at most.
 const LATE: u32 = 20_000;
 
-/// Calls `next` in either way, as the dice say, and leaves. A live subscription is never gone. `None` if memory is refused.
+/// Calls `next` in either way, as the dice say, and leaves. A live subscription is never gone. `None` if memory is
+/// refused.
 fn read<R: Wait>(
     rt: &R,
     flow: &SharedFlow<Value>,
@@ -46,8 +47,8 @@ fn read<R: Wait>(
 }
 
 impl SharedCaller<'_> {
-    /// Makes so many calls, by one subscription after another, and further ones until it has read a value: the flow replays
-    /// what was emitted. `None` if it is out of memory.
+    /// Makes so many calls, by one subscription after another, and further ones until it has read a value: the flow
+    /// replays what was emitted. `None` if it is out of memory.
     pub fn read_all<R: Wait>(&mut self, rt: &R, dice: &mut Pcg32, rounds: u32) -> Option<Found> {
         let mut found = NOTHING;
         let usual = rounds / CALLS;

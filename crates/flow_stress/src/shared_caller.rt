@@ -22,7 +22,7 @@ impl<'a> SharedCaller<'a> {
         }
     }
 
-    /// Whether everybody has left.
+    /// Returns whether everybody has left.
     pub fn is_left<R: Wait>(&mut self, rt: &R) -> bool {
         self.flow.subscription_count(rt, &mut self.seat) == 0
     }

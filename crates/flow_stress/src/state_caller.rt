@@ -26,8 +26,8 @@ impl<'a> StateCaller<'a> {
         }
     }
 
-    /// Adds 1 to the value that is read, unless another thread does so first. The value, and how much was added. `None` for want
-    /// of memory.
+    /// Adds 1 to the value that is read, unless another thread does so first. The value, and how much was added. `None`
+    /// for want of memory.
     fn try_add<R: Wait>(&mut self, rt: &R) -> Option<(u64, u64)> {
         let value = self.flow.value(rt, &mut self.seat).ok()?;
         let more = one_more(value);

@@ -16,7 +16,7 @@ use std::sync::Wait;
 use std::thread::{Threads, for_each_mut};
 
 impl<'a> Caller<'a> {
-    /// A caller for each thread.
+    /// Returns a caller for each thread.
     fn others(&mut self, alloc: Global, size: Size) -> Option<Vec<Caller<'a>>> {
         let mut others = Vec::new(alloc);
         for number in 0..size.threads {
@@ -33,8 +33,8 @@ impl<'a> Caller<'a> {
         self.state.check(rt, found)
     }
 
-    /// Does the calls of each other caller in a thread of its own, and looks at the flows then. All threads begin at the same
-    /// time. `None` if one could not be made, or if memory ran out.
+    /// Does the calls of each other caller in a thread of its own, and looks at the flows then. All threads begin at
+    /// the same time. `None` if one could not be made, or if memory ran out.
     fn run_all<R: Threads + Wait + RandomSource + AllocGlobal + Sync>(
         &mut self,
         rt: &R,
@@ -62,7 +62,7 @@ impl<'a> Caller<'a> {
     }
 }
 
-/// What all threads found.
+/// Returns what all threads found.
 fn sum(callers: &[Caller<'_>]) -> Option<Found> {
     let mut all = NOTHING;
     for caller in callers {

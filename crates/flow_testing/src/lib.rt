@@ -1,5 +1,5 @@
-//! What the tests of several crates share: a value that holds more than what it means, memory that is refused, and a place
-//! where threads begin at once.
+//! What the tests of several crates share: a value that holds more than what it means, memory that is refused, and a
+//! place where threads begin at once.
 #![tactic(auto)]
 
 mod limited;

@@ -22,7 +22,7 @@ impl<'a> Model for CopyLimited<'a> {
     ghost view = { λ value. value.number };
 }
 
-/// Whether this one is refused.
+/// Returns whether this one is refused.
 fn refuses(copies: &Cell<u64>) -> bool {
     let left = copies.get();
     if left > 0 {
@@ -39,7 +39,7 @@ impl<'a> CopyLimited<'a> {
         CopyLimited { number, copies }
     }
 
-    /// What the value means.
+    /// Returns what the value means.
     pub fn number(&self) -> i64
         ensures { result ≡ self.now }
     {

@@ -24,7 +24,7 @@ impl<B: Allocator> Refusing<B> {
         self.left.store(number, Ordering::SeqCst);
     }
 
-    /// Whether the refusal is still to come.
+    /// Returns whether the refusal is still to come.
     pub fn is_waiting(&self) -> bool {
         let left = self.left.load(Ordering::SeqCst);
         left > 0 && left <= u64::MAX / 2
@@ -37,7 +37,7 @@ impl<B: Allocator> Drop for Refusing<B> {
     }
 }
 
-/// Whether this one is refused.
+/// Returns whether this one is refused.
 fn refuses(left: &AtomicU64) -> bool {
     left.fetch_sub(1, Ordering::SeqCst) == 1
 }

@@ -17,7 +17,7 @@ pub struct Start {
 }
 
 impl Start {
-    /// A barrier for so many threads.
+    /// Returns a barrier for so many threads.
     pub fn new(threads: u64) -> Start {
         Start {
             threads,
@@ -41,7 +41,7 @@ impl Start {
         self.is_late.store(true, Ordering::SeqCst);
     }
 
-    /// Whether all threads came before any of them gave up.
+    /// Returns whether all threads came before any of them gave up.
     pub fn is_kept(&self) -> bool {
         let came = self.came.load(Ordering::SeqCst);
         came == self.threads && !self.is_late.load(Ordering::SeqCst)

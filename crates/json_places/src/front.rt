@@ -45,7 +45,7 @@ struct Front {
 }
 
 impl Front {
-    /// Whether the innermost bracket that is open is that of an object.
+    /// Returns whether the innermost bracket that is open is that of an object.
     fn is_in_object(&self) -> bool {
         matches!(self.open.get(self.nesting.wrapping_sub(1)), Some(b'{'))
     }
@@ -84,7 +84,7 @@ impl Front {
         }
     }
 
-    /// What may follow.
+    /// Returns what may follow.
     fn expected(&self) -> &'static str {
         if !matches!(self.quoted, Quoted::Outside) {
             return "the rest of a text, and its closing quote";
@@ -104,7 +104,8 @@ impl Front {
     }
 }
 
-/// How many bytes there are before an offset, or up to the first bracket that nests too deep, and what may follow them.
+/// Returns how many bytes there are before an offset, or up to the first bracket that nests too deep, and what may
+/// follow them.
 fn front_before(bytes: &[u8], offset: usize) -> (usize, Front) {
     let mut front = Front {
         open: [0; MOST_NESTED],
@@ -121,7 +122,7 @@ fn front_before(bytes: &[u8], offset: usize) -> (usize, Front) {
     (offset, front)
 }
 
-/// The offset of a fault of the JSON reader.
+/// Returns the offset of a fault of the JSON reader.
 fn offset_of(bytes: &[u8], error: &Error) -> usize {
     if error.is_eof() {
         return bytes.len();
@@ -140,7 +141,7 @@ fn offset_of(bytes: &[u8], error: &Error) -> usize {
     start.saturating_add(error.column().saturating_sub(1))
 }
 
-/// What is wrong where the reader stopped at an offset, or before it.
+/// Returns what is wrong where the reader stopped at an offset, or before it.
 fn fault_at(bytes: &[u8], offset: usize) -> Stop {
     let (at, deepest) = front_before(bytes, offset.saturating_add(1));
     if deepest.nesting > MOST_NESTED {
@@ -171,8 +172,9 @@ fn fault_at(bytes: &[u8], offset: usize) -> Stop {
     }
 }
 
-/// Where a text stops being JSON, and what was expected there: nothing, where all of it is JSON. Bytes that are no UTF-8 are no JSON,
-/// nor is a text with more than 127 brackets open at once. The error says that memory was wanting.
+/// Returns where a text stops being JSON, and what was expected there: nothing, where all of it is JSON. Bytes that are
+/// no UTF-8 are no JSON, nor is a text with more than 127 brackets open at once. The error says that memory was
+/// wanting.
 pub fn not_json(text: Text<'_>) -> Result<Option<Stop>, AllocError> {
     match Value::from_slice(text.alloc, text.bytes) {
         Ok(_) => Ok(None),

@@ -91,12 +91,12 @@ fn plain_len(bytes: &[u8]) -> usize {
 const MOST_TOLD: usize = 48;
 
 impl<'a> Text<'a> {
-    /// The bytes from an offset on.
+    /// Returns the bytes from an offset on.
     fn rest(self, at: usize) -> &'a [u8] {
         self.bytes.get(at..).unwrap_or(&[])
     }
 
-    /// The bytes of the key or the value that begins at an offset.
+    /// Returns the bytes of the key or the value that begins at an offset.
     fn raw(self, at: usize) -> &'a [u8] {
         let rest = self.rest(at);
         let length = match rest.first() {
@@ -106,7 +106,8 @@ impl<'a> Text<'a> {
         rest.get(..length).unwrap_or(rest)
     }
 
-    /// Where the next key or value begins, from an offset outside of them on, if the object, the list or the text does not end before it.
+    /// Returns where the next key or value begins, from an offset outside of them on, if the object, the list or the
+    /// text does not end before it.
     pub fn part_from(self, from: usize) -> Option<usize> {
         for (index, byte) in self.rest(from).iter().enumerate() {
             match *byte {
@@ -118,13 +119,14 @@ impl<'a> Text<'a> {
         None
     }
 
-    /// Where the key or the value begins that follows the one at an offset, if the object, the list or the text does not end before it.
+    /// Returns where the key or the value begins that follows the one at an offset, if the object, the list or the text
+    /// does not end before it.
     pub fn part_after(self, at: usize) -> Option<usize> {
         self.part_from(at.saturating_add(self.raw(at).len()))
     }
 
-    /// The next member of an object, if there is one more, from the offset behind its opening bracket or the `end` of the member before on.
-    /// What is no object has none. The error says that memory was wanting.
+    /// Returns the next member of an object, if there is one more, from the offset behind its opening bracket or the
+    /// `end` of the member before on. What is no object has none. The error says that memory was refused.
     pub fn member_from(
         self,
         object: Spot<'a>,
@@ -154,8 +156,8 @@ impl<'a> Text<'a> {
         }
     }
 
-    /// The value of a key of an object, if there is one. Where a key is there twice, the last one counts. What is no object has none.
-    /// The error says that memory was wanting.
+    /// Returns the value of a key of an object, if there is one. Where a key is there twice, the last one counts. What
+    /// is no object has none. The error says that memory was refused.
     pub fn member(self, object: Spot<'a>, key: &str) -> Result<Option<Spot<'a>>, AllocError> {
         let mut found = None;
         if object.value.get(key).is_none() {
@@ -174,7 +176,7 @@ impl<'a> Text<'a> {
         Ok(found)
     }
 
-    /// An item of a list, if it has so many: the first one has the index 0. What is no list has none.
+    /// Returns an item of a list, if it has so many: the first one has the index 0. What is no list has none.
     pub fn item(self, list: Spot<'a>, index: usize) -> Option<Spot<'a>> {
         let value = list.value.get(index)?;
         let mut at = self.part_from(list.at.saturating_add(1))?;
@@ -184,8 +186,8 @@ impl<'a> Text<'a> {
         Some(Spot { value, at })
     }
 
-    /// The value that begins at an offset as it is told, and what is told after it: at most 48 bytes, which may end within a character,
-    /// and then "..". Of an object, a list and the end of the text it is told what they are.
+    /// Returns the value that begins at an offset as messages show it, and what follows it: at most 48 bytes, which may
+    /// end within a character, and then "..". Of an object, a list and the end of the text messages say what they are.
     pub fn told(self, at: usize) -> (&'a [u8], &'static str) {
         match self.rest(at).first() {
             None => ("the end of the text".as_bytes(), ""),

@@ -13,7 +13,7 @@ pub struct Place {
 }
 
 impl Place {
-    /// The place of the byte at an offset. That of an offset behind the text's end is the end.
+    /// Returns the place of the byte at an offset. That of an offset behind the text's end is the end.
     pub fn at(bytes: &[u8], offset: usize) -> Place
         ensures from_one { (0 < result.line) × (0 < result.column) }
     {

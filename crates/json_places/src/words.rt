@@ -7,9 +7,9 @@ use strsim::osa_distance;
 /// Longer words have no near one.
 const LONGEST: usize = 64;
 
-/// Returns the choice that the fewest edits make of this word, if one is near. An edit is a letter more, a letter less, another
-/// letter, or two that change places. A choice is near by edits of a third of its letters, or by one of a short word. The choices
-/// have no capital letters, and those of the word count as small ones.
+/// Returns the choice that the fewest edits make of this word, if one is near. An edit is a letter more, a letter less,
+/// another letter, or two that change places. A choice is near by edits of a third of its letters, or by one of a short
+/// word. The choices have no capital letters, and those of the word count as small ones.
 ///
 /// # Errors
 /// `AllocError`: out of memory.

@@ -25,7 +25,7 @@ pub enum OpName {
     Distinct,
 }
 
-/// The operators of version 2 alone.
+/// Returns the operators of version 2 alone.
 fn later_op_named(version: Version, text: &str) -> Option<OpName>
     ensures { result ≡ chains.later_op_named version text.now }
 {
@@ -59,7 +59,7 @@ fn op_named(version: Version, text: &str) -> Option<OpName>
     }
 }
 
-/// The operator that a text names, if this version knows it.
+/// Returns the operator that a text names, if this version knows it.
 pub fn op_name_of(version: Version, op: &Value) -> Option<OpName>
     ensures { result ≡ chains.op_name_of version (view op.now) }
 {
@@ -112,14 +112,14 @@ fn spread_named(text: &str) -> Option<Spread>
     }
 }
 
-/// What a `flat_map` makes of an item.
+/// Returns what a `flat_map` makes of an item.
 pub fn spread_at(op: &Value) -> Option<Spread>
     ensures { result ≡ chains.spread_at (view op.now) }
 {
     spread_named(text_at(op, "to")?)
 }
 
-/// The number that a test compares with.
+/// Returns the number that a test compares with.
 fn compared_with(op: &Value) -> Option<i64>
     ensures { result ≡ chains.compared_with (view op.now) }
 {
@@ -130,7 +130,8 @@ fn compared_with(op: &Value) -> Option<i64>
     }
 }
 
-/// The test of a `filter`, a `take_while` or a `drop_while`: even and odd stand alone, the others have a number beside them.
+/// Returns the test of a `filter`, a `take_while` or a `drop_while`: even and odd stand alone, the others have a number
+/// beside them.
 pub fn test_of(op: &Value) -> Option<Test>
     ensures { result ≡ chains.test_of (view op.now) }
 {

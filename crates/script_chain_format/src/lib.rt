@@ -1,7 +1,7 @@
 //! Chains in JSON scripts: reads a chain's text, and builds the chain.
 //!
-//! Begin with `chain_in`. The module `reading` has what each reader of a script needs: the members of a JSON object, the
-//! script's version, and the fault that refuses a script.
+//! Begin with `chain_in`. The module `reading` has what each reader of a script needs: the members of a JSON object,
+//! the script's version, and the fault that refuses a script.
 #![tactic(auto)]
 
 mod chain_words;

@@ -23,7 +23,7 @@ pub type Build = Result<ScriptChain, ChainFault>;
 /// How deep zips may nest: more than any text does, since JSON nests at most 127 deep, and three deeper with each zip.
 const MOST_LEVELS: u32 = 127;
 
-/// The source and the operators of a chain.
+/// Returns the source and the operators of a chain.
 fn parts_of(chain: &Value) -> Option<(&Value, &Vec<Value>)>
     ensures { option_map (λ parts. (view parts.0.now, items_view parts.1.now.items)) result
         ≡ chains.parts_of (view chain.now) }
@@ -36,7 +36,7 @@ fn parts_of(chain: &Value) -> Option<(&Value, &Vec<Value>)>
     Some((from, ops))
 }
 
-/// The chain of a source alone.
+/// Returns the chain of a source alone.
 fn start_of(source: Result<Source, ScriptFault>) -> Result<Build, ScriptFault>
     ensures { (m : Result (ChainRun ℤ) TheScriptFault) → Gives m (source_result source)
         → Gives (chains.start_of m) (build_result result) }
@@ -44,14 +44,14 @@ fn start_of(source: Result<Source, ScriptFault>) -> Result<Build, ScriptFault>
     Ok(Ok(ScriptChain::source(source?)))
 }
 
-/// The zip with a chain, unless that could not be built.
+/// Returns the zip with a chain, unless that could not be built.
 fn zip_with(by: Joining, with: Build) -> Result<Op, ChainFault>
     ensures { operator_build result ≡ chains.zip_with by (build_of with) }
 {
     Ok(Op::Zip { with: with?, by })
 }
 
-/// The zip with a chain that was read.
+/// Returns the zip with a chain that was read.
 fn zipped(
     by: Joining,
     with: Result<Build, ScriptFault>,
@@ -62,7 +62,7 @@ fn zipped(
     Ok(zip_with(by, with?))
 }
 
-/// An operator that nothing refuses before it is put onto a chain.
+/// Returns an operator that nothing refuses before it is put onto a chain.
 fn plain(op: Result<Op, ScriptFault>) -> Result<Result<Op, ChainFault>, ScriptFault>
     ensures { (m : Result chains.Operator TheScriptFault) → Gives m (operator_result op)
         → Gives (chains.plain m) (operator_build_result result) }
@@ -70,7 +70,7 @@ fn plain(op: Result<Op, ScriptFault>) -> Result<Result<Op, ChainFault>, ScriptFa
     Ok(Ok(op?))
 }
 
-/// The chain with one more operator.
+/// Returns the chain with one more operator.
 fn with_operator(alloc: Global, chain: ScriptChain, op: Op) -> Result<Build, ScriptFault>
     ensures { Gives (Ok (chains.with_operator (operator_of op) (built_of chain))) (build_result result) }
 {
@@ -91,7 +91,7 @@ fn refused(fault: ChainFault) -> Result<Build, ScriptFault>
     }
 }
 
-/// What was built, with one more operator.
+/// Returns what was built, with one more operator.
 fn built_on(alloc: Global, chain: Build, op: Result<Op, ChainFault>) -> Result<Build, ScriptFault>
     ensures { Gives (Ok (chains.built_on (build_of chain) (operator_build op))) (build_result result) }
 {
@@ -104,7 +104,7 @@ fn built_on(alloc: Global, chain: Build, op: Result<Op, ChainFault>) -> Result<B
     }
 }
 
-/// What was read, with one more operator. A bad form anywhere in a chain comes before a limit.
+/// Returns what was read, with one more operator. A bad form anywhere in a chain comes before a limit.
 fn joined_to(
     alloc: Global,
     chain: Result<Build, ScriptFault>,
@@ -121,7 +121,7 @@ fn joined_to(
     }
 }
 
-/// The operator of a text, where zips may nest so deep in it.
+/// Returns the operator of a text, where zips may nest so deep in it.
 #[cycle(chain)]
 fn operator_at(
     alloc: Global,
@@ -138,7 +138,7 @@ fn operator_at(
     }
 }
 
-/// The chain of a text, where zips may nest so deep in it.
+/// Returns the chain of a text, where zips may nest so deep in it.
 #[cycle(chain)]
 fn chain_at(
     alloc: Global,
@@ -166,10 +166,10 @@ fn chain_at(
     build
 }
 
-/// The chain of an object with the keys `from`, a source, and `ops`, a list of operators; `at` is the number of its step, which
-/// a fault tells. `BadShape` where anything in it has another form, also within a zip; else `TooLarge` where a limit is
-/// passed. A chain that cannot be built, as one that is too deep, is no fault: that is the inner `Err`. Out of memory comes in
-/// place of any answer.
+/// Returns the chain of an object with the keys `from`, a source, and `ops`, a list of operators; `at` is the number of
+/// its step, which a fault tells. `BadShape` where anything in it has another form, also within a zip; else `TooLarge`
+/// where a limit is passed. A chain that cannot be built, as one that is too deep, is no fault: that is the inner
+/// `Err`. Out of memory comes in place of any answer.
 pub fn chain_in(
     alloc: Global,
     version: Version,

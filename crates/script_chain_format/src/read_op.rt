@@ -114,7 +114,7 @@ fn transform_in(alloc: Global, at: u64, op: &Value) -> Result<Op, ScriptFault>
     Ok(Op::Transform(entries))
 }
 
-/// What each item becomes, and how many numbers that is.
+/// Returns what each item becomes, and how many numbers that is.
 fn flat_map_of(op: &Value) -> Option<(Spread, u64)>
     ensures { result ≡ chains.flat_map_of (view op.now) }
 {
@@ -138,7 +138,7 @@ fn flat_map_in(at: u64, op: &Value) -> Result<Op, ScriptFault>
     Ok(Op::FlatMap { to, count })
 }
 
-/// The operator, if the form is right.
+/// Returns the operator, if the form is right.
 fn formed(at: u64, op: Option<Op>) -> Result<Op, ScriptFault>
     ensures { Gives (or_fault (ScriptFault.BadShape at) (option_map operator_of op))
         (operator_result result) }
@@ -146,7 +146,7 @@ fn formed(at: u64, op: Option<Op>) -> Result<Op, ScriptFault>
     op.ok_or(ScriptFault::BadShape(at))
 }
 
-/// An operator that is no zip.
+/// Returns an operator that is no zip.
 pub fn operator_in(alloc: Global, version: Version, at: u64, op: &Value) -> Result<Op, ScriptFault>
     ensures { Gives (chains.operator_in version at (view op.now)) (operator_result result) }
 {
@@ -181,7 +181,7 @@ fn zip_of(op: &Value) -> Option<(Joining, &Value)>
     Some((by, with))
 }
 
-/// The same, of an operator that is a zip.
+/// Returns the same, of an operator that is a zip.
 pub fn zip_parts(version: Version, op: &Value) -> Option<(Joining, &Value)>
     ensures { option_map (λ zip. (zip.0, view zip.1.now)) result ≡ chains.zip_parts version (view op.now) }
 {

@@ -13,7 +13,7 @@ use std::alloc::Global;
 
 const MOST_ITEMS: usize = 10_000;
 
-/// The whole numbers of a list, at most so many.
+/// Returns the whole numbers of a list, at most so many.
 pub fn numbers_in(
     alloc: Global,
     at: u64,
@@ -28,8 +28,9 @@ pub fn numbers_in(
     }
 }
 
-/// These values as whole numbers of 64 bits, at most so many. A step's place among those of the script is told by the fault
-/// that refuses them: `BadShape` where one is none, `TooLarge` where there are more, and `OutOfMemory`. No list is made of more.
+/// These values as whole numbers of 64 bits, at most so many. A step's place among those of the script is told by the
+/// fault that refuses them: `BadShape` where one is none, `TooLarge` where there are more, and `OutOfMemory`. No list
+/// is made of more.
 pub fn numbers_of(
     alloc: Global,
     at: u64,
@@ -48,7 +49,7 @@ pub fn numbers_of(
     }
 }
 
-/// Whether each value is a whole number of 64 bits.
+/// Returns whether each value is a whole number of 64 bits.
 pub fn are_whole_numbers(values: &[Value]) -> bool
     ensures { result ≡ is_some (sources.whole_numbers (items_view values.now)) }
 {
@@ -74,7 +75,7 @@ fn whole_numbers(alloc: Global, at: u64, values: &[Value]) -> Result<Vec<i64>, S
     Ok(numbers)
 }
 
-/// An item, one turn that pends, or a fault.
+/// Returns an item, one turn that pends, or a fault.
 fn entry_of(value: &Value) -> Option<Entry<i64>>
     ensures { result ≡ sources.entry_of (view value.now) }
 {
@@ -119,7 +120,7 @@ fn are_entries(values: &[Value]) -> bool
     true
 }
 
-/// The entries of a source, no more than it may have. No list is made of more.
+/// Returns the entries of a source, no more than it may have. No list is made of more.
 fn entries_in(alloc: Global, at: u64, values: &[Value]) -> Result<Vec<Entry<i64>>, ScriptFault>
     ensures { Gives (sources.entries_in at (items_view values.now)) (entries_result result) }
 {
@@ -140,7 +141,7 @@ fn list_source(alloc: Global, at: u64, list: &Value) -> Result<Source, ScriptFau
     Ok(Source::List(OfList::new(numbers)))
 }
 
-/// The first and the last number of a range.
+/// Returns the first and the last number of a range.
 fn bounds_of(values: &[Value]) -> Option<(i64, i64)>
     ensures { result ≡ sources.bounds_of (items_view values.now) }
 {
@@ -152,7 +153,7 @@ fn bounds_of(values: &[Value]) -> Option<(i64, i64)>
     Some((first, last))
 }
 
-/// Whether a range has more numbers than it may.
+/// Returns whether a range has more numbers than it may.
 fn is_too_long(first: i64, last: i64) -> bool
     ensures { result ≡ sources.is_too_long first last }
 {
@@ -184,7 +185,7 @@ fn scripted_source(alloc: Global, at: u64, script: &Value) -> Result<Source, Scr
     Ok(Source::Scripted(Scripted::new(entries)))
 }
 
-/// The source of an object with one key, which says its kind: `of`, `range` or `script`.
+/// Returns the source of an object with one key, which says its kind: `of`, `range` or `script`.
 pub fn source_in(alloc: Global, at: u64, source: &Value) -> Result<Source, ScriptFault>
     ensures { Gives (sources.source_in at (view source.now)) (source_result result) }
 {

@@ -67,7 +67,7 @@ static SOURCE_ROWS: [Row; 3] = [
     },
 ];
 
-/// The keys of a source by the first one that it has, since it has no other.
+/// Returns the keys of a source by the first one that it has, since it has no other.
 pub fn source_shape(source: &Value) -> Shape {
     for row in &SOURCE_ROWS {
         if source.get(row.word).is_some() {
@@ -198,7 +198,7 @@ static OPERATOR_ROWS: [Row; 12] = [
     operator!("running_reduce", &[OP, BY_ARITHMETIC], Need::OnlyInTwo),
 ];
 
-/// The operators, by their tags.
+/// Returns the operators, by their tags.
 pub fn operator_rows() -> &'static [Row] {
     &OPERATOR_ROWS
 }
@@ -207,8 +207,8 @@ const PARITY_KEYS: &[Key] = &[OP, BY_TEST];
 
 const COMPARED_KEYS: &[Key] = &[OP, BY_TEST, K];
 
-/// The object of a row that has this tag and these members. Of operators even and odd stand alone, and the other tests have a
-/// number beside them.
+/// Returns the object of a row that has this tag and these members. Of operators even and odd stand alone, and the
+/// other tests have a number beside them.
 pub fn shape_of(row: Row, object: &Value) -> Shape {
     let keys = match (row.word, text_at(object, "by")) {
         ("filter" | "take_while" | "drop_while", "even" | "odd") => PARITY_KEYS,

@@ -51,14 +51,14 @@ fn flow_at(flows: &Map<String, Value>, index: usize) -> Choice<'_> {
     Some((name.as_str(), true))
 }
 
-/// The name that a step introduces, and whether the step has this tag and is about this flow.
+/// Returns the name that a step introduces, and whether the step has this tag and is about this flow.
 fn name_of<'a>(step: &'a Value, tag: &str, flow: &str) -> (&'a str, bool) {
     let is_made = text_at(step, "do") == tag && text_at(step, "flow") == flow;
     (text_at(step, "name"), is_made)
 }
 
 impl<'a> Choices<'a> {
-    /// The word at an index, and whether it may be chosen.
+    /// Returns the word at an index, and whether it may be chosen.
     pub fn at(self, index: usize) -> Choice<'a> {
         match self {
             Choices::Words(words) => word_at(words, index),

@@ -121,7 +121,7 @@ static FLOW_ROWS: [Row; 5] = [
     },
 ];
 
-/// The flows, by their tags.
+/// Returns the flows, by their tags.
 pub fn flow_rows() -> &'static [Row] {
     &FLOW_ROWS
 }

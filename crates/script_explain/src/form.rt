@@ -6,7 +6,7 @@ use crate::head::items_of;
 use crate::words::Form;
 use serde_json::Value;
 
-/// Whether a text has the form of a name.
+/// Returns whether a text has the form of a name.
 pub fn is_name(text: &str) -> bool {
     for byte in text.as_bytes() {
         if !matches!(*byte, b'a'..=b'z' | b'0'..=b'9' | b'_') {
@@ -16,7 +16,7 @@ pub fn is_name(text: &str) -> bool {
     !text.is_empty() && text.len() <= 32
 }
 
-/// How many members an object has.
+/// Returns how many members an object has.
 pub fn members_len(value: &Value) -> usize {
     match value.as_object() {
         Some(members) => members.len(),
@@ -24,7 +24,7 @@ pub fn members_len(value: &Value) -> usize {
     }
 }
 
-/// How many numbers a range has, if it has two bounds.
+/// Returns how many numbers a range has, if it has two bounds.
 fn range_len(value: &Value) -> Option<u64> {
     let [first, last] = items_of(value) else {
         return None;
@@ -37,7 +37,7 @@ fn range_len(value: &Value) -> Option<u64> {
     }
 }
 
-/// Whether there is a whole number below 2^32.
+/// Returns whether there is a whole number below 2^32.
 fn is_short(value: Option<&Value>) -> bool {
     match value {
         Some(value) => matches!(value.as_u64(), Some(number) if number <= u32::MAX as u64),
@@ -54,7 +54,8 @@ pub struct Limited {
 }
 
 impl Form {
-    /// Whether a value has the form. What stands in a list or an object is not looked at, but for a range and a fault.
+    /// Returns whether a value has the form. What stands in a list or an object is not looked at, but for a range and a
+    /// fault.
     pub fn fits(self, value: &Value) -> bool {
         let word = value.as_str().unwrap_or("");
         match self {
@@ -79,7 +80,7 @@ impl Form {
         }
     }
 
-    /// What a reader is told of the form.
+    /// Returns the words for the form, for messages.
     pub fn words(self) -> &'static str {
         match self {
             Form::Version => "1 or 2",
@@ -107,7 +108,7 @@ impl Form {
         }
     }
 
-    /// The words of which a value of the form may be one.
+    /// Returns the words of which a value of the form may be one.
     pub fn choices(self) -> &'static [&'static str] {
         match self {
             Form::OneOf(words) => words,
@@ -117,7 +118,7 @@ impl Form {
         }
     }
 
-    /// How much a value has of what the form limits, if it has a limit.
+    /// Returns how much a value has of what the form limits, if it has a limit.
     pub fn limited(self, value: &Value) -> Option<Limited> {
         let (size, most, unit) = match self {
             Form::Numbers(most) => (items_of(value).len() as u64, most, "items"),

@@ -5,7 +5,7 @@ use json_places::{Spot, Text};
 use serde_json::Value;
 use std::alloc::AllocError;
 
-/// The text of a member, or none.
+/// Returns the text of a member, or none.
 pub fn text_at<'a>(value: &'a Value, key: &str) -> &'a str {
     match value.get(key) {
         Some(member) => member.as_str().unwrap_or(""),
@@ -13,7 +13,7 @@ pub fn text_at<'a>(value: &'a Value, key: &str) -> &'a str {
     }
 }
 
-/// The number of a member, or 0.
+/// Returns the number of a member, or 0.
 pub fn number_at(value: &Value, key: &str) -> i64 {
     match value.get(key) {
         Some(member) => member.as_i64().unwrap_or(0),
@@ -21,7 +21,7 @@ pub fn number_at(value: &Value, key: &str) -> i64 {
     }
 }
 
-/// The items of a list, or none.
+/// Returns the items of a list, or none.
 pub fn items_of(value: &Value) -> &[Value] {
     match value.as_array() {
         Some(items) => items.as_slice(),
@@ -38,7 +38,7 @@ pub struct Script<'a> {
 }
 
 impl<'a> Script<'a> {
-    /// The script of a text, and its value.
+    /// Returns the script of a text, and its value.
     pub fn new(text: Text<'a>, value: &'a Value) -> Self {
         Script {
             text,
@@ -53,7 +53,7 @@ impl<'a> Script<'a> {
         }
     }
 
-    /// The steps before the one at an index, where the first one has the index 0.
+    /// Returns the steps before the one at an index, where the first one has the index 0.
     pub fn steps_before(self, index: usize) -> &'a [Value] {
         let Some(steps) = self.root.value.get("steps") else {
             return &[];
@@ -61,7 +61,7 @@ impl<'a> Script<'a> {
         items_of(steps).get(..index).unwrap_or(&[])
     }
 
-    /// A step, where the first one has the index 0.
+    /// Returns a step, where the first one has the index 0.
     pub fn step(self, index: usize) -> Result<Option<Spot<'a>>, AllocError> {
         match self.text.member(self.root, "steps")? {
             Some(steps) => Ok(self.text.item(steps, index)),
@@ -69,7 +69,7 @@ impl<'a> Script<'a> {
         }
     }
 
-    /// The flow that a step is about.
+    /// Returns the flow that a step is about.
     pub fn flow_of(self, step: &Value) -> Option<&'a Value> {
         match self.version {
             Version::One => self.root.value.get("flow"),

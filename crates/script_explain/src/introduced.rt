@@ -33,7 +33,7 @@ static SUBSCRIBER: Named = Named {
 };
 
 impl Named {
-    /// What a step introduces by its name, or else what it uses by it.
+    /// Returns what a step introduces by its name, or else what it uses by it.
     pub fn by(step: &Value) -> (Option<&'static Named>, Option<&'static Named>) {
         match text_at(step, "do") {
             "emit" => (Some(&EMISSION), None),
@@ -78,7 +78,7 @@ impl Introduced<'_> {
     }
 }
 
-/// The first step before another one that introduces a name.
+/// Returns the first step before another one that introduces a name.
 pub fn introduced_before<'a>(
     script: Script<'a>,
     before: usize,

@@ -1,14 +1,15 @@
 //! Explains flow scripts in words: where and why one is refused, and by which rule a step has its answer.
 //!
 //! # Refusals
-//! `explain_refusal` takes the bytes of a script and the fault by which the reader refused it. It walks over the text again, finds
-//! the key or the value that is to blame, and writes its line and column, what was expected there, and the nearest right word. Where
-//! it finds no culprit it writes the place of the step and the words of the fault. Three tables say what scripts are made of:
-//! `step_words`, `flow_words`, `chain_words`. The first thing that is wrong is written to the `Report`, and nothing more is looked at.
+//! `explain_refusal` takes the bytes of a script and the fault by which the reader refused it. It walks over the text
+//! again, finds the key or the value that is to blame, and writes its line and column, what was expected there, and the
+//! nearest right word. Where it finds no culprit it writes the place of the step and the words of the fault. Three
+//! tables say what scripts are made of: `step_words`, `flow_words`, `chain_words`. The first thing that is wrong is
+//! written to the `Report`, and nothing more is looked at.
 //!
 //! # Rules
-//! `rule_of` takes a step as it stands in the script, the flow that it is about, and the step's answer, and gives the rule by which
-//! the step has that answer. The tables of `rules` have the rules; they are those of docs/DEFINITIONS.md.
+//! `rule_of` takes a step as it stands in the script, the flow that it is about, and the step's answer, and gives the
+//! rule by which the step has that answer. The tables of `rules` have the rules; they are those of docs/DEFINITIONS.md.
 #![tactic(auto)]
 
 mod chain_words;

@@ -8,7 +8,7 @@ use crate::words::Version;
 use json_places::Spot;
 use serde_json::Value;
 
-/// No flow has the name that a step gives.
+/// Reports that no flow has the name that a step gives.
 fn unknown_flow<'a>(script: Script<'a>, found: Spot<'a>, report: &mut Report) -> Looked {
     report.begin_value(script.text, found.at);
     report.add(&[" is no flow of the script", EXPECTED, "a name of \"flows\""]);
@@ -21,7 +21,7 @@ fn unknown_flow<'a>(script: Script<'a>, found: Spot<'a>, report: &mut Report) ->
     }
 }
 
-/// No earlier step introduced the name for this use.
+/// Reports that no earlier step introduced the name for this use.
 fn unknown_use<'a>(
     script: Script<'a>,
     index: usize,

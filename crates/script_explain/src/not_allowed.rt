@@ -8,7 +8,7 @@ use crate::words::{Version, row_named};
 use json_places::Spot;
 use std::alloc::AllocError;
 
-/// What a reader is told a flow of a kind is.
+/// Returns the name of a kind of flow, for messages.
 fn name_of(kind: &str) -> &'static str {
     match row_named(flow_rows(), kind) {
         Some(row) => row.name,
@@ -16,7 +16,7 @@ fn name_of(kind: &str) -> &'static str {
     }
 }
 
-/// The first values of a step, where its flow gives a subscriber none.
+/// Reports the first values of a step whose flow gives a subscriber none.
 fn lost_first<'a>(
     script: Script<'a>,
     step: Spot<'a>,
@@ -28,7 +28,7 @@ fn lost_first<'a>(
     script.text.member(step, "first")
 }
 
-/// A step that a flow of a kind does not have.
+/// Reports a step that a flow of this kind does not have.
 fn no_step<'a>(script: Script<'a>, step: Spot<'a>, kind: &str, report: &mut Report) -> Looked {
     let Some(found) = script.text.member(step, "do")? else {
         return Ok(());
@@ -41,7 +41,7 @@ fn no_step<'a>(script: Script<'a>, step: Spot<'a>, kind: &str, report: &mut Repo
     report.end()
 }
 
-/// Tells why a step of the right form is not allowed by its flow.
+/// Says why a step of the right form is not allowed by its flow.
 pub fn tell_not_allowed<'a>(script: Script<'a>, step: Spot<'a>, report: &mut Report) -> Looked {
     let Some(flow) = script.flow_of(step.value) else {
         return Ok(());

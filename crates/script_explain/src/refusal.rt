@@ -13,7 +13,7 @@ use script_format::{MOST_BYTES, ScriptFault};
 use serde_json::Value;
 use std::alloc::{AllocError, Global};
 
-/// The part of a script that a fault is about: 0 is the head, and steps count from 1.
+/// Returns the part of a script that a fault is about: 0 is the head, and steps count from 1.
 fn part_of(fault: ScriptFault) -> Option<u64> {
     match fault {
         ScriptFault::BadShape(part)
@@ -49,7 +49,7 @@ fn look_at_step<'a>(
     }
 }
 
-/// Tells what is wrong with the version.
+/// Says what is wrong with the version.
 fn tell_version(script: Script<'_>, report: &mut Report) -> Looked {
     let (text, root) = (script.text, script.root);
     match text.member(root, "version")? {
@@ -73,7 +73,7 @@ fn look_at_head(script: Script<'_>, fault: ScriptFault, report: &mut Report) -> 
     look_into(script, aim, task, report)
 }
 
-/// The step that a part of a script is, if it is not the head.
+/// Returns the step that a part of a script is, if it is not the head.
 fn step_of<'a>(script: Script<'a>, part: u64) -> Result<Option<Spot<'a>>, AllocError> {
     if part == 0 {
         return Ok(None);
@@ -81,7 +81,7 @@ fn step_of<'a>(script: Script<'a>, part: u64) -> Result<Option<Spot<'a>>, AllocE
     script.step(part.saturating_sub(1) as usize)
 }
 
-/// Tells what is wrong in a part of a script, or at least where that part begins.
+/// Says what is wrong in a part of a script, or at least where that part begins.
 fn tell_part(script: Script<'_>, part: u64, fault: ScriptFault, report: &mut Report) -> Looked {
     let step = step_of(script, part)?;
     match step {
@@ -95,7 +95,7 @@ fn tell_part(script: Script<'_>, part: u64, fault: ScriptFault, report: &mut Rep
     tell_fault(fault, report)
 }
 
-/// Tells where the text stops being JSON.
+/// Says where the text stops being JSON.
 fn tell_stop(text: Text<'_>, report: &mut Report) -> Looked {
     match not_json(text)? {
         Some(stop) => {
@@ -114,7 +114,7 @@ fn tell_stop(text: Text<'_>, report: &mut Report) -> Looked {
     report.end()
 }
 
-/// Tells that a script has too many bytes.
+/// Says that a script has too many bytes.
 fn tell_size(text: Text<'_>, report: &mut Report) -> Looked {
     report.begin(text, MOST_BYTES);
     report.add(&["the script has "]);
@@ -124,14 +124,14 @@ fn tell_size(text: Text<'_>, report: &mut Report) -> Looked {
     report.end()
 }
 
-/// Tells the fault's own words.
+/// Prints the fault's own words.
 fn tell_fault(fault: ScriptFault, report: &mut Report) -> Looked {
     let added = write!(report.lines, "{fault}");
     report.note(added);
     report.end()
 }
 
-/// Tells why a script whose text is JSON is refused.
+/// Says why a script whose text is JSON is refused.
 fn tell_reason(text: Text<'_>, part: u64, fault: ScriptFault, report: &mut Report) -> Looked {
     match Value::from_slice(text.alloc, text.bytes) {
         Ok(value) => tell_part(Script::new(text, &value), part, fault, report),
@@ -148,8 +148,9 @@ fn tell_reason(text: Text<'_>, part: u64, fault: ScriptFault, report: &mut Repor
 ///   nearest: "value"
 /// ```
 ///
-/// Lines and columns count from 1, and columns count characters. Where no culprit is found, the place is that of the step or
-/// of the head, with the fault's own words; a fault that is about no place, such as `ReadFailed`, is told by these words alone.
+/// Lines and columns count from 1, and columns count characters. Where no culprit is found, the place is that of the
+/// step or of the head, with the fault's own words; a fault that is about no place, such as `ReadFailed`, is told by
+/// these words alone.
 pub fn explain_refusal(
     alloc: Global,
     bytes: &[u8],

@@ -19,7 +19,7 @@ pub enum Owner {
 }
 
 impl Owner {
-    /// Where the items stand of a list that stands here.
+    /// Returns where the items of a list that is here are.
     pub fn of_items(self) -> Self {
         match self {
             Owner::Member(key) => Owner::Item(key),
@@ -27,7 +27,7 @@ impl Owner {
         }
     }
 
-    /// What is said, after a value, of one that should not stand here.
+    /// Returns the words, after a value, for one that should not be here.
     fn denied(self) -> [&'static str; 3] {
         match self {
             Owner::Script => [" is no script", "", ""],
@@ -58,8 +58,8 @@ pub type Looked = Result<(), Ended>;
 /// What stands before what was expected.
 pub const EXPECTED: &str = "\n  expected: ";
 
-/// What is told of a script. It begins with the place of what is wrong, or with the key or the value that stands there, and ends with
-/// `end` or `end_near`. If memory is refused something is left out, and the end says so.
+/// The message about a script. It begins with the place of what is wrong, or with the key or the value there,
+/// and ends with `end` or `end_near`. If memory is refused something is left out, and the end says so.
 #[derive(Drop)]
 pub struct Report {
     /// The part of the script that is told of, if it is known: 0 is the head, and steps count from 1.
@@ -69,7 +69,7 @@ pub struct Report {
 }
 
 impl Report {
-    /// Remembers whether memory was wanting.
+    /// Remembers whether memory was refused.
     pub fn note(&mut self, added: Result<(), AllocError>) {
         if added.is_err() {
             self.is_out_of_memory = true;
@@ -89,7 +89,7 @@ impl Report {
         self.note(added);
     }
 
-    /// A place as a reader counts it.
+    /// Adds a place as a reader counts it.
     pub fn add_place(&mut self, text: Text<'_>, at: usize) {
         let place = Place::at(text.bytes, at);
         let added = write!(self.lines, "{place}");
@@ -145,7 +145,7 @@ impl Report {
         }
     }
 
-    /// A key that is missing, and what its value is.
+    /// Adds a key that is missing, and what its value is.
     pub fn add_key(&mut self, key: Key) {
         self.add(&["\"", key.word, "\", "]);
         self.add_form(key.form);
@@ -171,7 +171,7 @@ impl Report {
         self.end()
     }
 
-    /// The object of a name that begins at an offset lacks a key.
+    /// Reports that the object of a name, which begins at an offset, lacks a key.
     pub fn tell_missing(
         &mut self,
         text: Text<'_>,
@@ -185,7 +185,7 @@ impl Report {
         self.end()
     }
 
-    /// A value has not the form that is asked for.
+    /// Reports a value that has not the right form.
     pub fn tell_form(
         &mut self,
         text: Text<'_>,

@@ -69,7 +69,7 @@ pub enum Says {
 pub struct Rule(pub &'static str, pub Case, pub Says, pub &'static str);
 
 impl Says {
-    /// Whether it is about what a turn came to.
+    /// Returns whether it is about the event of a turn.
     fn fits_turn(self, report: &Report) -> bool {
         match self {
             Says::Starts => report.command == Command::Start,
@@ -78,7 +78,7 @@ impl Says {
         }
     }
 
-    /// Whether it is about why a turn was refused.
+    /// Returns whether it is about why a turn was refused.
     fn fits_refused_turn(self, fault: &ShareFault) -> bool {
         matches!(
             (self, fault),
@@ -89,7 +89,7 @@ impl Says {
         )
     }
 
-    /// Whether it is about how a collection ended.
+    /// Returns whether it is about how a collection ended.
     fn fits_end(self, end: &End) -> bool {
         match (self, end) {
             (Says::Completed, End::Completed) | (Says::Failed, End::Failed(_)) => true,
@@ -98,7 +98,7 @@ impl Says {
         }
     }
 
-    /// Whether it is about what a subscriber received.
+    /// Returns whether it is about what a subscriber received.
     fn fits_next(self, next: &Next<i64>) -> bool {
         matches!(
             (self, next),
@@ -106,7 +106,7 @@ impl Says {
         )
     }
 
-    /// Whether it is about an answer that says no more than its name.
+    /// Returns whether it is about an answer that says no more than its name.
     fn fits_word(self, answer: &Answer) -> bool {
         matches!(
             (self, answer),
@@ -120,7 +120,7 @@ impl Says {
         )
     }
 
-    /// Whether it is about this answer.
+    /// Returns whether it is about this answer.
     pub fn fits(self, answer: &Answer) -> bool {
         match answer {
             Answer::Tested(test) => matches!(self, Says::Test(wanted) if wanted == *test),
@@ -140,24 +140,24 @@ impl Says {
     }
 }
 
-/// Whether emitters wait where a flow is blocked.
+/// Returns whether emitters wait where a flow is blocked.
 fn suspends(flow: &Value) -> bool {
     !matches!(text_at(flow, "overflow"), "drop_oldest" | "drop_latest")
 }
 
-/// Whether a flow keeps values for slow subscribers. That of a shared chain does.
+/// Returns whether a flow keeps values for slow subscribers. That of a shared chain does.
 fn has_buffer(flow: &Value) -> bool {
     text_at(flow, "kind") == "share"
         || number_at(flow, "replay") > 0
         || number_at(flow, "extra") > 0
 }
 
-/// Whether a shared chain runs while there are subscribers.
+/// Returns whether a shared chain runs while there are subscribers.
 fn runs_while_subscribed(flow: &Value) -> bool {
     !matches!(text_at(flow, "started"), "eagerly" | "lazily")
 }
 
-/// Whether an object has a key with this word.
+/// Returns whether an object has a key with this word.
 fn has(object: &Value, key: &str, word: &str) -> bool {
     text_at(object, key) == word
 }
@@ -176,7 +176,7 @@ impl Case {
     }
 }
 
-/// The rules of steps on a flow.
+/// Returns the rules of steps on a flow.
 fn rules_for(flow: &Value, step: &str) -> &'static [Rule] {
     match text_at(flow, "kind") {
         _ if step == "turn" => &TURN_RULES,
@@ -186,7 +186,7 @@ fn rules_for(flow: &Value, step: &str) -> &'static [Rule] {
     }
 }
 
-/// The first of these rules by which a step on a flow has its answer, if there is one.
+/// Returns the first of these rules by which a step on a flow has its answer, if there is one.
 fn first_rule(rules: &'static [Rule], flow: &Value, step: &Value, answer: &Answer) -> &'static str {
     let word = text_at(step, "do");
     for Rule(tag, case, says, words) in rules {
@@ -197,11 +197,11 @@ fn first_rule(rules: &'static [Rule], flow: &Value, step: &Value, answer: &Answe
     ""
 }
 
-/// Returns the rule by which a step has its answer, in one sentence; `flow` is the flow of the script that the step is about. The
-/// rule is empty if the step has no such answer.
+/// Returns the rule by which a step has its answer, in one sentence; `flow` is the flow of the script that the step is
+/// about. The rule is empty if the step has no such answer.
 ///
-/// Of a turn it is the rule of its command, where that changes what runs, and else that of what came of it. Source of the
-/// rules: kotlinx.coroutines' public documentation, as docs/DEFINITIONS.md says rule by rule.
+/// Of a turn it is the rule of its command, where that changes what runs, and else that of what came of it. Source of
+/// the rules: kotlinx.coroutines' public documentation, as docs/DEFINITIONS.md says rule by rule.
 pub fn rule_of(flow: Option<&Value>, step: &Value, answer: &Answer) -> &'static str {
     let word = text_at(step, "do");
     match flow {

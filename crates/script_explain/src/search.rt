@@ -30,7 +30,7 @@ struct Search<'a, 'r> {
 }
 
 impl<'a> Search<'a, '_> {
-    /// A member of an object that has no such key, or none in this version, as these words say.
+    /// Reports a member of an object that has no such key, or none in this version, as these words say.
     fn no_key(
         &mut self,
         object: Spot<'a>,
@@ -101,7 +101,7 @@ impl<'a> Search<'a, '_> {
         self.add_members(object, shape)
     }
 
-    /// The value of a tag is no such word, or none in this version, as these words say.
+    /// Reports a tag whose value is no such word, or none in this version, as these words say.
     fn no_value(
         &mut self,
         found: Spot<'a>,
@@ -124,7 +124,7 @@ impl<'a> Search<'a, '_> {
         self.report.end_near(self.text.alloc, word, tags)
     }
 
-    /// An object lacks its tag.
+    /// Reports an object that lacks its tag.
     fn no_tag(&mut self, object: Spot<'a>, tag: &'static str, rows: &'static [Row]) -> Looked {
         self.report.begin(self.text, object.at);
         self.report.add(&[
@@ -155,7 +155,8 @@ impl<'a> Search<'a, '_> {
         self.no_value(found, tag, rows, version)
     }
 
-    /// Looks at an item of a list, which is to have a form: later at an operator, which is looked into, and now at another.
+    /// Looks at an item of a list, which is to have a form: later at an operator, which is looked into, and now at
+    /// another.
     fn item(&mut self, spot: Spot<'a>, owner: Owner, form: Form) -> Looked {
         match form {
             Form::Operator => self.add(spot, owner, form),
@@ -251,7 +252,7 @@ impl<'a> Search<'a, '_> {
     }
 }
 
-/// Tells what is wrong in a value of a script that should have this form.
+/// Says what is wrong in a value of a script that should have this form.
 pub fn look_into<'a>(script: Script<'a>, aim: Aim, value: Task<'a>, report: &mut Report) -> Looked {
     let mut search = Search {
         text: script.text,

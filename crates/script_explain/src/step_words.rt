@@ -88,7 +88,7 @@ static STEP_ROWS: [Row; 15] = [
     step!("collect", &[DO, CHAIN]),
 ];
 
-/// The steps, by their tags.
+/// Returns the steps, by their tags.
 pub fn step_rows() -> &'static [Row] {
     &STEP_ROWS
 }
@@ -106,7 +106,7 @@ static LIMITED: [(&str, &[&str]); 9] = [
     ("turn", &["share", "state_in"]),
 ];
 
-/// Whether a step is allowed in a script with a flow of this kind.
+/// Returns whether a step is allowed in a script with a flow of this kind.
 pub fn is_allowed(step: &str, kind: &str) -> bool {
     for (word, kinds) in &LIMITED {
         if *word == step {

@@ -30,7 +30,7 @@ pub enum Inside {
     Flows,
 }
 
-/// What there is to look at inside a value of the right form.
+/// Returns what there is to look at inside a value of the right form.
 pub fn inside_of(form: Form, value: &Value) -> Inside {
     match form {
         Form::Script => Inside::Members(SCRIPT),

@@ -10,7 +10,7 @@ pub enum Version {
 }
 
 impl Version {
-    /// What is told of a word that is known in the other version alone.
+    /// Returns what is told of a word that is known in the other version alone.
     pub fn words(self) -> &'static str {
         match self {
             Version::One => " in version 1",
@@ -72,7 +72,7 @@ pub enum Presence {
 }
 
 impl Need {
-    /// Whether the word may be there in a version, or has to be.
+    /// Returns whether the word may be there in a version, or has to be.
     pub fn within(self, version: Version) -> Presence {
         match (self, version) {
             (Need::OnlyInOne, Version::Two) | (Need::OnlyInTwo | Need::MaybeInTwo, Version::One) =>
@@ -82,7 +82,7 @@ impl Need {
         }
     }
 
-    /// Whether the word may be there in a version.
+    /// Returns whether the word may be there in a version.
     pub fn is_known(self, version: Version) -> bool {
         !matches!(self.within(version), Presence::Unknown)
     }
@@ -96,7 +96,7 @@ pub struct Key {
     pub need: Need,
 }
 
-/// The key of a word, in whatever version.
+/// Returns the key of a word, in whatever version.
 pub fn key_named(keys: &'static [Key], word: &str) -> Option<Key> {
     for key in keys {
         if key.word == word {
@@ -114,7 +114,7 @@ pub struct Shape {
 }
 
 impl Shape {
-    /// The first key that has to be there and is not.
+    /// Returns the first key that has to be there and is not.
     pub fn missing(&self, version: Version, object: &Value) -> Option<Key> {
         for key in self.keys {
             if matches!(key.need.within(version), Presence::Required)
@@ -136,7 +136,7 @@ pub struct Row {
     pub need: Need,
 }
 
-/// The row of a word, in whatever version.
+/// Returns the row of a word, in whatever version.
 pub fn row_named(rows: &'static [Row], word: &str) -> Option<Row> {
     for row in rows {
         if row.word == word {

@@ -9,7 +9,7 @@ use indexmap::IndexSet;
 use script_chain_format::ScriptFault;
 use std::alloc::Global;
 
-/// The place of a name among those of its kind, where it was introduced for the flow.
+/// Returns the place of a name among those of its kind, where it was introduced for the flow.
 fn place_in(names: &IndexSet<&str>, at: u64, name: &str) -> Result<usize, ScriptFault>
     ensures { Gives (or_fault (ScriptFault.UnknownName at) (checks.place_of name.now (map (λ k. k.now) names.now.keys))) result }
 {

@@ -37,7 +37,7 @@ fn steps_of(
     Ok(checked)
 }
 
-/// The script of a head of the right shape.
+/// Returns the script of a head of the right shape.
 fn checked(
     alloc: Global,
     version: Version,
@@ -67,7 +67,7 @@ fn script_of(alloc: Global, value: &Value) -> Result<Script, ScriptFault>
     checked(alloc, version, flows, steps.as_slice())
 }
 
-/// The data of a JSON text.
+/// Returns the data of a JSON text.
 fn json_of(alloc: Global, bytes: &[u8]) -> Result<Value, ScriptFault>
     ensures { Gives (checks.json_of bytes.now) (checks.value_result result) }
 {

@@ -8,7 +8,7 @@ use flow_law::{Config, Overflow};
 use script_chain_format::{has_only, text_at, u32_at};
 use serde_json::Value;
 
-/// How many numbers a flow issues, which it may leave out.
+/// Returns how many numbers a flow issues, which it may leave out.
 pub fn limit_at(flow: &Value) -> Option<u64>
     ensures { result ≡ format.limit_at (view flow.now) }
 {
@@ -39,7 +39,7 @@ fn overflow_at(flow: &Value) -> Option<Overflow>
     overflow_named(text)
 }
 
-/// The configuration of a shared flow.
+/// Returns the configuration of a shared flow.
 pub fn config_of(flow: &Value) -> Option<Config>
     ensures { result ≡ format.config_of (view flow.now) }
 {

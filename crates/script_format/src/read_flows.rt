@@ -17,7 +17,7 @@ use std::alloc::Global;
 
 const MOST_FLOWS: usize = 64;
 
-/// A flow and its name.
+/// Returns a flow and its name.
 fn named_flow(alloc: Global, name: &str, flow: &Value) -> Result<NamedFlow, ScriptFault>
     ensures { Gives (row.named_flow name.now (view flow.now)) (named_flow_result result) }
 {
@@ -39,7 +39,7 @@ fn pushed(mut flows: Vec<NamedFlow>, flow: NamedFlow) -> Result<Vec<NamedFlow>, 
     Ok(flows)
 }
 
-/// The flows that were read, and one more. A bad form of any of them comes before a limit of any.
+/// Returns the flows that were read, and one more. A bad form of any of them comes before a limit of any.
 fn with_flow(
     flows: Result<Vec<NamedFlow>, ScriptFault>,
     flow: Result<NamedFlow, ScriptFault>,
@@ -65,7 +65,8 @@ fn no_flows_of(alloc: Global, count: usize) -> Result<Vec<NamedFlow>, ScriptFaul
     }
 }
 
-/// The flows of a script, in the byte order of their names, which is the one in which an object has its members.
+/// Returns the flows of a script, in the byte order of their names, which is the one in which an object has its
+/// members.
 pub fn named_flows(
     alloc: Global,
     members: &Map<String, Value>,

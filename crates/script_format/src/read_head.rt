@@ -17,7 +17,7 @@ use script_chain_format::{ScriptFault, Version, has_only, i64_at, text_at};
 use serde_json::Value;
 use std::alloc::Global;
 
-/// A state flow.
+/// Returns a state flow.
 fn state_of(flow: &Value) -> Option<ScriptFlow>
     ensures { option_map head_of_flow result ≡ heads.state_of (view flow.now) }
 {
@@ -36,14 +36,14 @@ fn shared_of(flow: &Value) -> Option<ScriptFlow>
     Some(ScriptFlow::Shared(config_of(flow)?))
 }
 
-/// The flow, if the form is right.
+/// Returns the flow, if the form is right.
 fn formed(flow: Option<ScriptFlow>) -> Result<ScriptFlow, ScriptFault>
     ensures { Gives (or_fault (ScriptFault.BadShape 0) (option_map head_of_flow flow)) (flow_result result) }
 {
     flow.ok_or(ScriptFault::BadShape(0))
 }
 
-/// The flow that a head names by its kind.
+/// Returns the flow that a head names by its kind.
 fn flow_named(
     alloc: Global,
     version: Version,
@@ -61,7 +61,7 @@ fn flow_named(
     }
 }
 
-/// A flow of a script of this version.
+/// Returns a flow of a script of this version.
 pub fn flow_in(alloc: Global, version: Version, flow: &Value) -> Result<ScriptFlow, ScriptFault>
     ensures { Gives (heads.flow_in version (view flow.now)) (flow_result result) }
 {
@@ -81,7 +81,7 @@ fn no_flows(alloc: Global, flow: &Value) -> Result<Vec<NamedFlow>, ScriptFault>
     }
 }
 
-/// A row of one flow.
+/// Returns a row of one flow.
 fn only(alloc: Global, flow: ScriptFlow) -> Result<Vec<NamedFlow>, ScriptFault>
     ensures { Gives (Ok (heads.only (head_of_flow flow))) (flows_result result) }
 {
@@ -90,7 +90,7 @@ fn only(alloc: Global, flow: ScriptFlow) -> Result<Vec<NamedFlow>, ScriptFault>
     Ok(flows)
 }
 
-/// A row of the only flow of a script of version 1, or of none.
+/// Returns a row of the only flow of a script of version 1, or of none.
 fn only_named(alloc: Global, kind: &str, flow: &Value) -> Result<Vec<NamedFlow>, ScriptFault>
     ensures { Gives (heads.only_named kind.now (view flow.now)) (flows_result result) }
 {
@@ -100,7 +100,7 @@ fn only_named(alloc: Global, kind: &str, flow: &Value) -> Result<Vec<NamedFlow>,
     }
 }
 
-/// A row of the only flow, or of none.
+/// Returns a row of the only flow, or of none.
 fn only_in(alloc: Global, flow: &Value) -> Result<Vec<NamedFlow>, ScriptFault>
     ensures { Gives (heads.only_in (view flow.now)) (flows_result result) }
 {
@@ -110,7 +110,7 @@ fn only_in(alloc: Global, flow: &Value) -> Result<Vec<NamedFlow>, ScriptFault>
     }
 }
 
-/// The kind of a flow, which says what steps there may be.
+/// Returns the kind of a flow, which says what steps there may be.
 fn kind_of(flow: &ScriptFlow) -> Kind
     ensures { result ≡ heads.kind_of (head_of_flow flow.now) }
 {
@@ -122,7 +122,7 @@ fn kind_of(flow: &ScriptFlow) -> Kind
     }
 }
 
-/// The kind of the flow at a place, where there is one.
+/// Returns the kind of the flow at a place, where there is one.
 pub fn kind_at(flows: &[NamedFlow], place: usize) -> Kind
     ensures { result ≡ heads.kind_at place (heads_of flows.now) }
 {
@@ -151,7 +151,7 @@ fn steps_in(version: Version, value: &Value) -> Option<&Vec<Value>>
     value.get("steps")?.as_array()
 }
 
-/// The flows of a script: one without a name or none in version 1, and each with its name in version 2.
+/// Returns the flows of a script: one without a name or none in version 1, and each with its name in version 2.
 fn flows_in(alloc: Global, version: Version, value: &Value) -> Result<Vec<NamedFlow>, ScriptFault>
     ensures { Gives (row.flows_in version (view value.now)) (flows_result result) }
 {
@@ -167,7 +167,7 @@ fn flows_in(alloc: Global, version: Version, value: &Value) -> Result<Vec<NamedF
     }
 }
 
-/// The flows and the steps of a head. A bad form comes before a limit, so the steps are looked at first.
+/// Returns the flows and the steps of a head. A bad form comes before a limit, so the steps are looked at first.
 pub fn head_in(
     alloc: Global,
     version: Version,

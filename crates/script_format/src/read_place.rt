@@ -19,7 +19,7 @@ fn is_named(flow: &NamedFlow, name: &str) -> bool
     }
 }
 
-/// The place of the flow of that name.
+/// Returns the place of the flow of that name.
 fn place_named(flows: &[NamedFlow], name: &str) -> Option<usize>
     ensures { result ≡ checks.place_named name.now (heads_of flows.now) }
 {
@@ -31,7 +31,7 @@ fn place_named(flows: &[NamedFlow], name: &str) -> Option<usize>
     None
 }
 
-/// The place of the flow that a step names. In version 1 a step names none: it is about the only one.
+/// Returns the place of the flow that a step names. In version 1 a step names none: it is about the only one.
 pub fn place_at(
     version: Version,
     flows: &[NamedFlow],

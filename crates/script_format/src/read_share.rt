@@ -26,7 +26,7 @@ fn started_named(text: &str) -> Option<Started>
     }
 }
 
-/// The keys of a start while there are subscribers: `expire` is known from version 2 on.
+/// Returns the keys of a start while there are subscribers: `expire` is known from version 2 on.
 fn started_keys(version: Version) -> &'static [&'static str]
     ensures { map (λ key. key.now) result.now ≡ heads.started_keys version }
 {
@@ -46,7 +46,7 @@ fn expire_at(started: &Value) -> Option<u64>
     }
 }
 
-/// An object with the key `stop`.
+/// Returns an object with the key `stop`.
 fn while_subscribed(version: Version, started: &Value) -> Option<Started>
     ensures { result ≡ heads.while_subscribed version (view started.now) }
 {
@@ -58,7 +58,7 @@ fn while_subscribed(version: Version, started: &Value) -> Option<Started>
     Some(Started::WhileSubscribed { stop, expire })
 }
 
-/// A word, or an object.
+/// Returns a word, or an object.
 fn started_of(version: Version, value: &Value) -> Option<Started>
     ensures { result ≡ heads.started_of version (view value.now) }
 {
@@ -82,7 +82,7 @@ struct SharedChain<'a> {
     limit: u64,
 }
 
-/// What they have in common, if the flow has no keys beside these.
+/// Returns what they have in common, if the flow has no keys beside these.
 fn shared_chain<'a>(version: Version, keys: &[&str], flow: &'a Value) -> Option<SharedChain<'a>>
     ensures { option_map shared_chain_of result
         ≡ shared_chain_in version (map (λ key. key.now) keys.now) (view flow.now) }
@@ -100,7 +100,7 @@ fn shared_chain<'a>(version: Version, keys: &[&str], flow: &'a Value) -> Option<
     })
 }
 
-/// A chain that is shared, and how many values are replayed.
+/// Returns a chain that is shared, and how many values are replayed.
 fn share_parts(version: Version, flow: &Value) -> Option<(SharedChain<'_>, u32)>
     ensures { option_map share_parts_of result ≡ heads.share_parts version (view flow.now) }
 {
@@ -109,7 +109,7 @@ fn share_parts(version: Version, flow: &Value) -> Option<(SharedChain<'_>, u32)>
     Some((shared, replay))
 }
 
-/// A chain that is shared by a shared flow.
+/// Returns a chain that is shared by a shared flow.
 pub fn share_in(alloc: Global, version: Version, flow: &Value) -> Result<ScriptFlow, ScriptFault>
     ensures { Gives (heads.share_in version (view flow.now)) (flow_result result) }
 {
@@ -125,7 +125,7 @@ pub fn share_in(alloc: Global, version: Version, flow: &Value) -> Result<ScriptF
     })
 }
 
-/// A chain that is shared, and the first value.
+/// Returns a chain that is shared, and the first value.
 fn state_in_parts(version: Version, flow: &Value) -> Option<(SharedChain<'_>, i64)>
     ensures { option_map state_in_parts_of result ≡ heads.state_in_parts version (view flow.now) }
 {
@@ -134,7 +134,7 @@ fn state_in_parts(version: Version, flow: &Value) -> Option<(SharedChain<'_>, i6
     Some((shared, initial))
 }
 
-/// A chain that is shared by a state flow.
+/// Returns a chain that is shared by a state flow.
 pub fn state_in(alloc: Global, version: Version, flow: &Value) -> Result<ScriptFlow, ScriptFault>
     ensures { Gives (heads.state_in version (view flow.now)) (flow_result result) }
 {

@@ -20,7 +20,7 @@ use std::alloc::Global;
 
 const MOST_FIRST: usize = 10_000;
 
-/// Whether a subscription has first values of its own, which are known from version 2 on.
+/// Returns whether a subscription has first values of its own, which are known from version 2 on.
 fn has_first(version: Version, step: &Value) -> bool
     ensures { result ≡ format.has_first version (view step.now) }
 {
@@ -30,7 +30,7 @@ fn has_first(version: Version, step: &Value) -> bool
     }
 }
 
-/// What a step does, if it has no keys beside those that it needs.
+/// Returns what a step does, if it has no keys beside those that it needs.
 fn verb_of(version: Version, step: &Value) -> Option<Verb>
     ensures { result ≡ format.verb_of version (view step.now) }
 {
@@ -43,7 +43,7 @@ fn verb_of(version: Version, step: &Value) -> Option<Verb>
     }
 }
 
-/// The step on the flow at a place, where the names are those of the steps before it.
+/// Returns the step on the flow at a place, where the names are those of the steps before it.
 fn named_step<'a>(
     alloc: Global,
     names: &mut Names<'a>,
@@ -88,7 +88,7 @@ fn named_step<'a>(
     }
 }
 
-/// A step on a flow, where the names are those of the steps before it.
+/// Returns a step on a flow, where the names are those of the steps before it.
 fn flow_step<'a>(
     alloc: Global,
     version: Version,
@@ -112,7 +112,7 @@ fn flow_step<'a>(
     named_step(alloc, names, place, at, written)
 }
 
-/// The chain of a step that collects it.
+/// Returns the chain of a step that collects it.
 fn collected_in(
     alloc: Global,
     version: Version,
@@ -127,7 +127,7 @@ fn collected_in(
     }
 }
 
-/// The step, where the names are those of the steps before it.
+/// Returns the step, where the names are those of the steps before it.
 pub fn step_of<'a>(
     alloc: Global,
     version: Version,

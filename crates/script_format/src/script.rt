@@ -3,8 +3,8 @@
 use flow_law::{Config, Started};
 use script_chain_format::Build;
 
-/// A step about a flow. A name is known by how many names of its kind were introduced before it for that flow: emissions
-/// and subscribers are counted apart.
+/// A step about a flow. A name is known by how many names of its kind were introduced before it for that flow:
+/// emissions and subscribers are counted apart.
 #[derive(Clone, Copy)]
 pub enum FlowStep {
     TryEmit(i64),
@@ -64,8 +64,8 @@ pub enum ScriptFlow {
     },
 }
 
-/// A flow of a script. Where it has a name, its line tells that name if it is refused when it is made, and the script is
-/// played all the same; without one, that line is all that the script writes.
+/// A flow of a script. Where it has a name, its line tells that name if it is refused when it is made, and the script
+/// is played all the same; without one, that line is all that the script writes.
 #[derive(Drop)]
 pub struct NamedFlow {
     pub name: Option<String>,

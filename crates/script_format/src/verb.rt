@@ -43,7 +43,7 @@ pub enum Verb {
     Collect,
 }
 
-/// A subscription, which may have first values of its own.
+/// Returns a subscription, which may have first values of its own.
 fn subscription(has_first: bool) -> FlowVerb
     ensures { result ≡ format.subscription has_first }
 {
@@ -54,7 +54,7 @@ fn subscription(has_first: bool) -> FlowVerb
     }
 }
 
-/// What a step does, by the text of its key `do`, and whether it has first values of its own.
+/// Returns what a step does, by the text of its key `do`, and whether it has first values of its own.
 pub fn verb_named(text: &str, has_first: bool) -> Option<Verb>
     ensures { result ≡ format.verb_named text.now has_first }
 {
@@ -79,7 +79,7 @@ pub fn verb_named(text: &str, has_first: bool) -> Option<Verb>
 }
 
 impl FlowVerb {
-    /// The keys of such a step, first the one that names its flow.
+    /// Returns the keys of such a step, first the one that names its flow.
     fn keys(self) -> &'static [&'static str]
         ensures { map (λ key. key.now) result.now ≡ codes "flow" ∷ format.keys_of self }
     {
@@ -104,7 +104,7 @@ impl FlowVerb {
 }
 
 impl Verb {
-    /// The keys of such a step. In version 1 a step does not name its flow.
+    /// Returns the keys of such a step. In version 1 a step does not name its flow.
     pub fn keys(self, version: Version) -> &'static [&'static str]
         ensures { map (λ key. key.now) result.now ≡ format.keys_in version self }
     {
@@ -118,7 +118,7 @@ impl Verb {
     }
 }
 
-/// All but the first.
+/// Returns all but the first.
 fn behind_first(keys: &'static [&'static str]) -> &'static [&'static str]
     ensures { map (λ key. key.now) result.now ≡ drop 1 (map (λ key. key.now) keys.now) }
 {
@@ -129,7 +129,7 @@ fn behind_first(keys: &'static [&'static str]) -> &'static [&'static str]
 }
 
 impl Kind {
-    /// Whether a flow of this kind has such a step.
+    /// Returns whether a flow of this kind has such a step.
     pub fn allows(self, verb: FlowVerb) -> bool
         ensures { result ≡ format.allows verb self }
     {
@@ -161,7 +161,7 @@ impl Kind {
         }
     }
 
-    /// A flow into which the script emits.
+    /// Returns a flow into which the script emits.
     fn is_mutable(self) -> bool
         ensures { result ≡ format.is_mutable self }
     {
@@ -189,7 +189,7 @@ impl Kind {
         }
     }
 
-    /// A flow with one current value.
+    /// Returns a flow with one current value.
     fn has_value(self) -> bool
         ensures { result ≡ format.has_value self }
     {

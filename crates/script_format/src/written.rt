@@ -33,7 +33,7 @@ fn emit_of(step: &Value) -> Option<Written<'_>>
     Some(Written::Emit(name, value))
 }
 
-/// The subscriber's own first values.
+/// Returns the subscriber's own first values.
 fn first_at(step: &Value) -> Option<&[Value]>
     ensures { option_map (λ values. items_view values.now) result ≡ checks.first_at (view step.now) }
 {
@@ -53,7 +53,7 @@ fn subscribe_with_of(step: &Value) -> Option<Written<'_>>
     Some(Written::SubscribeWith(name, values))
 }
 
-/// What is expected, and what it is replaced by.
+/// Returns what is expected, and what it is replaced by.
 fn pair_of(step: &Value) -> Option<(i64, i64)>
     ensures { result ≡ checks.pair_of (view step.now) }
 {
@@ -69,7 +69,7 @@ fn compare_and_set_of(step: &Value) -> Option<Written<'_>>
     Some(Written::Plain(FlowStep::CompareAndSet(expect, update)))
 }
 
-/// The step, if its keys have the right form.
+/// Returns the step, if its keys have the right form.
 pub fn written_by(verb: FlowVerb, step: &Value) -> Option<Written<'_>>
     ensures { option_map written_of result ≡ checks.written_by verb (view step.now) }
 {

@@ -1,5 +1,5 @@
-//! Flows as a program uses them: on one thread, between two, as chains, and inside a type of one's own of which something
-//! is proved.
+//! Flows as a program uses them: on one thread, between two, as chains, and inside a type of one's own of which
+//! something is proved.
 #![tactic(auto)]
 
 mod chains;

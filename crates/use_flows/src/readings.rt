@@ -24,7 +24,7 @@ impl<T: FlowValue> Model for Readings<T> {
 }
 
 impl<T: FlowValue> Readings<T> {
-    /// No readings yet. Refused as `TooLarge` where `most` is above 65,536.
+    /// Returns no readings yet. Refused as `TooLarge` where `most` is above 65,536.
     pub fn new(alloc: Global, most: u32) -> Result<Self, FlowFault>
         ensures { IfOk result (λ readings. readings ≡ record { most = most; values = [] }) }
     {

@@ -4,7 +4,7 @@ use anyhow::Result;
 use flow_law::FlowFault;
 use std::alloc::Global;
 
-/// The last three readings of four.
+/// Returns the last three readings of four.
 fn latest(alloc: Global) -> Result<Vec<i64>, FlowFault> {
     let mut readings = Readings::new(alloc, 3)?;
     for degrees in [18i64, 19, 21, 20] {

@@ -6,8 +6,8 @@ use std::ops::Range;
 use std::sync::Wait;
 use std::thread::{Threads, join};
 
-/// What the reading thread has added up. Where no thread can be made, `join` calls its first closure last: the reader then
-/// finds all that was sent.
+/// Returns what the reading thread has added up. Where no thread can be made, `join` calls its first closure last: the
+/// reader then finds all that was sent.
 pub fn add_up<R: Wait + Threads + Sync>(rt: &R, alloc: Global) -> Result<i64, FlowFault> {
     let (flow, seat) = SharedFlow::new(alloc, Config::new().extra(16))?;
     let mut emitter = flow.emitter(seat);

@@ -35,7 +35,7 @@ pub enum ScriptFault {
 }
 
 impl ScriptFault {
-    /// Whether no fault that is found later in the same part of a script comes before it.
+    /// Returns whether no fault that is found later in the same part of a script comes before it.
     fn comes_first(self) -> bool
         ensures { result ≡ results.comes_first self }
     {
@@ -46,8 +46,8 @@ impl ScriptFault {
     }
 }
 
-/// Whether what was read of a part of a script is a fault before which none comes that is found later in that part. Only a
-/// limit gives way.
+/// Returns whether what was read of a part of a script is a fault before which none comes that is found later in that
+/// part. Only a limit gives way.
 pub fn is_final<T>(read: &Result<T, ScriptFault>) -> bool
     ensures { result ≡ results.is_final read.now }
 {
@@ -72,8 +72,8 @@ fn first_of(fault: ScriptFault, next: ScriptFault) -> ScriptFault
     }
 }
 
-/// Of a fault and what is found next in the same part of a script, the fault that refuses it: a bad form, or out of memory,
-/// comes before a limit. Where nothing is wrong with what is found next, it is the first one.
+/// Of a fault and what is found next in the same part of a script, the fault that refuses it: a bad form, or out of
+/// memory, comes before a limit. Where nothing is wrong with what is found next, it is the first one.
 pub fn first_fault<T>(fault: ScriptFault, next: &Result<T, ScriptFault>) -> ScriptFault
     ensures { result ≡ results.first_fault fault next.now }
 {

@@ -27,7 +27,8 @@ fn version_numbered(number: u64) -> Option<Version>
     }
 }
 
-/// The version that a script names by its key `version`. `None` where that is neither of the whole numbers 1 and 2.
+/// Returns the version that a script names by its key `version`. `None` where that is neither of the whole numbers 1
+/// and 2.
 pub fn version_of(script: &Value) -> Option<Version>
     ensures { result ≡ members.version_of (view script.now) }
 {

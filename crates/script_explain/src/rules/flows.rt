@@ -209,7 +209,7 @@ static OTHER_RULES: [Rule; 8] = [
     ),
 ];
 
-/// The rules of shared flows for a step with this tag.
+/// Returns the rules of shared flows for a step with this tag.
 pub fn shared_rules(step: &str) -> &'static [Rule] {
     match step {
         "try_emit" => &TRY_EMIT_RULES,

@@ -92,7 +92,7 @@ static STATE_SUBSCRIBER_RULES: [Rule; 8] = [
     Rule("count", Case::Always, Says::Count, SUBSCRIBERS),
 ];
 
-/// The rules of state flows for a step with this tag.
+/// Returns the rules of state flows for a step with this tag.
 pub fn state_rules(step: &str) -> &'static [Rule] {
     match step {
         "subscribe" | "next" | "unsubscribe" | "count" => &STATE_SUBSCRIBER_RULES,

@@ -3,7 +3,7 @@ use anyhow::Result;
 use flow_cold::{Chain, ChainFault, Collected, OfList, OfRange, Terminal, collect_all};
 use std::alloc::Global;
 
-/// The first three even numbers from 1 to `last`, times `k`.
+/// Returns the first three even numbers from 1 to `last`, times `k`.
 fn even_times(alloc: Global, last: i64, k: i64) -> Result<Collected<i64>> {
     let mut chain = OfRange::new(1, last)
         .filter(|x| x % 2 == 0)
@@ -18,7 +18,7 @@ fn counted_up(alloc: Global, first: i64, last: i64) -> Result<Collected<i64>> {
     Ok(collect_all(alloc, &mut chain)?)
 }
 
-/// What is saved after each payment, and at first.
+/// Returns what is saved after each payment, and at first.
 fn savings(alloc: Global, saved: i64, payments: Vec<i64>) -> Result<Collected<i64>> {
     let mut chain = OfList::new(payments).scan(saved, |all, payment| {
         all.checked_add(payment).ok_or(ChainFault::Overflow)
@@ -26,7 +26,7 @@ fn savings(alloc: Global, saved: i64, payments: Vec<i64>) -> Result<Collected<i6
     Ok(collect_all(alloc, &mut chain)?)
 }
 
-/// Each amount at its price.
+/// Returns each amount at its price.
 fn priced(alloc: Global, amounts: Vec<i64>, prices: Vec<i64>) -> Result<Collected<i64>> {
     let mut chain = OfList::new(amounts).zip(OfList::new(prices), |amount, price| {
         amount.checked_mul(price).ok_or(ChainFault::Overflow)
@@ -34,7 +34,7 @@ fn priced(alloc: Global, amounts: Vec<i64>, prices: Vec<i64>) -> Result<Collecte
     Ok(collect_all(alloc, &mut chain)?)
 }
 
-/// The sum of the numbers from 1 to `last` that are not below `least`.
+/// Returns the sum of the numbers from 1 to `last` that are not below `least`.
 fn sum_from(least: i64, last: i64) -> Result<i64> {
     let mut chain = OfRange::new(1, last).filter(|x| *x >= least);
     let sum = chain.fold(
