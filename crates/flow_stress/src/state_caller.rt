@@ -27,7 +27,7 @@ impl<'a> StateCaller<'a> {
     }
 
     /// Adds 1 to the value that is read, unless another thread does so first. The value, and how much was added. `None`
-    /// for want of memory.
+    /// if memory is refused.
     fn try_add<R: Wait>(&mut self, rt: &R) -> Option<(u64, u64)> {
         let value = self.flow.value(rt, &mut self.seat).ok()?;
         let more = one_more(value);
