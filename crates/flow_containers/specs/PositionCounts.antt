@@ -15,14 +15,14 @@ pub record IsPlaced {A : Type 0} (c : Inside A) : Type 0 where
   pub within : c.end < length c.row.items
   pub end : c.end ≡ c.emitted % length c.row.items
 
--- the least position from `start` on where somebody stands, or `first`
+-- the least position from `start` on that has a subscriber, or `first`
 pub record IsLeast (row : List ℕ) (start first least : ℕ) : Type 0 where
   pub from : start ≤ least
   pub to : least ≤ first
   pub before : (p : ℕ) → start ≤ p → p < least → get_or row (p % length row) 0 ≡ 0
   pub here : least < first → 0 < get_or row (least % length row) 0
 
--- one more stands at a position
+-- one more subscriber at a position
 abbrev pub entered : List ℕ → ℕ → List ℕ
 entered row p = set row (p % length row) (get_or row (p % length row) 0 + 1)
 
@@ -36,7 +36,7 @@ module _ {T : Type 0} where
   AreWithin w emitted [] = Unit {0}
   AreWithin w emitted (u ∷ us) = (u.position ≤ emitted) × (emitted ≤ u.position + w) × AreWithin w emitted us
 
-  -- how many stand at the positions with this remainder
+  -- the number of subscribers at the positions with this remainder
   abbrev pub count_of : ℕ → ℕ → List (Subscriber T) → ℕ
   count_of n r [] = 0
   count_of n r (u ∷ us) = if (u.position % n) == r then suc (count_of n r us) else count_of n r us

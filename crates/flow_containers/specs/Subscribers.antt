@@ -13,7 +13,7 @@ pub record Standing (T : Type 0) : Type 0 where
   pub list : List (Subscriber T)
   -- how many values were emitted
   pub emitted : ℕ
-  -- the most that somebody may be behind
+  -- the greatest possible lag
   pub window : ℕ
   -- no position is below it
   pub floor : ℕ
@@ -22,7 +22,7 @@ pub record Standing (T : Type 0) : Type 0 where
   -- the number of the subscriber at each key, if there is one
   pub by_key : List (Option ℕ)
 
--- somebody has a whole window of values still to receive
+-- a subscriber has a whole window of values still to receive
 abbrev pub is_full : {T : Type 0} → ℕ → ℕ → List (Subscriber T) → Bool
 is_full window emitted us = list_any (λ u. nat_le window (emitted - u.position)) us
 
@@ -46,7 +46,7 @@ module _ {T A : Type 0} where
 
   pub record AreSound (window : ℕ) (row : List ℕ) (emitted lowest : ℕ) (members : List (Member (Row T A))) (greatest : ℕ) : Type 0 where
     pub some : 0 < window
-    -- the row counts the subscribers, and nobody is further behind than the window
+    -- the row counts the subscribers, and no lag is greater than the window
     pub fits : CountsPositions window emitted row (read lowest members)
     pub floor : lowest ≤ emitted + 1 - window
     pub count : length members ≤ greatest

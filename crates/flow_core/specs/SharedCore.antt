@@ -108,7 +108,7 @@ case_of Queues = law.queues
 case_of DropsLatest = law.drops_latest
 case_of DropsOldest = law.drops_oldest
 
--- by the core's own numbers: somebody has a whole window of values still to receive
+-- by the core's own numbers: a subscriber has a whole window of values still to receive
 abbrev pub kept_full : {T : Type 0} → Core T → Bool
 kept_full core = is_full (window_of core.config) core.appended core.subscribers
 
@@ -157,7 +157,7 @@ pushed value number core = record core {
   newest = number;
 }
 
--- and nobody has more than a buffer to receive
+-- and no subscriber has more than a buffer to receive
 abbrev pub dropped : {T : Type 0} → Core T → Core T
 dropped core = record core { subscribers = raise_to (core.appended - (core.config.replay + core.config.extra)) core.subscribers }
 

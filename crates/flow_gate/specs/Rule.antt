@@ -28,7 +28,7 @@ pub record GateHolds {S E : Type 0} (stands : S → List (Event E) → Type 0) (
   pub nobody : slice_index s.words 0 ≡ 0 → (i : ℕ) (v : SeatView E) → get_elem? s.views i ≡ some v → v.holds ≡ false
   -- while the gate is taken, the seat of one token holds the state: a seat without a token could be dropped unseen
   pub taken : slice_index s.words 0 ≢ 0 → IsHeld s.views
-  -- who holds the state has seen all of it
+  -- the caller that holds the state has seen all of it
   pub holder : (i : ℕ) (v : SeatView E) → get_elem? s.views i ≡ some v → v.holds ≡ true → AllByRecursion (λ k. k.seen ≡ history) v.known
   pub single : (i j : ℕ) (v w : SeatView E) → get_elem? s.views i ≡ some v → get_elem? s.views j ≡ some w → v.holds ≡ true → w.holds ≡ true → i ≡ j
   -- it begins with what each token has seen, and keeps each one's rule of names

@@ -1,4 +1,4 @@
--- What each step at the gate tells its caller, and how the view of the caller's seat changes by it.
+-- What each step at the gate proves for its caller, and how it changes the view of the caller's seat.
 use Rattle.std.specs.Prelude.{◌≡◌, ◌≢◌, ℕ, true, false, List, [], ◌∷◌, map, Option, Some, None, Box}
 use Rattle.std.specs.List.{AllByRecursion}
 use Rattle.atomic_table.specs.Table.{Me, Step, rest}

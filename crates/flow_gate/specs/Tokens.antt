@@ -1,4 +1,4 @@
--- What contracts see of a seat, of a gate and of who is inside.
+-- What contracts see of a seat, of a gate and of a caller inside.
 use Rattle.std.specs.Prelude.{◌≡◌, false, true, List, [], ◌∷◌, ◌++◌, Option, None}
 use Rattle.atomic_table.specs.Seated.{TableId}
 use Rattle.atomic_table.specs.declared.shared.Seat.{Seat as TableSeat}
@@ -18,7 +18,7 @@ Token = flows.Token TableId
 abbrev pub Origin : Type 0 → Type 0
 Origin = flows.Origin TableId
 
--- who is inside has the state too
+-- a caller inside has the state too
 pub record HeldState (S E : Type 0) : Type 0 where
   pub first : S
   pub token : Token E
@@ -44,8 +44,8 @@ module _ {S E : Type 0} where
   held_state first t state = record { first = first; token = t; state = state }
 
 module _ {S E : Type 0} (stands : S → S → List (Event E) → Type 0) (gate : Origin S) where
-  -- Who enters finds a state that stands for a history. It begins with all that the token had seen and goes on with
-  -- events of others, within the token's rule of names; the token has seen it from then on.
+  -- A caller that enters finds a state that stands for a history. It begins with all that the token had seen and goes
+  -- on with events of others, within the token's rule of names; the token has seen it from then on.
   pub record Finds (before : Token E) (held : HeldState S E) : Type 0 where
     pub history : List (Event E)
     pub stood : stands gate.first held.state history
@@ -79,6 +79,6 @@ module _ {S E : Type 0} (stands : S → S → List (Event E) → Type 0) (gate :
   abbrev pub HasStood : Token E → Type 0
   HasStood t = (state : S) × StandsAfter t state
 
--- the state of who is inside stands for what was found followed by events of its own
+-- the state of a caller inside stands for what was found followed by events of its own
 abbrev pub StandsWith : {S E : Type 0} → (S → S → List (Event E) → Type 0) → HeldState S E → List E → Type 0
 StandsWith stands held added = stands held.first held.state (held.token.knows.seen ++ events_of held.token.knows.name added)

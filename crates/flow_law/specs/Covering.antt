@@ -1,4 +1,4 @@
--- What a core has in the middle of a call, before it lets go of values that nobody may ask for any more.
+-- What a core has in the middle of a call, before it drops the values that may not be asked for any more.
 -- No public clause cites this module. Begin with `Covers`: a core that covers a state and is `tidied` stands for it.
 use Rattle.std.specs.Prelude.{◌≡◌, ℕ, ◌+◌, ◌-◌, max, List, ◌++◌, length, drop}
 use Rattle.flow_law.specs.SharedFlow.{SharedFlowState, newest}
@@ -27,6 +27,6 @@ module _ {T : Type 0} where
   abbrev pub kept_need : Core T → ℕ
   kept_need core = least_position (kept_start core) core.subscribers
 
-  -- without the values in front that nobody may ask for
+  -- without the values in front that may not be asked for any more
   abbrev pub tidied : Core T → Core T
   tidied core = record core { held = drop (length core.held + kept_need core - core.appended) core.held }

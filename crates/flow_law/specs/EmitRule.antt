@@ -32,7 +32,7 @@ is_suspended queues = true
 is_suspended _ = false
 
 module _ {T : Type 0} where
-  -- the value is accepted at once: nobody subscribed, or there is a buffer with room for all
+  -- the value is accepted at once: there is no subscriber, or there is a buffer with room for all
   abbrev pub is_open : SharedFlowState T → Bool
   is_open s = (length s.subscribers == 0) || (not (is_blocked s) && nat_lt 0 (capacity s))
 
@@ -52,7 +52,7 @@ module _ {T : Type 0} where
   abbrev pub suspend : T → SharedFlowState T → SharedFlowState T
   suspend v s = record s { queue = s.queue ++ numbered v s ∷ []; issued = s.issued + 1 }
 
-  -- nobody has more than a buffer to receive
+  -- no subscriber has more than a buffer to receive
   abbrev pub drop_oldest : SharedFlowState T → SharedFlowState T
   drop_oldest s = record s { subscribers = raise_to (length s.emitted - capacity s) s.subscribers }
 

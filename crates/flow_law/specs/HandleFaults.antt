@@ -1,4 +1,4 @@
--- The fault of a flow's own call that the error of a handle's call stands for.
+-- The fault of a flow's own call for which the error of a handle's call stands.
 use Rattle.std.specs.Prelude.{Result, Ok, Err}
 use Rattle.flow_law.specs.declared.fault.FlowFault.{FlowFault}
 use Rattle.flow_law.specs.declared.fault.FlowFault.TheVariants as fault
@@ -53,7 +53,7 @@ module _ {A E : Type 0} (fault_of : E → FlowFault) where
   answer_by (Ok a) = Ok a
   answer_by (Err e) = Err (fault_of e)
 
-  -- the same, where a refusal hands the value back
+  -- the same, if a refusal returns the value
   abbrev pub handed_by : {V : Type 0} → Result A (Rejected V E) → Result A (Refused V)
   handed_by (Ok a) = Ok a
   handed_by (Err r) = Err (record { value = r.value; fault = fault_of r.error })

@@ -1,4 +1,4 @@
--- Handles: a token beside the flow that it is of. What the answers of a handle stand for among those of the flow's own calls.
+-- Handles: a token with its flow. For which answers of the flow's own calls the answers of a handle stand.
 use Rattle.std.specs.Prelude.{◌≡◌, ⊤, ℕ, List, Option, Some, None, Result, Ok, Err}
 use Rattle.flow_law.specs.declared.fault.FlowFault.{FlowFault}
 use Rattle.flow_law.specs.declared.history.Said.{Said}

@@ -59,7 +59,7 @@ pub record Kind (T S C R : Type 0) : Type 1 where
   pub cached : List T → R
   pub refused : FlowFault → R
 
--- a result without what a refusal hands back
+-- a result without the value that a refusal returns
 abbrev pub fault_alone : {X Y : Type 0} → Result X (Refused Y) → Result X FlowFault
 fault_alone (Ok x) = Ok x
 fault_alone (Err refused) = Err refused.fault

@@ -30,11 +30,11 @@ pub record Lawful {T S C R : Type 0} (kind : Kind T S C R) : Type 0 where
   pub next_speaks : (u : ℕ) → kind.speaks_of (kind.take_next u) ≡ Some (subscriber u)
   pub unsubscribe_speaks : (u : ℕ) → kind.speaks_of (kind.unsubscribe u) ≡ Some (subscriber u)
   pub count_speaks : kind.speaks_of kind.count ≡ None
-  -- who subscribes is a subscriber, and stays one while no call speaks of the number but `next`
+  -- a subscriber that a call added is one, and stays one while no call speaks of its number but `next`
   pub subscribing : Subscribing kind kind.subscribe
   pub others_keep : (u : ℕ) (s : S) (c : C) (r : R) → kind.speaks_of c ≢ Some (subscriber u) → kind.HasSubscriber u s → kind.HasSubscriber u (kind.after s c r)
   pub next_keeps : (u : ℕ) (s : S) (r : R) → kind.HasSubscriber u s → kind.HasSubscriber u (kind.after s (kind.take_next u) r)
-  -- what a subscriber is told
+  -- what `next` of a subscriber replies
   pub never_gone : (s : S) (u : ℕ) → kind.HasSubscriber u s → kind.Replies s (kind.take_next u) (kind.received Gone) → ⊥
   pub was_there : (s : S) (u : ℕ) (answer : Bool) → kind.HasSubscriber u s → kind.Replies s (kind.unsubscribe u) (kind.tested answer) → answer ≡ true
   -- no flow of one thread answers Busy

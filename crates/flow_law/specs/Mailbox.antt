@@ -39,7 +39,7 @@ module _ {T : Type 0} where
   take_first taken [] [] = record { taken = taken; own = []; box = [] }
   take_first taken [] (v ∷ vs) = record { taken = taken ++ v ∷ []; own = []; box = vs }
 
-  -- what a new subscriber finds besides: the cache, or the offered value alone
+  -- what a new subscriber finds besides: the cache, or only the offered value
   abbrev pub found_at_entry : SharedFlowState T → List T
   found_at_entry s = if is_offering s then drop (length s.emitted - 1) (values s) else cache s
 

@@ -30,7 +30,7 @@ module _ {T : Type 0} where
   first_or_empty [] = Empty
   first_or_empty (v ∷ vs) = Value v
 
-  -- u, which enters in the state s by the event e, reads alone: it receives its own first values,
+  -- u, which enters in the state s by the event e, reads while no other call is made: it receives its own first values,
   -- then the replay cache or the offered value, in order, and then Empty
   pub record Replays (u : ℕ) (first : List T) (s : SharedFlowState T)
       (e : Event (Said (SharedCall T) (SharedReply T))) (reads : History T) : Type 0 where
@@ -40,7 +40,7 @@ module _ {T : Type 0} where
     pub next : (r : Next T) → Replies (after_all s (e ∷ reads)) (TakeNext u) (Received r)
         → r ≡ first_or_empty rest
 
-  -- each subscriber that entered and then read alone until the end of the history
+  -- each subscriber that entered and then read, without another call, until the end of the history
   abbrev pub EachReplays : Config → History T → Type 0
   EachReplays config h =
       (before reads : History T) (e : Event (Said (SharedCall T) (SharedReply T)))

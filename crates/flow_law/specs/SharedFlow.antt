@@ -28,7 +28,7 @@ first_state config = record { config = config; emitted = []; reset_mark = 0; que
 
 -- ---- configurations
 
--- the most that `replay` and `extra` may come to
+-- the most that `replay + extra` may be
 abbrev pub largest_capacity : ℕ
 largest_capacity = 65536
 
@@ -51,7 +51,7 @@ NoFlow config fault = (config_fault config ≡ Some fault) ⊎ ((config_fault co
 -- ---- subscribers
 
 module _ {T : Type 0} where
-  -- where a subscriber stands
+  -- the position of a subscriber
   abbrev pub position_of : ℕ → List (Subscriber T) → Option ℕ
   position_of number [] = None
   position_of number (u ∷ us) = if u.number == number then Some u.position else position_of number us
@@ -65,7 +65,7 @@ module _ {T : Type 0} where
   move_to number position [] = []
   move_to number position (u ∷ us) = if u.number == number then stand_at position u ∷ us else u ∷ move_to number position us
 
-  -- everybody stands at least there
+  -- no subscriber's position is less
   abbrev pub raise_to : ℕ → List (Subscriber T) → List (Subscriber T)
   raise_to floor = map (λ u. stand_at (max u.position floor) u)
 
@@ -127,7 +127,7 @@ module _ {T : Type 0} where
   abbrev pub cache : SharedFlowState T → List T
   cache s = drop (cache_start s) (values s)
 
-  -- where a new subscriber stands: at the offered value, or where the cache begins
+  -- the position of a new subscriber: at the offered value, or where the cache begins
   abbrev pub entry : SharedFlowState T → ℕ
   entry s = if is_offering s then length s.emitted - 1 else cache_start s
 

@@ -17,7 +17,7 @@ never = 18446744073709551615
 abbrev pub has_subscribers : SharingObservation → Bool
 has_subscribers o = nat_lt 0 o.count
 
--- the moment of the newest observation, at first 0
+-- the moment of the newest observation, 0 before the first one
 abbrev pub last_moment : List SharingObservation → ℕ
 last_moment [] = 0
 last_moment (o ∷ seen) = o.moment

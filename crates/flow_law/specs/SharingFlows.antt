@@ -38,7 +38,7 @@ module _ {T : Type 0} where
   cancelled None f = f
   cancelled (Some number) f = (flow.cancel number f).after
 
-  -- what an emission comes to; a refused one changes nothing
+  -- the outcome of an emission; a refused one changes nothing
   abbrev pub emitted : EmittingFlow T → Result Emit FlowFault → SharedFlowState T → After (Result Bool FlowFault) (EmittingFlow T)
   emitted s (Ok Done) after = record { result = Ok false; state = record { flow = after; waiting = None } }
   emitted s (Ok (Queued number)) after = record { result = Ok true; state = record { flow = after; waiting = Some number } }
@@ -105,7 +105,7 @@ HadMemory (Err (Flow OutOfMemory)) = ⊥
 HadMemory (Err (Chain chain_fault.OutOfMemory)) = ⊥
 HadMemory answer = Unit {0}
 
--- an answer of a turn over a flow of one thread: nobody else is inside it
+-- an answer of a turn over a flow of one thread: no other caller is inside it
 abbrev pub IsNotBusy : Result Report ShareFault → Type 0
 IsNotBusy (Ok report) = report.event ≢ event.Busy
 IsNotBusy (Err fault) = Unit {0}
@@ -120,7 +120,7 @@ IsAtOnce (Err fault) = Unit {0}
 pub record DocumentedTurn {T F : Type 0} (does : (c : HubCall T) → F → HubAnswer c → F → Type 0) (reply : (c : HubCall T) → F → After (HubAnswer c) F) (Is : Result Report ShareFault → Type 0) (started : Started) (now : ℕ) (seen : List SharingObservation) (s : SharingState T) (old : ChainAndHub T F) (turned : Turned T) (new : ChainAndHub T F) : Type 0 where
   -- its steps
   pub steps : Takes (CallDoes does) (turn_steps started now seen s) old turned new
-  -- what it comes to, where the answer does not say that memory was refused
+  -- its outcome, if the answer does not say that memory was refused
   pub computed : HadMemory turned.answer → flow_turn reply started now seen s old ≡ record { result = turned; state = new }
   pub answered : Is turned.answer
   -- no cancel is left for a later turn

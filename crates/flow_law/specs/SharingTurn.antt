@@ -116,8 +116,8 @@ module _ {T : Type 0} where
     abbrev pub work : SharingState T → TurnSteps T
     work s = if s.cancel_due || s.reset_due then calls (to_hub cancels) (after_cancel s) else collect_while_running s
 
-  -- A start collects the chain from its beginning. A stop drops the kept item, and the hub's emission is to be cancelled; where the time has
-  -- come to forget, the flow is to be reset, too.
+  -- A start collects the chain from its beginning. A stop drops the kept item, and the hub's emission is to be
+  -- cancelled; if the expiry has passed, the flow is to be reset, too.
   abbrev pub begin : List SharingObservation → Command → SharingState T → TurnSteps T
   begin all Start s = calls rewinds (λ done. work Start all (record s { runs = true; completed = false }))
   begin all Stop s = work Stop all (record s { runs = false; kept = None; cancel_due = true })

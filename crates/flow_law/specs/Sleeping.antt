@@ -1,4 +1,5 @@
--- When a caller may sleep until a call of somebody else gives it something. Begin with `FindsNothing` and `first_waiting`.
+-- When a caller may sleep until another caller's call gives it something. Begin with `FindsNothing` and
+-- `first_waiting`.
 use Rattle.std.specs.Prelude.{◌≡◌, ◌≢◌, ℕ, ◌≤◌, List, [], ◌∷◌, Bool, true, false, if◌then◌else◌, Option, Some, None, IsSomeAnd}
 use Rattle.flow_law.specs.declared.outcome.Next.TheVariants.{Empty}
 use Rattle.flow_law.specs.History.{Kind}
@@ -23,7 +24,7 @@ module _ {T S C R : Type 0} (kind : Kind T S C R) where
   abbrev pub FindsNothing : ℕ → S → Type 0
   FindsNothing u s = kind.Replies s (kind.take_next u) (kind.received Empty)
 
-  -- What a kind of flow says of who sleeps.
+  -- When the callers of a kind of flow may sleep.
   pub record Sleeping : Type 1 where
     -- how many values subscribers could see so far
     pub mark : S → ℕ
@@ -52,7 +53,7 @@ module _ {T S C R : Type 0} (kind : Kind T S C R) where
     -- A subscriber that found nothing finds nothing, until a value comes that it could see, or it ends.
     pub stays : (u : ℕ) (s : S) (c : C) (r : R) → kind.Replies s c r → ends c ≢ Some u → is_set c r ≡ false
         → mark (kind.after s c r) ≡ mark s → FindsNothing u s → FindsNothing u (kind.after s c r)
-    -- who was told that there is nothing finds nothing
+    -- a caller whose reply was a wait finds nothing
     pub found : (u : ℕ) (s : S) → FindsNothing u s → FindsNothing u (kind.after s (kind.take_next u) (kind.received Empty))
     -- what holds of each state that a history leads to
     pub IsSound : S → Type 0

@@ -1,5 +1,5 @@
 -- The tokens of any flow for several threads, and what a call does, as the token sees it through which it was made.
--- Begin with `CallsIn`: one word for every call that is an event. `Id` is what tells one flow from another.
+-- Begin with `CallsIn`: one word for every call that is an event. `Id` identifies a flow.
 use Rattle.std.specs.Prelude.{◌≡◌, ◌≢◌, ℕ, ◌+◌, true, List, Result, Ok, Err}
 use Rattle.flow_law.specs.declared.fault.FlowFault.{FlowFault}
 use Rattle.flow_law.specs.declared.fault.FlowFault.TheVariants.{Busy}

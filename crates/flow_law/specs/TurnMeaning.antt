@@ -38,7 +38,8 @@ pub record BetweenTurns {T H : Type 0} (s : SharingState T) (both : ChainAndHub 
   -- once the chain has ended normally, no item is kept and the chain has none
   pub done : s.runs ≡ true → s.completed ≡ true → (s.kept ≡ None) × (both.rest ≡ ends AtEnd)
 
--- While it does not run, no emission waits but one that is still to be cancelled: this holds unless somebody else emits through the hub.
+-- While it does not run, no emission waits but one that is still to be cancelled: this holds unless another caller
+-- emits through the hub.
 abbrev pub IsQuiet : {T H : Type 0} → (H → Bool) → SharingState T → ChainAndHub T H → Type 0
 IsQuiet waits s both = s.runs ≡ false → s.cancel_due ≡ false → waits both.hub ≡ false
 

@@ -1,4 +1,4 @@
--- State flows whose value is changed by updates with one function alone.
+-- State flows whose value is changed only by updates with one function.
 -- Begin with `UpdatesTimes`: how many updates a token has made.
 use Rattle.std.specs.Prelude.{◌≡◌, ℕ, zero, suc, true, List}
 use Rattle.std.specs.List.{AllByRecursion}

@@ -1,4 +1,4 @@
--- When values that are made of others are the same, and that sameness of the parts then tells equal values from others.
+-- When values that are made of others are the same, and that sameness of the parts then decides equality.
 use Rattle.std.specs.Prelude.{◌≡◌, ◌↔◌, Bool, true, false, ◌&&◌, is_some, IsTrue, List, [], ◌∷◌, drop, nat_eq, Option, Some, None, slice_index_or}
 use Rattle.std.specs.Bool.{beq}
 use Rattle.std.specs.Cmp.{booleans_Decides, decided, partial_equiv_from_equiv, IsEquivalence, IsPartialEquivalence}
@@ -10,7 +10,7 @@ use Rattle.std.proofs.Common.{refl, ap}
 use Rattle.std.proofs.lemmas.Bool.{false≢true, true≢false}
 use Rattle.std.proofs.lemmas.Bool.Decides.{Decides-eqb, Decides-int_eq}
 
--- `same` tells equal values from others
+-- `same` holds of equal values, and of no others
 abbrev pub IsExact : {T : Type 0} → (T → T → Bool) → Type 0
 IsExact {T} same = (x y : T) → IsTrue (same x y) ↔ x ≡ y
 

@@ -15,7 +15,7 @@ use Rattle.flow_sleepers.specs.Sleepers.{Adds}
 use Rattle.flow_shared.specs.declared.attended.Attended.{Attended}
 
 module _ {K A T S C R : Type 0} {kind : Kind T S C R} (sleeping : Sleeping kind) where
-  -- The core stands for the state, and nobody who sleeps is forgotten: a subscriber that sleeps has nothing to receive, and an
+  -- The core stands for the state, and no sleeper is forgotten: a subscriber that sleeps has nothing to receive, and an
   -- emission whose owner sleeps still waits.
   pub record AttendedAs (StandsAs : K → S → Type 0) (w : Attended K A T S C R) (s : S) : Type 0 where
     pub core : StandsAs w.core s
@@ -33,13 +33,13 @@ without None sleepers = sleepers
 without (Some number) sleepers = filter (λ k. not (k == number)) sleepers
 
 module _ {K T S C R : Type 0} {kind : Kind T S C R} (sleeping : Sleeping kind) (StandsAs : K → S → Type 0) where
-  -- The readers that sleep after a call: nobody, or those of before where subscribers have nothing more: the value was not
-  -- set, and the mark is this one in each state that the core stands for.
+  -- The readers that sleep after a call: none, or the earlier ones if subscribers have nothing more: the value was not
+  -- set, and the mark is this one in each state for which the core stands.
   abbrev pub Rests : K → Bool → ℕ → List ℕ → List ℕ → Type 0
   Rests core is_set mark old new =
       (new ≡ []) ⊎ ((is_set ≡ false) × (new ≡ old) × ((s : S) → StandsAs core s → mark ≡ sleeping.mark s))
 
-  -- The emitters that sleep after a call: nobody, or those of before where this is still the first emission that waits, or
+  -- The emitters that sleep after a call: none, or the earlier ones if this is still the first emission that waits, or
   -- those from the first on that waits now.
   abbrev pub Lasts : K → Option ℕ → List ℕ → List ℕ → Type 0
   Lasts core first old new =

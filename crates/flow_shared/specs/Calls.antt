@@ -60,10 +60,10 @@ module _ {T S C R : Type 0} (kind : Kind T S C R) (flow : Origin S) where
   abbrev pub ClosesAs : {K : Type 0} → (K → S → Type 0) → Token (Said C R) → K → Type 0
   ClosesAs StandsAs t core = (history : List (Event (Said C R))) × StandsForHistory kind StandsAs flow.first core history × Fits history t.knows
 
--- ---- who is inside
+-- ---- a caller inside
 
 module _ {T S C R : Type 0} (kind : Kind T S C R) (first : S) where
-  -- who was inside made this call, had this reply and left
+  -- a caller that was inside made this call, had this reply and left
   abbrev pub SaysIn : {K : Type 0} → HeldState K (Said C R) → C → R → Token (Said C R) → Type 0
   SaysIn held call reply after =
       (after ≡ flows.knowing held.token (adds (said call reply ∷ []) held.token.knows)) × IsHistory kind first (held.token.knows.seen ++ event held.token.knows.name (said call reply) ∷ [])

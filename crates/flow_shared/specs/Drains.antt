@@ -30,7 +30,7 @@ module _ {T S C R : Type 0} (kind : Kind T S C R) (number : ℕ) where
   said_end (Ok drained.Gone) = said (kind.take_next number) (kind.received next.Gone) ∷ []
   said_end (Err fault) = said (kind.take_next number) (kind.refused fault) ∷ []
 
-  -- Who was inside took these values and left.
+  -- A caller that was inside took these values and left.
   pub record TakesInside {K : Type 0} (StandsAs : K → S → Type 0) (most : ℕ) (held : HeldState K (Said C R)) (old_list : List T) (result : Result Drained FlowFault) (new_list : List T) (after : Token (Said C R)) : Type 0 where
     pub core : K
     pub takes : TakesBy (CoreNexts StandsAs) most held.state old_list result new_list core

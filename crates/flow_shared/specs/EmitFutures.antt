@@ -121,7 +121,8 @@ module _ {T A : Type 0} where
   abbrev pub GivesSent : Emitting T A → Sent T A → Type 0
   GivesSent f s = ((sent_token s).table_id ≡ f.flow.table_id) × Sends f.flow f.stage s
 
-  -- what the caller has who walks away: nothing after the end, the seat where nothing was emitted yet, and else what a cancel gives
+  -- what a caller has that walks away: nothing after the end, the seat if nothing was emitted yet, and else what a
+  -- cancel gives
   abbrev pub CancelsAt : Origin (SharedFlowState T) → EmitStage T A → Option (SharedToken T × Bool) → Type 0
   CancelsAt flow (Fresh t v) back = back ≡ Some (t, true)
   CancelsAt flow (Waiting e) (Some back) = Calls flow e.token (call.Cancel e.number) (reply.Tested back.1) back.0

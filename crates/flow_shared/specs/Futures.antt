@@ -20,7 +20,8 @@ abbrev pub SharedNumbered : Type 0 → Type 0
 SharedNumbered T = NumberedToken (Said (SharedCall T) (SharedReply T))
 
 module _ {T : Type 0} where
-  -- what `emit`, `poll` and `next` reply to who is to ask again: the emission waits, or there is no value yet
+  -- what `emit`, `poll` and `next` reply to a caller that has to ask again: the emission waits, or there is no value
+  -- yet
   abbrev pub is_wait : SharedReply T → Bool
   is_wait (reply.Emitted (Queued e)) = true
   is_wait (reply.Tested true) = true

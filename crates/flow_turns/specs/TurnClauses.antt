@@ -58,7 +58,8 @@ module _ {C H T : Type 0} (whole rest : C → ChainRun T) where
       (started : Started) (seen : List SharingObservation) → HasObserved started old seen →
       BetweenTurns (state_of old) (chain_and_hub whole rest old) → BetweenTurns (state_of new) (chain_and_hub whole rest new)
 
-  -- where no emission of anybody else waited while the sharing did not run, none does after the turn; so none waits after a turn that answers `Idle`
+  -- if no emission of any caller waited while the sharing did not run, none does after the turn; so none waits after a
+  -- turn that answers `Idle`
   abbrev pub StaysQuiet : (H → Bool) → Sharing C H T → Result Report ShareFault → Sharing C H T → Type 0
   StaysQuiet waits old result new =
       (started : Started) (seen : List SharingObservation) → HasObserved started old seen → IsQuiet waits (state_of old) (chain_and_hub whole rest old) →

@@ -1,4 +1,4 @@
--- What each step tells its caller. Begin with `Makes`: a step that is the one event of a call.
+-- What each step proves for its caller. Begin with `Makes`: a step that is the one event of a call.
 use Rattle.std.specs.Prelude.{◌≡◌, ◌≢◌, ℕ, ◌+◌, ◌/◌, ◌%◌, ◌<◌, ◌≤◌, ◌==◌, true, if◌then◌else◌, List, [], ◌∷◌, map, Option, Some, None}
 use Rattle.std.specs.List.{AllByRecursion}
 use Rattle.atomic_table.specs.Table.{Me, Step}

@@ -41,7 +41,7 @@ module _ {T : Type 0} where
   abbrev pub IsIdle : Seat Unit (List (Known T)) → Type 0
   IsIdle s = s.me ≡ (only s.me.0 ∷ [], [])
 
-  -- and it is a subscriber's, who got last the value of this pack
+  -- and it is a subscriber's, which got last the value of this pack
   abbrev pub IsSubscribed : (ℕ → Type 0) → (ℕ → T) → Seat Unit (List (Known T)) → ℕ → Option ℕ → Type 0
   IsSubscribed packs value_of s number last =
       IsIdle s × ((only s.me.0).subscriber ≡ Some (last_got number last)) × HasGot packs value_of (begun value_of (only s.me.0).start) (only s.me.0).knows number last
