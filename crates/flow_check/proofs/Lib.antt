@@ -16,4 +16,8 @@ pub mod SharedEmitting
 pub mod SharedCalls
 pub mod SharedMoves
 pub mod SharedSteps
+pub mod SharedReplies
+pub mod SharedEvents
+pub mod SharedLeads
+pub mod SharedFollows
 pub mod SharedJudging

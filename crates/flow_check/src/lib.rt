@@ -27,6 +27,7 @@ mod shared_calls;
 mod shared_checking;
 mod shared_machine;
 mod shared_moves;
+mod shared_same;
 mod state_calls;
 mod state_checking;
 mod state_machine;

@@ -1,35 +1,20 @@
 //! What a shared flow answers, in the state that the checker keeps.
-ghost use Rattle.std.specs.Prelude.{◌≡◌, Some, IsTrue, map};
+ghost use Rattle.std.specs.Prelude.{◌≡◌, Some};
 ghost use Rattle.flow_check.specs.SharedMachine.{done, tested, counted, cached, agrees, own_answer};
-ghost use Rattle.flow_check.specs.SharedMachine.{same_values, done_if, try_emit_answer, cache};
+ghost use Rattle.flow_check.specs.SharedMachine.{done_if, try_emit_answer, cache};
 ghost use Rattle.flow_check.specs.SharedMachine.{emitted_answer, next_value, next_answer};
 ghost use Rattle.flow_check.specs.SharedMachine.{own_left};
 ghost use Rattle.flow_check.specs.Subscribed.{kept_of};
 
 use crate::machine::Machine;
 use crate::shared_calls::{SharedAnswer, SharedEntry, SharedOperation};
-use crate::shared_machine::{EmitCase, Held, SharedMachine, last_values, own_at};
+use crate::shared_machine::{EmitCase, SharedMachine, last_values};
+use crate::shared_same::{
+    are_same_lags, are_same_owns, are_same_values, is_same_config, is_same_lag, is_same_queue,
+    same_values,
+};
 use crate::subscribed::present;
-use flow_law::{Config, Overflow};
 use std::alloc::{AllocError, Global};
-
-fn same_values(one: &[u64], other: &[u64]) -> bool
-    ensures { result ≡ same_values one.now other.now }
-{
-    let mut left = one;
-    let mut right = other;
-    while let (Some((first, rest)), Some((second, more))) = (
-        left.split_first(),
-        right.split_first(),
-    ) {
-        if *first != *second {
-            return false;
-        }
-        left = rest;
-        right = more;
-    }
-    left.is_empty() && right.is_empty()
-}
 
 /// Returns whether `Done` is the answer that was recorded, or any may be.
 fn is_done(recorded: Option<SharedAnswer<'_>>) -> bool
@@ -147,92 +132,6 @@ impl<'a> SharedMachine<'a> {
             }
         }
     }
-}
-
-fn is_same_config(one: Config, other: Config) -> bool
-    ensures { IsTrue result → one ≡ other }
-{
-    let is_same_overflow = match (one.overflow, other.overflow) {
-        (Overflow::Suspend, Overflow::Suspend) => true,
-        (Overflow::DropOldest, Overflow::DropOldest) => true,
-        (Overflow::DropLatest, Overflow::DropLatest) => true,
-        _ => false,
-    };
-    is_same_overflow
-        && one.replay == other.replay
-        && one.extra == other.extra
-        && one.limit == other.limit
-}
-
-#[tactic(auto, using(crate::proofs::QueueLemmas::values_are))]
-fn are_same_values(one: &[u64], other: &[u64]) -> bool
-    ensures { IsTrue result → one.now ≡ other.now }
-{
-    same_values(one, other)
-}
-
-fn is_same_lag(one: Option<usize>, other: Option<usize>) -> bool
-    ensures { IsTrue result → one ≡ other }
-{
-    match (one, other) {
-        (None, None) => true,
-        (Some(one), Some(other)) => one == other,
-        _ => false,
-    }
-}
-
-fn are_same_lags(one: &[Option<usize>], other: &[Option<usize>]) -> bool
-    ensures { IsTrue result → one.now ≡ other.now }
-{
-    let mut left = one;
-    let mut right = other;
-    while let (Some((first, rest)), Some((second, more))) = (
-        left.split_first(),
-        right.split_first(),
-    ) {
-        if !is_same_lag(*first, *second) {
-            return false;
-        }
-        left = rest;
-        right = more;
-    }
-    left.is_empty() && right.is_empty()
-}
-
-fn is_same_queue(one: &[Held], other: &[Held]) -> bool
-    ensures { IsTrue result → one.now ≡ other.now }
-{
-    let mut left = one;
-    let mut right = other;
-    while let (Some((first, rest)), Some((second, more))) = (
-        left.split_first(),
-        right.split_first(),
-    ) {
-        if first.caller != second.caller || first.value != second.value {
-            return false;
-        }
-        left = rest;
-        right = more;
-    }
-    left.is_empty() && right.is_empty()
-}
-
-fn are_same_owns(one: &[&[u64]], other: &[&[u64]]) -> bool
-    ensures { IsTrue result → map (λ own. own.now) one.now ≡ map (λ own. own.now) other.now }
-{
-    let count = one.len();
-    let others = other.len();
-    if count != others {
-        return false;
-    }
-    for index in 0..count {
-        let left = own_at(one, index);
-        let right = own_at(other, index);
-        if !same_values(left, right) {
-            return false;
-        }
-    }
-    true
 }
 
 impl<'a> Machine<SharedEntry<'a>> for SharedMachine<'a> {

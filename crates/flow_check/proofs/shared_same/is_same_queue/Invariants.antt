@@ -1,5 +1,5 @@
 use Rattle.std.proofs.Common.{◌≡◌, length}
-use Rattle.flow_check.proofs.shared_answers.are_same_lags.Given as goal
+use Rattle.flow_check.proofs.shared_same.is_same_queue.Given as goal
 
 abbrev pub invariant-loop-first : goal.invariant-loop-first
 invariant-loop-first l = l.left ≡ l.right → l.fn.one ≡ l.fn.other

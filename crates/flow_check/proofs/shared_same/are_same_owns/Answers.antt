@@ -1,7 +1,7 @@
 use Rattle.std.proofs.Common.{◌<◌, map, sym, ◌∙◌, below_more, arith}
 use Rattle.std.proofs.lemmas.List.{length-map}
 use Rattle.flow_check.proofs.QueueLemmas.{values_are, owns_same}
-use Rattle.flow_check.proofs.shared_answers.are_same_owns.Goals as goal
+use Rattle.flow_check.proofs.shared_same.are_same_owns.Goals as goal
 
 pub loop-index-preserved : goal.loop-index-preserved
 loop-index-preserved c = below_more _ _ c.loop-index.invariant (
