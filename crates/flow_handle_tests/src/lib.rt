@@ -9,9 +9,13 @@ mod compare;
 #[cfg(test)]
 mod crowds;
 #[cfg(test)]
+mod dropping;
+#[cfg(test)]
 mod emissions;
 #[cfg(test)]
 mod errors;
+#[cfg(test)]
+mod many_threads;
 #[cfg(test)]
 mod shared;
 #[cfg(test)]
