@@ -21,6 +21,8 @@ mod shared;
 #[cfg(test)]
 mod state;
 #[cfg(test)]
+mod streams;
+#[cfg(test)]
 mod threads;
 #[cfg(test)]
 mod timeouts;
