@@ -23,11 +23,15 @@ struct Maker {
 }
 
 fn config_of(dice: &mut Dice) -> Config {
-    let replay = dice.below(3) as u32;
-    let extra = dice.below(2) as u32;
+    let replay = match dice.below(3) {
+        0 => 0,
+        1 => 1,
+        _ => 2,
+    };
+    let extra = if dice.below(2) == 0 { 0 } else { 1 };
     let overflow = match dice.below(3) {
-        0 if replay.wrapping_add(extra) > 0 => Overflow::DropOldest,
-        1 if replay.wrapping_add(extra) > 0 => Overflow::DropLatest,
+        0 if replay > 0 || extra > 0 => Overflow::DropOldest,
+        1 if replay > 0 || extra > 0 => Overflow::DropLatest,
         _ => Overflow::Suspend,
     };
     Config::new().replay(replay).extra(extra).overflow(overflow)
