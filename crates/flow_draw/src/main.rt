@@ -2,13 +2,8 @@
 //! standard error, too.
 #![tactic(auto)]
 
-mod drawing;
-mod lines;
-mod listing;
-mod program;
-
 use flow_script::Watched;
-use program::{refuse_arguments, run};
+use script_drawing::{refuse_arguments, run};
 use std::env::args;
 use std::io;
 use std::process::ExitCode;

@@ -1,9 +1,9 @@
 use Rattle.std.proofs.Common.{ℕ, List, Ok, Err, sym, subst}
 use Rattle.script_chain_format.specs.Results.{Gives}
 use Rattle.flow_script.specs.ScriptMeaning.{meaning}
-use Rattle.flow_draw.specs.Drawing.{Pictures, TellsLines}
-use Rattle.flow_draw.proofs.DrawingLemmas.{draws_refused, draws_written}
-use Rattle.flow_draw.proofs.program.draw.Goals as goal
+use Rattle.script_drawing.specs.Drawing.{Pictures, TellsLines}
+use Rattle.script_drawing.proofs.DrawingLemmas.{draws_refused, draws_written}
+use Rattle.script_drawing.proofs.program.draw.Goals as goal
 
 pub returns-in-Err-drawn_or_explained-clause-draws : goal.returns-in-Err-drawn_or_explained-clause-draws
 returns-in-Err-drawn_or_explained-clause-draws g c =

@@ -2,8 +2,8 @@
 use Rattle.std.proofs.Common.{◌≡◌, ℕ, ◌+◌, ◌<◌, List, [], ◌∷◌, ◌++◌, length, take, get_or, sym, ap, subst, ◌∙◌, append_assoc, append-nil}
 use Rattle.std.specs.Borrow.{Bor}
 use Rattle.std.proofs.lemmas.List.{map-append, take_more}
-use Rattle.flow_draw.specs.Drawing.{TellsInOrder}
-use Rattle.flow_draw.specs.Listing.{AddsLast, AddsLines, told}
+use Rattle.script_drawing.specs.Drawing.{TellsInOrder}
+use Rattle.script_drawing.specs.Listing.{AddsLast, AddsLines, told}
 
 -- more may follow
 tells-before : (lines : List (List ℕ)) (text more : List ℕ) → TellsInOrder lines text → TellsInOrder lines (text ++ more)

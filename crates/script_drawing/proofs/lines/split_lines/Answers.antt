@@ -1,8 +1,8 @@
 use Rattle.std.proofs.Common.{rules, Bor, List, ℕ, ◌++◌, ap, ◌∙◌}
-use Rattle.flow_draw.specs.Listing.{told}
-use Rattle.flow_draw.specs.Drawing.{lines_of}
-use Rattle.flow_draw.proofs.SplitLemmas.{told-more, told-last}
-use Rattle.flow_draw.proofs.lines.split_lines.Goals as goal
+use Rattle.script_drawing.specs.Listing.{told}
+use Rattle.script_drawing.specs.Drawing.{lines_of}
+use Rattle.script_drawing.proofs.SplitLemmas.{told-more, told-last}
+use Rattle.script_drawing.proofs.lines.split_lines.Goals as goal
 
 pub loop-line-preserved : goal.loop-line-preserved
 loop-line-preserved c = (

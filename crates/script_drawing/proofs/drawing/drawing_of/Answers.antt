@@ -3,7 +3,7 @@ use Rattle.script_chain_format.specs.Results.{result_map}
 use Rattle.script_chain_format.proofs.ResultLemmas.{gives_err}
 use Rattle.flow_script.specs.Said.{said}
 use Rattle.flow_script.specs.ScriptMeaning.{answered, meaning, text_of}
-use Rattle.flow_draw.proofs.drawing.drawing_of.Goals as goal
+use Rattle.script_drawing.proofs.drawing.drawing_of.Goals as goal
 
 pub returns-in-Ok-drawn : goal.returns-in-Ok-drawn
 returns-in-Ok-drawn c = (text_of (said c.in-Ok.answers), ap (result_map text_of) c.in-Ok.ensures, c.in-Ok-drawn.ensures)

@@ -1,6 +1,6 @@
 //! The steps of a script, each with the line that it writes.
 ghost use Rattle.std.specs.Prelude.{OnOk, string_bytes};
-ghost use Rattle.flow_draw.specs.Listing.{AddsLast, AddsLines, told};
+ghost use Rattle.script_drawing.specs.Listing.{AddsLast, AddsLines, told};
 
 use script_explain::rule_of;
 use script_picture::Played;

@@ -1,6 +1,6 @@
 use Rattle.flow_script.specs.Watching.{inner_of}
-use Rattle.flow_draw.proofs.DrawingLemmas.{runs-refused}
-use Rattle.flow_draw.proofs.program.draw_script.Goals as goal
+use Rattle.script_drawing.proofs.DrawingLemmas.{runs-refused}
+use Rattle.script_drawing.proofs.program.draw_script.Goals as goal
 
 pub returns-in-Err : goal.returns-in-Err
 returns-in-Err g c =

@@ -1,7 +1,7 @@
 -- What the listing of a script's lines adds to a text.
 use Rattle.std.specs.Prelude.{◌≡◌, ◌++◌, ℕ, List, map}
 use Rattle.std.specs.Borrow.{Bor}
-use Rattle.flow_draw.specs.Drawing.{TellsInOrder}
+use Rattle.script_drawing.specs.Drawing.{TellsInOrder}
 
 -- what lines that are borrowed say
 abbrev pub told : List (Bor (List ℕ)) → List (List ℕ)

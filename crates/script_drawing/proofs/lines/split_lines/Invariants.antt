@@ -1,9 +1,9 @@
 use Rattle.std.proofs.Common.{◌≡◌, ◌++◌, length}
 use denote.Text.{Utf8}
 use denote.Shadow.{shadow}
-use Rattle.flow_draw.specs.Drawing.{lines_of}
-use Rattle.flow_draw.specs.Listing.{told}
-use Rattle.flow_draw.proofs.lines.split_lines.Given as goal
+use Rattle.script_drawing.specs.Drawing.{lines_of}
+use Rattle.script_drawing.specs.Listing.{told}
+use Rattle.script_drawing.proofs.lines.split_lines.Given as goal
 
 abbrev pub invariant-loop-line : goal.invariant-loop-line
 invariant-loop-line l = shadow (Utf8 l.rest) × (told l.lines.items ++ lines_of l.rest ≡ lines_of l.fn.text)

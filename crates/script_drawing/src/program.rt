@@ -4,8 +4,8 @@ ghost use Rattle.flow_script.specs.Playing.{TakesWithin, is_read_failed, is_writ
 ghost use Rattle.flow_script.specs.Telling.{Tells, memory_line};
 ghost use Rattle.flow_script.specs.Watching.{inner_of, has_failed};
 ghost use Rattle.flow_script.specs.ScriptMeaning.{meaning};
-ghost use Rattle.flow_draw.specs.Drawing.{Draws, Pictures};
-ghost use Rattle.flow_draw.specs.Program.{RunsDrawing, form_of, usage_line};
+ghost use Rattle.script_drawing.specs.Drawing.{Draws, Pictures};
+ghost use Rattle.script_drawing.specs.Program.{RunsDrawing, form_of, usage_line};
 
 use crate::drawing::{Form, drawing_of};
 use flow_script::{

@@ -4,9 +4,9 @@ use Rattle.script_chain_format.specs.declared.reading.fault.ScriptFault.{ScriptF
 use Rattle.flow_script.specs.Lines.{lined}
 use Rattle.flow_script.specs.Playing.{is_read_failed}
 use Rattle.flow_script.specs.Telling.{Ends}
-use Rattle.flow_draw.specs.declared.drawing.Form.{Form}
-use Rattle.flow_draw.specs.declared.drawing.Form.TheVariants.{Text, Svg, Explained}
-use Rattle.flow_draw.specs.Drawing.{Draws}
+use Rattle.script_drawing.specs.declared.drawing.Form.{Form}
+use Rattle.script_drawing.specs.declared.drawing.Form.TheVariants.{Text, Svg, Explained}
+use Rattle.script_drawing.specs.Drawing.{Draws}
 
 abbrev pub usage_line : List ℕ
 usage_line = lined (codes "usage: flow_draw [--text | --explain]")

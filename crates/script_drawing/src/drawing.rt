@@ -2,8 +2,8 @@
 ghost use Rattle.std.specs.Prelude.{IfOk, string_bytes};
 ghost use Rattle.flow_script.specs.Said.{said};
 ghost use Rattle.flow_script.specs.ScriptMeaning.{meaning, text_of};
-ghost use Rattle.flow_draw.specs.Drawing.{Pictures, TellsInOrder, TellsLines};
-ghost use Rattle.flow_draw.specs.Listing.{told};
+ghost use Rattle.script_drawing.specs.Drawing.{Pictures, TellsInOrder, TellsLines};
+ghost use Rattle.script_drawing.specs.Listing.{told};
 
 use crate::lines::split_lines;
 use crate::listing::add_listing;

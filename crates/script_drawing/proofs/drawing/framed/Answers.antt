@@ -1,7 +1,7 @@
 use Rattle.std.proofs.Common.{◌++◌, string_bytes, ap, subst, ◌∙◌}
-use Rattle.flow_draw.specs.Listing.{AddsLines, told}
-use Rattle.flow_draw.proofs.ListingLemmas.{tells-framed}
-use Rattle.flow_draw.proofs.drawing.framed.Goals as goal
+use Rattle.script_drawing.specs.Listing.{AddsLines, told}
+use Rattle.script_drawing.proofs.ListingLemmas.{tells-framed}
+use Rattle.script_drawing.proofs.drawing.framed.Goals as goal
 
 pub returns : goal.returns
 returns c =

@@ -7,8 +7,8 @@ use Rattle.std.proofs.lemmas.Grind.{get_or_default_zero}
 use Rattle.std.proofs.lemmas.List.{map-append}
 use Rattle.std.proofs.lemmas.List.Splits.{slice_split_none, slice_split_first}
 use Rattle.std.proofs.lemmas.Str.Pattern.{IsSplitOnceResult, split_once_first, split_parts}
-use Rattle.flow_draw.specs.Drawing.{lines_of}
-use Rattle.flow_draw.specs.Listing.{told}
+use Rattle.script_drawing.specs.Drawing.{lines_of}
+use Rattle.script_drawing.specs.Listing.{told}
 
 lines-cut : (text : List ℕ) (line more : Bor (List ℕ)) → IsSplitOnceResult 10 text (Some (line, more)) → lines_of text ≡ line.now ∷ lines_of more.now
 lines-cut text line more split =

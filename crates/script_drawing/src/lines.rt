@@ -1,7 +1,7 @@
 //! The lines of a text.
 ghost use Rattle.std.specs.Prelude.{◌≡◌, IfOk};
-ghost use Rattle.flow_draw.specs.Drawing.{lines_of};
-ghost use Rattle.flow_draw.specs.Listing.{told};
+ghost use Rattle.script_drawing.specs.Drawing.{lines_of};
+ghost use Rattle.script_drawing.specs.Listing.{told};
 
 use std::alloc::{AllocError, Global};
 

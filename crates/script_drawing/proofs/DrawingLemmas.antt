@@ -11,8 +11,8 @@ use Rattle.flow_script.specs.Playing.{read_failed}
 use Rattle.flow_script.specs.Telling.{IsRefusal, TellsFault}
 use Rattle.flow_script.proofs.MeaningLemmas.{same_meaning, plays_refused}
 use Rattle.flow_script.proofs.TellingLemmas.{memory-plays, not-read}
-use Rattle.flow_draw.specs.Drawing.{Draws, TellsLines}
-use Rattle.flow_draw.specs.Program.{RunsDrawing}
+use Rattle.script_drawing.specs.Drawing.{Draws, TellsLines}
+use Rattle.script_drawing.specs.Program.{RunsDrawing}
 
 -- a script that is refused
 pub draws_refused : (known left old : Option (List ℕ)) (bytes : List ℕ) (fault : ScriptFault) → Consumes known left bytes → (length bytes ≤ most_bytes → IsAtEnd left)
