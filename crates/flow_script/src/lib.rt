@@ -49,6 +49,8 @@ pub use script_format::{
     Build, FlowStep, NamedFlow, Script, ScriptFault, ScriptFlow, Step, read_script,
 };
 pub use script_text::{add_answer, text_of};
-pub use telling::{OUT_OF_MEMORY, REFUSED, TRANSFER_FAILED, tell, tell_fault, tell_memory};
+pub use telling::{
+    OUT_OF_MEMORY, REFUSED, TRANSFER_FAILED, line_of, tell, tell_fault, tell_memory,
+};
 pub use transfer::{read_all, write_all};
 pub use watched::Watched;

@@ -38,8 +38,8 @@ pub fn tell_memory<W: Write>(output: &mut Watched<W>) -> u8
     tell(output, "out of memory\n", OUT_OF_MEMORY)
 }
 
-/// Returns the line of a fault.
-fn line_of(alloc: Global, fault: ScriptFault) -> Result<String, AllocError>
+/// Returns the line by which a program reports a fault.
+pub fn line_of(alloc: Global, fault: ScriptFault) -> Result<String, AllocError>
     ensures { IfOk result (λ line. string_bytes line ≡ fault_line fault) }
 {
     let mut line = String::new(alloc);
