@@ -9,7 +9,7 @@ use crate::played::Played;
 use crate::script_words::{add_collection, text_of};
 use crate::steps::{add_all_heads, add_heads};
 use crate::style::{LEAST_WIDTH, LEGEND, LEGEND_HEIGHT, STYLE};
-use crate::svg_marks::{END_TEXT, add_attribute, add_cell, begin_text, pixels};
+use crate::svg_marks::{END_TEXT, add_attribute, add_cell, begin_step_number, begin_text, pixels};
 use crate::widths::{add_head, add_label};
 use serde_json::Value;
 use std::alloc::{AllocError, Global};
@@ -25,7 +25,7 @@ const HEADER: usize = 62;
 
 /// The number of a step above its column, and what it does, in a word that rises to the right from `y` on.
 fn add_step_head(page: &mut Page, numbered: Numbered<'_>, x: usize, y: usize) {
-    begin_text(page, "h", x, y.saturating_add(14));
+    begin_step_number(page, numbered.number, x, y.saturating_add(14));
     add_head(page, numbered.number, numbered.moment);
     page.push_str(END_TEXT);
     page.push_str("<text class=\"h\" transform=\"translate(");

@@ -36,12 +36,24 @@ pub fn add_attribute(page: &mut Page, name: &str, number: usize) {
     page.push('"');
 }
 
-/// The beginning of a text of a class at a place.
-pub fn begin_text(page: &mut Page, class: &str, x: usize, y: usize) {
-    begin_element(page, "<text", class);
+/// The place of a text, and the end of the text's tag.
+fn add_text_place(page: &mut Page, x: usize, y: usize) {
     add_attribute(page, "x", x);
     add_attribute(page, "y", y);
     page.push('>');
+}
+
+/// The beginning of a text of a class at a place.
+pub fn begin_text(page: &mut Page, class: &str, x: usize, y: usize) {
+    begin_element(page, "<text", class);
+    add_text_place(page, x, y);
+}
+
+/// The beginning of the number above the column of a step. A program finds the column by its attribute `data-step`.
+pub fn begin_step_number(page: &mut Page, step: usize, x: usize, y: usize) {
+    begin_element(page, "<text", "h");
+    add_attribute(page, "data-step", step);
+    add_text_place(page, x, y);
 }
 
 /// How a mark looks: the class of its box, the class of its words, and the radius of the box's corners.
