@@ -1,0 +1,72 @@
+-- What a call gives its caller. Begin with `Fills` and `Answers`; `PlaysInto` is the whole of `wumsnair_play`.
+use Rattle.std.specs.Prelude.{◌≡◌, ◌≢◌, ◌⊎◌, ◌≤◌, ◌<◌, ◌++◌, ℕ, List, [], length, drop, Result, Ok, Err, String}
+use Rattle.std.specs.declared.alloc.Global.{Global}
+use Rattle.script_chain_format.specs.declared.reading.fault.ScriptFault.{ScriptFault}
+use Rattle.script_chain_format.specs.declared.reading.fault.ScriptFault.TheVariants.{OutOfMemory, ReadFailed, WriteFailed}
+use Rattle.script_chain_format.specs.Results.{Gives}
+use Rattle.flow_script.specs.Playing.{text_result}
+use Rattle.flow_script.specs.Telling.{IsRefusal, fault_line, fault_status}
+use Rattle.script_drawing.specs.Drawing.{Pictures}
+
+-- ---- buffers
+
+-- the status of a call whose buffer is too short
+abbrev pub too_long : ℕ
+too_long = 1
+
+-- A text that fits is at the front of the buffer, and the status is this one. If it does not fit, the buffer is as it was, and
+-- the status is `too_long`. In both cases `needed` is the length of the text.
+abbrev pub Fills : List ℕ → ℕ → List ℕ → List ℕ → ℕ → ℕ → Type 0
+Fills text status old new needed answered =
+    (needed ≡ length text)
+    × (length text ≤ length old → (answered ≡ status) × (new ≡ text ++ drop (length text) old))
+    × (length old < length text → (answered ≡ too_long) × (new ≡ old))
+
+-- ---- faults
+
+-- a fault of a script, or out of memory: a call reads no stream and writes none
+abbrev pub IsScriptFault : ScriptFault → Type 0
+IsScriptFault ReadFailed = ⊥
+IsScriptFault WriteFailed = ⊥
+IsScriptFault _ = Unit {0}
+
+-- the fault that a call reports: the fault itself, or out of memory if there is none for the line of a refusal
+abbrev pub ToldAs : ScriptFault → ScriptFault → Type 0
+ToldAs fault told = (told ≡ fault) ⊎ (IsRefusal fault × (told ≡ OutOfMemory))
+
+-- ---- results
+
+-- A text is given with status 0, and a fault as its line, with its status, as the programs print them.
+abbrev pub Answers : Result (List ℕ) ScriptFault → List ℕ → List ℕ → ℕ → ℕ → Type 0
+Answers (Ok text) old new needed answered = Fills text 0 old new needed answered
+Answers (Err fault) old new needed answered =
+    (told : ScriptFault) × ToldAs fault told × Fills (fault_line told) (fault_status told) old new needed answered
+
+-- what `wumsnair_play` gives of a script that means this, or is refused so
+abbrev pub PlaysInto : Result (List ℕ) ScriptFault → List ℕ → List ℕ → ℕ → ℕ → Type 0
+PlaysInto meant old new needed answered =
+    (given : Result (List ℕ) ScriptFault) × Gives meant given × Answers given old new needed answered
+
+-- the same of `wumsnair_draw`, whose drawing has the lines of the script
+abbrev pub DrawsInto : Result (List ℕ) ScriptFault → List ℕ → List ℕ → ℕ → ℕ → Type 0
+DrawsInto meant old new needed answered =
+    (drawn : Result (String Global) ScriptFault) × Pictures meant drawn × Answers (text_result drawn) old new needed answered
+
+-- ---- explanations
+
+-- For a script that is not refused nothing is given. For one that is, some words are given with status 2. A call that is out of
+-- memory gives nothing, with status 4.
+abbrev pub Explains : Result (List ℕ) ScriptFault → List ℕ → List ℕ → ℕ → ℕ → Type 0
+Explains (Ok text) old new needed answered = Fills [] 0 old new needed answered
+Explains (Err fault) old new needed answered =
+    (IsRefusal fault × (words : List ℕ) × Fills words 2 old new needed answered) ⊎ Fills [] 4 old new needed answered
+
+-- what `wumsnair_explain` gives of a script that means this, or is refused so
+abbrev pub ExplainsInto : Result (List ℕ) ScriptFault → List ℕ → List ℕ → ℕ → ℕ → Type 0
+ExplainsInto meant old new needed answered =
+    (given : Result (List ℕ) ScriptFault) × Gives meant given × Explains given old new needed answered
+
+-- Some words are given with some status. Only a buffer that is too short has `too_long`.
+abbrev pub Says : List ℕ → List ℕ → ℕ → ℕ → Type 0
+Says old new needed answered =
+    (words : List ℕ) × (status : ℕ) × (status ≢ too_long) × Fills words status old new needed answered
