@@ -1,0 +1,359 @@
+// The page: a script that is typed is played at once, and each step is shown in the script, in the diagram, among the lines, and by the
+// state that its flows are in after it.
+import { diagram, markColumn, offerDiagram, onColumnClick, showDiagram } from "./diagram.js";
+import { bringInto, byId } from "./dom.js";
+import { Editor, showWhy } from "./editor.js";
+import { entriesOf, markEntry, showEntries, stepOfEvent } from "./lines.js";
+import { RECORD_LINK, SCRIPT_LINK, bytesOf, exampleOf, isRecordLink, linkOf, passed, stopOf, textIn } from "./link.js";
+import { FORM, Player, STATUS, hasWideMemories, textOf } from "./player.js";
+import { goToRefusal, judge, onRecordChange, openRecord, recordText } from "./record.js";
+import { placeOf, stepsOf } from "./script_text.js";
+import { showStates } from "./state_panel.js";
+import { PlayedScript, statesAfter } from "./states.js";
+import { isRecordTab, listenToTabs, showTab } from "./tabs.js";
+import { TOUR } from "./tour.js";
+
+/** A script with more steps is drawn only if its button is pressed, and its states wait until the step is chosen. */
+const MOST_AT_ONCE = 1500;
+
+/** The record that is shown first. */
+const FIRST_RECORD = "illegal_state_stale";
+
+/** How long the page waits after a key before it plays, in milliseconds: for a short text, and for a long one. */
+const PAUSE = { short: 60, long: 400, longFrom: 50_000 };
+
+const [list, recordList, refusal, slider, at, told, said] = ["examples", "records", "refusal", "step", "at", "told", "said"].map(byId);
+const editor = new Editor("script");
+
+let player;
+let examples = {};
+let records = {};
+let chosen = 0;
+/** What the script gave that was typed last: its steps and their lines, or the place at which it is refused. */
+let shown = { steps: undefined, entries: [], place: undefined, played: undefined };
+
+const stepCount = () => shown.steps?.places.length ?? 0;
+
+// ---- playing
+
+/** Plays the script that is in the editor, and shows what it gave. */
+function play() {
+  const start = performance.now();
+  try {
+    const answer = player.play(editor.text);
+    if (answer.status === STATUS.GIVEN) {
+      showPlayed(textOf(answer).split("\n").slice(0, -1));
+    } else {
+      showRefused(textOf(answer).trimEnd(), textOf(player.explain(editor.text)).trimEnd());
+    }
+    document.body.dataset.status = answer.status;
+  } catch (error) {
+    showRefused("the player stopped", error.message);
+    document.body.dataset.status = "stopped";
+  }
+  told.textContent = `${new TextEncoder().encode(editor.text).length} bytes, ${(performance.now() - start).toFixed(1)} ms`;
+}
+
+function showPlayed(lines) {
+  const { text } = editor;
+  shown = { steps: stepsOf(text), entries: entriesOf(textOf(player.draw(FORM.EXPLAINED, text)), lines), place: undefined };
+  const stepLines = shown.entries.filter(({ step }) => step > 0).map(({ line }) => line);
+  shown.played = new PlayedScript(player, text, shown.steps, stepLines);
+  setRefused(false);
+  showEntries(shown.entries);
+  byId("count").textContent = `${lines.length}`;
+  if (stepCount() <= MOST_AT_ONCE) {
+    draw();
+  } else {
+    offerDiagram(`Draw all ${stepCount()} steps`, draw);
+  }
+  byId("save").disabled = !diagram();
+  slider.max = stepCount();
+  choose(Math.min(chosen, stepCount()), false);
+}
+
+function draw() {
+  showDiagram(textOf(player.draw(FORM.SVG, editor.text)));
+  markColumn(chosen);
+  byId("save").disabled = false;
+}
+
+/** Shows why the script is refused. What the last played script gave stays, and is pale. */
+function showRefused(line, why) {
+  shown.place = placeOf(editor.text, why);
+  showWhy(refusal, line, why);
+  setRefused(true);
+}
+
+function setRefused(isRefused) {
+  refusal.hidden = !isRefused;
+  editor.showRefusal(isRefused, shown.place);
+  byId("right").classList.toggle("stale", isRefused);
+  byId("save").disabled = isRefused;
+}
+
+// ---- the chosen step
+
+let asking;
+
+/** Shows the states after the chosen step, of a long script once the step stays chosen. */
+function askStates() {
+  clearTimeout(asking);
+  if (!shown.played) {
+    return;
+  }
+  const { played } = shown;
+  const ask = () => {
+    showStates(statesAfter(played, played.lines.length < chosen ? played.lines.length : chosen));
+    document.body.dataset.asked = chosen;
+  };
+  if (stepCount() <= MOST_AT_ONCE) {
+    ask();
+  } else {
+    asking = setTimeout(ask, 250);
+  }
+}
+
+/** Chooses a step: marks it in the script, in the diagram and among the lines, and shows the states after it. */
+function choose(step, scrolls = true) {
+  chosen = Math.max(0, Math.min(step, stepCount()));
+  const words = chosen ? `step ${chosen} of ${stepCount()}` : `before the first of ${stepCount()} steps`;
+  slider.value = chosen;
+  slider.setAttribute("aria-valuetext", words);
+  at.textContent = words;
+  byId("after").textContent = chosen ? `after step ${chosen}` : "before the first step";
+  const row = markEntry(chosen);
+  const mark = markColumn(chosen);
+  if (!shown.place) {
+    editor.showMarks(shown.steps?.places[chosen - 1], "step", undefined);
+  }
+  askStates();
+  if (scrolls) {
+    const entry = shown.entries.find((each) => each.step === chosen);
+    said.textContent = entry ? `${words}: ${entry.words}: ${entry.line}. ${entry.rule}` : words;
+    for (const [panel, part] of [[byId("listing"), row], [byId("picture"), mark]].filter(([, part]) => part)) {
+      bringInto(panel, part);
+    }
+    editor.scrollToMark();
+  }
+}
+
+// ---- scripts and links
+
+let links = 0;
+
+/** Puts what is shown into the address, unless a later call does. */
+async function keepLink() {
+  const mine = (links += 1);
+  const isRecord = isRecordTab();
+  const letters = isRecord ? RECORD_LINK : SCRIPT_LINK;
+  const link = await (isRecord ? linkOf(recordText(), records, letters) : linkOf(editor.text, examples, letters));
+  if (mine === links) {
+    history.replaceState(null, "", link);
+    (isRecord ? recordList : list).value = exampleOf(link, letters);
+  }
+}
+
+function open(text, step = 0) {
+  editor.open(text);
+  chosen = step;
+  play();
+}
+
+/** Shows the tab of records, with the record that was there last, or that of scripts. */
+async function takeTab(isRecord) {
+  showTab(isRecord);
+  byId("tour").hidden = true;
+  if (isRecord) {
+    judge(player);
+  }
+  await keepLink();
+}
+
+async function openLink() {
+  links += 1;
+  const stop = stopOf(location.hash);
+  if (stop !== undefined) {
+    showStop(stop);
+    return;
+  }
+  const isRecord = isRecordLink(location.hash);
+  const read = (all, letters) => textIn(location.hash, all, letters).catch(() => undefined);
+  if (isRecord) {
+    openRecord((await read(records, RECORD_LINK)) ?? records[FIRST_RECORD]);
+  } else {
+    open((await read(examples, SCRIPT_LINK)) ?? examples.replay);
+  }
+  await takeTab(isRecord);
+}
+
+async function copyLink() {
+  await keepLink();
+  const isCopied = await navigator.clipboard?.writeText(location.href).then(() => true, () => false);
+  said.textContent = isCopied ? "The link is copied." : "The link is in the address line.";
+  told.textContent = said.textContent;
+}
+
+function saveDiagram() {
+  const link = document.createElement("a");
+  link.href = URL.createObjectURL(new Blob([diagram()], { type: "image/svg+xml" }));
+  link.download = `${list.value || "script"}.svg`;
+  link.click();
+  setTimeout(() => URL.revokeObjectURL(link.href), 1000);
+}
+
+// ---- the tour
+
+let stop = 0;
+
+/** Shows a stop of the tour: its example, its two sentences, and the step that these speak of. */
+function showStop(number) {
+  stop = Math.max(0, Math.min(number, TOUR.length - 1));
+  const { example, title, words, step } = TOUR[stop];
+  links += 1;
+  showTab(false);
+  byId("tour").hidden = false;
+  byId("stop").textContent = `${stop + 1} of ${TOUR.length}: ${title}`;
+  byId("words").textContent = words;
+  byId("previous").disabled = stop === 0;
+  byId("next").disabled = stop === TOUR.length - 1;
+  list.value = example;
+  open(examples[example], step);
+  choose(step);
+  history.replaceState(null, "", `#t=${stop + 1}`);
+}
+
+function leaveTour() {
+  byId("tour").hidden = true;
+  byId("begin").focus();
+  keepLink();
+}
+
+// ---- what the reader does
+
+let waiting;
+
+function typed() {
+  clearTimeout(waiting);
+  shown.place = undefined;
+  editor.showMarks(undefined, "step", undefined);
+  const pause = editor.text.length > PAUSE.longFrom ? PAUSE.long : PAUSE.short;
+  waiting = setTimeout(() => {
+    play();
+    keepLink();
+  }, pause);
+}
+
+/** Chooses the step that the caret is in. */
+function followCaret() {
+  if (document.activeElement !== editor.area || shown.place || editor.text !== shown.played?.text) {
+    return;
+  }
+  const caret = editor.area.selectionStart;
+  const step = shown.steps.places.findIndex(([from, to]) => from <= caret && caret <= to) + 1;
+  if (step && step !== chosen) {
+    choose(step);
+  }
+}
+
+function nextExample() {
+  const shownList = isRecordTab() ? recordList : list;
+  shownList.selectedIndex = (shownList.selectedIndex % (shownList.length - 1)) + 1;
+  shownList.dispatchEvent(new Event("change"));
+}
+
+/** Selects the place of the refusal that is shown; returns whether there is one. */
+function goToPlace() {
+  if (isRecordTab()) {
+    return goToRefusal();
+  }
+  if (shown.place) {
+    editor.select(shown.place);
+  }
+  return shown.place !== undefined;
+}
+
+function pressed(event) {
+  const steps = { ArrowUp: -1, ArrowDown: 1 }[event.key];
+  if (event.altKey && steps && !isRecordTab()) {
+    choose(chosen + steps);
+  } else if (event.key === "F8" && goToPlace()) {
+    // The place is selected.
+  } else if (event.altKey && event.code === "KeyE") {
+    nextExample();
+  } else {
+    return;
+  }
+  event.preventDefault();
+}
+
+function listen() {
+  const rows = byId("rows");
+  editor.area.addEventListener("input", typed);
+  document.addEventListener("selectionchange", followCaret);
+  slider.addEventListener("input", () => choose(Number(slider.value)));
+  rows.addEventListener("click", (event) => choose(stepOfEvent(event)));
+  rows.addEventListener("pointerover", (event) => markColumn(stepOfEvent(event)));
+  rows.addEventListener("pointerleave", () => markColumn(chosen));
+  onColumnClick(choose);
+  list.addEventListener("change", () => {
+    if (list.value) {
+      byId("tour").hidden = true;
+      open(examples[list.value]);
+      keepLink();
+    }
+  });
+  recordList.addEventListener("change", () => {
+    if (recordList.value) {
+      openRecord(records[recordList.value]);
+      takeTab(true);
+    }
+  });
+  onRecordChange(() => takeTab(true));
+  listenToTabs(takeTab);
+  byId("share").addEventListener("click", copyLink);
+  byId("save").addEventListener("click", saveDiagram);
+  byId("begin").addEventListener("click", () => {
+    showStop(0);
+    byId("words").focus();
+  });
+  byId("previous").addEventListener("click", () => showStop(stop - 1));
+  byId("next").addEventListener("click", () => showStop(stop + 1));
+  byId("leave").addEventListener("click", leaveTour);
+  addEventListener("keydown", pressed);
+  addEventListener("hashchange", openLink);
+}
+
+// ---- begin
+
+/** Returns the bytes of the module that this engine takes. Both are in the page, compressed. */
+function moduleBytes(isWide) {
+  return passed(bytesOf(byId(isWide ? "wide-module" : "module").textContent), new DecompressionStream("deflate-raw"));
+}
+
+async function begin() {
+  const start = performance.now();
+  const isWide = hasWideMemories();
+  player = await Player.load(await moduleBytes(isWide));
+  // For the console and for tests.
+  globalThis.wumsnair = player;
+  examples = JSON.parse(byId("example-scripts").textContent);
+  records = JSON.parse(byId("example-records").textContent);
+  openRecord(records[FIRST_RECORD]);
+  document.body.dataset.module = isWide ? "wide" : "lowered";
+  document.body.dataset.loaded = (performance.now() - start).toFixed(1);
+  for (const [options, all] of [[list, examples], [recordList, records]]) {
+    options.append(...Object.keys(all).map((name) => new Option(name.replaceAll("_", " "), name)));
+  }
+  listen();
+  await openLink();
+  document.body.dataset.ready = "yes";
+}
+
+try {
+  await begin();
+} catch (error) {
+  refusal.hidden = false;
+  refusal.textContent = `The player did not load: ${error.message}.\nIt needs Chrome 103, Firefox 113, Safari 16.4, or later.`;
+  throw error;
+}

@@ -1,0 +1,91 @@
+// A record of calls: the text in its editor, the verdict of the proved checker, and the calls beside each other in time.
+import { byId, element } from "./dom.js";
+import { Editor, showWhy } from "./editor.js";
+import { VERDICT, textOf } from "./player.js";
+import { placeOf } from "./script_text.js";
+import { showTimeline } from "./timeline.js";
+
+const WORDS = {
+  [VERDICT.LEGAL]: ["legal", "Some order of the calls has these answers, so the documented flow may have answered so."],
+  [VERDICT.ILLEGAL]: ["illegal", "No order of the calls has these answers, so this is not the documented flow."],
+  [VERDICT.GAVE_UP]: ["gave up", "The search took too long."],
+  [VERDICT.REFUSED]: ["refused", "The text is no record. Below it is where and why."],
+  [VERDICT.OUT_OF_MEMORY]: ["out of memory", "The record was not judged."],
+};
+
+const recordRefusal = byId("record-refusal");
+const recordEditor = new Editor("record");
+let refusedPlace;
+
+/** Returns the calls of a record that was not refused. Moments from 2^53 on are only drawn near their place. */
+function callsOf(text) {
+  try {
+    return JSON.parse(text).calls ?? [];
+  } catch {
+    return text.split("\n").filter((line) => line.trim()).slice(1).map((line) => JSON.parse(line));
+  }
+}
+
+/** Returns the numbers of the calls that the lines of a verdict name. */
+const numbersIn = (lines) => new Set(lines.map((line) => Number(/^ +(\d+) {2}/.exec(line)?.[1] ?? 0)));
+
+/** Shows the verdict, and the further lines that the checker printed. */
+function showVerdict(status, lines) {
+  const [word, meaning] = WORDS[status];
+  byId("verdict").replaceChildren(element("strong", { class: `verdict-${status}` }, word), ` ${meaning}`);
+  byId("told-of-record").textContent = lines.join("\n");
+  byId("told-of-record").hidden = lines.length === 0;
+}
+
+/** Judges the record that is in the editor, and shows the verdict. */
+export function judge(player) {
+  let told, status;
+  try {
+    const answer = player.check(recordEditor.text, byId("with-order").checked);
+    [told, status] = [textOf(answer).trimEnd(), answer.status];
+  } catch (error) {
+    [told, status] = [`refused: the checker stopped: ${error.message}`, VERDICT.REFUSED];
+  }
+  const isRefused = status === VERDICT.REFUSED || status === VERDICT.OUT_OF_MEMORY;
+  refusedPlace = undefined;
+  if (isRefused) {
+    const why = told.replace(/^refused: /, "");
+    refusedPlace = placeOf(recordEditor.text, why);
+    showVerdict(status, []);
+    showWhy(recordRefusal, status === VERDICT.REFUSED ? "refused" : told, status === VERDICT.REFUSED ? why : "");
+  } else {
+    const [, ...lines] = told.split("\n");
+    recordEditor.showMarks(undefined, "step", undefined);
+    showVerdict(status, lines);
+    showTimeline(callsOf(recordEditor.text), status === VERDICT.ILLEGAL ? numbersIn(lines) : new Set());
+  }
+  recordEditor.showRefusal(isRefused, refusedPlace);
+  recordRefusal.hidden = !isRefused;
+  byId("timeline-panel").classList.toggle("stale", isRefused);
+  document.body.dataset.verdict = status;
+}
+
+/** Returns the text of the record. */
+export const recordText = () => recordEditor.text;
+
+/** Puts a record into the editor. */
+export const openRecord = (text) => recordEditor.open(text);
+
+/** Selects the place at which the record is refused; returns whether there is one. */
+export function goToRefusal() {
+  if (refusedPlace) {
+    recordEditor.select(refusedPlace);
+  }
+  return refusedPlace !== undefined;
+}
+
+/** Calls `change` when the record or what is wanted of it changes, a short time after the last key. */
+export function onRecordChange(change) {
+  let waiting;
+  recordEditor.area.addEventListener("input", () => {
+    clearTimeout(waiting);
+    recordEditor.showMarks(undefined, "step", undefined);
+    waiting = setTimeout(change, 60);
+  });
+  byId("with-order").addEventListener("change", change);
+}

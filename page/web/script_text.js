@@ -1,0 +1,76 @@
+// Where the parts of a script stand in its text. The player has read the text already: here it is valid JSON.
+
+/** Returns the offset after a string that begins at `from` with its quote. */
+function endOfString(text, from) {
+  let index = from + 1;
+  while (index < text.length && text[index] !== '"') {
+    index += text[index] === "\\" ? 2 : 1;
+  }
+  return index + 1;
+}
+
+/** Returns where the list "steps" stands at the top of a script, as `open` and `close`, and the start and end of each of its items in
+ * `places`; undefined if there is no such list. Of two lists the last one counts, as it does for the player. */
+export function stepsOf(text) {
+  let found, steps, key;
+  let depth = 0, start = 0;
+  for (let index = 0; index < text.length; index += 1) {
+    const sign = text[index];
+    if (sign === '"') {
+      const end = endOfString(text, index);
+      if (depth === 1) {
+        key = text.slice(index, end);
+      }
+      index = end - 1;
+    } else if (sign === "{" || sign === "[") {
+      if (depth === 1 && sign === "[" && isSteps(key)) {
+        steps = { open: index, close: text.length, places: [] };
+      }
+      if (steps && depth === 2) {
+        start = index;
+      }
+      depth += 1;
+    } else if (sign === "}" || sign === "]") {
+      depth -= 1;
+      if (steps && depth === 2) {
+        steps.places.push([start, index + 1]);
+      } else if (steps && depth === 1) {
+        steps.close = index;
+        [found, steps] = [steps, undefined];
+      }
+    }
+  }
+  return found;
+}
+
+function isSteps(key) {
+  try {
+    return JSON.parse(key) === "steps";
+  } catch {
+    return false;
+  }
+}
+
+/** Returns the offset of a line and a column, which count from 1; columns count characters. */
+export function offsetOf(text, line, column) {
+  let start = 0;
+  for (let rest = line; rest > 1; rest -= 1) {
+    start = text.indexOf("\n", start) + 1;
+  }
+  for (let rest = column; rest > 1; rest -= 1) {
+    start += text.codePointAt(start) > 0xffff ? 2 : 1;
+  }
+  return start;
+}
+
+/** Returns the place that an explanation begins with, as the start and the end of the word there; undefined if it has none. */
+export function placeOf(text, explanation) {
+  const found = /^line (\d+), column (\d+): /.exec(explanation);
+  if (!found) {
+    return undefined;
+  }
+  const line = Number(found[1]);
+  const from = offsetOf(text, line, Number(found[2]));
+  const [word] = /^("(?:[^"\\]|\\.)*"?|[\w.+-]+|.)?/su.exec(text.slice(from));
+  return { line, from, to: from + Math.max(word.length, 1) };
+}
