@@ -1,0 +1,49 @@
+/* The proved player of flow scripts and the checker of records, for programs in C and in languages that call C.
+ *
+ * Each function reads `script_bytes` bytes at `script`, or those of a record, writes at most `out_bytes` bytes at `out`, and sets `*needed` to the
+ * number of bytes that there are to give. If these do not fit, nothing is written and the result is WUMSNAIR_TOO_LONG: call
+ * once more with more room. No text ends with a zero byte. `script`, `out` and `needed` do not overlap, and none is null, even
+ * for zero bytes.
+ *
+ * Memory comes from the program's malloc, realloc and free. A function keeps nothing between calls, so several threads may call
+ * at once, each with its own buffers. No function may be called in a signal handler. */
+#ifndef WUMSNAIR_H
+#define WUMSNAIR_H
+
+#include <stddef.h>
+#include <stdint.h>
+
+#ifdef __cplusplus
+extern "C" {
+#endif
+
+enum wumsnair_status {
+    WUMSNAIR_GIVEN = 0,
+    WUMSNAIR_TOO_LONG = 1,
+    WUMSNAIR_REFUSED = 2,
+    WUMSNAIR_OUT_OF_MEMORY = 4
+};
+
+enum wumsnair_verdict { WUMSNAIR_LEGAL = 0, WUMSNAIR_GAVE_UP = 3, WUMSNAIR_ILLEGAL = 5 };
+
+enum wumsnair_form { WUMSNAIR_SVG = 0, WUMSNAIR_TEXT = 1, WUMSNAIR_EXPLAINED = 2 };
+
+/* Gives the lines that a script writes, one for each step. If the script is refused, gives the line that says so. */
+uint32_t wumsnair_play(const uint8_t *script, size_t script_bytes, uint8_t *out, size_t out_bytes, size_t *needed);
+
+/* Gives a picture of a script, or its lines with their rules. If the script is refused, gives the line that says so. Any other
+ * form than those above counts as WUMSNAIR_EXPLAINED. */
+uint32_t wumsnair_draw(uint32_t form, const uint8_t *script, size_t script_bytes, uint8_t *out, size_t out_bytes, size_t *needed);
+
+/* Gives some lines for people that say where and why a script is refused; nothing if it is not refused. */
+uint32_t wumsnair_explain(const uint8_t *script, size_t script_bytes, uint8_t *out, size_t out_bytes, size_t *needed);
+
+/* Judges recorded calls of a state flow: whether the documented flow may have answered so. Gives what flow_judge prints, with the
+ * order of the calls of a legal record if `with_order` is not 0. The result is one of wumsnair_verdict, or WUMSNAIR_TOO_LONG,
+ * WUMSNAIR_REFUSED or WUMSNAIR_OUT_OF_MEMORY. */
+uint32_t wumsnair_check(uint32_t with_order, const uint8_t *record, size_t record_bytes, uint8_t *out, size_t out_bytes, size_t *needed);
+
+#ifdef __cplusplus
+}
+#endif
+#endif

@@ -1,0 +1,49 @@
+"""The proved player of flow scripts and the checker of records, by ctypes: `play`, `draw`, `explain` and `check` return a status
+and bytes.
+
+    import wumsnair
+    status, lines = wumsnair.play(b'{"version": 1, ..}')
+
+It needs libwumsnair.so beside it; `./page/build` makes both."""
+import ctypes
+import pathlib
+
+GIVEN, TOO_LONG, REFUSED, OUT_OF_MEMORY = 0, 1, 2, 4
+LEGAL, GAVE_UP, ILLEGAL = 0, 3, 5
+SVG, TEXT, EXPLAINED = range(3)
+
+_library = ctypes.CDLL(str(pathlib.Path(__file__).resolve().with_name("libwumsnair.so")))
+_bytes = [ctypes.c_char_p, ctypes.c_size_t, ctypes.c_char_p, ctypes.c_size_t, ctypes.POINTER(ctypes.c_size_t)]
+for _name, _first in (("play", []), ("draw", [ctypes.c_uint32]), ("explain", []), ("check", [ctypes.c_uint32])):
+    _call = getattr(_library, f"wumsnair_{_name}")
+    _call.argtypes, _call.restype = _first + _bytes, ctypes.c_uint32
+
+
+def _given(call, script, room=4096):
+    needed = ctypes.c_size_t()
+    while True:
+        out = ctypes.create_string_buffer(room)
+        status = call(script, len(script), out, room, ctypes.byref(needed))
+        if status != TOO_LONG:
+            return status, out.raw[: needed.value]
+        room = needed.value
+
+
+def play(script):
+    """Returns the lines that a script writes, or the line by which it is refused."""
+    return _given(_library.wumsnair_play, script)
+
+
+def draw(script, form=SVG):
+    """Returns what is drawn of a script, or the line by which it is refused."""
+    return _given(lambda *rest: _library.wumsnair_draw(form, *rest), script)
+
+
+def explain(script):
+    """Returns where and why a script is refused."""
+    return _given(_library.wumsnair_explain, script)
+
+
+def check(record, with_order=False):
+    """Returns the verdict on recorded calls: LEGAL, ILLEGAL, GAVE_UP or REFUSED, and what is to say of it."""
+    return _given(lambda *rest: _library.wumsnair_check(int(with_order), *rest), record)

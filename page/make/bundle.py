@@ -1,0 +1,60 @@
+#!/usr/bin/env python3
+"""Puts the page, its code, both modules of the player and the examples into one file, which a browser opens from a disk:
+bundle.py EXAMPLES WIDE.wasm LOWERED.wasm OUT.html"""
+import base64
+import json
+import pathlib
+import re
+import sys
+import zlib
+
+web = pathlib.Path(__file__).resolve().parent.parent / "web"
+STYLE = '<link rel="stylesheet" href="page.css">\n'
+CODE = '<script type="module" src="page.js"></script>\n'
+IMPORT = re.compile(r'^import (?:\{[^}]*\} from )?"\./(\w+\.js)";\n', re.M)
+
+
+def in_order(name, taken):
+    """The files of a module and of those that it imports, each after those that it needs."""
+    text = (web / name).read_text()
+    for other in IMPORT.findall(text):
+        if other not in taken:
+            in_order(other, taken)
+    taken[name] = re.sub(r"^export ", "", IMPORT.sub("", text), flags=re.M)
+    return taken
+
+
+def compressed(path):
+    packer = zlib.compressobj(9, zlib.DEFLATED, -15)
+    return base64.b64encode(packer.compress(path.read_bytes()) + packer.flush()).decode()
+
+
+def element(kind, name, text):
+    """A part that the page reads by its id. A text of JSON has no `<`."""
+    return f'<script type="{kind}" id="{name}">{text}</script>\n'
+
+
+def replaced(page, part, by):
+    assert page.count(part) == 1, part
+    return page.replace(part, by)
+
+
+def texts(folder):
+    """The texts of a folder by their names, as JSON."""
+    found = sorted(path for path in folder.iterdir() if path.suffix in (".json", ".jsonl"))
+    return json.dumps({path.stem: path.read_text() for path in found}).replace("<", "\\u003c")
+
+
+def bundle(examples, wide, lowered, target):
+    inside = element("text/plain", "wide-module", compressed(wide)) + element("text/plain", "module", compressed(lowered))
+    inside += element("application/json", "example-scripts", texts(examples))
+    inside += element("application/json", "example-records", texts(examples / "records"))
+    code = "\n".join(in_order("page.js", {}).values())
+    assert "</script" not in code
+    page = (web / "index.html").read_text()
+    page = replaced(page, STYLE, f'<style>\n{(web / "page.css").read_text()}</style>\n')
+    target.write_text(replaced(page, CODE, f'{inside}<script type="module">\n{code}</script>\n'))
+
+
+if __name__ == "__main__":
+    bundle(*map(pathlib.Path, sys.argv[1:]))
