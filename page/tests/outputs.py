@@ -1,0 +1,156 @@
+#!/usr/bin/env python3
+"""Compares what the library and the module of the player give with what the native programs print: outputs.py BUILT
+
+BUILT is a folder that `page/build` made. The scripts are those of examples/ and of cases/, each in its versions, and some that are hard to
+read. Each is played, drawn as SVG and as text, told with its rules, and explained. Each record of examples/records is judged, without the
+order of its calls and with it. The programs are those that `rt ci` built last. The module runs in Node, the library is called from Python and
+from C; from C for some texts under valgrind, and with each request for memory refused in turn."""
+import concurrent.futures
+import json
+import os
+import pathlib
+import shutil
+import subprocess
+import sys
+import tempfile
+
+sys.dont_write_bytecode = True
+tests = pathlib.Path(__file__).resolve().parent
+top = tests.parent.parent
+sys.path.insert(0, str(top / ".ci"))
+from built import programs
+from scripts import all_cases, text_of, versions
+
+# What is compared, by the word that play.c takes for it, and the words of the native drawer.
+DRAWN = {"svg": [], "text": ["--text"], "explain": ["--explain"]}
+HARD = [b"", b"\xff", b"[" * 200_000, b"{" * 126, b'{"version":1', b'"\xed\xa0\x80"', b" " * 1_048_577]
+OUT_OF_MEMORY = 4, b"out of memory\n"
+ILLEGAL = 5
+UNDER_VALGRIND = [("two_flows", "play"), ("two_flows", "svg"), ("share_and_forget", "explain"), ("refused_value", "why"), ("operators", "text"), ("illegal_state_stale", "check"), ("legal_state_overlap", "order"), ("refused_unknown_call", "check")]
+
+
+def scripts():
+    """Each script by a name."""
+    found = {path.stem: path.read_bytes() for path in sorted((top / "examples").glob("*.json"))}
+    for number, (_, case) in enumerate(all_cases()):
+        for version in versions(case):
+            found[f"case_{number}_{version}"] = text_of(case, version).encode()
+    return found | {f"hard_{number}": text for number, text in enumerate(HARD)}
+
+
+def records():
+    """Each record by a name, and a text that is none."""
+    found = {path.stem: path.read_bytes() for path in sorted((top / "examples/records").glob("*.json*"))}
+    return found | {f"hard_record_{number}": text for number, text in enumerate(HARD[:4])}
+
+
+def native(text):
+    """What the programs print of a script: a status and bytes for each word."""
+    played = subprocess.run([player], input=text, capture_output=True)
+    wanted = {"play": (played.returncode, played.stdout)}
+    for word, flags in DRAWN.items():
+        drawn = subprocess.run([drawer, *flags], input=text, capture_output=True)
+        wanted[word] = drawn.returncode, drawn.stdout
+    wanted["why"] = drawn.returncode, drawn.stderr
+    return wanted
+
+
+def judged(text):
+    """What the program prints of a record. An illegal one has another status in the library."""
+    wanted = {}
+    for word, flags in {"check": [], "order": ["--order"]}.items():
+        ran = subprocess.run([judge, *flags], input=text, capture_output=True)
+        wanted[word] = ILLEGAL if ran.returncode == 1 else ran.returncode, ran.stdout
+    return wanted
+
+
+def differing(name, came, wanted):
+    return [f"{name}: {word}: {came[word]!r:.300}, and not {wanted[word]!r:.300}" for word in wanted if came[word] != wanted[word]]
+
+
+def in_node(folder, module):
+    """What is wrong with the module's outputs."""
+    ran = subprocess.run(["node", tests / "outputs.mjs", folder, module], capture_output=True, text=True)
+    return ran.stderr.splitlines() or ([] if ran.returncode == 0 else ["Node failed"])
+
+
+def from_python(built, text, is_record):
+    sys.path.insert(0, str(built))
+    import wumsnair
+
+    if is_record:
+        return {"check": wumsnair.check(text), "order": wumsnair.check(text, True)}
+    drawn = {word: wumsnair.draw(text, form) for form, word in enumerate(DRAWN)}
+    return {"play": wumsnair.play(text), **drawn, "why": wumsnair.explain(text)}
+
+
+def from_c(program, text, word, before=(), **how):
+    ran = subprocess.run([*before, program, word], input=text, stdout=subprocess.PIPE, **how)
+    return ran.returncode, ran.stdout
+
+
+def refused_memory(program, shim, text, word, wanted):
+    """What is wrong where each request for memory is refused in turn, and how many were."""
+    for number in range(1, 100_000):
+        told, tells = os.pipe()
+        env = {"LD_PRELOAD": str(shim), "REFUSE": str(number), "TOLD": str(tells)}
+        came = from_c(program, text, word, env=env, pass_fds=[tells], stderr=subprocess.DEVNULL)
+        os.close(tells)
+        with open(told, "rb") as said:
+            is_refused = said.read() == b"r"
+        if not is_refused:
+            return [], number - 1
+        # The explanation has no line of its own for it.
+        if came not in (wanted, OUT_OF_MEMORY, (4, b"")):
+            return [f"{word}, request {number}: {came}"], number
+    return [f"{word}: no end of requests"], 0
+
+
+def check_c(built, folder, texts, wanted):
+    """What is wrong with the library in a C program."""
+    program, shim = folder / "play", folder / "refuse.so"
+    subprocess.run(["cc", "-O2", "-Wall", "-Wextra", "-Werror", "-o", program, built / "play.c", built / "libwumsnair.a"], check=True)
+    subprocess.run(["cc", "-shared", "-fPIC", "-O1", "-o", shim, top / ".ci/refuse.c"], check=True)
+    wrong = []
+    with concurrent.futures.ThreadPoolExecutor() as pool:
+        work = [(name, word) for name in texts for word in wanted[name]]
+        for (name, word), came in zip(work, pool.map(lambda each: from_c(program, texts[each[0]], each[1]), work)):
+            wrong += [] if came == wanted[name][word] else [f"C: {name}: {word}: {came!r:.300}"]
+    if shutil.which("valgrind") is None:
+        sys.exit("page: no valgrind: on Debian, as root, apt-get install -y valgrind")
+    grind = ["valgrind", "-q", "--error-exitcode=99", "--leak-check=full"]
+    for name, word in UNDER_VALGRIND:
+        came = from_c(program, texts[name], word, before=grind)
+        wrong += [] if came == wanted[name][word] else [f"valgrind: {name}: {word}: {came!r:.300}"]
+    refused = 0
+    for name, word in UNDER_VALGRIND:
+        more, count = refused_memory(program, shim, texts[name], word, wanted[name][word])
+        wrong, refused = wrong + more, refused + count
+    return wrong, len(work), refused
+
+
+def main():
+    built = pathlib.Path(sys.argv[1]).resolve()
+    all_scripts, all_records = scripts(), records()
+    with concurrent.futures.ThreadPoolExecutor() as pool:
+        wanted = dict(zip(all_scripts, pool.map(native, all_scripts.values())))
+        wanted |= zip(all_records, pool.map(judged, all_records.values()))
+    texts = all_scripts | all_records
+    wrong = []
+    with tempfile.TemporaryDirectory() as folder:
+        folder = pathlib.Path(folder)
+        for name, text in texts.items():
+            (folder / f"{name}.script").write_bytes(text)
+            (folder / f"{name}.wanted").write_text(json.dumps({word: [status, text.hex()] for word, (status, text) in wanted[name].items()}))
+        wrong += in_node(folder, built / "wumsnair.wasm")
+        for name, text in texts.items():
+            wrong += differing(f"Python: {name}", from_python(built, text, name in all_records), wanted[name])
+        more, compared, refused = check_c(built, folder, texts, wanted)
+        wrong += more
+    if wrong:
+        sys.exit("\n".join(wrong[:20]))
+    print(f"page: {len(all_scripts)} scripts and {len(all_records)} records, {compared} outputs of the module, of Python and of C each are as the programs print them; {refused} requests for memory refused")
+
+
+player, drawer, judge = (programs(name)[0] for name in ("flow_play", "flow_draw", "flow_judge"))
+main()
