@@ -13,6 +13,7 @@ use Rattle.flow_check.specs.declared.record.FaultKind.TheVariants.{EndsEarly, Be
 abbrev pub Calls : Type 0 → Type 0
 Calls C = List (Vec (Timed C) Global)
 
+-- the call at this place of a caller, if there is one
 abbrev pub call_in : {C : Type 0} → Option (Vec (Timed C) Global) → ℕ → Option (Timed C)
 call_in None k = None
 call_in (Some calls) k = slice_get calls.items k
@@ -33,10 +34,12 @@ count_in (Some calls) = length calls.items
 
 -- ---- what is asked of a record
 
+-- a call with this end is over at this moment
 abbrev pub is_over_by : Option ℕ → ℕ → Bool
 is_over_by None moment = false
 is_over_by (Some end) moment = nat_le end moment
 
+-- both calls end at the same moment, or neither ends
 abbrev pub is_same_end : Option ℕ → Option ℕ → Bool
 is_same_end None None = true
 is_same_end (Some one) (Some other) = one == other
@@ -62,5 +65,6 @@ HasFault {C} callers caller index EndsEarly = (c : Timed C) × (recorded callers
 HasFault {C} callers caller index BeginsEarly =
     (k : ℕ) × ((c : Timed C) × ((d : Timed C) × (index ≡ k + 1) × (recorded callers caller k ≡ Some c) × (recorded callers caller index ≡ Some d) × (may_follow c d ≡ false)))
 
+-- the record has this fault, at this call
 abbrev pub IsFaultOf : {C : Type 0} → Calls C → Fault → Type 0
 IsFaultOf callers fault = HasFault callers fault.caller fault.index fault.kind

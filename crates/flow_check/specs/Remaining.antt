@@ -13,6 +13,7 @@ abbrev pub placing : ℕ → List ℕ → List ℕ
 placing caller placed = slice_set placed caller (slice_index placed caller + 1)
 
 module _ {C : Type 0} (callers : Calls C) where
+  -- the call at this place of a caller, if the place is one
   abbrev pub next_at : ℕ → Option ℕ → Option (Timed C)
   next_at caller None = None
   next_at caller (Some k) = recorded callers caller k
@@ -48,5 +49,6 @@ module _ {S C : Type 0} (stepped : S → ℕ → C → Option S) (may_skip : C �
         (c : Timed C) × (next_of callers placed caller ≡ Some c) × MayComeNext callers placed c
         × ((after : S) × IsStep s caller c.call after × GoesThrough after (placing caller placed) order)
 
+    -- the order goes through the whole record
     abbrev pub GoesThroughAll : S → List ℕ → Type 0
     GoesThroughAll first order = GoesThrough first (none_placed callers) order

@@ -29,10 +29,12 @@ pub record Kept : Type 0 where
 
 -- ---- what is read off a state
 
+-- the caller's own first values, none if it has no place
 abbrev pub own_in : Option (List ℕ) → List ℕ
 own_in None = []
 own_in (Some own) = own
 
+-- the own first values that the caller has left
 abbrev pub own_left : ℕ → List (List ℕ) → List ℕ
 own_left caller owns = own_in (slice_get owns caller)
 
@@ -42,23 +44,29 @@ most_lag [] = 0
 most_lag (None ∷ lags) = most_lag lags
 most_lag (Some lag ∷ lags) = max lag (most_lag lags)
 
+-- no own values for any caller
 abbrev pub no_values : {C : Type 0} → List C → List (List ℕ)
 no_values = map (λ _. [])
 
+-- for how many values there is a buffer
 abbrev pub capacity : Kept → ℕ
 capacity s = s.config.replay + s.config.extra
 
+-- how many values a subscriber may have to receive before the flow is blocked
 abbrev pub window : Kept → ℕ
 window s = max (capacity s) 1
 
+-- some subscriber has a whole window to receive
 abbrev pub is_blocked : Kept → Bool
 is_blocked s = nat_le (window s) (most_lag s.lags)
 
+-- what a blocked flow does with a value
 abbrev pub when_blocked : Overflow → EmitCase
 when_blocked Suspend = emits.Queues
 when_blocked DropLatest = emits.DropsLatest
 when_blocked DropOldest = emits.DropsOldest
 
+-- what the flow does with a value
 abbrev pub emit_case : Kept → EmitCase
 emit_case s =
     if (present s.lags == 0) || (not (is_blocked s) && nat_lt 0 (capacity s)) then emits.Appends
@@ -68,10 +76,12 @@ emit_case s =
 abbrev pub offering : Kept → Option ℕ
 offering s = if most_lag s.lags == 0 then None else s.offered
 
+-- the caller is the one whose value is offered
 abbrev pub is_offered_by : ℕ → Option ℕ → Bool
 is_offered_by caller None = false
 is_offered_by caller (Some other) = other == caller
 
+-- a value of the caller waits
 abbrev pub is_in_queue : ℕ → List Held → Bool
 is_in_queue caller = list_any (λ held. held.caller == caller)
 
@@ -83,6 +93,7 @@ is_waiting caller s = is_offered_by caller (offering s) || is_in_queue caller s.
 abbrev pub last_values : ℕ → List ℕ → List ℕ
 last_values count values = drop (length values - count) values
 
+-- the values that a new subscriber receives first
 abbrev pub cache : Kept → List ℕ
 cache s = last_values s.cached s.values
 
@@ -90,6 +101,7 @@ cache s = last_values s.cached s.values
 abbrev pub value_at : ℕ → List ℕ → Option ℕ
 value_at lag values = slice_get (last_values lag values) 0
 
+-- how many emitted values a new subscriber has to receive: those of the cache, or the offered one
 abbrev pub lag_at_first : ℕ → Option ℕ → ℕ
 lag_at_first cached None = cached
 lag_at_first cached (Some caller) = 1
@@ -105,13 +117,16 @@ abbrev pub raised : ℕ → Option ℕ → Option ℕ
 raised most None = None
 raised most (Some lag) = Some (min (lag + 1) most)
 
+-- a subscriber that has nothing more to receive
 abbrev pub cleared : Option ℕ → Option ℕ
 cleared None = None
 cleared (Some lag) = Some 0
 
+-- the caller with another lag
 abbrev pub with_lag : ℕ → Option ℕ → Kept → Kept
 with_lag caller lag s = record s { lags = slice_set s.lags caller lag }
 
+-- the caller with other own values
 abbrev pub with_own : ℕ → List ℕ → Kept → Kept
 with_own caller own s = record s { owns = slice_set s.owns caller own }
 
@@ -129,6 +144,7 @@ abbrev pub admit : Kept → List Held → Kept
 admit s [] = record s { queue = [] }
 admit s (held ∷ queue) = if is_blocked s then record s { queue = held ∷ queue } else admit (append held.caller held.value s) queue
 
+-- admits waiting values while there is room
 abbrev pub settle : Kept → Kept
 settle s = admit s s.queue
 
@@ -136,9 +152,11 @@ settle s = admit s s.queue
 abbrev pub trim : Kept → Kept
 trim s = record s { values = last_values (max (most_lag s.lags) s.cached) s.values; offered = offering s }
 
+-- the value waits behind the others
 abbrev pub hold : ℕ → ℕ → Kept → Kept
 hold caller v s = record s { queue = s.queue ++ record { caller = caller; value = v } ∷ [] }
 
+-- the state after an `emit`, by its case
 abbrev pub emit_in : EmitCase → ℕ → ℕ → Kept → Kept
 emit_in emits.Appends caller v s = append caller v s
 emit_in emits.Offers caller v s = append caller v s
@@ -146,6 +164,7 @@ emit_in emits.Queues caller v s = hold caller v s
 emit_in emits.DropsLatest caller v s = s
 emit_in emits.DropsOldest caller v s = append caller v s
 
+-- the state after a `try_emit`, by its case
 abbrev pub try_emit_in : EmitCase → ℕ → ℕ → Kept → Kept
 try_emit_in emits.Appends caller v s = append caller v s
 try_emit_in emits.Offers caller v s = s
@@ -159,6 +178,7 @@ withdraw caller s =
     if is_offered_by caller (offering s) then record s { lags = map cleared s.lags }
     else record s { queue = filter (λ held. not (held.caller == caller)) s.queue }
 
+-- ends the wait of the caller's `emit`, if it waits
 abbrev pub cancel : ℕ → Kept → Kept
 cancel caller s = if is_waiting caller s then settle (withdraw caller s) else s
 
@@ -168,6 +188,7 @@ receive_by caller (v ∷ own) lag s = with_own caller own s
 receive_by caller [] None s = s
 receive_by caller [] (Some lag) s = if lag == 0 then s else settle (with_lag caller (Some (lag - 1)) s)
 
+-- the caller receives its next value
 abbrev pub receive : ℕ → Kept → Kept
 receive caller s = receive_by caller (own_left caller s.owns) (kept_of caller s.lags) s
 
@@ -182,11 +203,13 @@ pub data OwnAnswer : Type 0 where
   counted : ℕ → OwnAnswer
   cached : List ℕ → OwnAnswer
 
+-- the lists are the same
 abbrev pub same_values : List ℕ → List ℕ → Bool
 same_values [] [] = true
 same_values (v ∷ vs) (w ∷ ws) = (v == w) && same_values vs ws
 same_values _ _ = false
 
+-- the recorded answer is the flow's own
 abbrev pub same_answer : OwnAnswer → SharedAnswer → Bool
 same_answer done answer.Done = true
 same_answer (received v) (answer.Value w) = v == w
@@ -202,9 +225,11 @@ agrees None written = false
 agrees (Some own) None = true
 agrees (Some own) (Some a) = same_answer own a
 
+-- done, if the call may be made here
 abbrev pub done_if : Bool → Option OwnAnswer
 done_if may = if may then Some done else None
 
+-- whether a `try_emit` takes its value, by its case
 abbrev pub try_emit_answer : EmitCase → Bool
 try_emit_answer emits.Appends = true
 try_emit_answer emits.Offers = false
@@ -212,6 +237,7 @@ try_emit_answer emits.Queues = false
 try_emit_answer emits.DropsLatest = true
 try_emit_answer emits.DropsOldest = true
 
+-- the answer of a `next` that finds this
 abbrev pub emitted_answer : Option ℕ → OwnAnswer
 emitted_answer None = nothing
 emitted_answer (Some v) = received v
@@ -221,6 +247,7 @@ abbrev pub next_value : List ℕ → ℕ → List ℕ → Option ℕ
 next_value (v ∷ own) lag values = Some v
 next_value [] lag values = value_at lag values
 
+-- the answer of a `next`, None for a caller that is not subscribed
 abbrev pub next_answer : List ℕ → Option ℕ → List ℕ → Option OwnAnswer
 next_answer own None values = None
 next_answer own (Some lag) values = Some (emitted_answer (next_value own lag values))
@@ -241,6 +268,7 @@ own_answer caller operation.SubscriptionCount s = Some (counted (present s.lags)
 
 -- ---- steps
 
+-- the state after a call
 abbrev pub made : ℕ → SharedOperation → Kept → Kept
 made caller (operation.TryEmit v) s = try_emit_in (emit_case s) caller v s
 made caller (operation.Emit v) s = emit_in (emit_case s) caller v s
@@ -254,6 +282,7 @@ made caller operation.ReplayCache s = s
 made caller operation.ResetReplayCache s = record s { cached = 0 }
 made caller operation.SubscriptionCount s = s
 
+-- the state after a recorded call, None if its answer is not the flow's own
 abbrev pub stepped : Kept → ℕ → SharedEntry → Option Kept
 stepped s caller entry =
     if agrees (own_answer caller entry.operation s) entry.answer then Some (trim (made caller entry.operation s)) else None
@@ -263,5 +292,6 @@ abbrev pub may_skip_operation : SharedOperation → Bool
 may_skip_operation (operation.EmitOrNot v) = true
 may_skip_operation _ = false
 
+-- the call may have done nothing
 abbrev pub may_skip : SharedEntry → Bool
 may_skip entry = may_skip_operation entry.operation

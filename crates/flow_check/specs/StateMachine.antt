@@ -12,20 +12,24 @@ pub record Kept : Type 0 where
   pub value : ℕ
   pub readers : List (Option (Option ℕ))
 
+-- what is kept of a subscribed caller
 abbrev pub reader_of : ℕ → List (Option (Option ℕ)) → Option (Option ℕ)
 reader_of = kept_of
 
 -- ---- answers
 
+-- the answer of a `subscribe`, none for a caller that is subscribed
 abbrev pub subscribe_answer : Option (Option ℕ) → Option StateAnswer
 subscribe_answer None = Some answer.Done
 subscribe_answer (Some last) = None
 
+-- the answer of a `next`, none for a caller that is not subscribed
 abbrev pub next_answer : ℕ → Option (Option ℕ) → Option StateAnswer
 next_answer v None = None
 next_answer v (Some None) = Some (answer.Value v)
 next_answer v (Some (Some last)) = Some (if last == v then answer.Empty else answer.Value v)
 
+-- the answer of an `unsubscribe`, none for a caller that is not subscribed
 abbrev pub unsubscribe_answer : Option (Option ℕ) → Option StateAnswer
 unsubscribe_answer None = None
 unsubscribe_answer (Some last) = Some answer.Done
@@ -44,9 +48,11 @@ own_answer caller operation.ReplayCache s = Some (answer.Value s.value)
 
 -- ---- the state after a call that had the flow's own answer
 
+-- the state with this kept of a caller
 abbrev pub with_reader : ℕ → Option (Option ℕ) → Kept → Kept
 with_reader caller reader s = record s { readers = slice_set s.readers caller reader }
 
+-- the state after a call
 abbrev pub moved : ℕ → StateOperation → Kept → Kept
 moved caller operation.Value s = s
 moved caller (operation.Set v) s = record s { value = v }
@@ -60,6 +66,7 @@ moved caller operation.ReplayCache s = s
 
 -- ---- steps
 
+-- the recorded answer is the flow's own
 abbrev pub same_answer : StateAnswer → StateAnswer → Bool
 same_answer answer.Done answer.Done = true
 same_answer (answer.Value v) (answer.Value w) = v == w
@@ -74,6 +81,7 @@ agrees None written = false
 agrees (Some own) None = true
 agrees (Some own) (Some a) = same_answer own a
 
+-- the state after a recorded call, None if its answer is not the flow's own
 abbrev pub stepped : Kept → ℕ → StateEntry → Option Kept
 stepped s caller entry =
     if agrees (own_answer caller entry.operation s) entry.answer then Some (moved caller entry.operation s) else None

@@ -3,6 +3,7 @@
 use Rattle.std.specs.Prelude.{ℕ, ◌+◌, List, [], ◌∷◌, map, slice_get, Option, Some, None}
 
 module _ {A : Type 0} where
+  -- what is kept at a place, None beyond the last one
   abbrev pub kept_in : Option (Option A) → Option A
   kept_in None = None
   kept_in (Some kept) = kept

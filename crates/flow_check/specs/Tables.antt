@@ -16,6 +16,7 @@ module _ {S C : Type 0} (stepped : S → ℕ → C → Option S) (may_skip : C �
   IsFollowedAt n caller = (c : Timed C) (after : S) → next_of callers n.placed.items caller ≡ Some c → MayComeNext callers n.placed.items c
       → IsStep stepped may_skip n.state caller c.call after → IsInTable nodes after (placing caller n.placed.items)
 
+  -- each step that may come next leads to a node of the table
   abbrev pub IsFollowed : Node S → Type 0
   IsFollowed n = (caller : ℕ) → IsFollowedAt n caller
 

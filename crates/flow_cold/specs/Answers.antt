@@ -6,6 +6,7 @@ use Rattle.flow_operators.specs.declared.cold.Asked.TheVariants as asked
 use Rattle.flow_cold.specs.declared.script_chain.answer.Answer.{Answer}
 use Rattle.flow_cold.specs.declared.script_chain.answer.Answer.TheVariants.{Item, Pending, End, OutOfMemory, Overflow, NotPositive, TooDeep, Source}
 
+-- the answer to an ask that the two words say
 abbrev pub asked_of : Answer → Asked ℤ
 asked_of (Item x) = asked.Item x
 asked_of Pending = asked.Pending

@@ -16,9 +16,11 @@ use Rattle.flow_cold.specs.Numbers.{computed, joined, passes, sums, spread_run}
 use Rattle.flow_cold.specs.ScriptChain.{node_whole, node_rest}
 use Rattle.flow_operators.specs.Sources.{range_run, scripted_run}
 
+-- how deep the chain is
 abbrev pub depth_of : ScriptChain → ℕ
 depth_of chain = chain.depth
 
+-- the whole run of a source
 abbrev pub source_whole : Source → ChainRun ℤ
 source_whole (source.List s) = list_run s.items.items
 source_whole (source.Range s) = range_run s.first s.last
@@ -45,9 +47,11 @@ op_run with_run (op.FlatMap to count) r = flat_map_run (spread_run to count) r
 op_run with_run (op.Zip with by) r = zip_run (joined by) r (with_run with)
 op_run with_run op.Distinct r = distinct_run int_eq None r
 
+-- the whole run of the operator on this run
 abbrev pub op_whole : Op → ChainRun ℤ → ChainRun ℤ
 op_whole = op_run (λ with. node_whole with.node)
 
+-- the same, where a `zip` takes what its other chain has left
 abbrev pub op_rest : Op → ChainRun ℤ → ChainRun ℤ
 op_rest = op_run (λ with. node_rest with.node)
 
@@ -56,6 +60,7 @@ abbrev pub op_depth : Op → ℕ → ℕ
 op_depth (op.Zip with by) depth = max depth (depth_of with) + 1
 op_depth _ depth = depth + 1
 
+-- the operator is a `take` of no items
 abbrev pub TakesNone : Op → Type 0
 TakesNone (op.Take count) = count ≡ 0
 TakesNone _ = ⊥
@@ -66,6 +71,7 @@ RefusesDepth o depth NotPositive = TakesNone o
 RefusesDepth o depth TooDeep = (¬ TakesNone o) × (64 < op_depth o depth)
 RefusesDepth o depth _ = ⊥
 
+-- the operator is refused on this chain with this fault
 abbrev pub Refuses : Op → ScriptChain → ChainFault → Type 0
 Refuses o chain OutOfMemory = (¬ TakesNone o) × (op_depth o (depth_of chain) ≤ 64)
 Refuses o chain fault = RefusesDepth o (depth_of chain) fault

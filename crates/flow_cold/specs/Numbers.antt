@@ -17,16 +17,19 @@ use Rattle.flow_cold.specs.declared.script_chain.op.Test.TheVariants as test
 pub use Rattle.flow_operators.specs.Numbers.{is_i64, ranged}
 use Rattle.flow_operators.specs.Sources.{range_run}
 
+-- what an operator computes of two numbers
 abbrev pub computed : Arithmetic → ℤ × ℤ → Result ℤ ChainFault
 computed arithmetic.Add (x, y) = ranged (x +ℤ y)
 computed arithmetic.Mul (x, y) = ranged (x *ℤ y)
 
+-- what a `zip` computes of two numbers
 abbrev pub joined : Joining → ℤ × ℤ → Result ℤ ChainFault
 joined joining.Add (x, y) = ranged (x +ℤ y)
 joined joining.Mul (x, y) = ranged (x *ℤ y)
 joined joining.Left (x, y) = Ok x
 joined joining.Right (x, y) = Ok y
 
+-- whether a number passes the test
 abbrev pub passes : Test → ℤ → Bool
 passes test.Even x = unsigned_abs x % 2 == 0
 passes test.Odd x = unsigned_abs x % 2 == 1

@@ -19,12 +19,15 @@ use Rattle.flow_cold.specs.declared.script_chain.operator.Step.TheVariants.{Noth
 use Rattle.flow_cold.specs.Numbers.{passes, sums, spread_run}
 use Rattle.flow_operators.specs.Sources.{range_run}
 
+-- what the upstream has left after one ask of a `transform`
 abbrev pub after_adding : Adding → ChainRun ℤ → ChainRun ℤ
 after_adding s r = unless_empty (drop s.at s.entries.items) r (after_transform (sums s.entries.items) r)
 
+-- what the upstream has left after one ask of a `flatMapConcat` to ranges
 abbrev pub after_following : Following → ChainRun ℤ → ChainRun ℤ
 after_following s r = unless_completed (unless_ended s.closed (range_run s.next s.last)) r (after_flat_map (spread_run spread.Range s.count) r)
 
+-- what the upstream has left after one ask of a `flatMapConcat` to repeated items
 abbrev pub after_repeating : Repeating → ChainRun ℤ → ChainRun ℤ
 after_repeating s r = unless_completed (list_run (replicate s.left s.item)) r (after_flat_map (spread_run spread.Repeat s.count) r)
 
@@ -51,11 +54,13 @@ after_held (FlatMapRange s) r = after_following s r
 after_held (FlatMapRepeat s) r = after_repeating s r
 after_held o r = after_ready o r
 
+-- what the upstream has left after one ask in this phase
 abbrev pub after_in : Phase → Operator → ChainRun ℤ → ChainRun ℤ
 after_in Ready o r = after_ready o r
 after_in Holding o r = after_held o r
 after_in Over o r = r
 
+-- what the upstream has left after one ask of the stage
 abbrev pub after_stage : Stage → ChainRun ℤ → ChainRun ℤ
 after_stage stage r = after_in stage.phase stage.operator r
 
@@ -65,6 +70,7 @@ StepLeaves due Nothing r further = due ≡ further
 StepLeaves due Held r further = due ≡ further
 StepLeaves due _ r further = due ≡ r
 
+-- the same, for a number that was held back: with one, nothing more is asked
 abbrev pub HeldLeaves : ChainRun ℤ → Option (Result ℤ ChainFault) → ChainRun ℤ → ChainRun ℤ → Type 0
 HeldLeaves due None r further = due ≡ further
 HeldLeaves due (Some y) r further = due ≡ r

@@ -21,6 +21,7 @@ use Rattle.flow_cold.specs.declared.script_chain.operator.Step.TheVariants.{Item
 use Rattle.flow_cold.specs.Numbers.{computed, passes, sums, ranged, spread_run}
 use Rattle.flow_operators.specs.Sources.{range_run}
 
+-- the whole run of the operator on this run
 abbrev pub operator_whole : Operator → ChainRun ℤ → ChainRun ℤ
 operator_whole (Map s) r = map_run (λ x. computed s.by (x, s.k)) r
 operator_whole (Filter test) r = filter_run (passes test) r
@@ -44,12 +45,15 @@ with_sums x (d ∷ ds) r = continued (ranged (x +ℤ d)) (λ y. gives y (with_su
 abbrev pub adding_rest : Adding → ChainRun ℤ → ChainRun ℤ
 adding_rest s r = with_sums s.item (drop s.at s.entries.items) (transform_run (sums s.entries.items) r)
 
+-- what a `scan` has left
 abbrev pub scanning_rest : Scanning → ChainRun ℤ → ChainRun ℤ
 scanning_rest s r = cond s.begun (scan_run (computed s.by) s.last r) (gives s.initial (scan_run (computed s.by) s.initial r))
 
+-- what a `flatMapConcat` to ranges has left
 abbrev pub following_rest : Following → ChainRun ℤ → ChainRun ℤ
 following_rest s r = followed (unless_ended s.closed (range_run s.next s.last)) (flat_map_run (spread_run spread.Range s.count) r)
 
+-- what a `flatMapConcat` to repeated items has left
 abbrev pub repeating_rest : Repeating → ChainRun ℤ → ChainRun ℤ
 repeating_rest s r = followed (list_run (replicate s.left s.item)) (flat_map_run (spread_run spread.Repeat s.count) r)
 
@@ -82,6 +86,7 @@ HeldGives before (Some (Ok y)) after = before ≡ gives y after
 HeldGives before (Some (Err fault)) after = before ≡ ends (Failed fault)
 HeldGives before None after = before ≡ after
 
+-- what follows such a number: `held` where there was one, `ready` where there was none
 abbrev pub after_number : {A : Type 0} → Option (Result ℤ ChainFault) → A → A → A
 after_number (Some y) held ready = held
 after_number None held ready = ready
@@ -100,11 +105,13 @@ abbrev pub after_step : {A : Type 0} → Step → A → A → A
 after_step Held held ready = held
 after_step _ held ready = ready
 
+-- what the operator has left in this phase
 abbrev pub rest_in : Phase → Operator → ChainRun ℤ → ChainRun ℤ
 rest_in Ready o r = ready_rest o r
 rest_in Holding o r = held_rest o r
 rest_in Over o r = ends Completed
 
+-- what the stage has left
 abbrev pub stage_rest : Stage → ChainRun ℤ → ChainRun ℤ
 stage_rest stage r = rest_in stage.phase stage.operator r
 

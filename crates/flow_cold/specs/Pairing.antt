@@ -6,5 +6,6 @@ use Rattle.flow_operators.specs.Kept.{unless_ended, with_kept}
 use Rattle.flow_cold.specs.declared.script_chain.pairing.Pairing.{Pairing}
 use Rattle.flow_cold.specs.Numbers.{joined}
 
+-- what the zip has left
 abbrev pub pairing_rest : Pairing → ChainRun ℤ → ChainRun ℤ → ChainRun ℤ
 pairing_rest pairing left right = unless_ended pairing.ended (zip_run (joined pairing.by) (with_kept pairing.kept left) right)

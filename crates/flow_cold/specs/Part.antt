@@ -8,14 +8,17 @@ use Rattle.flow_cold.specs.Numbers.{joined}
 use Rattle.flow_cold.specs.Operators.{first_phase, operator_whole, rest_in}
 use Rattle.flow_cold.specs.ScriptChain.{node_whole, node_rest}
 
+-- the whole run of the part on this run
 abbrev pub part_whole : Part → ChainRun ℤ → ChainRun ℤ
 part_whole (On operator) r = operator_whole operator r
 part_whole (With chain by) r = zip_run (joined by) r (node_whole chain.node)
 
+-- what the part has left, on what is left of the chain
 abbrev pub part_rest : Part → ChainRun ℤ → ChainRun ℤ
 part_rest (On operator) r = rest_in (first_phase operator) operator r
 part_rest (With chain by) r = zip_run (joined by) r (node_rest chain.node)
 
+-- how deep a chain of this depth is with the part
 abbrev pub part_depth : Part → ℕ → ℕ
 part_depth (On operator) depth = depth + 1
 part_depth (With chain by) depth = max depth chain.depth + 1

@@ -36,6 +36,7 @@ node_rest (Script source) = scripted_run (drop source.at source.entries.items)
 node_rest (On' p upstream stage) = stage_rest stage (node_rest upstream)
 node_rest (Zip' p left q right pairing) = pairing_rest pairing (node_rest left) (node_rest right)
 
+-- the node gives nothing any more
 abbrev pub IsNodeOver : Node → Type 0
 IsNodeOver (List source) = length source.items.items ≤ source.at
 IsNodeOver (Range source) = source.ended ≡ true

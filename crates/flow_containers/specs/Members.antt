@@ -30,6 +30,7 @@ abbrev pub OthersStay : ℕ → List (Option ℕ) → List (Option ℕ) → Type
 OthersStay number old new = (key : ℕ) → number_at old key ≢ Some number → number_at new key ≡ number_at old key
 
 module _ {R : Type 0} where
+  -- the numbers of the members
   abbrev pub numbers : List (Member R) → List ℕ
   numbers = map (λ member. member.number)
 
@@ -38,6 +39,7 @@ module _ {R : Type 0} where
   row_of number [] = None
   row_of number (member ∷ members) = if member.number == number then Some member.row else row_of number members
 
+  -- the member with another row
   abbrev pub member_with : R → Member R → Member R
   member_with row member = record { number = member.number; row = row }
 
@@ -63,6 +65,7 @@ module _ {R : Type 0} where
   seek number (None ∷ slots) = seek number slots
   seek number (Some member ∷ slots) = if member.number == number then Some member else seek number slots
 
+  -- the member as a list of at most one
   abbrev pub listed : Option (Member R) → List (Member R)
   listed None = []
   listed (Some member) = member ∷ []
@@ -76,6 +79,7 @@ module _ {R : Type 0} where
   abbrev pub number_in : Option (Member R) → Option ℕ
   number_in = option_map (λ member. member.number)
 
+  -- the members in the order of their numbers, and which key each has
   abbrev pub membership_of : {A : Type 0} → Inside R A → Membership R
   membership_of s = record { members = found_to (λ number. seek number s.slab.slots) s.last; last = s.last; by_key = map number_in s.slab.slots }
 

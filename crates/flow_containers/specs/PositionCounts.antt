@@ -8,9 +8,11 @@ pub record Counted : Type 0 where
   pub row : List ℕ
   pub emitted : ℕ
 
+-- the row and the number of values emitted, without the representation
 abbrev pub counted_of : {A : Type 0} → Inside A → Counted
 counted_of c = record { row = c.row.items; emitted = c.emitted }
 
+-- the end is the place of the next position
 pub record IsPlaced {A : Type 0} (c : Inside A) : Type 0 where
   pub within : c.end < length c.row.items
   pub end : c.end ≡ c.emitted % length c.row.items

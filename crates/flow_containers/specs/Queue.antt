@@ -6,9 +6,11 @@ use Rattle.flow_law.specs.Laws.{RisesTo}
 use Rattle.flow_containers.specs.declared.queue.Queued.{Queued}
 use Rattle.flow_containers.specs.declared.queue.Queue.TheInside.{Inside}
 
+-- a waiting value and its number, as the definitions have them
 abbrev pub numbered_of : {T : Type 0} → Queued T → Numbered T
 numbered_of q = record { value = q.value; number = q.number }
 
+-- the waiting values, in their order
 abbrev pub queue_of : {T A : Type 0} → Inside T A → List (Numbered T)
 queue_of q = map numbered_of q.items.items
 

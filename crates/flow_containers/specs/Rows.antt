@@ -3,8 +3,10 @@ use Rattle.std.specs.Prelude.{ℕ, List}
 use Rattle.flow_containers.specs.declared.members.enroll.Row.{Row}
 
 module _ {T A : Type 0} where
+  -- the subscriber at another position
   abbrev pub moved : ℕ → Row T A → Row T A
   moved position row = record row { position = position }
 
+  -- the subscriber with these own values left
   abbrev pub left : List T → Row T A → Row T A
   left own row = record row { own = own }

@@ -31,9 +31,11 @@ module _ {T A : Type 0} where
   abbrev pub subscriber_of : ℕ → Member (Row T A) → Subscriber T
   subscriber_of floor member = record { number = member.number; own = member.row.own; position = max member.row.position floor }
 
+  -- the subscribers as the definitions have them, each at the floor at least
   abbrev pub read : ℕ → List (Member (Row T A)) → List (Subscriber T)
   read floor = map (subscriber_of floor)
 
+  -- what the subscribers stand for
   abbrev pub standing_of : Inside T A → Standing T
   standing_of s = record {
     list = read s.floor s.members.members;
@@ -52,5 +54,6 @@ module _ {T A : Type 0} where
     pub count : length members ≤ greatest
     pub last : greatest < 2 ^ 64
 
+  -- the rows and the counts agree
   abbrev pub IsSound : Inside T A → Type 0
   IsSound s = AreSound (length s.counts.row - 1) s.counts.row s.counts.emitted s.floor s.members.members s.members.last

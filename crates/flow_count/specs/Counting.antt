@@ -7,6 +7,7 @@ pub record Counting : Type 0 where
   pub threads : ℕ
   pub updates : ℕ
 
+-- so many threads, with so many updates each
 abbrev pub counting : ℕ → ℕ → Counting
 counting threads updates = record { threads = threads; updates = updates }
 

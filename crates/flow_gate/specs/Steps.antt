@@ -14,6 +14,7 @@ module _ {E : Type 0} where
   first_of [] = []
   first_of (k ∷ ks) = k ∷ []
 
+  -- what the tokens after the first one know
   abbrev pub others_of : List (Knowledge E) → List (Knowledge E)
   others_of [] = []
   others_of (k ∷ ks) = ks
@@ -28,6 +29,7 @@ module _ {E : Type 0} where
   stands_from stands None state history = Unit {0}
 
   module _ {S : Type 0} (stands : S → List (Event E) → Type 0) where
+    -- what a caller at the table holds
     abbrev pub Pass : Type 0
     Pass = Me (Option S) (SeatView E)
 

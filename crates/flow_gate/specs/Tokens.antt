@@ -24,11 +24,13 @@ pub record HeldState (S E : Type 0) : Type 0 where
   pub token : Token E
   pub state : S
 
+-- what the one token of a view knows
 abbrev pub only_known : {E : Type 0} → List (Knowledge E) → Knowledge E
 only_known [] = first_knowledge
 only_known (k ∷ ks) = k
 
 module _ {S E : Type 0} where
+  -- the token of a seat
   abbrev pub token_of : TableSeat (Option S) (SeatView E) → Token E
   token_of s = token s.table_id (only_known s.me.0.known)
 
@@ -40,6 +42,7 @@ module _ {S E : Type 0} where
   abbrev pub IsInside : TableSeat (Option S) (SeatView E) → Type 0
   IsInside s = s.me ≡ (seat_view (only_known s.me.0.known ∷ []) true, (0, None) ∷ [])
 
+  -- a caller inside, which has this token and this state
   abbrev pub held_state : S → Token E → S → HeldState S E
   held_state first t state = record { first = first; token = t; state = state }
 

@@ -5,6 +5,7 @@ use Rattle.flow_law.specs.Growth.{first_knowledge}
 use Rattle.flow_gate.specs.declared.view.SeatView.{SeatView}
 
 module _ {E : Type 0} where
+  -- the view of a seat with these tokens
   abbrev pub seat_view : List (Knowledge E) → Bool → SeatView E
   seat_view known holds = record { known = known; holds = holds }
 

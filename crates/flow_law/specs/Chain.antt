@@ -13,6 +13,7 @@ use Rattle.flow_law.specs.declared.chain.End.TheVariants.{Completed, Failed}
 use Rattle.flow_law.specs.ChainRun.{ChainRun, items, ending}
 use Rattle.flow_law.specs.OperatorRuns.{is_repeated}
 
+-- all items of a chain, and its end
 pub record Meaning (T : Type 0) : Type 0 where
   pub items : List T
   pub ending : End
@@ -21,6 +22,7 @@ pub record Meaning (T : Type 0) : Type 0 where
 abbrev pub meaning_of : {T : Type 0} → ChainRun T → Meaning T
 meaning_of r = record { items = items r; ending = ending r }
 
+-- the meaning with these items and this end
 abbrev pub meaning : {T : Type 0} → List T → End → Meaning T
 meaning xs e = record { items = xs; ending = e }
 
@@ -47,6 +49,7 @@ abbrev pub images : {A B : Type 0} → (A → Result B ChainFault) → List A �
 images f [] e = meaning [] e
 images f (x ∷ xs) e = onward (f x) (λ y. with_first (y ∷ []) (images f xs e))
 
+-- `map`: each item's image, up to the first that fails
 abbrev pub map_meaning : {A B : Type 0} → (A → Result B ChainFault) → Meaning A → Meaning B
 map_meaning f m = images f m.items m.ending
 
@@ -75,6 +78,7 @@ abbrev pub differing : {A : Type 0} → (A → A → Bool) → Option A → List
 differing is_same before [] = []
 differing is_same before (x ∷ xs) = cond (is_repeated is_same before x) (differing is_same (Some x) xs) (x ∷ differing is_same (Some x) xs)
 
+-- `distinctUntilChanged`: the items without those that are the same as the one before
 abbrev pub distinct_meaning : {A : Type 0} → (A → A → Bool) → Meaning A → Meaning A
 distinct_meaning is_same m = meaning (differing is_same None m.items) m.ending
 
@@ -92,6 +96,7 @@ abbrev pub reduced : {A : Type 0} → (A × A → Result A ChainFault) → List 
 reduced f [] e = meaning [] e
 reduced f (x ∷ xs) e = with_first (x ∷ []) (results f x xs e)
 
+-- `runningReduce`: the first item, then each result with the next item
 abbrev pub running_reduce_meaning : {A : Type 0} → (A × A → Result A ChainFault) → Meaning A → Meaning A
 running_reduce_meaning f m = reduced f m.items m.ending
 
@@ -100,6 +105,7 @@ abbrev pub concatenated : {A B : Type 0} → (A → Result (List B) ChainFault) 
 concatenated f [] e = meaning [] e
 concatenated f (x ∷ xs) e = onward (f x) (λ ys. with_first ys (concatenated f xs e))
 
+-- `transform`: the list of each item, one behind the other
 abbrev pub transform_meaning : {A B : Type 0} → (A → Result (List B) ChainFault) → Meaning A → Meaning B
 transform_meaning f m = concatenated f m.items m.ending
 
@@ -108,6 +114,7 @@ abbrev pub flattened : {A B : Type 0} → (A → Result (ChainRun B) ChainFault)
 flattened f [] e = meaning [] e
 flattened f (x ∷ xs) e = onward (f x) (λ inner. then_meaning (meaning_of inner) (flattened f xs e))
 
+-- `flatMapConcat`: the chain of each item, one behind the other
 abbrev pub flat_map_meaning : {A B : Type 0} → (A → Result (ChainRun B) ChainFault) → Meaning A → Meaning B
 flat_map_meaning f m = flattened f m.items m.ending
 

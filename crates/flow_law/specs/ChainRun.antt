@@ -16,16 +16,19 @@ pub data ChainRun (T : Type 0) : Type 0 where
   ends : End → ChainRun T
 
 module _ {T : Type 0} where
+  -- the items of a run, in their order
   abbrev pub items : ChainRun T → List T
   items (gives x r) = x ∷ items r
   items (pends r) = items r
   items (ends e) = []
 
+  -- how the run ends
   abbrev pub ending : ChainRun T → End
   ending (gives x r) = ending r
   ending (pends r) = ending r
   ending (ends e) = e
 
+  -- one entry for each ask before the end: an item, or None for an answer of pending
   abbrev pub entries : ChainRun T → List (Option T)
   entries (gives x r) = Some x ∷ entries r
   entries (pends r) = None ∷ entries r

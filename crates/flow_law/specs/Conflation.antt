@@ -26,6 +26,7 @@ pub record Beside (T : Type 0) : Type 0 where
   -- the last value that was passed on
   pub last : Option T
 
+-- the number that a subscriber was given, if it was not refused
 abbrev pub given : Result ℕ FlowFault → Option ℕ
 given (Ok number) = Some number
 given (Err fault) = None
@@ -35,19 +36,24 @@ module _ {T : Type 0} where
   abbrev pub beside : ℕ → T → Beside T
   beside limit first = record { shared = (flow.emit first (first_state (newest_only limit))).after; number = None; last = None }
 
+  -- the shared flow emits what the state flow sets
   abbrev pub emitting : T → Beside T → Beside T
   emitting x m = record m { shared = (flow.emit x m.shared).after }
 
+  -- the watched subscriber subscribes to the shared flow, too
   abbrev pub subscribing : Beside T → Beside T
   subscribing m = record { shared = (flow.subscribe [] m.shared).after; number = given (flow.subscribe [] m.shared).reply; last = None }
 
+  -- the last value that was passed on, after this answer of the shared flow
   abbrev pub passed_on : Result (Next T) FlowFault → Option T → Option T
   passed_on (Ok (Value v)) last = Some v
   passed_on _ last = last
 
+  -- the watched subscriber asks the shared flow for its next value
   abbrev pub reading : ℕ → Beside T → Beside T
   reading k m = record m { shared = (flow.next k m.shared).after; last = passed_on (flow.next k m.shared).reply m.last }
 
+  -- the watched subscriber leaves the shared flow
   abbrev pub leaving : ℕ → Beside T → Beside T
   leaving k m = record m { shared = (flow.unsubscribe k m.shared).after }
 
@@ -68,6 +74,7 @@ module _ {T : Type 0} where
   Conflated last (Ok Gone) r = r ≡ Gone
   Conflated last (Err fault) r = ⊥
 
+  -- a reply of the state flow is the one that the shared flow beside it gives, as far as it is watched
   abbrev pub Agrees : ℕ → Beside T → StateCall T → StateReply T → Type 0
   Agrees u m GetValue (Got v) = cache m.shared ≡ v ∷ []
   Agrees u m ReplayCache (Cached vs) = cache m.shared ≡ vs
@@ -84,5 +91,6 @@ module _ {T : Type 0} where
   abbrev pub Conflates : T → StateHistory T → Type 0
   Conflates first h = (u unreached : ℕ) → length h < unreached → AgreeAll u (beside unreached first) h
 
+-- the law: every legal history of a state flow conflates so
 abbrev pub LawConflated : Type 0 → Type 0
 LawConflated T = (limit : ℕ) (first : T) (h : StateHistory T) → IsLegalState (first_state_flow limit first) h → Conflates first h

@@ -4,6 +4,7 @@ use Rattle.std.specs.Prelude.{◌≡◌, ℕ, ◌+◌, ◌-◌, max, List, ◌++
 use Rattle.flow_law.specs.SharedFlow.{SharedFlowState, newest}
 use Rattle.flow_law.specs.Standing.{Core, least_position, needed}
 
+-- the second list is an end of the first
 abbrev pub EndsWith : {X : Type 0} → List X → List X → Type 0
 EndsWith {X} xs ys = (front : List X) × (xs ≡ front ++ ys)
 

@@ -60,6 +60,7 @@ module _ {T : Type 0} where
         → last_got u (before ++ e ∷ since)
         ≡ Some (state_after_all first (before ++ e ∷ since)).value
 
+-- the law: after every legal history, each subscriber comes to the current value
 abbrev pub LawCurrent : Type 0 → Type 0
 LawCurrent T = (limit : ℕ) (first : T) (before : StateHistory T)
     → IsLegalState (first_state_flow limit first) before

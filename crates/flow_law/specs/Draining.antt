@@ -38,6 +38,7 @@ module _ {X T : Type 0} (Nexts : X → Result (Next T) FlowFault → X → Type 
     pub within : length values ≤ most
     pub enough : (result ≡ Ok drained.Most) ↔ (length values ≡ most)
 
+  -- a drain into a list that may have no room
   abbrev pub DrainsBy : ℕ → X → List T → Result Drained FlowFault → List T → X → Type 0
   DrainsBy = Takes EndsBy
 

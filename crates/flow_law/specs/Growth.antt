@@ -19,6 +19,7 @@ IsMadeBy name made other = (j : ℕ) (rest : List ℕ) → other ≡ name ++ j �
 -- ---- histories
 
 module _ {E : Type 0} where
+  -- the event of this name
   abbrev pub event : List ℕ → E → Event E
   event name what = record { name = name; what = what }
 
@@ -44,6 +45,7 @@ module _ {E : Type 0} where
 
   -- ---- what a token knows
 
+  -- what a token with these parts knows
   abbrev pub knowledge : List ℕ → ℕ → ℕ → List (Event E) → Knowledge E
   knowledge name made lost seen = record { name = name; made = made; lost = lost; seen = seen }
 

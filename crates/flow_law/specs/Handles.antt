@@ -18,9 +18,11 @@ pub record ReaderOf (Id S E : Type 0) : Type 0 where
   pub subscription : NumberedToken Id E
 
 module _ {Id S E : Type 0} where
+  -- the caller that has this flow and this token
   abbrev pub called_by : Origin Id S → Token Id E → CallerOf Id S E
   called_by flow token = record { flow = flow; token = token }
 
+  -- the reader that has this flow and this subscription
   abbrev pub read_by : Origin Id S → NumberedToken Id E → ReaderOf Id S E
   read_by flow subscription = record { flow = flow; subscription = subscription }
 
@@ -29,6 +31,7 @@ module _ {Id S E : Type 0} where
   subscription_alone (Ok r) = Ok r.subscription
   subscription_alone (Err fault) = Err fault
 
+  -- a reader that was made is of this flow
   abbrev pub IsToSame : Origin Id S → Result (ReaderOf Id S E) FlowFault → Type 0
   IsToSame flow (Ok r) = r.flow ≡ flow
   IsToSame flow (Err fault) = ⊤
@@ -43,6 +46,7 @@ module _ {T : Type 0} where
   next_of (Some v) = Value v
   next_of None = Empty
 
+  -- the reply to `next` that an answer of a reader stands for
   abbrev pub next_in : Result (Option T) FlowFault → Result (Next T) FlowFault
   next_in (Ok given) = Ok (next_of given)
   next_in (Err fault) = Err fault

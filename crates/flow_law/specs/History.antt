@@ -13,6 +13,7 @@ pub data Number : Type 0 where
   subscriber : ℕ → Number
   emission : ℕ → Number
 
+-- two numbers are the same: of one kind, and equal
 abbrev pub is_same : Number → Number → Bool
 is_same (subscriber m) (subscriber n) = m == n
 is_same (emission m) (emission n) = m == n
@@ -28,6 +29,7 @@ abbrev pub owner_of : Number → List Owner → Option (List ℕ)
 owner_of number [] = None
 owner_of number (o ∷ os) = if is_same o.number number then Some o.name else owner_of number os
 
+-- the owners with the one that an event adds
 abbrev pub with_owner : Option Owner → List Owner → List Owner
 with_owner None owners = owners
 with_owner (Some o) owners = o ∷ owners
@@ -80,6 +82,7 @@ module _ {T S C R : Type 0} (kind : Kind T S C R) where
   IsLegal s [] = Unit {0}
   IsLegal s (e ∷ es) = kind.Replies s e.what.call e.what.reply × IsLegal (kind.after s e.what.call e.what.reply) es
 
+  -- the owners after an event
   abbrev pub owners_after : List Owner → Event (Said C R) → List Owner
   owners_after owners e = with_owner (kind.gives e.name e.what.call e.what.reply) owners
 
@@ -93,6 +96,7 @@ module _ {T S C R : Type 0} (kind : Kind T S C R) where
   MaySpeak None owners name = Unit {0}
   MaySpeak (Some number) owners name = owner_of number owners ≡ Some name
 
+  -- each event that speaks of a number is of the caller that owns it
   abbrev pub IsOwned : List Owner → List (Event (Said C R)) → Type 0
   IsOwned owners [] = Unit {0}
   IsOwned owners (e ∷ es) = MaySpeak (kind.speaks_of e.what.call) owners e.name × IsOwned (owners_after owners e) es

@@ -45,5 +45,6 @@ module _ {T : Type 0} where
   EachLags config h = (u : ℕ) → IsSome (position_of u (state_after config h).subscribers)
       → Lags u config h
 
+-- the law: after every legal history, each subscriber misses no more than `Lags` allows
 abbrev pub LawLagged : Type 0 → Type 0
 LawLagged T = (config : Config) (h : History T) → IsLegal config h → EachLags config h

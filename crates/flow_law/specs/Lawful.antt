@@ -6,6 +6,7 @@ use Rattle.flow_law.specs.declared.fault.FlowFault.TheVariants.{OutOfMemory, Exh
 use Rattle.flow_law.specs.declared.outcome.Next.TheVariants.{Gone}
 use Rattle.flow_law.specs.History.{Number, subscriber, emission, Owner, Kind}
 
+-- the number, without its kind
 abbrev pub number_in : Number → ℕ
 number_in (subscriber n) = n
 number_in (emission n) = n
@@ -21,6 +22,7 @@ pub record Subscribing {T S C R : Type 0} (kind : Kind T S C R) (subscribe : Lis
   pub gives : (by name : List ℕ) (u : ℕ) → kind.gives by (subscribe name) (kind.subscribed u) ≡ Some (record { number = subscriber u; name = name })
   pub has : (s : S) (name : List ℕ) (u : ℕ) → kind.Replies s (subscribe name) (kind.subscribed u) → kind.HasSubscriber u (kind.after s (subscribe name) (kind.subscribed u))
 
+-- what each kind of flow is proved to have
 pub record Lawful {T S C R : Type 0} (kind : Kind T S C R) : Type 0 where
   -- how many numbers were issued
   pub issued : S → ℕ

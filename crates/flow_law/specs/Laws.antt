@@ -34,8 +34,10 @@ module _ {T : Type 0} where
     -- so each emitter's values stand in its order
     pub in_order : RisesTo 0 (numbers (state_after config h)) (state_after config h).issued
 
+-- the law: after every legal history, no emission waits while there is room
 abbrev pub LawNoIdleQueue : Type 0 → Type 0
 LawNoIdleQueue T = (config : Config) (h : History T) → IsLegal config h → NoIdleQueue (state_after config h)
 
+-- the law: after every legal history, each subscriber was given what `Delivers` says
 abbrev pub LawDelivered : Type 0 → Type 0
 LawDelivered T = (config : Config) (h : History T) → IsLegal config h → (u : ℕ) → Delivers u config h

@@ -5,6 +5,7 @@ use Rattle.flow_law.specs.declared.history.Knowledge.{Knowledge}
 use Rattle.flow_law.specs.declared.history.Said.{Said}
 use Rattle.flow_law.specs.Growth.{Grows, NamesOnlyMade}
 
+-- a call, and its reply
 abbrev pub said : {C R : Type 0} → C → R → Said C R
 said call reply = record { call = call; reply = reply }
 

@@ -47,5 +47,6 @@ module _ {T : Type 0} where
       (u : ℕ) (first : List T) → h ≡ before ++ e ∷ reads → IsSubscribe u first e
       → OnlyReads u reads → Replays u first (state_after config before) e reads
 
+-- the law: in every legal history, a new subscriber that only reads receives what `Replays` says
 abbrev pub LawReplay : Type 0 → Type 0
 LawReplay T = (config : Config) (h : History T) → IsLegal config h → EachReplays config h

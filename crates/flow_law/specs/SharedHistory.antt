@@ -23,13 +23,16 @@ pub record SharedOutcome (T : Type 0) : Type 0 where
   pub after : SharedFlowState T
 
 module _ {T : Type 0} where
+  -- the reply that stands for a result
   abbrev pub reply_by : {R : Type 0} → (R → SharedReply T) → Result R FlowFault → SharedReply T
   reply_by wrap (Ok r) = wrap r
   reply_by wrap (Err fault) = reply.Refused fault
 
+  -- the outcome that stands for an answer
   abbrev pub outcome_of : {R : Type 0} → (R → SharedReply T) → Answer R T → SharedOutcome T
   outcome_of wrap a = record { reply = reply_by wrap a.reply; after = a.after }
 
+  -- what the documented flow replies to a call, and the state after it
   abbrev pub answer_to : SharedCall T → SharedFlowState T → SharedOutcome T
   answer_to (call.TryEmit v) s = outcome_of reply.Tested (flow.try_emit v s)
   answer_to (call.Emit v) s = outcome_of reply.Emitted (flow.emit v s)
@@ -42,6 +45,7 @@ module _ {T : Type 0} where
   answer_to call.ResetReplayCache s = outcome_of (λ _. reply.Reset) (flow.reset_replay_cache s)
   answer_to call.SubscriptionCount s = outcome_of reply.Counted (flow.subscription_count s)
 
+  -- whether the call was refused
   abbrev pub is_refused : SharedReply T → Bool
   is_refused (reply.Refused fault) = true
   is_refused _ = false
@@ -77,6 +81,7 @@ module _ {T : Type 0} where
   gives name (call.Emit v) (reply.Emitted (Queued e)) = Some (record { number = emission e; name = name })
   gives name _ _ = None
 
+  -- the number of which a call speaks
   abbrev pub speaks_of : SharedCall T → Option Number
   speaks_of (call.TakeNext u) = Some (subscriber u)
   speaks_of (call.Unsubscribe u) = Some (subscriber u)
@@ -110,13 +115,16 @@ module _ {T : Type 0} where
     refused = reply.Refused;
   }
 
+-- a history of a shared flow
 abbrev pub History : Type 0 → Type 0
 History T = List (Event (Said (SharedCall T) (SharedReply T)))
 
 module _ {T : Type 0} where
+  -- the state after all events of a history
   abbrev pub after_all : SharedFlowState T → History T → SharedFlowState T
   after_all = histories.after_all shared_flow
 
+  -- from this state, each event of the history has the documented reply
   abbrev pub IsLegalFrom : SharedFlowState T → History T → Type 0
   IsLegalFrom = histories.IsLegal shared_flow
 

@@ -14,6 +14,7 @@ never = 18446744073709551615
 
 -- ---- what is read off the observations
 
+-- a subscriber was seen
 abbrev pub has_subscribers : SharingObservation → Bool
 has_subscribers o = nat_lt 0 o.count
 
@@ -39,6 +40,7 @@ abbrev pub is_before_stop : ℕ → ℕ → Option ℕ → Bool
 is_before_stop stop now None = false
 is_before_stop stop now (Some since) = (stop == never) || nat_lt (now - since) stop
 
+-- a sharing runs, by its policy and all that was observed
 abbrev pub is_running : Started → List SharingObservation → Bool
 is_running started [] = false
 is_running Eagerly (o ∷ seen) = true

@@ -27,9 +27,11 @@ HubReply polls = Bool
 HubReply cancels = Bool
 HubReply resets = Unit {0}
 
+-- what a hub answers to a call: its reply, or why it was refused
 abbrev pub HubAnswer : {T : Type 0} → HubCall T → Type 0
 HubAnswer call = Result (HubReply call) FlowFault
 
+-- a call that a turn makes: one of the hub, an ask of the chain, or its rewind
 pub data TurnCall (T : Type 0) : Type 0 where
   to_hub : HubCall T → TurnCall T
   asks : TurnCall T
@@ -41,6 +43,7 @@ pub data ChainAnswer (T : Type 0) : Type 0 where
   pending : ChainAnswer T
   end : End → ChainAnswer T
 
+-- what the hub or the chain answers to it
 abbrev pub TurnAnswer : {T : Type 0} → TurnCall T → Type 0
 TurnAnswer (to_hub call) = HubAnswer call
 TurnAnswer {T} asks = ChainAnswer T

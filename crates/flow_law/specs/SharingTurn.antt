@@ -42,6 +42,7 @@ pub record Turned (T : Type 0) : Type 0 where
   pub seen : List SharingObservation
   pub state : SharingState T
 
+-- the steps of a turn: calls of the hub and the chain, and what the turn comes to
 abbrev pub TurnSteps : Type 0 → Type 0
 TurnSteps T = Steps (TurnCall T) TurnAnswer (Turned T)
 
@@ -65,6 +66,7 @@ module _ {T : Type 0} where
   -- ---- what follows the command, where these observations were accepted
 
   module _ (command : Command) (seen : List SharingObservation) where
+    -- the turn ends with this event or fault
     abbrev pub comes_to : Result Event ShareFault → SharingState T → TurnSteps T
     comes_to outcome s = turned (reported command outcome) seen s
 
@@ -74,9 +76,11 @@ module _ {T : Type 0} where
     after_put x s (Ok true) = comes_to (Ok Queued) (record s { kept = None })
     after_put x s (Err fault) = comes_to (refusal fault) (record s { kept = Some x })
 
+    -- emits an item into the hub
     abbrev pub put : T → SharingState T → TurnSteps T
     put x s = calls (to_hub (puts x)) (after_put x s)
 
+    -- emits the chain's item, or ends with what the chain answered in its place
     abbrev pub after_ask : SharingState T → ChainAnswer T → TurnSteps T
     after_ask s (item x) = put x s
     after_ask s pending = comes_to (Ok Pending) s
@@ -88,6 +92,7 @@ module _ {T : Type 0} where
     send (Some x) s = put x s
     send None s = calls asks (after_ask s)
 
+    -- an emission that waits no more makes room for the next item
     abbrev pub after_poll : SharingState T → Result Bool FlowFault → TurnSteps T
     after_poll s (Ok true) = comes_to (Ok Waiting) s
     after_poll s (Ok false) = send s.kept s
@@ -97,16 +102,20 @@ module _ {T : Type 0} where
     abbrev pub collect : SharingState T → TurnSteps T
     collect s = if s.completed then comes_to (Ok Completed) s else calls (to_hub polls) (after_poll s)
 
+    -- collects if the sharing runs
     abbrev pub collect_while_running : SharingState T → TurnSteps T
     collect_while_running s = if s.runs then collect s else comes_to (Ok Idle) s
 
+    -- the flow has forgotten what it replays
     abbrev pub after_reset : SharingState T → Result (Unit {0}) FlowFault → TurnSteps T
     after_reset s (Ok done) = collect_while_running (record s { reset_due = false })
     after_reset s (Err fault) = comes_to (refusal fault) s
 
+    -- resets the flow, if a stop has left that to be done
     abbrev pub reset_if_due : SharingState T → TurnSteps T
     reset_if_due s = if s.reset_due then calls (to_hub resets) (after_reset s) else collect_while_running s
 
+    -- the emission that waited is cancelled
     abbrev pub after_cancel : SharingState T → Result Bool FlowFault → TurnSteps T
     after_cancel s (Ok waited) = reset_if_due (record s { cancel_due = false })
     after_cancel s (Err fault) = comes_to (refusal fault) s

@@ -20,6 +20,7 @@ use Rattle.flow_law.specs.StateFlow as state
 -- A core of type K stands for states of type S. In each state that the old core stands for, the documented flow may reply
 -- so, and the new core stands for the state after. A refused call leaves the core as it was.
 module _ {K S C R : Type 0} (StandsAs : K → S → Type 0) (Replies : S → C → R → Type 0) (after : S → C → R → S) (is_refused : R → Bool) where
+  -- a call of a core is a step of the documented flow
   abbrev pub ConformsBy : K → C → R → K → Type 0
   ConformsBy old call reply new = ((s : S) → StandsAs old s → Replies s call reply × StandsAs new (after s call reply)) × OnTrue (is_refused reply) (new ≡ old)
 
@@ -58,6 +59,7 @@ least_position bound (u ∷ us) = min u.position (least_position bound us)
 abbrev pub first_needed : {T : Type 0} → SharedFlowState T → ℕ
 first_needed s = least_position (cache_start s) s.subscribers
 
+-- the values that may still be asked for
 abbrev pub needed : {T : Type 0} → SharedFlowState T → List T
 needed s = drop (first_needed s) (values s)
 
@@ -76,6 +78,7 @@ pub record StandsFor {T : Type 0} (core : Core T) (s : SharedFlowState T) : Type
   pub subscribers : core.subscribers ≡ s.subscribers
   pub issued : core.issued ≡ s.issued
 
+-- a call of a shared core is a step of the documented shared flow
 abbrev pub Conforms : {T : Type 0} → Core T → SharedCall T → SharedReply T → Core T → Type 0
 Conforms = ConformsBy StandsFor shared.Replies shared.after shared.is_refused
 

@@ -19,6 +19,7 @@ module _ {C : Type 0} {Answer : C → Type 0} {R S : Type 0} where
   Takes does (answers r) old result new = (result ≡ r) × (new ≡ old)
   Takes does (calls c next) old result new = (a : Answer c) × (s : S) × does c old a s × Takes does (next a) s result new
 
+  -- the result of all steps, and the state after them, if each call is answered so
   abbrev pub plays : ((c : C) → S → After (Answer c) S) → Steps C Answer R → S → After R S
   plays reply (answers r) s = record { result = r; state = s }
   plays reply (calls c next) s = plays reply (next (reply c s).result) (reply c s).state

@@ -28,13 +28,16 @@ pub record NumberedToken (Id E : Type 0) : Type 0 where
   pub number : ℕ
 
 module _ {Id S : Type 0} where
+  -- the flow of this table and this first state
   abbrev pub origin : Id → S → Origin Id S
   origin id first = record { table_id = id; first = first }
 
 module _ {Id E : Type 0} where
+  -- the token of this table that knows so much
   abbrev pub token : Id → Knowledge E → Token Id E
   token id knows = record { table_id = id; knows = knows }
 
+  -- a token with the number of its subscription or emission
   abbrev pub numbered : Token Id E → ℕ → NumberedToken Id E
   numbered t number = record { token = t; number = number }
 
@@ -73,6 +76,7 @@ module _ {Id T S C R : Type 0} (kind : Kind T S C R) (first : S) where
   abbrev pub UnsubscribesIn : NumberedToken Id (Said C R) → Token Id (Said C R) → Type 0
   UnsubscribesIn old after = CallsIn old.token (kind.unsubscribe old.number) (kind.tested true) after
 
+  -- the call counts the subscribers
   abbrev pub CountsIn : Token Id (Said C R) → ℕ → Token Id (Said C R) → Type 0
   CountsIn before count after = CallsIn before kind.count (kind.counted count) after
 
@@ -95,11 +99,13 @@ module _ {Id T S C R : Type 0} (kind : Kind T S C R) (first : S) where
 
   -- ---- calls that do not wait: Busy exactly where one exchange was lost
 
+  -- a `next` that does not wait
   abbrev pub NextsNowIn : NumberedToken Id (Said C R) → Result (Next T) FlowFault → NumberedToken Id (Said C R) → Type 0
   NextsNowIn old (Ok next) new = (next ≢ Gone) × (new.number ≡ old.number) × CallsAtOnceIn old.token (kind.take_next old.number) (kind.received next) new.token
   NextsNowIn old (Err Busy) new = (new.number ≡ old.number) × IsBusy old.token new.token
   NextsNowIn old (Err fault) new = (new.number ≡ old.number) × CallsAtOnceIn old.token (kind.take_next old.number) (kind.refused fault) new.token
 
+  -- a count that does not wait
   abbrev pub CountsNowIn : Token Id (Said C R) → Result ℕ FlowFault → Token Id (Said C R) → Type 0
   CountsNowIn before (Ok count) after = CallsAtOnceIn before kind.count (kind.counted count) after
   CountsNowIn before (Err fault) after = (fault ≡ Busy) × IsBusy before after

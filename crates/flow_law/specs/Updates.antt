@@ -11,6 +11,7 @@ use Rattle.flow_law.specs.declared.states.StateFlowState.{StateFlowState}
 use Rattle.flow_law.specs.StateFlow.{state_flow}
 use Rattle.flow_law.specs.Tokens.{Token, CallsIn}
 
+-- a token of a state flow
 abbrev pub StateToken : Type 0 → Type 0 → Type 0
 StateToken Id T = Token Id (Said (StateCall T) (StateReply T))
 
@@ -40,6 +41,7 @@ module _ {T E : Type 0} (Gives : T → Result T E → Type 0) where
   abbrev pub Accepts : T → T → Type 0
   Accepts x y = Gives x (Ok y)
 
+  -- the function refuses this value
   abbrev pub Refuses : T → Type 0
   Refuses x = (e : E) × Gives x (Err e)
 

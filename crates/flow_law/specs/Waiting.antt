@@ -51,5 +51,6 @@ module _ {T : Type 0} where
   EachWaits config h = (before since : History T) → h ≡ before ++ since
       → (e : ℕ) → Waits e (state_after config before) since
 
+-- the law: in every legal history, while an emission waits, some subscriber is slow
 abbrev pub LawAdmitted : Type 0 → Type 0
 LawAdmitted T = (config : Config) (h : History T) → IsLegal config h → EachWaits config h

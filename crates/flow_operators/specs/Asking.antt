@@ -14,6 +14,7 @@ use Rattle.flow_operators.specs.declared.cold.Asked.{Asked}
 use Rattle.flow_operators.specs.declared.cold.Asked.TheVariants.{Item, Pending, End as Ended, Fault}
 
 module _ {T : Type 0} where
+  -- an ask takes the first entry off what is left
   abbrev pub AskGives : ChainRun T → Asked T → ChainRun T → Type 0
   AskGives before (Item x) after = before ≡ gives x after
   AskGives before Pending after = before ≡ pends after
@@ -27,6 +28,7 @@ module _ {T : Type 0} where
   IsFinal Ended = Unit {0}
   IsFinal (Fault fault) = Unit {0}
 
+  -- the answer is an item
   abbrev pub IsItem : Asked T → Type 0
   IsItem (Item x) = Unit {0}
   IsItem Pending = ⊥

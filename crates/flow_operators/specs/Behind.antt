@@ -66,6 +66,7 @@ abbrev pub unless_empty : {A B : Type 0} → List B → ChainRun A → ChainRun 
 unless_empty [] r further = further
 unless_empty (y ∷ ys) r further = r
 
+-- r where an item has images or they fail, else what further asks leave
 abbrev pub unless_all_empty : {A B : Type 0} → Result (List B) ChainFault → ChainRun A → ChainRun A → ChainRun A
 unless_all_empty (Ok ys) r further = unless_empty ys r further
 unless_all_empty (Err fault) r further = r
@@ -81,6 +82,7 @@ abbrev pub unless_completed : {A B : Type 0} → ChainRun B → ChainRun A → C
 unless_completed (ends Completed) r further = further
 unless_completed _ r further = r
 
+-- r where an item's chain has not completed or fails, else what further asks leave
 abbrev pub unless_opened_empty : {A B : Type 0} → Result (ChainRun B) ChainFault → ChainRun A → ChainRun A → ChainRun A
 unless_opened_empty (Ok inner) r further = unless_completed inner r further
 unless_opened_empty (Err fault) r further = r

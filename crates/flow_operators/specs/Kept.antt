@@ -14,6 +14,7 @@ abbrev pub has_begun : {B : Type 0} → Option B → Bool
 has_begun (Some last) = true
 has_begun None = false
 
+-- what a `scan` has left, before its initial value and after it
 abbrev pub scan_rest : {A B : Type 0} → (B × A → Result B ChainFault) → B → Option B → ChainRun A → ChainRun B
 scan_rest f initial (Some last) r = scan_run f last r
 scan_rest f initial None r = gives initial (scan_run f initial r)

@@ -10,15 +10,19 @@ use Rattle.flow_operators.specs.Behind.{AsksLeft, AsksRight}
 use Rattle.flow_operators.specs.Kept.{unless_ended, with_kept}
 
 module _ {L R A : Type 0} where
+  -- the chain on the left side
   abbrev pub left_chain : Pairs L R A → L
   left_chain p = p.left.chain
 
+  -- the chain on the right side
   abbrev pub right_chain : Pairs L R A → R
   right_chain p = p.right
 
+  -- the left item that waits for a right one
   abbrev pub kept_item : Pairs L R A → Option A
   kept_item p = p.kept
 
+  -- the zip has ended
   abbrev pub is_over : Pairs L R A → Bool
   is_over p = p.left.ended
 
@@ -31,6 +35,7 @@ module _ {L R A : Type 0} where
   left_side rest p = with_kept p.kept (rest p.left.chain)
 
 module _ {L R A B C : Type 0} (left : L → ChainRun A) (right : R → ChainRun B) where
+  -- what the zip has left
   abbrev pub pairs_rest : (A × B → Result C ChainFault) → Pairs L R A → ChainRun C
   pairs_rest f p = unless_ended p.left.ended (zip_run f (left_side left p) (right p.right))
 

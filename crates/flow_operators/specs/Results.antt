@@ -16,15 +16,19 @@ unless_begun true n = 0
 unless_begun false n = n
 
 module _ {C U : Type 0} where
+  -- the chain that is scanned
   abbrev pub scanned : Results C U → C
   scanned s = s.upstream.chain
 
+  -- the initial value
   abbrev pub initial_of : Results C U → U
   initial_of s = s.initial
 
+  -- the last result, if one was given
   abbrev pub last_of : Results C U → Option U
   last_of s = s.last
 
+  -- the scan has ended
   abbrev pub is_over : Results C U → Bool
   is_over s = s.upstream.ended
 
@@ -40,6 +44,7 @@ module _ {C U : Type 0} where
   KeepsResult made (Fault fault) new = ((made ≡ Err fault) ⊎ (fault ≡ OutOfMemory)) × (new.upstream.ended ≡ true)
 
 module _ {C A U : Type 0} (rest : C → ChainRun A) where
+  -- what the scan has left
   abbrev pub results_rest : (U × A → Result U ChainFault) → Results C U → ChainRun U
   results_rest f s = unless_ended s.upstream.ended (scan_rest f s.initial s.last (rest s.upstream.chain))
 

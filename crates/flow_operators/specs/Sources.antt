@@ -20,6 +20,7 @@ span first last = cond (int_lt last first) 0 (nat_abs (last -ℤ first) + 1)
 abbrev pub span_left : Bool → ℤ → ℤ → ℕ
 span_left has_ended next last = cond has_ended 0 (span next last)
 
+-- the numbers from the first to the last
 abbrev pub range_run : ℤ → ℤ → ChainRun ℤ
 range_run first last = list_run (count_up first (span first last))
 
@@ -30,5 +31,6 @@ scripted_run (Item x ∷ es) = gives x (scripted_run es)
 scripted_run (Pending ∷ es) = pends (scripted_run es)
 scripted_run (Fault number ∷ es) = ends (Failed (Source number))
 
+-- what a scripted source has left
 abbrev pub scripted_rest : {T A : Type 0} → Scripted T A → ChainRun T
 scripted_rest s = scripted_run (drop s.at s.entries.items)

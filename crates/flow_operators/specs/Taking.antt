@@ -4,6 +4,7 @@ use Rattle.flow_operators.specs.declared.cold.Asked.{Asked}
 use Rattle.flow_operators.specs.declared.cold.Asked.TheVariants.{Item}
 use Rattle.flow_operators.specs.declared.operators.take.Take.{Take}
 
+-- how many items it may still give
 abbrev pub items_left : {C : Type 0} → Take C → ℕ
 items_left take = take.left
 

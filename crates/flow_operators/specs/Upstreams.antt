@@ -10,9 +10,11 @@ use Rattle.flow_operators.specs.declared.upstream.Upstream.{Upstream}
 use Rattle.flow_operators.specs.Kept.{unless_ended}
 
 module _ {C : Type 0} where
+  -- the chain behind the operator
   abbrev pub chain_of : Upstream C → C
   chain_of u = u.chain
 
+  -- the operator has ended
   abbrev pub is_ended : Upstream C → Bool
   is_ended u = u.ended
 
@@ -42,6 +44,7 @@ abbrev pub answer_of : {B : Type 0} → Result B ChainFault → Asked B
 answer_of (Ok y) = Item y
 answer_of (Err fault) = Fault fault
 
+-- the result is a fault
 abbrev pub is_fault : {B : Type 0} → Result B ChainFault → Bool
 is_fault (Ok y) = false
 is_fault (Err fault) = true

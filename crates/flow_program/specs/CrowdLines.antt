@@ -22,6 +22,7 @@ subscriber_lines number (r ∷ rs) = subscriber_line number r.count r.is_in_orde
 abbrev pub crowd_lines : CrowdSize → List Received → List ℕ
 crowd_lines size received = subscriber_lines 1 received ++ lined (codes "emitted " ++ decimal (size.emitters * size.values))
 
+-- the text is the lines of what some subscribers received
 abbrev pub IsCrowdText : {A : Type 0} → CrowdSize → String A → Type 0
 IsCrowdText size text = (received : List Received) × (string_bytes text ≡ crowd_lines size received)
 
@@ -44,6 +45,7 @@ abbrev pub RunsCount : Counting → Bool → Option (List ℕ) → Option (List 
 RunsCount size failed old new answered =
     Tells failed old new (count_line size) 0 answered ⊎ Tells failed old new memory_line 4 answered
 
+-- what a crowd or a count prints, and its status
 abbrev pub Runs : Command → Bool → Option (List ℕ) → Option (List ℕ) → ℕ → Type 0
 Runs (Crowd size) failed old new answered = RunsCrowd size failed old new answered
 Runs (Count size) failed old new answered = RunsCount size failed old new answered

@@ -5,6 +5,7 @@ use Rattle.flow_script.specs.Lines.{lined}
 use Rattle.flow_script.specs.Playing.{Plays, is_read_failed}
 use Rattle.flow_script.specs.Telling.{Ends}
 
+-- the line for arguments that are refused
 abbrev pub usage_line : List ℕ
 usage_line = lined (codes "usage: flow_play [crowd E S N | count T N]")
 

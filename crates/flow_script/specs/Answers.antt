@@ -20,6 +20,7 @@ use Rattle.script_chain_format.specs.ChainFormat.{Build}
 use Rattle.flow_script.specs.declared.answer.Answer.{Answer as Given}
 use Rattle.flow_script.specs.declared.answer.Answer.TheVariants as given
 
+-- the answer of one step
 pub data Answer : Type 0 where
   -- of a value that is tried, of a cancellation, of an `unsubscribe`, and of a comparison
   tested : Bool → Answer

@@ -21,6 +21,7 @@ use Rattle.flow_script.specs.ScriptMeaning.{player_of}
 use Rattle.flow_script.specs.ScriptMeaning as player
 use Rattle.flow_script.specs.Sharings.{ShowsSharing}
 
+-- a player stands for one of the definitions
 abbrev pub Shows : Player → player.Player → Type 0
 Shows (Shared core) (player.shared s) = StandsFor core s
 Shows (State core) (player.state s) = core ≡ s

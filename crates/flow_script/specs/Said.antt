@@ -6,9 +6,11 @@ use Rattle.flow_script.specs.declared.answer.Answers.{Answers as Kept}
 use Rattle.flow_script.specs.declared.answer.NotMade.{NotMade as KeptNotMade}
 use Rattle.flow_script.specs.declared.answer.Told.{Told}
 
+-- a flow that was refused, as the definitions have it
 abbrev pub not_made_of : KeptNotMade → NotMade
 not_made_of flow = record { name = option_map string_bytes flow.name; answer = answer_of flow.answer }
 
+-- all flows that were refused
 abbrev pub all_not_made : List KeptNotMade → List NotMade
 all_not_made flows = map not_made_of flows
 

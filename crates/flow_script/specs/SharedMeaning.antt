@@ -11,6 +11,7 @@ use Rattle.flow_script.specs.FlowMeaning.{Played, Turn, called}
 use Rattle.flow_script.specs.Answers.{shared_answer}
 use Rattle.flow_script.specs.Numbers.{Numbers, number_at}
 
+-- what the documented shared flow replies
 abbrev pub shared_reply : SharedCall ℤ → SharedFlowState ℤ → SharedReply ℤ
 shared_reply call s = (answer_to call s).reply
 
@@ -22,6 +23,7 @@ shared_own_call (step.Cancel place) emissions = option_map call.Cancel (number_a
 shared_own_call step.Reset emissions = Some call.ResetReplayCache
 shared_own_call _ emissions = None
 
+-- how scripts play on a shared flow
 abbrev pub plays_shared : Played (SharedFlowState ℤ) (SharedCall ℤ) (SharedReply ℤ)
 plays_shared = record { try_emit = call.TryEmit; own_call = shared_own_call; reply_to = shared_reply; answer = shared_answer }
 

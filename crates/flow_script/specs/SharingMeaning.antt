@@ -18,6 +18,7 @@ use Rattle.flow_script.specs.FlowMeaning.{Turn, without_call}
 use Rattle.flow_script.specs.Answers.{turn_answer}
 use Rattle.flow_script.specs.Numbers.{Numbers}
 
+-- a sharing of a script, between two of its steps
 pub record SharingPlay (F : Type 0) : Type 0 where
   pub started : Started
   -- the observations, the newest one first

@@ -18,6 +18,7 @@ both_of sharing = chain_and_hub (λ chain. node_whole chain.node) (λ chain. nod
 
 -- `Stands` says for which flows a hub stands
 module _ {H F : Type 0} (Stands : H → F → Type 0) where
+  -- a sharing stands for one of the definitions
   pub record ShowsSharing (sharing : Sharing ScriptChain H ℤ) (p : SharingPlay F) : Type 0 where
     pub observed : HasObserved p.started sharing p.seen
     pub state : state_of sharing ≡ p.state

@@ -5,6 +5,7 @@ use Rattle.script_chain_format.specs.declared.reading.fault.ScriptFault.{ScriptF
 use Rattle.script_chain_format.specs.declared.reading.fault.ScriptFault.TheVariants.{OutOfMemory, ReadFailed, WriteFailed, NotJson, BadVersion, BadShape, UnknownName, DuplicateName, TooLarge}
 use Rattle.flow_script.specs.Lines.{lined}
 
+-- the line for a script that ran out of memory
 abbrev pub memory_line : List ℕ
 memory_line = lined (codes "out of memory")
 

@@ -35,6 +35,7 @@ drained_by (Err fault) = Err fault
 module _ {T A : Type 0} where
   -- ---- an emission through an emitter, whose error has this fault
 
+  -- the flow's own answer to an emission
   abbrev pub emitted_by : {E : Type 0} → (E → FlowFault) → EmitAnswer T E A → Emitted T A
   emitted_by fault_of (emit_answer.Done c) = emitted.Done c.token
   emitted_by fault_of (emit_answer.Queued e) = emitted.Queued e.emission
@@ -48,19 +49,23 @@ module _ {T A : Type 0} where
 
   -- ---- a poll
 
+  -- the flow's own answer to a poll
   abbrev pub polled_by : PollAnswer T A → Polled T A
   polled_by (poll_answer.Done c) = polled.Done c.token
   polled_by (poll_answer.Waiting e) = polled.Waiting e.emission
 
+  -- the flow of the handle that a poll gives back
   abbrev pub polled_flow : PollAnswer T A → Origin (SharedFlowState T)
   polled_flow (poll_answer.Done c) = c.flow
   polled_flow (poll_answer.Waiting e) = e.flow
 
+  -- the flow's own answer to a poll that does not wait
   abbrev pub polled_now_by : Result (PollAnswer T A) (EmissionOf T) → PolledNow T A
   polled_now_by (Ok (poll_answer.Done c)) = polled_now.Done c.token
   polled_now_by (Ok (poll_answer.Waiting e)) = polled_now.Waiting e.emission
   polled_now_by (Err e) = polled_now.Busy e.emission
 
+  -- the flow of the handle that such a poll gives back
   abbrev pub polled_now_flow : Result (PollAnswer T A) (EmissionOf T) → Origin (SharedFlowState T)
   polled_now_flow (Ok p) = polled_flow p
   polled_now_flow (Err e) = e.flow
@@ -68,24 +73,29 @@ module _ {T A : Type 0} where
 -- ---- an unsubscribe
 
 module _ {S E : Type 0} where
+  -- the flow's own answer to an unsubscribe
   abbrev pub left_by : Result (CallerOf TableId S E) (ReaderOf TableId S E) → Result (Token E) (NumberedToken E)
   left_by (Ok c) = Ok c.token
   left_by (Err r) = Err r.subscription
 
+  -- the flow of the handle that an unsubscribe gives back
   abbrev pub left_flow : Result (CallerOf TableId S E) (ReaderOf TableId S E) → Origin S
   left_flow (Ok c) = c.flow
   left_flow (Err r) = r.flow
 
 -- ---- a cancel
 
+-- a caller of a shared flow
 abbrev pub SharedCaller : Type 0 → Type 0
 SharedCaller T = CallerOf TableId (SharedFlowState T) (Said (SharedCall T) (SharedReply T))
 
 module _ {T : Type 0} where
+  -- the flow's own answer to a cancel
   abbrev pub cancelled_by : Result (SharedCaller T × Bool) (EmissionOf T) → Result (SharedToken T × Bool) (NumberedToken (Said (SharedCall T) (SharedReply T)))
   cancelled_by (Ok ended) = Ok (ended.0.token, ended.1)
   cancelled_by (Err e) = Err e.emission
 
+  -- the flow of the handle that a cancel gives back
   abbrev pub cancelled_flow : Result (SharedCaller T × Bool) (EmissionOf T) → Origin (SharedFlowState T)
   cancelled_flow (Ok ended) = ended.0.flow
   cancelled_flow (Err e) = e.flow

@@ -14,16 +14,20 @@ use Rattle.flow_law.specs.Tokens.{CallsIn, CallsAtOnceIn, NextsIn, UnsubscribesI
 use Rattle.flow_law.specs.Tokens as flows
 use Rattle.flow_gate.specs.Tokens.{Token, Origin, HeldState}
 
+-- a subscription to a flow, or an emission
 abbrev pub NumberedToken : Type 0 → Type 0
 NumberedToken = flows.NumberedToken TableId
 
 module _ {T S C R : Type 0} (kind : Kind T S C R) (flow : Origin S) where
+  -- the call adds one event, with this reply, to what the token has seen
   abbrev pub Calls : Token (Said C R) → C → R → Token (Said C R) → Type 0
   Calls = CallsIn kind flow.first
 
+  -- the same, and no exchange was lost
   abbrev pub CallsAtOnce : Token (Said C R) → C → R → Token (Said C R) → Type 0
   CallsAtOnce = CallsAtOnceIn kind flow.first
 
+  -- both tokens have then seen one history
   abbrev pub Meets : Token (Said C R) → Token (Said C R) → Token (Said C R) → Token (Said C R) → Type 0
   Meets = MeetsIn kind flow.first
 
@@ -31,6 +35,7 @@ module _ {T S C R : Type 0} (kind : Kind T S C R) (flow : Origin S) where
   abbrev pub Subscribes : (List ℕ → C) → Token (Said C R) → Result (NumberedToken (Said C R)) FlowFault → Token (Said C R) → Type 0
   Subscribes = SubscribesIn kind flow.first
 
+  -- a `next`
   abbrev pub Nexts : NumberedToken (Said C R) → Result (Next T) FlowFault → NumberedToken (Said C R) → Type 0
   Nexts = NextsIn kind flow.first
 
@@ -38,12 +43,15 @@ module _ {T S C R : Type 0} (kind : Kind T S C R) (flow : Origin S) where
   abbrev pub NextsOf : NumberedToken (Said C R) → Result (Next T) FlowFault → NumberedToken (Said C R) → Type 0
   NextsOf old result new = Nexts old result new × (new.number ≡ old.number)
 
+  -- an `unsubscribe`
   abbrev pub Unsubscribes : NumberedToken (Said C R) → Token (Said C R) → Type 0
   Unsubscribes = UnsubscribesIn kind flow.first
 
+  -- a count of the subscribers
   abbrev pub Counts : Token (Said C R) → ℕ → Token (Said C R) → Type 0
   Counts = CountsIn kind flow.first
 
+  -- a `next` that does not wait
   abbrev pub NextsNow : NumberedToken (Said C R) → Result (Next T) FlowFault → NumberedToken (Said C R) → Type 0
   NextsNow = NextsNowIn kind flow.first
 
@@ -52,6 +60,7 @@ module _ {T S C R : Type 0} (kind : Kind T S C R) (flow : Origin S) where
   UnsubscribesNow old (Ok after) = CallsAtOnce old.token (kind.unsubscribe old.number) (kind.tested true) after
   UnsubscribesNow old (Err back) = (back.number ≡ old.number) × IsBusy old.token back.token
 
+  -- a count that does not wait
   abbrev pub CountsNow : Token (Said C R) → Result ℕ FlowFault → Token (Said C R) → Type 0
   CountsNow = CountsNowIn kind flow.first
 

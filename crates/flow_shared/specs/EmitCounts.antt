@@ -8,14 +8,17 @@ use Rattle.flow_law.specs.declared.call.SharedReply.{SharedReply}
 use Rattle.flow_law.specs.Values.{is_same_list}
 use Rattle.flow_shared.specs.SharedReplies.{SharedToken}
 
+-- the names are the same
 abbrev pub is_same_name : List ℕ → List ℕ → Bool
 is_same_name = is_same_list nat_eq
 
 module _ {T : Type 0} where
+  -- 1 for an `emit` of this name, else 0
   abbrev pub emit_of : Bool → SharedCall T → ℕ
   emit_of true (Emit v) = 1
   emit_of _ _ = 0
 
+  -- how many events of a name are an `emit`
   abbrev pub emits : List ℕ → List (Event (Said (SharedCall T) (SharedReply T))) → ℕ
   emits name [] = 0
   emits name (e ∷ es) = emit_of (is_same_name name e.name) e.what.call + emits name es

@@ -30,6 +30,7 @@ module _ {T : Type 0} (flow : Origin (SharedFlowState T)) where
   EndsAfter [] e t after = Calls flow t (call.Poll e) (reply.Tested false) after
   EndsAfter (u ∷ us) e t after = Calls flow t (call.Poll e) (reply.Tested true) u × EndsAfter us e u after
 
+  -- some polls find the emission waiting, and one finds it done
   abbrev pub Ends : ℕ → SharedToken T → SharedToken T → Type 0
   Ends e t after = (us : List (SharedToken T)) × EndsAfter us e t after
 
@@ -39,6 +40,7 @@ module _ {T : Type 0} (flow : Origin (SharedFlowState T)) where
       ⊎ ((e : ℕ) × (u : SharedToken T) × Calls flow t (call.Emit v) (reply.Emitted (Queued e)) u × Ends e u after)
 
 module _ {T A : Type 0} where
+  -- the future of this flow at this stage
   abbrev pub emitting : Origin (SharedFlowState T) → EmitStage T A → Emitting T A
   emitting flow stage = record { flow = flow; stage = stage }
 
@@ -71,6 +73,7 @@ module _ {T A : Type 0} where
   held (Waiting e) = Some (e.token, call.Poll e.number)
   held Ended = None
 
+  -- the token that the future holds
   abbrev pub token_in : EmitStage T A → Option (SharedToken T)
   token_in (Fresh t v) = Some t
   token_in (Waiting e) = Some e.token
@@ -129,5 +132,6 @@ module _ {T A : Type 0} where
   CancelsAt flow (Waiting e) None = ⊥
   CancelsAt flow Ended back = back ≡ None
 
+  -- a caller walks away from the future and gets this back
   abbrev pub Cancels : Emitting T A → Option (SharedToken T × Bool) → Type 0
   Cancels f back = CancelsAt f.flow f.stage back

@@ -27,6 +27,7 @@ abbrev pub Received : Type 0 → Type 0
 Received T = SharedNumbered T × Result T FlowFault
 
 module _ {T : Type 0} where
+  -- the future of this flow and this subscription
   abbrev pub receiving : Origin (SharedFlowState T) → Option (SharedNumbered T) → Receiving T
   receiving flow subscription = record { flow = flow; subscription = subscription }
 
@@ -78,6 +79,7 @@ module _ {T : Type 0} where
     FindsAfter [] next r t after = Calls flow t next r after
     FindsAfter (u ∷ us) next r t after = Calls flow t next (reply.Received Empty) u × FindsAfter us next r u after
 
+    -- some calls find nothing, and one has this reply
     abbrev pub FindsInTheEnd : SharedCall T → SharedReply T → SharedToken T → SharedToken T → Type 0
     FindsInTheEnd next r t after = (us : List (SharedToken T)) × FindsAfter us next r t after
 

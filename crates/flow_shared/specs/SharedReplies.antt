@@ -25,13 +25,16 @@ use Rattle.flow_shared.specs.declared.answers.PolledNow.TheVariants as polled_no
 use Rattle.flow_shared.specs.Calls.{NumberedToken}
 use Rattle.flow_shared.specs.Calls as flows
 
+-- a token of a shared flow
 abbrev pub SharedToken : Type 0 → Type 0
 SharedToken T = Token (Said (SharedCall T) (SharedReply T))
 
 module _ {T : Type 0} (flow : Origin (SharedFlowState T)) where
+  -- the call adds one event, with this reply, to what the token has seen
   abbrev pub Calls : SharedToken T → SharedCall T → SharedReply T → SharedToken T → Type 0
   Calls = flows.Calls shared_flow flow
 
+  -- the same, and no exchange was lost
   abbrev pub CallsAtOnce : SharedToken T → SharedCall T → SharedReply T → SharedToken T → Type 0
   CallsAtOnce = flows.CallsAtOnce shared_flow flow
 
@@ -59,18 +62,22 @@ module _ {T A : Type 0} where
   EmitRefusedIfDue (emitted.Refused t v fault) = IsEmitFault fault
   EmitRefusedIfDue _ = ⊤
 
+  -- a refused emission hands its value back
   abbrev pub HandsBack : T → Emitted T A → Type 0
   HandsBack value (emitted.Refused t v fault) = v ≡ value
   HandsBack value _ = ⊤
 
+  -- the reply that a poll answers
   abbrev pub polled_reply : Polled T A → SharedReply T
   polled_reply (polled.Done t) = reply.Tested false
   polled_reply (polled.Waiting e) = reply.Tested true
 
+  -- the token that a poll gives back
   abbrev pub polled_token : Polled T A → SharedToken T
   polled_token (polled.Done t) = t
   polled_token (polled.Waiting e) = e.token
 
+  -- an emission that still waits has this number
   abbrev pub KeepsNumber : ℕ → Polled T A → Type 0
   KeepsNumber number (polled.Waiting e) = e.number ≡ number
   KeepsNumber number _ = ⊤
@@ -80,17 +87,20 @@ module _ {T A : Type 0} where
     abbrev pub Emits : SharedToken T → T → Emitted T A → Type 0
     Emits before value answer = Calls flow before (call.Emit value) (emitted_reply answer) (emitted_token answer) × HandsBack value answer
 
+    -- a poll of an emission
     abbrev pub Polls : NumberedToken (Said (SharedCall T) (SharedReply T)) → Polled T A → Type 0
     Polls e answer = Calls flow e.token (call.Poll e.number) (polled_reply answer) (polled_token answer) × KeepsNumber e.number answer
 
     -- ---- calls that do not wait: Busy exactly where one exchange was lost
 
+    -- an `emit` that does not wait
     abbrev pub EmitsNow : SharedToken T → T → Emitted T A → Type 0
     EmitsNow before value (emitted.Done t) = CallsAtOnce flow before (call.Emit value) (reply.Emitted Done) t
     EmitsNow before value (emitted.Queued e) = CallsAtOnce flow before (call.Emit value) (reply.Emitted (Queued e.number)) e.token
     EmitsNow before value (emitted.Refused t v Busy) = (v ≡ value) × IsBusy before t
     EmitsNow before value (emitted.Refused t v fault) = (v ≡ value) × CallsAtOnce flow before (call.Emit value) (reply.Refused fault) t
 
+    -- a poll that does not wait
     abbrev pub PollsNow : NumberedToken (Said (SharedCall T) (SharedReply T)) → PolledNow T A → Type 0
     PollsNow e (polled_now.Done t) = CallsAtOnce flow e.token (call.Poll e.number) (reply.Tested false) t
     PollsNow e (polled_now.Waiting f) = (f.number ≡ e.number) × CallsAtOnce flow e.token (call.Poll e.number) (reply.Tested true) f.token
@@ -101,15 +111,18 @@ module _ {T A : Type 0} where
   EmitIsWait (emitted.Done t) = ⊥
   EmitIsWait _ = ⊤
 
+  -- the emission still waits
   abbrev pub IsStillWaiting : Polled T A → Type 0
   IsStillWaiting (polled.Done t) = ⊥
   IsStillWaiting (polled.Waiting e) = ⊤
 
+  -- the emission still waits, or the flow was busy
   abbrev pub PollIsWait : PolledNow T A → Type 0
   PollIsWait (polled_now.Done t) = ⊥
   PollIsWait _ = ⊤
 
 module _ {T : Type 0} (flow : Origin (SharedFlowState T)) where
+  -- a reset that does not wait
   abbrev pub ResetsNow : SharedToken T → Result (Unit {0}) FlowFault → SharedToken T → Type 0
   ResetsNow before (Ok none) after = CallsAtOnce flow before call.ResetReplayCache reply.Reset after
   ResetsNow before (Err fault) after = (fault ≡ Busy) × IsBusy before after
@@ -118,6 +131,7 @@ module _ {T : Type 0} (flow : Origin (SharedFlowState T)) where
   abbrev pub Cancels : NumberedToken (Said (SharedCall T) (SharedReply T)) → SharedToken T × Bool → Type 0
   Cancels e ended = Calls flow e.token (call.Cancel e.number) (reply.Tested ended.1) ended.0
 
+  -- a cancel that does not wait
   abbrev pub CancelsNow : NumberedToken (Said (SharedCall T) (SharedReply T)) → Result (SharedToken T × Bool) (NumberedToken (Said (SharedCall T) (SharedReply T))) → Type 0
   CancelsNow e (Ok ended) = CallsAtOnce flow e.token (call.Cancel e.number) (reply.Tested ended.1) ended.0
   CancelsNow e (Err back) = (back.number ≡ e.number) × IsBusy e.token back.token

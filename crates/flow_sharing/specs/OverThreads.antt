@@ -34,6 +34,7 @@ use Rattle.flow_word.specs.Tokens.{WordId}
 abbrev pub exchanges_lost : {Id S E I : Type 0} → SeatedHub Id S E I → ℕ
 exchanges_lost hub = hub.watching.knows.lost + hub.sending.knows.lost
 
+-- how many exchanges a turn lost, by its event
 abbrev pub lost_at : Event → ℕ
 lost_at Busy = 1
 lost_at event = 0
@@ -76,6 +77,7 @@ abbrev pub makes_reset : Bool → Bool → Bool
 makes_reset true false = true
 makes_reset asked still_due = false
 
+-- a reset of the hub, if one was made
 abbrev pub resets_if : {T : Type 0} → Bool → List (HubCall T)
 resets_if true = resets ∷ []
 resets_if false = []

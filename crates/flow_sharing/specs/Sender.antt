@@ -5,6 +5,7 @@ use Rattle.flow_sharing.specs.declared.sender.Sender.{Sender}
 use Rattle.flow_sharing.specs.declared.sender.Sender.TheVariants.{Idle, Waiting}
 
 module _ {T A : Type 0} where
+  -- the token of the sender, whether or not its emission waits
   abbrev pub token_of : Sender T A → SharedToken T
   token_of (Idle seat) = seat
   token_of (Waiting emission) = emission.token

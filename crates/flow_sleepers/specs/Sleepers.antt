@@ -2,6 +2,7 @@
 use Rattle.std.specs.Prelude.{◌≡◌, ◌⊎◌, ℕ, List, map, insert}
 use Rattle.flow_sleepers.specs.declared.sleepers.Sleeper.{Sleeper}
 
+-- the numbers of the sleepers
 abbrev pub numbers_of : {A : Type 0} → List (Sleeper A) → List ℕ
 numbers_of list = map (λ s. s.number) list
 

@@ -24,11 +24,13 @@ module _ {T A : Type 0} where
   abbrev pub is_waiting : CoreHub T A → Bool
   is_waiting hub = is_some hub.emission
 
+  -- a poll of the hub polls the emission that waits, if there is one
   abbrev pub PollDoes : Option ℕ → CoreHub T A → Bool → CoreHub T A → Type 0
   PollDoes None old waits new = (waits ≡ false) × (new ≡ old)
   PollDoes (Some number) old waits new =
       Conforms old.core (call.Poll number) (reply.Tested waits) new.core × (new.emission ≡ still waits number)
 
+  -- a cancel of the hub cancels the emission that waits, if there is one
   abbrev pub CancelDoes : Option ℕ → CoreHub T A → Bool → CoreHub T A → Type 0
   CancelDoes None old waited new = (waited ≡ false) × (new ≡ old)
   CancelDoes (Some number) old waited new =

@@ -19,6 +19,7 @@ pub record WordId : Type 0 where
   pub table : TableId
   pub start : Start
 
+-- the word state of this table and this start
 abbrev pub word_id : TableId → Start → WordId
 word_id table start = record { table = table; start = start }
 
@@ -30,10 +31,12 @@ Token = StateToken WordId
 abbrev pub Origin : Type 0 → Type 0
 Origin T = flows.Origin WordId (StateFlowState T)
 
+-- a subscription to a word state
 abbrev pub NumberedToken : Type 0 → Type 0
 NumberedToken T = flows.NumberedToken WordId (Said (StateCall T) (StateReply T))
 
 module _ {T : Type 0} where
+  -- the token of a seat
   abbrev pub token_of : Seat Unit (List (Known T)) → Token T
   token_of s = token (word_id s.table_id (only s.me.0).start) (only s.me.0).knows
 

@@ -8,6 +8,7 @@ use Rattle.script_drawing.specs.declared.drawing.Form.{Form}
 use Rattle.script_drawing.specs.declared.drawing.Form.TheVariants.{Text, Svg, Explained}
 use Rattle.script_drawing.specs.Drawing.{Draws}
 
+-- the line for arguments that are refused
 abbrev pub usage_line : List ℕ
 usage_line = lined (codes "usage: flow_draw [--text | --explain]")
 

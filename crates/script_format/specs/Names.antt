@@ -8,12 +8,15 @@ use Rattle.script_format.specs.declared.written.Written.TheVariants as kept
 use Rattle.script_format.specs.Checks.{NameLists, plain, emit, poll, cancel, subscribe, subscribe_with, next, unsubscribe}
 use Rattle.script_format.specs.Checks as checks
 
+-- the names of a flow's emissions and subscribers
 abbrev pub lists_of : FlowNames → NameLists
 lists_of names = record { emissions = map (λ k. k.now) names.emissions.keys; subscribers = map (λ k. k.now) names.subscribers.keys }
 
+-- the names of each flow
 abbrev pub row_of : Names → List NameLists
 row_of names = map lists_of names.flows.items
 
+-- a step as it is written, in the definitions' terms
 abbrev pub written_of : Written → checks.Written
 written_of (kept.Plain step) = plain step
 written_of (kept.Emit name value) = emit name.now value

@@ -13,6 +13,7 @@ module _ {T : Type 0} where
   abbrev pub last : ℕ → List T → List T
   last n xs = drop (length xs - n) xs
 
+  -- the readings with one more, and without the oldest one if there are too many
   abbrev pub with_reading : T → Latest T → Latest T
   with_reading x old = record { most = old.most; values = last old.most (old.values ++ x ∷ []) }
 
@@ -21,6 +22,7 @@ module _ {T : Type 0} where
     pub nobody : s.subscribers ≡ []
     pub whole : s.reset_mark ≡ 0
 
+  -- the core stands for a flow that nobody reads, and that was never reset
   abbrev pub KeepsReadings : Core T → Type 0
   KeepsReadings core = (s : SharedFlowState T) × StandsFor core s × IsUnread s
 
