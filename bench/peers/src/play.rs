@@ -31,6 +31,21 @@ struct Names {
     emissions: HashMap<String, u64>,
 }
 
+impl Names {
+    fn next(&self, name: &str, next_of: impl FnOnce(Id) -> Next<i64>) -> Next<i64> {
+        self.subscribers
+            .get(name)
+            .map_or(Next::Gone, |&id| next_of(id))
+    }
+
+    fn unsubscribe(&self, name: &str, unsubscribes: impl FnOnce(Id) -> bool) -> String {
+        self.subscribers
+            .get(name)
+            .map_or(false, |&id| unsubscribes(id))
+            .to_string()
+    }
+}
+
 fn number<N: std::str::FromStr>(word: &str) -> N {
     word.parse()
         .unwrap_or_else(|_| panic!("{word} is no number"))
@@ -119,14 +134,8 @@ fn call_shared(flow: &mut SharedFlow<i64>, names: &mut Names, words: &[&str]) ->
                 Err(_) => EXHAUSTED.to_string(),
             }
         }
-        ["next", name] => names
-            .subscribers
-            .get(*name)
-            .map_or("gone".to_string(), |&id| received(flow.next(id))),
-        ["unsubscribe", name] => {
-            let id = names.subscribers.get(*name);
-            id.map_or(false, |&id| flow.unsubscribe(id)).to_string()
-        }
+        ["next", name] => received(names.next(name, |id| flow.next(id))),
+        ["unsubscribe", name] => names.unsubscribe(name, |id| flow.unsubscribe(id)),
         ["cache"] => format!("{:?}", flow.replay_cache()),
         ["count"] => flow.subscription_count().to_string(),
         ["reset"] => {
@@ -158,14 +167,8 @@ fn call_state(flow: &mut StateFlow<i64>, names: &mut Names, words: &[&str]) -> S
             }
             Err(_) => EXHAUSTED.to_string(),
         },
-        ["next", name] => names
-            .subscribers
-            .get(*name)
-            .map_or("gone".to_string(), |&id| received(flow.next(id))),
-        ["unsubscribe", name] => {
-            let id = names.subscribers.get(*name);
-            id.map_or(false, |&id| flow.unsubscribe(id)).to_string()
-        }
+        ["next", name] => received(names.next(name, |id| flow.next(id))),
+        ["unsubscribe", name] => names.unsubscribe(name, |id| flow.unsubscribe(id)),
         ["cache"] => format!("[{}]", flow.value()),
         ["count"] => flow.subscription_count().to_string(),
         ["reset"] => "refused 5 Unsupported".to_string(),
