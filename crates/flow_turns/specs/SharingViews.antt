@@ -56,8 +56,8 @@ KeepsReadings {C} {R} reads old new = (m : R) → reads old m → reads new m
 -- `whole` and `rest` are the runs of the chain, for each of its readings
 module _ {C H T R : Type 0} (whole rest : C → R → ChainRun T) where
   -- the sharing collects this chain into its hub, and has asked nothing of it
-  abbrev pub Collects : C → Sharing C H T → Type 0
-  Collects chain sharing =
+  abbrev pub SharesChain : C → Sharing C H T → Type 0
+  SharesChain chain sharing =
       (m : R) → chain_and_hub (λ c. whole c m) (λ c. rest c m) sharing ≡ record { whole = whole chain m; rest = rest chain m; hub = hub_of sharing }
 
   -- what holds between two turns holds of the sharing

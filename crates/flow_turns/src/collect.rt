@@ -32,15 +32,15 @@ impl<C: Cold, H: Hub<Item = C::Item>> Sharing<C, H> {
         requires callable { CanRun C.CanAsk self.old }
         requires free { H.waits self.old.hub ≡ false }
         requires empty { self.old.kept ≡ None }
+        ensures steps { (m : C.Reading) → C.Reads (chain_of self.old) m
+            → ComesTo (λ c. C.whole c m) (λ c. C.rest c m) H.does H.waits
+            (λ command seen. steps.put command seen item) self.old result self.new }
         ensures callable { CanRun C.CanAsk self.new }
         ensures reads { KeepsReadings C.Reads (chain_of self.old) (chain_of self.new) }
         ensures policy { self.new.policy ≡ self.old.policy }
         ensures ended { has_ended self.new ≡ ended_after result (has_ended self.old) }
         ensures not_ended { result ≢ Err ShareFault.Ended }
         ensures answered { FaultWasAnswered C.HasAnswered result self.new }
-        ensures steps { (m : C.Reading) → C.Reads (chain_of self.old) m
-            → ComesTo (λ c. C.whole c m) (λ c. C.rest c m) H.does H.waits
-            (λ command seen. steps.put command seen item) self.old result self.new }
     {
         match self.hub.put(item) {
             Ok(waits) => {
@@ -62,15 +62,15 @@ impl<C: Cold, H: Hub<Item = C::Item>> Sharing<C, H> {
     fn send(&mut self) -> Result<Event, ShareFault>
         requires callable { CanRun C.CanAsk self.old }
         requires free { H.waits self.old.hub ≡ false }
+        ensures steps { (m : C.Reading) → C.Reads (chain_of self.old) m
+            → ComesTo (λ c. C.whole c m) (λ c. C.rest c m) H.does H.waits
+            (λ command seen s. steps.send command seen s.kept s) self.old result self.new }
         ensures callable { CanRun C.CanAsk self.new }
         ensures reads { KeepsReadings C.Reads (chain_of self.old) (chain_of self.new) }
         ensures policy { self.new.policy ≡ self.old.policy }
         ensures ended { has_ended self.new ≡ ended_after result (has_ended self.old) }
         ensures not_ended { result ≢ Err ShareFault.Ended }
         ensures answered { FaultWasAnswered C.HasAnswered result self.new }
-        ensures steps { (m : C.Reading) → C.Reads (chain_of self.old) m
-            → ComesTo (λ c. C.whole c m) (λ c. C.rest c m) H.does H.waits
-            (λ command seen s. steps.send command seen s.kept s) self.old result self.new }
     {
         if let Some(item) = self.kept.take() {
             return self.put(item);
@@ -107,15 +107,15 @@ impl<C: Cold, H: Hub<Item = C::Item>> Sharing<C, H> {
     /// While the sharing runs, polls an emission that waits; if none waits, sends the next item.
     pub(crate) fn collect(&mut self) -> Result<Event, ShareFault>
         requires { CanRun C.CanAsk self.old }
+        ensures steps { (m : C.Reading) → C.Reads (chain_of self.old) m
+            → ComesTo (λ c. C.whole c m) (λ c. C.rest c m) H.does H.waits
+            steps.collect_while_running self.old result self.new }
         ensures callable { CanRun C.CanAsk self.new }
         ensures reads { KeepsReadings C.Reads (chain_of self.old) (chain_of self.new) }
         ensures policy { self.new.policy ≡ self.old.policy }
         ensures ended { has_ended self.new ≡ ended_after result (has_ended self.old) }
         ensures not_ended { result ≢ Err ShareFault.Ended }
         ensures answered { FaultWasAnswered C.HasAnswered result self.new }
-        ensures steps { (m : C.Reading) → C.Reads (chain_of self.old) m
-            → ComesTo (λ c. C.whole c m) (λ c. C.rest c m) H.does H.waits
-            steps.collect_while_running self.old result self.new }
     {
         if !self.policy.is_running() {
             return Ok(Event::Idle);

@@ -8,7 +8,7 @@ ghost use Rattle.flow_law.specs.SharingTurn.{at_rest};
 ghost use Rattle.flow_turns.specs.CoreHub.{core_of, is_waiting};
 ghost use Rattle.flow_turns.specs.ShareIn.{share_config};
 ghost use Rattle.flow_turns.specs.StateHub.{state_core_of, initial_of, never_waits};
-ghost use Rattle.flow_turns.specs.SharingViews.{state_of, chain_of, hub_of, CanRun, KeepsReadings, Collects, IsBetweenTurns, IsQuietHub, HasObserved};
+ghost use Rattle.flow_turns.specs.SharingViews.{state_of, chain_of, hub_of, CanRun, KeepsReadings, SharesChain, IsBetweenTurns, IsQuietHub, HasObserved};
 
 use crate::core_hub::CoreHub;
 use crate::sharing::Sharing;
@@ -44,7 +44,7 @@ pub fn share_in<C: Cold, A: Allocator + Copy>(
     ensures callable { IfOk result (λ sharing. CanRun C.CanAsk sharing) }
     ensures reads { IfOk result (λ sharing. KeepsReadings C.Reads chain (chain_of sharing)) }
     ensures state { IfOk result (λ sharing. state_of sharing ≡ at_rest) }
-    ensures chain { IfOk result (λ sharing. Collects C.whole C.rest chain sharing) }
+    ensures chain { IfOk result (λ sharing. SharesChain C.whole C.rest chain sharing) }
     ensures between { IfOk result (λ sharing. IsBetweenTurns C.whole C.rest sharing) }
     ensures quiet { IfOk result (λ sharing. IsQuietHub C.whole C.rest is_waiting sharing) }
 {
@@ -80,7 +80,7 @@ pub fn state_in<C: Cold, A: Allocator + Copy>(
     ensures callable { IfOk result (λ sharing. CanRun C.CanAsk sharing) }
     ensures reads { IfOk result (λ sharing. KeepsReadings C.Reads chain (chain_of sharing)) }
     ensures state { IfOk result (λ sharing. state_of sharing ≡ at_rest) }
-    ensures chain { IfOk result (λ sharing. Collects C.whole C.rest chain sharing) }
+    ensures chain { IfOk result (λ sharing. SharesChain C.whole C.rest chain sharing) }
     ensures between { IfOk result (λ sharing. IsBetweenTurns C.whole C.rest sharing) }
     ensures quiet { IfOk result (λ sharing. IsQuietHub C.whole C.rest never_waits sharing) }
 {

@@ -5,7 +5,7 @@
 ghost use Rattle.std.specs.Prelude.{◌≡◌, ◌≢◌, [], false, IsTrue, ◌↔◌, Err};
 ghost use Rattle.flow_law.specs.SharingCalls.{counts};
 ghost use Rattle.flow_law.specs.SharingTurn.{at_rest};
-ghost use Rattle.flow_turns.specs.SharingViews.{state_of, chain_of, hub_of, CanRun, KeepsReadings, Collects, IsBetweenTurns, IsQuietHub, HasObserved, has_ended};
+ghost use Rattle.flow_turns.specs.SharingViews.{state_of, chain_of, hub_of, CanRun, KeepsReadings, SharesChain, IsBetweenTurns, IsQuietHub, HasObserved, has_ended};
 ghost use Rattle.flow_turns.specs.TurnClauses.{TakesTurn, MeansAnswer, HandlesReset, StaysBetween, StaysQuiet, FaultWasAnswered, ended_after};
 ghost use Rattle.flow_turns.specs.TurnParts.{CallsHub, CommandComesTo};
 
@@ -27,7 +27,7 @@ impl<C: Cold, H: Hub<Item = C::Item>> Sharing<C, H> {
         ensures hub { hub_of result ≡ hub }
         ensures nothing { HasObserved started result [] }
         ensures state { state_of result ≡ at_rest }
-        ensures chain { Collects C.whole C.rest chain result }
+        ensures chain { SharesChain C.whole C.rest chain result }
         ensures between { IsBetweenTurns C.whole C.rest result }
         ensures quiet { IsQuietHub C.whole C.rest H.waits result }
     {
@@ -58,14 +58,14 @@ impl<C: Cold, H: Hub<Item = C::Item>> Sharing<C, H> {
     /// Takes the steps after the command: starts or stops the chain, does what is due, and then emits an item.
     fn carry_out(&mut self, command: Command) -> Result<Event, ShareFault>
         requires { CanRun C.CanAsk self.old }
+        ensures steps { (m : C.Reading) → C.Reads (chain_of self.old) m
+            → CommandComesTo (λ c. C.whole c m) (λ c. C.rest c m) H.does H.waits command self.old result self.new }
         ensures callable { CanRun C.CanAsk self.new }
         ensures reads { KeepsReadings C.Reads (chain_of self.old) (chain_of self.new) }
         ensures policy { self.new.policy ≡ self.old.policy }
         ensures ended { has_ended self.new ≡ ended_after result (has_ended self.old) }
         ensures not_ended { result ≢ Err ShareFault.Ended }
         ensures answered { FaultWasAnswered C.HasAnswered result self.new }
-        ensures steps { (m : C.Reading) → C.Reads (chain_of self.old) m
-            → CommandComesTo (λ c. C.whole c m) (λ c. C.rest c m) H.does H.waits command self.old result self.new }
     {
         self.obey(command);
         if let Err(fault) = self.cancel_if_due() {

@@ -1,4 +1,4 @@
-use Rattle.std.proofs.Common.{sym, ap, ◌∙◌}
+use Rattle.std.proofs.Common.{ap, ◌∙◌}
 use Rattle.flow_law.specs.declared.report.ShareFault.TheVariants.{Flow}
 use Rattle.flow_law.specs.StateFlow.{first_state_flow}
 use Rattle.flow_turns.specs.StateHub.{state_core_of, initial_of}
