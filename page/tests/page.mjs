@@ -151,25 +151,29 @@ await test("the state after a step", async () => {
     "total state", "value 3", "screen receives 3", "1 subscriber",
   ]);
 });
-await test("a script of 10,000 steps plays within 100 ms after the first", async () => {
+await test("a script of 10,000 steps is played and shown within 100 ms after the first", async () => {
   const steps = Array.from({ length: 10_000 }, (_, at) => (at % 2 ? '{"do":"next","name":"a"}' : '{"do":"try_emit","value":1}'));
   steps[0] = '{"do":"subscribe","name":"a"}';
   const text = `{"version":1,"flow":{"kind":"shared","replay":2,"extra":62,"overflow":"suspend"},"steps":[${steps.join(",\n")}]}`;
-  const took = await page.evaluate(`(() => {
-    const text = ${JSON.stringify(text)};
-    const times = [];
-    // On a machine with much other work only some of the runs are not interrupted.
-    while (times.length < 2 || (times.length < 60 && Math.min(...times.slice(1)) >= 100)) {
-      const start = performance.now();
-      wumsnair.play(text);
-      times.push(performance.now() - start);
-    }
-    return times;
-  })()`);
+  const took = [];
+  // On a machine with much other work only some of the runs are not interrupted.
+  while (took.length < 2 || (took.length < 60 && Math.min(...took.slice(1)) >= 100)) {
+    const typed = JSON.stringify(text + " ".repeat(took.length));
+    await page.evaluate(`delete document.body.dataset.took; ${SCRIPT}.value = ${typed}; ${SCRIPT}.dispatchEvent(new Event("input"))`);
+    await page.until("document.body.dataset.took");
+    took.push(Number(await page.evaluate("document.body.dataset.took")));
+  }
   const least = Math.min(...took.slice(1));
   console.log(`page: 10,000 steps in ${took[0].toFixed(0)} ms, and then in ${least.toFixed(0)} ms`);
   assert.ok(least < 100, `${took}`);
 });
+  assert.equal(await page.evaluate("document.querySelectorAll('#rows [data-step]').length"), 400);
+  await page.evaluate(slide(5000));
+  assert.equal(await page.evaluate(CHOSEN), "5000");
+  await page.until("document.querySelector('#rows [aria-current] td').textContent === 'next a'");
+  await page.until("document.body.dataset.asked === '5000' && document.getElementById('states').innerText.includes('a receives')");
+  await page.evaluate("[...document.querySelectorAll('#rows button')].at(-1).click()");
+  assert.equal(await page.evaluate("document.querySelector('#rows [data-step]').dataset.step"), "5200");
 
 // ---- the tour
 

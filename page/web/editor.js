@@ -1,5 +1,17 @@
 // A text that is edited: the numbers of its lines, and what is marked in it, which is a chosen part or the place of a refusal.
-import { byId } from "./dom.js";
+import { byId, element } from "./dom.js";
+
+/** Returns how many lines end in a text. */
+function linesIn(text) {
+  let count = 0;
+  for (let at = text.indexOf("\n"); at >= 0; at = text.indexOf("\n", at + 1)) {
+    count += 1;
+  }
+  return count;
+}
+
+/** Returns the numbers from `first` to the one before `end`, each in a line. */
+const numbersOf = (first, end) => Array.from({ length: Math.max(0, end - first) }, (_, at) => `${first + at}\n`).join("");
 
 /** The editor around the text area with this id. */
 export class Editor {
@@ -25,34 +37,27 @@ export class Editor {
 
   /** Shows the numbers of the lines, of which one may be wrong. */
   #showNumbers(count, wrong) {
-    const numbers = this.#numbers;
-    if (numbers.childElementCount !== count) {
-      numbers.replaceChildren(...Array.from({ length: count }, (_, index) => {
-        const number = document.createElement("div");
-        number.textContent = index + 1;
-        return number;
-      }));
+    const shown = `${count} ${wrong}`;
+    if (this.#numbers.dataset.shown !== shown) {
+      this.#numbers.dataset.shown = shown;
+      const upTo = wrong ?? count + 1;
+      const part = wrong ? [element("span", { class: "wrong" }, wrong), "\n"] : [];
+      this.#numbers.replaceChildren(numbersOf(1, upTo), ...part, numbersOf(upTo + 1, count + 1));
     }
-    numbers.querySelector(".wrong")?.classList.remove("wrong");
-    numbers.children[wrong - 1]?.classList.add("wrong");
   }
 
-  /** Shows the text behind the area's own, with a part that is marked as a step or as a place. */
+  /** Marks a part of the text as a step or as a place. Behind the text, only the marked part and what is before it in its line
+   * are laid out, so that this costs the same for a text of any length. */
   showMarks(mark, kind, wrongLine) {
     const { text } = this;
-    this.#showNumbers(text.split("\n").length, wrongLine);
-    this.#backdrop.textContent = "";
+    this.#showNumbers(linesIn(text) + 1, wrongLine);
+    this.#backdrop.replaceChildren();
     if (mark) {
       const [from, to] = mark;
-      const part = document.createElement("span");
-      part.className = kind;
-      part.textContent = text.slice(from, to) || " ";
-      this.#backdrop.append(text.slice(0, from), part, text.slice(to));
-    } else {
-      this.#backdrop.append(text);
+      const before = text.slice(0, from);
+      this.#backdrop.style.setProperty("--above", linesIn(before));
+      this.#backdrop.append(before.slice(before.lastIndexOf("\n") + 1), element("span", { class: kind }, text.slice(from, to) || " "));
     }
-    this.#backdrop.append("\n");
-    this.#followScroll();
   }
 
   /** Marks the place of a refusal, and says whether the text is right; `place` is undefined if no place is known. */
@@ -65,8 +70,8 @@ export class Editor {
 
   #followScroll() {
     const { scrollTop, scrollLeft } = this.area;
-    this.#numbers.scrollTop = this.#backdrop.scrollTop = scrollTop;
-    this.#backdrop.scrollLeft = scrollLeft;
+    this.#numbers.scrollTop = scrollTop;
+    this.#backdrop.style.transform = `translate(${-scrollLeft}px, ${-scrollTop}px)`;
   }
 
   /** Scrolls to the marked step, unless the caret is in the text. */
@@ -75,7 +80,6 @@ export class Editor {
     if (mark && document.activeElement !== this.area) {
       const top = mark.offsetTop;
       this.area.scrollTop = Math.max(0, Math.min(this.area.scrollTop, top - 20), top - this.area.clientHeight + 40);
-      this.#followScroll();
     }
   }
 

@@ -17,25 +17,69 @@ export function entriesOf(listing, lines) {
   });
 }
 
+/** Returns the lines without what a listing says of them. The first `before` lines are of no step. */
+export function plainEntries(lines, before) {
+  return lines.map((line, at) => ({ step: Math.max(0, at + 1 - before), words: "", line, rule: "" }));
+}
+
+/** The most rows that are in the page at once: of a longer script those around the chosen step. */
+const MOST_ROWS = 400;
+
+let allEntries = [];
+let firstRow = 0;
+
+function rowOf({ step, words, line, rule }) {
+  const cells = [words, line, rule].map((text) => element("td", {}, text));
+  return element("tr", { "data-step": step }, element("th", { scope: "row" }, step || ""), ...cells);
+}
+
+/** Returns a row with a button for the rows before or after those that are shown; nothing if there are none. */
+function furtherRows(count, words, start) {
+  if (count <= 0) {
+    return [];
+  }
+  const button = element("button", { type: "button" }, `${count} ${words} lines`);
+  button.addEventListener("click", () => {
+    const panel = byId("listing");
+    showRows(start);
+    panel.focus();
+    panel.scrollTop = words === "later" ? 0 : panel.scrollHeight;
+  });
+  return [element("tr", { class: "further" }, element("td", { colspan: 4 }, button))];
+}
+
+/** Shows rows from the one at a place on. */
+function showRows(start) {
+  firstRow = Math.max(0, Math.min(start, allEntries.length - MOST_ROWS));
+  const end = Math.min(firstRow + MOST_ROWS, allEntries.length);
+  const earlier = furtherRows(firstRow, "earlier", firstRow - MOST_ROWS);
+  const later = furtherRows(allEntries.length - end, "later", end);
+  rows.replaceChildren(...earlier, ...allEntries.slice(firstRow, end).map(rowOf), ...later);
+}
+
 /** Shows a row for each line. */
 export function showEntries(entries) {
-  const made = document.createDocumentFragment();
-  for (const { step, words, line, rule } of entries) {
-    const cells = [words, line, rule].map((text) => element("td", {}, text));
-    made.append(element("tr", { "data-step": step }, element("th", { scope: "row" }, step || ""), ...cells));
-  }
-  rows.replaceChildren(made);
+  allEntries = entries;
+  showRows(0);
 }
 
 /** Marks the row of a step, and returns it; undefined if the step has none. */
 export function markEntry(step) {
   rows.querySelector("[aria-current]")?.removeAttribute("aria-current");
-  const row = step ? rows.querySelector(`[data-step="${step}"]`) : undefined;
-  row?.setAttribute("aria-current", "step");
+  const at = step ? allEntries.findIndex((each) => each.step === step) : -1;
+  if (at < 0) {
+    return undefined;
+  }
+  if (at < firstRow || at >= firstRow + MOST_ROWS) {
+    showRows(at - MOST_ROWS / 2);
+  }
+  const row = rows.querySelector(`[data-step="${step}"]`);
+  row.setAttribute("aria-current", "step");
   return row;
 }
 
-/** Returns the step of the row that an event is about; 0 if it is about none. */
+/** Returns the step of the row that an event is about; undefined if it is about none. */
 export function stepOfEvent(event) {
-  return Number(event.target.closest("tr")?.dataset.step ?? 0);
+  const step = event.target.closest("tr")?.dataset.step;
+  return step === undefined ? undefined : Number(step);
 }

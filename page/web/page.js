@@ -3,7 +3,7 @@
 import { diagram, markColumn, offerDiagram, onColumnClick, showDiagram } from "./diagram.js";
 import { bringInto, byId } from "./dom.js";
 import { Editor, showWhy } from "./editor.js";
-import { entriesOf, markEntry, showEntries, stepOfEvent } from "./lines.js";
+import { entriesOf, markEntry, plainEntries, showEntries, stepOfEvent } from "./lines.js";
 import { RECORD_LINK, SCRIPT_LINK, bytesOf, exampleOf, isRecordLink, linkOf, passed, stopOf, textIn } from "./link.js";
 import { FORM, Player, STATUS, hasWideMemories, textOf } from "./player.js";
 import { goToRefusal, judge, onRecordChange, openRecord, recordText } from "./record.js";
@@ -13,7 +13,8 @@ import { PlayedScript, statesAfter } from "./states.js";
 import { isRecordTab, listenToTabs, showTab } from "./tabs.js";
 import { TOUR } from "./tour.js";
 
-/** A script with more steps is drawn only if its button is pressed, and its states wait until the step is chosen. */
+/** A script with more steps is drawn only if its button is pressed. Its rules come after its lines, and the states of its flows
+ * once the step stays chosen. */
 const MOST_AT_ONCE = 1500;
 
 /** The record that is shown first. */
@@ -51,28 +52,46 @@ function play() {
     showRefused("the player stopped", error.message);
     document.body.dataset.status = "stopped";
   }
-  told.textContent = `${new TextEncoder().encode(editor.text).length} bytes, ${(performance.now() - start).toFixed(1)} ms`;
+  const took = (performance.now() - start).toFixed(1);
+  told.textContent = `${new TextEncoder().encode(editor.text).length} bytes, ${took} ms`;
+  document.body.dataset.took = took;
 }
 
 function showPlayed(lines) {
   const { text } = editor;
-  shown = { steps: stepsOf(text), entries: entriesOf(textOf(player.draw(FORM.EXPLAINED, text)), lines), place: undefined };
-  const stepLines = shown.entries.filter(({ step }) => step > 0).map(({ line }) => line);
-  shown.played = new PlayedScript(player, text, shown.steps, stepLines);
+  const steps = stepsOf(text);
+  // The first lines are those of flows that were not made.
+  const entries = plainEntries(lines, lines.length - steps.places.length);
+  const stepLines = lines.slice(lines.length - steps.places.length);
+  shown = { steps, entries, place: undefined, played: new PlayedScript(player, text, steps, stepLines) };
   setRefused(false);
-  showEntries(shown.entries);
   byId("count").textContent = `${lines.length}`;
   if (stepCount() <= MOST_AT_ONCE) {
+  slider.max = stepCount();
     draw();
+    showRules(lines);
   } else {
     offerDiagram(`Draw all ${stepCount()} steps`, draw);
+    showEntries(entries);
   }
+    const mine = shown;
+    setTimeout(() => {
+      if (mine === shown && editor.text === text) {
+        showRules(lines);
+        markEntry(chosen);
+      }
+    });
   byId("save").disabled = !diagram();
-  slider.max = stepCount();
   choose(Math.min(chosen, stepCount()), false);
 }
 
 function draw() {
+/** Shows the lines with the rules by which they came. */
+function showRules(lines) {
+  shown.entries = entriesOf(textOf(player.draw(FORM.EXPLAINED, editor.text)), lines);
+  showEntries(shown.entries);
+}
+
   showDiagram(textOf(player.draw(FORM.SVG, editor.text)));
   markColumn(chosen);
   byId("save").disabled = false;
@@ -292,8 +311,13 @@ function listen() {
   editor.area.addEventListener("input", typed);
   document.addEventListener("selectionchange", followCaret);
   slider.addEventListener("input", () => choose(Number(slider.value)));
-  rows.addEventListener("click", (event) => choose(stepOfEvent(event)));
-  rows.addEventListener("pointerover", (event) => markColumn(stepOfEvent(event)));
+  rows.addEventListener("click", (event) => {
+    const step = stepOfEvent(event);
+    if (step !== undefined) {
+      choose(step);
+    }
+  });
+  rows.addEventListener("pointerover", (event) => markColumn(stepOfEvent(event) ?? chosen));
   rows.addEventListener("pointerleave", () => markColumn(chosen));
   onColumnClick(choose);
   list.addEventListener("change", () => {
