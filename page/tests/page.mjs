@@ -58,6 +58,7 @@ for (const name of names) {
     const wanted = read(`examples/${name}.lines`).trimEnd().split("\n");
     if (await page.evaluate("document.body.dataset.status") === "2") {
       assert.deepEqual([await page.evaluate("document.querySelector('#refusal strong').textContent")], wanted);
+      assert.equal(await page.evaluate("document.querySelector('.note').checkVisibility()"), true);
       return;
     }
     assert.deepEqual(await page.evaluate(LINES), wanted);
@@ -166,7 +167,6 @@ await test("a script of 10,000 steps is played and shown within 100 ms after the
   const least = Math.min(...took.slice(1));
   console.log(`page: 10,000 steps in ${took[0].toFixed(0)} ms, and then in ${least.toFixed(0)} ms`);
   assert.ok(least < 100, `${took}`);
-});
   assert.equal(await page.evaluate("document.querySelectorAll('#rows [data-step]').length"), 400);
   await page.evaluate(slide(5000));
   assert.equal(await page.evaluate(CHOSEN), "5000");
@@ -174,6 +174,7 @@ await test("a script of 10,000 steps is played and shown within 100 ms after the
   await page.until("document.body.dataset.asked === '5000' && document.getElementById('states').innerText.includes('a receives')");
   await page.evaluate("[...document.querySelectorAll('#rows button')].at(-1).click()");
   assert.equal(await page.evaluate("document.querySelector('#rows [data-step]').dataset.step"), "5200");
+});
 
 // ---- the tour
 

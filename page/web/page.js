@@ -30,8 +30,9 @@ let player;
 let examples = {};
 let records = {};
 let chosen = 0;
-/** What the script gave that was typed last: its steps and their lines, or the place at which it is refused. */
-let shown = { steps: undefined, entries: [], place: undefined, played: undefined };
+/** What a script gave: its steps and their lines, or the place at which it is refused. */
+const NOTHING = { steps: undefined, entries: [], place: undefined, played: undefined };
+let shown = { ...NOTHING };
 
 const stepCount = () => shown.steps?.places.length ?? 0;
 
@@ -66,14 +67,13 @@ function showPlayed(lines) {
   shown = { steps, entries, place: undefined, played: new PlayedScript(player, text, steps, stepLines) };
   setRefused(false);
   byId("count").textContent = `${lines.length}`;
-  if (stepCount() <= MOST_AT_ONCE) {
   slider.max = stepCount();
-    draw();
+  if (stepCount() <= MOST_AT_ONCE) {
     showRules(lines);
+    draw();
   } else {
-    offerDiagram(`Draw all ${stepCount()} steps`, draw);
     showEntries(entries);
-  }
+    offerDiagram(`Draw all ${stepCount()} steps`, draw);
     const mine = shown;
     setTimeout(() => {
       if (mine === shown && editor.text === text) {
@@ -81,23 +81,24 @@ function showPlayed(lines) {
         markEntry(chosen);
       }
     });
+  }
   byId("save").disabled = !diagram();
   choose(Math.min(chosen, stepCount()), false);
 }
 
-function draw() {
 /** Shows the lines with the rules by which they came. */
 function showRules(lines) {
   shown.entries = entriesOf(textOf(player.draw(FORM.EXPLAINED, editor.text)), lines);
   showEntries(shown.entries);
 }
 
+function draw() {
   showDiagram(textOf(player.draw(FORM.SVG, editor.text)));
   markColumn(chosen);
   byId("save").disabled = false;
 }
 
-/** Shows why the script is refused. What the last played script gave stays, and is pale. */
+/** Shows why the script is refused. What it gave before it was changed stays, and is pale. */
 function showRefused(line, why) {
   shown.place = placeOf(editor.text, why);
   showWhy(refusal, line, why);
@@ -108,6 +109,7 @@ function setRefused(isRefused) {
   refusal.hidden = !isRefused;
   editor.showRefusal(isRefused, shown.place);
   byId("right").classList.toggle("stale", isRefused);
+  byId("right").classList.toggle("bare", isRefused && !shown.played);
   byId("save").disabled = isRefused;
 }
 
@@ -175,6 +177,7 @@ async function keepLink() {
 
 function open(text, step = 0) {
   editor.open(text);
+  shown = { ...NOTHING };
   chosen = step;
   play();
 }

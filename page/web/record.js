@@ -9,13 +9,15 @@ const WORDS = {
   [VERDICT.LEGAL]: ["legal", "Some order of the calls has these answers, so the documented flow may have answered so."],
   [VERDICT.ILLEGAL]: ["illegal", "No order of the calls has these answers, so this is not the documented flow."],
   [VERDICT.GAVE_UP]: ["gave up", "The search took too long."],
-  [VERDICT.REFUSED]: ["refused", "The text is no record. Below it is where and why."],
+  [VERDICT.REFUSED]: ["refused", "The text is not a record. The reason is below it."],
   [VERDICT.OUT_OF_MEMORY]: ["out of memory", "The record was not judged."],
 };
 
 const recordRefusal = byId("record-refusal");
 const recordEditor = new Editor("record");
 let refusedPlace;
+/** Whether the calls of the record were drawn since it was opened. */
+let isDrawn = false;
 
 /** Returns the calls of a record that was not refused. Moments from 2^53 on are only drawn near their place. */
 function callsOf(text) {
@@ -58,9 +60,11 @@ export function judge(player) {
     recordEditor.showMarks(undefined, "step", undefined);
     showVerdict(status, lines);
     showTimeline(callsOf(recordEditor.text), status === VERDICT.ILLEGAL ? numbersIn(lines) : new Set());
+    isDrawn = true;
   }
   recordEditor.showRefusal(isRefused, refusedPlace);
   recordRefusal.hidden = !isRefused;
+  byId("timeline-panel").hidden = !isDrawn;
   byId("timeline-panel").classList.toggle("stale", isRefused);
   document.body.dataset.verdict = status;
 }
@@ -69,7 +73,10 @@ export function judge(player) {
 export const recordText = () => recordEditor.text;
 
 /** Puts a record into the editor. */
-export const openRecord = (text) => recordEditor.open(text);
+export function openRecord(text) {
+  recordEditor.open(text);
+  isDrawn = false;
+}
 
 /** Selects the place at which the record is refused; returns whether there is one. */
 export function goToRefusal() {
