@@ -1,9 +1,9 @@
 /* The proved player of flow scripts and the checker of records, for programs in C and in languages that call C.
  *
- * Each function reads `script_bytes` bytes at `script`, or those of a record, writes at most `out_bytes` bytes at `out`, and sets `*needed` to the
- * number of bytes that there are to give. If these do not fit, nothing is written and the result is WUMSNAIR_TOO_LONG: call
- * once more with more room. No text ends with a zero byte. `script`, `out` and `needed` do not overlap, and none is null, even
- * for zero bytes.
+ * Each function reads `script_bytes` bytes at `script`, or `record_bytes` at `record`, writes at most `out_bytes` bytes at `out`, and
+ * sets `*needed` to the number of bytes that there are to give. If these do not fit, nothing is written and the result is
+ * WUMSNAIR_TOO_LONG: call once more with more room. No text ends with a zero byte. `script` or `record`, `out` and `needed` do not
+ * overlap, and none is null, even for zero bytes.
  *
  * Memory comes from the program's malloc, realloc and free. A function keeps nothing between calls, so several threads may call
  * at once, each with its own buffers. No function may be called in a signal handler. */
@@ -38,7 +38,7 @@ uint32_t wumsnair_draw(uint32_t form, const uint8_t *script, size_t script_bytes
 /* Gives some lines for people that say where and why a script is refused; nothing if it is not refused. */
 uint32_t wumsnair_explain(const uint8_t *script, size_t script_bytes, uint8_t *out, size_t out_bytes, size_t *needed);
 
-/* Judges recorded calls of a state flow: whether the documented flow may have answered so. Gives what flow_judge prints, with the
+/* Judges recorded calls of a flow: whether the documented flow may have answered so. Gives what flow_judge prints, with the
  * order of the calls of a legal record if `with_order` is not 0. The result is one of wumsnair_verdict, or WUMSNAIR_TOO_LONG,
  * WUMSNAIR_REFUSED or WUMSNAIR_OUT_OF_MEMORY. */
 uint32_t wumsnair_check(uint32_t with_order, const uint8_t *record, size_t record_bytes, uint8_t *out, size_t out_bytes, size_t *needed);
