@@ -3,6 +3,7 @@ import contextlib
 import difflib
 import os
 import pathlib
+import select
 import shutil
 import signal
 import subprocess
@@ -93,11 +94,11 @@ def file_of(words, what):
     return (files or [None])[0], [word for word in words if word.startswith("-")]
 
 
-def opened(file):
+def opened(file, what):
     """The file, or standard input if there is none."""
     if file is None:
         if sys.stdin.isatty():
-            say("reading standard input")
+            say(f"reading a {what} from standard input, up to Ctrl-D; --help lists all forms")
         return sys.stdin.buffer
     try:
         return open(file, "rb")
@@ -110,7 +111,7 @@ def opened(file):
 def script_of(words):
     """The text of the script that the words name, or of standard input, and the words that are left."""
     file, words = file_of(words, "script")
-    return opened(file).read(), words
+    return opened(file, "script").read(), words
 
 
 def watched(words):
@@ -121,11 +122,18 @@ def watched(words):
     return files[0]
 
 
+def has_reader():
+    """Whether what standard output goes to is still there: not so if it is a pipe whose reader has ended."""
+    output = select.poll()
+    output.register(sys.stdout, 0)
+    return not output.poll(0)
+
+
 def watch(file, show):
-    """Calls `show` now, and again whenever the file has changed, until it is interrupted."""
+    """Calls `show` now, and again whenever the file has changed, until it is interrupted or its output has no reader."""
     seen = None
     try:
-        while True:
+        while has_reader():
             try:
                 changed = os.stat(file).st_mtime_ns
             except FileNotFoundError:
