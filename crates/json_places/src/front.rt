@@ -102,6 +102,15 @@ impl Front {
             Last::Value => "\",\" or \"]\"",
         }
     }
+
+    /// Returns what was expected where a byte is that may not follow.
+    fn expected_before(&self, byte: Option<&u8>) -> &'static str {
+        match (self.last, byte) {
+            (Last::Comma, Some(b']')) if !self.is_in_object() => "no comma before \"]\"",
+            (Last::Comma, Some(b'}')) if self.is_in_object() => "no comma before \"}\"",
+            _ => self.expected(),
+        }
+    }
 }
 
 /// Returns how many bytes there are before an offset, or up to the first bracket that nests too deep, and what may
@@ -162,7 +171,8 @@ fn fault_at(bytes: &[u8], offset: usize) -> Stop {
     } else if at == correct {
         (false, "these bytes are no UTF-8", "UTF-8")
     } else {
-        (true, ": here the text stops being JSON", front.expected())
+        let expected = front.expected_before(bytes.get(at));
+        (true, ": here the text stops being JSON", expected)
     };
     Stop {
         at,

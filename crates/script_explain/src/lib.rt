@@ -25,6 +25,7 @@ mod report;
 mod rules;
 mod search;
 mod step_words;
+mod tags;
 mod tasks;
 mod words;
 

@@ -161,13 +161,18 @@ impl Report {
         }
     }
 
-    /// Ends with the choice that is nearest to a word, if one is near.
-    pub fn end_near(&mut self, alloc: Global, word: &str, choices: Choices<'_>) -> Looked {
+    /// Adds the choice that is nearest to a word, if one is near.
+    pub fn add_near(&mut self, alloc: Global, word: &str, choices: Choices<'_>) {
         match choices.nearest_to(alloc, word) {
             Ok(Some(near)) => self.add(&["\n  nearest: \"", near, "\""]),
             Ok(None) => {}
             Err(_) => self.is_out_of_memory = true,
         }
+    }
+
+    /// Ends with the choice that is nearest to a word, if one is near.
+    pub fn end_near(&mut self, alloc: Global, word: &str, choices: Choices<'_>) -> Looked {
+        self.add_near(alloc, word, choices);
         self.end()
     }
 

@@ -5,6 +5,7 @@ use crate::choices::Choices;
 use crate::form::is_name;
 use crate::head::{Script, items_of};
 use crate::report::{EXPECTED, Ended, Looked, Owner, Report};
+use crate::tags::Tagged;
 use crate::tasks::{Inside, Task, inside_of};
 use crate::words::{Form, Row, Shape, Version, key_named, row_named};
 use json_places::{Member, Spot, Text};
@@ -101,58 +102,35 @@ impl<'a> Search<'a, '_> {
         self.add_members(object, shape)
     }
 
-    /// Reports a tag whose value is no such word, or none in this version, as these words say.
-    fn no_value(
-        &mut self,
-        found: Spot<'a>,
-        tag: &'static str,
-        rows: &'static [Row],
-        version: &'static str,
-    ) -> Looked {
-        let tags = Choices::Tags(rows, self.version);
-        self.report.begin_value(self.text, found.at);
-        self.report.add(&[
-            " is no value of \"",
-            tag,
-            "\"",
-            version,
-            EXPECTED,
-            "one of ",
-        ]);
-        self.report.add_choices(tags);
-        let word = found.value.as_str().unwrap_or("");
-        self.report.end_near(self.text.alloc, word, tags)
-    }
-
-    /// Reports an object that lacks its tag.
-    fn no_tag(&mut self, object: Spot<'a>, tag: &'static str, rows: &'static [Row]) -> Looked {
-        self.report.begin(self.text, object.at);
-        self.report.add(&[
-            "there is no \"",
-            tag,
-            "\"",
-            EXPECTED,
-            "\"",
-            tag,
-            "\", one of ",
-        ]);
-        self.report.add_choices(Choices::Tags(rows, self.version));
-        self.report.end()
+    /// Looks at an object whose tag has the word of a row.
+    fn row(&mut self, tagged: Tagged<'a>, found: Spot<'a>, row: Row) -> Looked {
+        let shape = shape_of(row, tagged.object.value);
+        if !shape.fits(self.version, tagged.object.value)
+            && let Some(other) = tagged.row_near(row.word)?
+        {
+            return tagged.tell_other_row(found, shape, other, self.report);
+        }
+        self.object(tagged.object, shape)
     }
 
     /// Looks at an object whose keys its tag tells.
     fn tagged(&mut self, object: Spot<'a>, tag: &'static str, rows: &'static [Row]) -> Looked {
+        let tagged = Tagged {
+            text: self.text,
+            version: self.version,
+            object,
+            tag,
+            rows,
+        };
         let Some(found) = self.text.member(object, tag)? else {
-            return self.no_tag(object, tag, rows);
+            return tagged.tell_no_tag(self.report);
         };
         let version = match row_named(rows, found.value.as_str().unwrap_or("")) {
-            Some(row) if row.need.is_known(self.version) => {
-                return self.object(object, shape_of(row, object.value));
-            }
+            Some(row) if row.need.is_known(self.version) => return self.row(tagged, found, row),
             Some(_) => self.version.words(),
             None => "",
         };
-        self.no_value(found, tag, rows, version)
+        tagged.tell_no_value(found, version, self.report)
     }
 
     /// Looks at an item of a list, which is to have a form: later at an operator, which is looked into, and now at

@@ -1,5 +1,6 @@
 //! The forms, keys and objects of scripts, of which the tables of words are made.
 
+use crate::form::members_len;
 use serde_json::Value;
 
 /// The versions of the format.
@@ -124,6 +125,17 @@ impl Shape {
             }
         }
         None
+    }
+
+    /// Returns whether an object has each key that has to be there, and no key of another object.
+    pub fn fits(&self, version: Version, object: &Value) -> bool {
+        let mut known = 0usize;
+        for key in self.keys {
+            if key.need.is_known(version) && object.get(key.word).is_some() {
+                known = known.saturating_add(1);
+            }
+        }
+        known == members_len(object) && self.missing(version, object).is_none()
     }
 }
 
