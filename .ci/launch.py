@@ -147,7 +147,12 @@ def watch(file, show):
                 seen = changed
                 if sys.stdout.isatty():
                     print("\x1b[2J\x1b[H", end="", flush=True)
-                show()
+                try:
+                    show()
+                except (SystemExit, FileNotFoundError):
+                    # Some editors remove a file before they write it anew.
+                    if os.path.exists(file):
+                        raise
             time.sleep(0.2)
     except KeyboardInterrupt:
         pass
