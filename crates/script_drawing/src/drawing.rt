@@ -8,6 +8,7 @@ ghost use Rattle.script_drawing.specs.Listing.{told};
 use crate::lines::split_lines;
 use crate::listing::add_listing;
 use flow_script::{Answers, ScriptFault, answers_of, text_of};
+use script_explain::rules_of;
 use script_picture::{Frame, Played, explained_frame, items_of, svg_frame, text_frame};
 use serde_json::Value;
 use std::alloc::{AllocError, Global};
@@ -34,12 +35,12 @@ fn frame_of(
     }
 }
 
-/// The frame around the lines of a script, which have rules beside them where those of a script are told.
+/// The frame around the lines of a script, which have rules beside them, if there are rules.
 fn framed(
     alloc: Global,
     frame: Frame,
     played: Played<'_>,
-    rules: Option<&Value>,
+    rules: &[String],
 ) -> Result<String, AllocError>
     ensures { IfOk result (λ drawn. TellsInOrder (told played.entry.lines.now) (string_bytes drawn)) }
 {
@@ -70,10 +71,10 @@ fn drawn(alloc: Global, form: Form, bytes: &[u8], answers: &Answers) -> Result<S
     };
     let frame = frame_of(alloc, form, &script, played)?;
     let rules = match form {
-        Form::Explained => Some(&script),
-        Form::Text | Form::Svg => None,
+        Form::Explained => rules_of(alloc, &script, played.steps, answers.steps.as_slice())?,
+        Form::Text | Form::Svg => Vec::new(alloc),
     };
-    match framed(alloc, frame, played, rules) {
+    match framed(alloc, frame, played, rules.as_slice()) {
         Ok(drawn) => Ok(drawn),
         Err(_) => Err(ScriptFault::OutOfMemory),
     }

@@ -2,23 +2,14 @@
 ghost use Rattle.std.specs.Prelude.{OnOk, string_bytes};
 ghost use Rattle.script_drawing.specs.Listing.{AddsLast, AddsLines, told};
 
-use script_explain::rule_of;
 use script_picture::Played;
-use serde_json::Value;
 use std::alloc::{AllocError, Global};
 
-/// The flow of a script that a step is about.
-fn flow_of<'a>(script: &'a Value, step: &Value) -> Option<&'a Value> {
-    match script.get("flows") {
-        Some(flows) => flows.get(step.get("flow")?.as_str()?),
-        None => script.get("flow"),
-    }
-}
-
 /// The rule of the step that wrote the line before that of a place. A line without a step has none.
-fn rule_before(script: &Value, played: Played<'_>, place: usize) -> &'static str {
-    match played.step_before(place) {
-        Some((step, answer)) => rule_of(flow_of(script, step), step, answer),
+fn rule_before<'a>(rules: &'a [String], played: Played<'_>, place: usize) -> &'a str {
+    let refused = played.answers.not_made.len();
+    match rules.get(place.wrapping_sub(refused).wrapping_sub(1)) {
+        Some(rule) => rule.as_str(),
         None => "",
     }
 }
@@ -31,12 +22,12 @@ fn add_entry(listing: &mut String, words: &str, line: &str) -> Result<(), AllocE
     listing.push_str(line)
 }
 
-/// The lines of a script, each with the step that wrote it, and its rule where those of a script are told.
+/// The lines of a script, each with the step that wrote it, and its rule, if there are rules.
 pub fn add_listing(
     alloc: Global,
     listing: &mut String,
     played: Played<'_>,
-    rules: Option<&Value>,
+    rules: &[String],
 ) -> Result<(), AllocError>
     ensures { OnOk result (AddsLines (told played.entry.lines.now)
         (string_bytes listing.old) (string_bytes listing.new)) }
@@ -45,10 +36,7 @@ pub fn add_listing(
     let mut words = String::new(alloc);
     for (place, line) in lines.iter().enumerate() {
         words.clear();
-        let rule = match rules {
-            Some(script) => rule_before(script, played, place),
-            None => "",
-        };
+        let rule = rule_before(rules, played, place);
         played.add_words_before(&mut words, place, rule)?;
         add_entry(listing, words.as_str(), line)?;
     }

@@ -29,6 +29,14 @@ pub fn items_of(value: &Value) -> &[Value] {
     }
 }
 
+/// Returns the flow of a script that a step is about.
+pub fn flow_of<'a>(script: &'a Value, step: &Value) -> Option<&'a Value> {
+    match script.get("flows") {
+        Some(flows) => flows.get(text_at(step, "flow")),
+        None => script.get("flow"),
+    }
+}
+
 /// A script whose text is JSON.
 #[derive(Clone, Copy)]
 pub struct Script<'a> {
@@ -71,9 +79,6 @@ impl<'a> Script<'a> {
 
     /// Returns the flow that a step is about.
     pub fn flow_of(self, step: &Value) -> Option<&'a Value> {
-        match self.version {
-            Version::One => self.root.value.get("flow"),
-            Version::Two => self.root.value.get("flows")?.get(text_at(step, "flow")),
-        }
+        flow_of(self.root.value, step)
     }
 }

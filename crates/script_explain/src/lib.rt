@@ -8,8 +8,9 @@
 //! written to the `Report`, and nothing more is looked at.
 //!
 //! # Rules
-//! `rule_of` takes a step as it stands in the script, the flow that it is about, and the step's answer, and gives the
-//! rule by which the step has that answer. The tables of `rules` have the rules; they are those of docs/DEFINITIONS.md.
+//! `rules_of` takes the steps of a script, each with its answer, and gives the rule by which each step has that answer.
+//! The tables of `rules` have the rules; they are those of docs/DEFINITIONS.md. `losses` finds the values that
+//! `drop_oldest` takes from subscribers.
 #![tactic(auto)]
 
 mod chain_words;
@@ -18,6 +19,7 @@ mod flow_words;
 mod form;
 mod head;
 mod introduced;
+mod losses;
 mod names;
 mod not_allowed;
 mod refusal;
@@ -30,4 +32,4 @@ mod tasks;
 mod words;
 
 pub use refusal::explain_refusal;
-pub use rules::rule_of;
+pub use rules::rules_of;

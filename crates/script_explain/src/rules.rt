@@ -1,16 +1,18 @@
-//! The rule by which a step of a script has its answer.
+//! The rules by which the steps of a script have their answers.
 
 mod flows;
 mod states;
 mod turns;
 
-use crate::head::{number_at, text_at};
+use crate::head::{flow_of, number_at, text_at};
+use crate::losses::Losses;
 use flow_law::report::{Event, Report, ShareFault};
 use flow_law::{ChainFault, Command, End, FlowFault, Next};
-use flow_script::Answer;
+use flow_script::{Answer, Told};
 use flows::shared_rules;
 use serde_json::Value;
 use states::state_rules;
+use std::alloc::{AllocError, Global};
 use turns::{COLLECT_RULES, TURN_RULES};
 
 /// When a rule holds.
@@ -197,12 +199,9 @@ fn first_rule(rules: &'static [Rule], flow: &Value, step: &Value, answer: &Answe
     ""
 }
 
-/// Returns the rule by which a step has its answer, in one sentence; `flow` is the flow of the script that the step is
-/// about. The rule is empty if the step has no such answer.
-///
-/// Of a turn it is the rule of its command, where that changes what runs, and else that of what came of it. Source of
-/// the rules: kotlinx.coroutines' public documentation, as docs/DEFINITIONS.md says rule by rule.
-pub fn rule_of(flow: Option<&Value>, step: &Value, answer: &Answer) -> &'static str {
+/// Returns the rule by which a step on a flow of the script has its answer, in one sentence. It is empty if the step
+/// has no such answer.
+fn rule_of(flow: Option<&Value>, step: &Value, answer: &Answer) -> &'static str {
     let word = text_at(step, "do");
     match flow {
         _ if word == "collect" => first_rule(&COLLECT_RULES, step, step, answer),
@@ -211,4 +210,72 @@ pub fn rule_of(flow: Option<&Value>, step: &Value, answer: &Answer) -> &'static 
         Some(flow) => first_rule(rules_for(flow, word), flow, step, answer),
         None => "",
     }
+}
+
+/// Takes a step on a flow that drops its oldest values. If subscribers lose a value by it, `words` gets the rule.
+fn add_loss<'a>(
+    alloc: Global,
+    losses: &mut Vec<Losses<'a>>,
+    words: &mut String,
+    flow: &Value,
+    step: &'a Value,
+    told: &Told,
+) -> Result<(), AllocError> {
+    let name = text_at(step, "flow");
+    for known in &mut *losses {
+        if known.flow == name {
+            return known.add_step(words, step, told);
+        }
+    }
+    let mut new = Losses::new(alloc, name, flow);
+    new.add_step(words, step, told)?;
+    losses.push(new)?;
+    Ok(())
+}
+
+/// Returns the rule of the next step, on a flow of the script.
+fn next_rule<'a>(
+    alloc: Global,
+    losses: &mut Vec<Losses<'a>>,
+    flow: Option<&Value>,
+    step: &'a Value,
+    told: &Told,
+) -> Result<String, AllocError> {
+    let mut words = String::new(alloc);
+    if let Some(flow) = flow
+        && has(flow, "overflow", "drop_oldest")
+    {
+        add_loss(alloc, losses, &mut words, flow, step, told)?;
+    }
+    if words.is_empty() {
+        words.push_str(rule_of(flow, step, &told.answer))?;
+    }
+    Ok(words)
+}
+
+/// Returns the rules by which the steps of a script have their answers, each in one sentence. A rule is empty if the
+/// step has no such answer.
+///
+/// Of a turn it is the rule of its command, where that changes what runs, and else that of what came of it. If a value
+/// is dropped that subscribers had still to receive, the rule says which value, and names them. Source of the rules:
+/// kotlinx.coroutines' public documentation, as docs/DEFINITIONS.md says rule by rule.
+///
+/// # Errors
+/// `AllocError`: out of memory.
+pub fn rules_of(
+    alloc: Global,
+    script: &Value,
+    steps: &[Value],
+    answers: &[Told],
+) -> Result<Vec<String>, AllocError> {
+    let mut losses = Vec::new(alloc);
+    let mut rules = Vec::new(alloc);
+    for (place, step) in steps.iter().enumerate() {
+        let Some(told) = answers.get(place) else {
+            break;
+        };
+        let flow = flow_of(script, step);
+        rules.push(next_rule(alloc, &mut losses, flow, step, told)?)?;
+    }
+    Ok(rules)
 }

@@ -1,7 +1,7 @@
 //! Explanations of scripts: the faults and the answers that no script comes to, and one of each that some do.
 use crate::program::Host;
-use flow_script::{Answer, ScriptFault};
-use script_explain::{explain_refusal, rule_of};
+use flow_script::{Answer, ScriptFault, Seen, Told};
+use script_explain::{explain_refusal, rules_of};
 use serde_json::Value;
 
 const NO_STEPS: &str = r#"{"version":2,"flows":{},"steps":[]}"#;
@@ -47,22 +47,22 @@ fn a_refusal_is_told_with_its_place(rt: HostRuntime) {
     }
 }
 
-/// A flow, a step, whether the step was answered by `true`, and the rule: none, where the step has no such answer.
+/// A script, a step, whether the step was answered by `true`, and the rule: none, where the step has no such answer.
 const RULES: &[(&str, &str, bool, &str)] = &[
     (
-        r#"{"kind":"shared","replay":0,"extra":2,"overflow":"drop_oldest"}"#,
+        r#"{"flow":{"kind":"shared","replay":0,"extra":2,"overflow":"drop_oldest"}}"#,
         r#"{"do":"try_emit"}"#,
         true,
-        "taken: where the buffer is full its oldest value is dropped",
+        "taken: there is no subscriber, or room for every subscriber",
     ),
     (
-        r#"{"kind":"shared","replay":0,"extra":2,"overflow":"drop_oldest"}"#,
+        r#"{"flow":{"kind":"shared","replay":0,"extra":2,"overflow":"drop_oldest"}}"#,
         r#"{"do":"try_emit"}"#,
         false,
         "",
     ),
     (
-        r#"{"kind":"shared","replay":2,"extra":0,"overflow":"suspend"}"#,
+        r#"{"flow":{"kind":"shared","replay":2,"extra":0,"overflow":"suspend"}}"#,
         r#"{"do":"bogus"}"#,
         true,
         "",
@@ -70,16 +70,28 @@ const RULES: &[(&str, &str, bool, &str)] = &[
 ];
 
 /// Compares the rule of an answer with the one that is wanted.
-fn expect_rule<H: Host>(rt: &H, flow: &str, step: &str, test: bool, rule: &str) {
-    let flow = Value::from_str(rt.alloc(), flow).expect(rt, "a flow");
+fn expect_rule<H: Host>(rt: &H, script: &str, step: &str, test: bool, rule: &str) {
+    let script = Value::from_str(rt.alloc(), script).expect(rt, "a script");
     let step = Value::from_str(rt.alloc(), step).expect(rt, "a step");
-    let told = rule_of(Some(&flow), &step, &Answer::Tested(test));
-    assert_eq!(rt; told, rule, "the rule of {test}");
+    let told = Told {
+        answer: Answer::Tested(test),
+        seen: Seen {
+            emitted: Some(1),
+            lag: None,
+            at: None,
+        },
+        subscriber: None,
+    };
+    let rules = rules_of(rt.alloc(), &script, &[step], &[told]).expect(rt, "memory");
+    let [found] = rules.as_slice() else {
+        panic!(rt; "a rule");
+    };
+    assert_eq!(rt; found.as_str(), rule, "the rule of {test}");
 }
 
 #[test]
 fn an_answer_has_its_rule(rt: HostRuntime) {
-    for (flow, step, test, rule) in RULES {
-        expect_rule(&rt, flow, step, *test, rule);
+    for (script, step, test, rule) in RULES {
+        expect_rule(&rt, script, step, *test, rule);
     }
 }

@@ -11,8 +11,6 @@ pub const EXHAUSTED: &str =
 pub const NO_SUBSCRIBER: &str =
     "the name stands for no subscriber: it unsubscribed, or its subscription was refused";
 
-const DROPS_OLDEST: &str = "taken: where the buffer is full its oldest value is dropped";
-
 const DROPS_LATEST: &str =
     "taken, or dropped where a subscriber has a whole buffer still to receive";
 
@@ -28,7 +26,7 @@ static TRY_EMIT_RULES: [Rule; 7] = [
         "try_emit",
         Case::Has("overflow", "drop_oldest"),
         Says::Test(true),
-        DROPS_OLDEST,
+        ROOM,
     ),
     Rule(
         "try_emit",
@@ -69,7 +67,7 @@ static EMIT_RULES: [Rule; 7] = [
         "emit",
         Case::Has("overflow", "drop_oldest"),
         Says::Done,
-        DROPS_OLDEST,
+        ROOM,
     ),
     Rule(
         "emit",
