@@ -1,6 +1,6 @@
 -- What `receive` shows of a subscriber whose row was found: where it stands, and what the rows are after each case.
 use Rattle.std.proofs.lemmas.Bool.Decides.{nat_tests}
-use Rattle.std.proofs.Common.{◌≡◌, ℕ, ◌+◌, ◌-◌, ◌<◌, ◌≤◌, ◌%◌, ◌==◌, ◌&&◌, not, nat_lt, max, List, [], length, get_or, Some, None, refl, sym, ap, subst, ◌∙◌, arith, zero, suc, ◌∷◌}
+use Rattle.std.proofs.Common.{◌≡◌, ℕ, ◌+◌, ◌-◌, ◌<◌, ◌≤◌, ◌%◌, ◌^◌, ◌==◌, ◌&&◌, not, nat_lt, max, List, [], length, get_or, Some, None, refl, sym, ap, subst, ◌∙◌, arith, zero, suc, ◌∷◌}
 use Rattle.std.specs.List.{slice_get, list_any}
 use Rattle.std.specs.Option.{option_map, IfSome}
 use Rattle.flow_law.specs.declared.states.Subscriber.{Subscriber}
@@ -11,12 +11,12 @@ use Rattle.flow_containers.specs.declared.subscribers.Subscribers.TheInside.{Ins
 use Rattle.flow_containers.specs.Members.{row_of, with_row}
 use Rattle.flow_containers.specs.Rows.{moved, left}
 use Rattle.flow_containers.specs.PositionCounts.{entered, left_at}
-use Rattle.flow_containers.specs.Subscribers.{standing_of, read, AreSound, IsSound}
+use Rattle.flow_containers.specs.Subscribers.{Standing, standing_of, read, AreSound, IsSound}
 use Rattle.flow_containers.specs.Receiving.{was_last_at}
 use Rattle.flow_containers.proofs.CountLemmas.{others_at}
 use Rattle.flow_containers.proofs.MemberLemmas.{with_row_same}
 use Rattle.flow_containers.proofs.RaisedLemmas.{position_of-row, own_of-row, own_of-none, with_own-row, move_to-row}
-use Rattle.flow_containers.proofs.SubscribersLemmas.{took_own, advanced}
+use Rattle.flow_containers.proofs.SubscribersLemmas.{took_own, advanced, found_near, leave_some, enter_again}
 
 -- a place where a value is found is a place of the list
 pub found_below : {X : Type 0} (k : ℕ) (xs : List X) (v : X) → slice_get xs k ≡ Some v → k < length xs
@@ -47,6 +47,26 @@ module _ {T A : Type 0} (s : Inside T A) (number : ℕ) where
     -- what is kept of all positions holds of this one
     pub kept_here : (first : ℕ) → IfSome (position_of number (standing_of s).list) (λ position. first ≤ position) → first ≤ position_in row
     kept_here first kept = subst (λ p. IfSome p (λ position. first ≤ position)) stands_at kept
+
+    -- as many values as are held reach back to this position
+    pub held_here : (v : Standing T) (held : ℕ) → standing_of s ≡ v → held ≤ v.emitted → IfSome (position_of number v.list) (λ position. v.emitted - held ≤ position)
+        → (held ≤ s.counts.emitted) × (s.counts.emitted - held ≤ position_in row)
+    held_here v held is all kept = (
+      subst (λ (v : Standing T). held ≤ v.emitted) (sym is) all,
+      kept_here (s.counts.emitted - held) (subst (λ (v : Standing T). IfSome (position_of number v.list) (λ position. v.emitted - held ≤ position)) (sym is) kept),
+    )
+
+    -- the row of counts covers this position, counts the subscriber there, and has room to count it elsewhere
+    module _ (sound : IsSound s) where
+      pub near_here : (position_in row ≤ s.counts.emitted) × (s.counts.emitted < position_in row + length s.counts.row)
+      near_here = found_near s.counts.row s.counts.emitted s.floor s.members.last s.members.members sound number (position_in row) stands_at
+
+      pub some_here : (at : ℕ) → at ≡ position_in row → 0 < get_or s.counts.row (at % length s.counts.row) 0
+      some_here at is = subst (λ p. 0 < get_or s.counts.row (p % length s.counts.row) 0) (sym is)
+          (leave_some s.counts.row s.counts.emitted s.floor s.members.last s.members.members sound number (position_in row) stands_at)
+
+      pub room_here : (q : ℕ) → get_or (left_at s.counts.row (position_in row)) (q % length (left_at s.counts.row (position_in row))) 0 + 1 < 2 ^ 64
+      room_here q = enter_again s.counts.row s.counts.emitted s.floor s.members.last s.members.members sound number (position_in row) stands_at q
 
     -- the row is as it was
     pub untouched : putting row ≡ s

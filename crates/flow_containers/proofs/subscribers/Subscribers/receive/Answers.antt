@@ -1,17 +1,14 @@
-use Rattle.std.proofs.Common.{◌≡◌, ◌+◌, ◌-◌, ◌<◌, ◌≤◌, ◌%◌, ◌^◌, ◌==◌, ◌&&◌, length, get_or, Some, None, refl, sym, ap, subst, ◌∙◌, arith}
+use Rattle.std.proofs.Common.{◌≡◌, ◌+◌, ◌-◌, ◌<◌, ◌%◌, ◌^◌, ◌==◌, ◌&&◌, length, get_or, Some, None, refl, sym, ap, subst, ◌∙◌, arith}
 use Rattle.std.specs.List.{slice_get}
-use Rattle.std.specs.Option.{IfSome}
 use Rattle.std.specs.Prelude.{Ok, Err}
 use Rattle.std.proofs.lemmas.List.{length-set}
-use Rattle.flow_law.specs.SharedFlow.{position_of}
 use Rattle.flow_containers.specs.declared.subscribers.receive.Received.TheVariants.{Gone, Own, Emitted, Empty}
 use Rattle.flow_containers.specs.Members.{row_of, with_row}
 use Rattle.flow_containers.specs.Rows.{left}
 use Rattle.flow_containers.specs.PositionCounts.{entered, left_at}
 use Rattle.flow_containers.specs.Subscribers.{Standing, standing_of, AreSound}
 use Rattle.flow_containers.specs.Receiving.{Receives}
-use Rattle.flow_containers.proofs.SubscribersLemmas.{found_near, leave_some, enter_again}
-use Rattle.flow_containers.proofs.ReceivingLemmas.{found_below, position_in, putting, gone, own_left, nobody, stands_at, kept_here, was_last, takes, takes_sound, none_left, stays, stays_sound, goes, goes_sound}
+use Rattle.flow_containers.proofs.ReceivingLemmas.{found_below, position_in, putting, gone, own_left, nobody, stands_at, held_here, near_here, some_here, room_here, was_last, takes, takes_sound, none_left, stays, stays_sound, goes, goes_sound}
 use Rattle.flow_containers.proofs.subscribers.Subscribers.receive.Goals as goal
 
 pub returns-in_default-clause-receives : goal.returns-in_default-clause-receives
@@ -28,9 +25,7 @@ invariant_of-self-in-Some-pop_front g c =
 
 pub returns-in-Some-pop_front-clause-receives : goal.returns-in-Some-pop_front-clause-receives
 returns-in-Some-pop_front-clause-receives g c =
-    let s = c.self.inside in
-    let number = c.args.number in
-    let row = c.in-Some.row.now in
+    let s = c.self.inside in let number = c.args.number in let row = c.in-Some.row.now in
     let found : row_of number s.members.members ≡ Some row = sym c.in-Some.ensures.value in
     let own = c.pop_front.new.self in
     subst (λ (v : Standing _). Receives number c.args.values.now.items v (Ok (Own c.in-Some-pop_front.value)) (standing_of (putting s number (left own row)))) c.self.view_is
@@ -38,15 +33,8 @@ returns-in-Some-pop_front-clause-receives g c =
 
 pub overflow_sub-position : goal.overflow_sub-position
 overflow_sub-position g c =
-    let s = c.self.inside in
-    let number = c.args.number in
-    let row = c.in-Some.row.now in
-    let found : row_of number s.members.members ≡ Some row = sym c.in-Some.ensures.value in
-    let items = c.args.values.now.items in
-    let held = subst (λ (v : Standing _). length items ≤ v.emitted) (sym c.self.view_is) c.requires.held in
-    let kept = kept_here s number row found (s.counts.emitted - length items)
-    (subst (λ (v : Standing _). IfSome (position_of number v.list) (λ position. v.emitted - length items ≤ position)) (sym c.self.view_is) c.requires.kept) in
-    omega (arith, kept, c.max-position.ensures, c.emitted.ensures, c.len.ensures.len)
+    let held = held_here c.self.inside c.args.number c.in-Some.row.now (sym c.in-Some.ensures.value) _ (length c.args.values.now.items) c.self.view_is c.requires.held c.requires.kept in
+    omega (arith, held.1, c.max-position.ensures, c.emitted.ensures, c.len.ensures.len)
 
 pub invariant_of-self-in_default-get : goal.invariant_of-self-in_default-get
 invariant_of-self-in_default-get g c =
@@ -58,11 +46,8 @@ invariant_of-self-in-Err g c =
 
 pub returns-in_default-get-clause-receives : goal.returns-in_default-get-clause-receives
 returns-in_default-get-clause-receives g c =
-    let s = c.self.inside in
-    let number = c.args.number in
-    let row = c.in-Some.row.now in
+    let s = c.self.inside in let number = c.args.number in let row = c.in-Some.row.now in let items = c.args.values.now.items in
     let found : row_of number s.members.members ≡ Some row = sym c.in-Some.ensures.value in
-    let items = c.args.values.now.items in
     let at : c.max-position.result - (c.emitted.result - c.len.result) ≡ position_in s number row - (s.counts.emitted - length items) =
     cc (c.max-position.ensures, c.emitted.ensures, c.len.ensures.len) in
     let own = c.pop_front.new.self in
@@ -71,11 +56,8 @@ returns-in_default-get-clause-receives g c =
 
 pub returns-in-Err-clause-receives : goal.returns-in-Err-clause-receives
 returns-in-Err-clause-receives g c =
-    let s = c.self.inside in
-    let number = c.args.number in
-    let row = c.in-Some.row.now in
+    let s = c.self.inside in let number = c.args.number in let row = c.in-Some.row.now in let items = c.args.values.now.items in
     let found : row_of number s.members.members ≡ Some row = sym c.in-Some.ensures.value in
-    let items = c.args.values.now.items in
     let at : c.max-position.result - (c.emitted.result - c.len.result) ≡ position_in s number row - (s.counts.emitted - length items) =
     cc (c.max-position.ensures, c.emitted.ensures, c.len.ensures.len) in
     let own = c.pop_front.new.self in
@@ -84,56 +66,35 @@ returns-in-Err-clause-receives g c =
 
 pub move_on-others-requires-clause-past : goal.move_on-others-requires-clause-past
 move_on-others-requires-clause-past g c =
-    let s = c.self.inside in
-    let number = c.args.number in
-    let row = c.in-Some.row.now in
+    let s = c.self.inside in let number = c.args.number in let row = c.in-Some.row.now in let items = c.args.values.now.items in
     let found : row_of number s.members.members ≡ Some row = sym c.in-Some.ensures.value in
-    let items = c.args.values.now.items in
-    let held = subst (λ (v : Standing _). length items ≤ v.emitted) (sym c.self.view_is) c.requires.held in
-    let kept = kept_here s number row found (s.counts.emitted - length items)
-    (subst (λ (v : Standing _). IfSome (position_of number v.list) (λ position. v.emitted - length items ≤ position)) (sym c.self.view_is) c.requires.kept) in
+    let held = held_here s number row found _ (length items) c.self.view_is c.requires.held c.requires.kept in
     let below = found_below _ items c.in-Some-get.value.now (sym c.in-Some-get.ensures) in
-    omega (arith, below, kept, held, c.max-position.ensures, c.emitted.ensures, c.len.ensures.len)
+    omega (arith, below, held.0, held.1, c.max-position.ensures, c.emitted.ensures, c.len.ensures.len)
 
 pub move_on-others-requires-clause-near : goal.move_on-others-requires-clause-near
 move_on-others-requires-clause-near g c =
-    let s = c.self.inside in
-    let number = c.args.number in
-    let row = c.in-Some.row.now in
-    let found : row_of number s.members.members ≡ Some row = sym c.in-Some.ensures.value in
-    let near = found_near s.counts.row s.counts.emitted s.floor s.members.last s.members.members c.self.invariant number (position_in s number row) (stands_at s number row found) in
+    let near = near_here c.self.inside c.args.number c.in-Some.row.now (sym c.in-Some.ensures.value) c.self.invariant in
     omega (arith, near.1, c.max-position.ensures)
 
 pub move_on-others-requires-clause-some : goal.move_on-others-requires-clause-some
 move_on-others-requires-clause-some g c =
-    let s = c.self.inside in
-    let number = c.args.number in
-    let row = c.in-Some.row.now in
-    let found : row_of number s.members.members ≡ Some row = sym c.in-Some.ensures.value in
-    subst (λ p. 0 < get_or s.counts.row (p % length s.counts.row) 0) (sym c.max-position.ensures)
-    (leave_some s.counts.row s.counts.emitted s.floor s.members.last s.members.members c.self.invariant number (position_in s number row) (stands_at s number row found))
+    some_here c.self.inside c.args.number c.in-Some.row.now (sym c.in-Some.ensures.value) c.self.invariant c.max-position.result c.max-position.ensures
 
 pub move_on-others-requires-clause-room : goal.move_on-others-requires-clause-room
 move_on-others-requires-clause-room g c =
-    let s = c.self.inside in
-    let number = c.args.number in
-    let row = c.in-Some.row.now in
+    let s = c.self.inside in let number = c.args.number in let row = c.in-Some.row.now in
     let found : row_of number s.members.members ≡ Some row = sym c.in-Some.ensures.value in
     subst (λ p. get_or (left_at s.counts.row p) ((p + 1) % length (left_at s.counts.row p)) 0 + 1 < 2 ^ 64) (sym c.max-position.ensures)
-    (enter_again s.counts.row s.counts.emitted s.floor s.members.last s.members.members c.self.invariant number (position_in s number row) (stands_at s number row found) (position_in s number row + 1))
+    (room_here s number row found c.self.invariant (position_in s number row + 1))
 
 pub invariant_of-self-in-Ok : goal.invariant_of-self-in-Ok
 invariant_of-self-in-Ok g c =
-    let s = c.self.inside in
-    let number = c.args.number in
-    let row = c.in-Some.row.now in
+    let s = c.self.inside in let number = c.args.number in let row = c.in-Some.row.now in let items = c.args.values.now.items in
     let found : row_of number s.members.members ≡ Some row = sym c.in-Some.ensures.value in
-    let items = c.args.values.now.items in
-    let held = subst (λ (v : Standing _). length items ≤ v.emitted) (sym c.self.view_is) c.requires.held in
-    let kept = kept_here s number row found (s.counts.emitted - length items)
-    (subst (λ (v : Standing _). IfSome (position_of number v.list) (λ position. v.emitted - length items ≤ position)) (sym c.self.view_is) c.requires.kept) in
+    let held = held_here s number row found _ (length items) c.self.view_is c.requires.held c.requires.kept in
     let below = found_below _ items c.in-Some-get.value.now (sym c.in-Some-get.ensures) in
-    let more : position_in s number row < s.counts.emitted = omega (arith, below, kept, held, c.max-position.ensures, c.emitted.ensures, c.len.ensures.len) in
+    let more : position_in s number row < s.counts.emitted = omega (arith, below, held.0, held.1, c.max-position.ensures, c.emitted.ensures, c.len.ensures.len) in
     let own = c.pop_front.new.self in
     let next = c.max-position.result + 1 in
     let counts = c.move_on-others.ensures.row ∙ ap (λ p. entered (left_at s.counts.row p) (p + 1)) c.max-position.ensures in
@@ -143,16 +104,11 @@ invariant_of-self-in-Ok g c =
 
 pub returns-in-Ok-clause-receives : goal.returns-in-Ok-clause-receives
 returns-in-Ok-clause-receives g c =
-    let s = c.self.inside in
-    let number = c.args.number in
-    let row = c.in-Some.row.now in
+    let s = c.self.inside in let number = c.args.number in let row = c.in-Some.row.now in let items = c.args.values.now.items in
     let found : row_of number s.members.members ≡ Some row = sym c.in-Some.ensures.value in
-    let items = c.args.values.now.items in
-    let held = subst (λ (v : Standing _). length items ≤ v.emitted) (sym c.self.view_is) c.requires.held in
-    let kept = kept_here s number row found (s.counts.emitted - length items)
-    (subst (λ (v : Standing _). IfSome (position_of number v.list) (λ position. v.emitted - length items ≤ position)) (sym c.self.view_is) c.requires.kept) in
+    let held = held_here s number row found _ (length items) c.self.view_is c.requires.held c.requires.kept in
     let below = found_below _ items c.in-Some-get.value.now (sym c.in-Some-get.ensures) in
-    let more : position_in s number row < s.counts.emitted = omega (arith, below, kept, held, c.max-position.ensures, c.emitted.ensures, c.len.ensures.len) in
+    let more : position_in s number row < s.counts.emitted = omega (arith, below, held.0, held.1, c.max-position.ensures, c.emitted.ensures, c.len.ensures.len) in
     let at : c.max-position.result - (c.emitted.result - c.len.result) ≡ position_in s number row - (s.counts.emitted - length items) =
     cc (c.max-position.ensures, c.emitted.ensures, c.len.ensures.len) in
     let own = c.pop_front.new.self in

@@ -1,13 +1,10 @@
 use Rattle.std.proofs.Common.{◌≡◌, ◌+◌, ◌-◌, ◌<◌, ◌≤◌, ◌%◌, ◌^◌, ◌++◌, [], length, take, drop, get_or, Some, refl, sym, ap, subst, ◌∙◌, arith}
-use Rattle.std.specs.Option.{IfSome}
 use Rattle.std.proofs.lemmas.List.{append-nil, length-set, nil_from_length}
-use Rattle.flow_law.specs.SharedFlow.{position_of}
 use Rattle.flow_containers.specs.Members.{row_of, with_row}
 use Rattle.flow_containers.specs.PositionCounts.{entered, left_at}
 use Rattle.flow_containers.specs.Subscribers.{Standing, standing_of, AreSound}
 use Rattle.flow_containers.specs.Receiving.{TakesSome}
-use Rattle.flow_containers.proofs.SubscribersLemmas.{found_near, leave_some, enter_again}
-use Rattle.flow_containers.proofs.ReceivingLemmas.{position_in, stands_at, kept_here, untouched, untouched_sound, none_left, gone, goes, goes_sound}
+use Rattle.flow_containers.proofs.ReceivingLemmas.{position_in, stands_at, held_here, near_here, some_here, room_here, untouched, untouched_sound, none_left, gone, goes, goes_sound}
 use Rattle.flow_containers.proofs.subscribers.Subscribers.take.Goals as goal
 
 pub invariant_of-self-then-len-gt0 : goal.invariant_of-self-then-len-gt0
@@ -18,78 +15,48 @@ returns-then-len-gt0-clause-none g c = λ _. (refl, ap standing_of (untouched c.
 
 pub overflow_sub-position : goal.overflow_sub-position
 overflow_sub-position g c =
-    let s = c.self.inside in
-    let number = c.args.number in
-    let row = c.in-Some.row.now in
-    let found : row_of number s.members.members ≡ Some row = sym c.in-Some.ensures.value in
-    let items = c.args.values.now.items in
-    let held = subst (λ (v : Standing _). length items ≤ v.emitted) (sym c.self.view_is) c.requires.held in
-    let kept = kept_here s number row found (s.counts.emitted - length items)
-    (subst (λ (v : Standing _). IfSome (position_of number v.list) (λ position. v.emitted - length items ≤ position)) (sym c.self.view_is) c.requires.kept) in
-    omega (arith, kept, c.max-position.ensures, c.emitted.ensures, c.len-2.ensures.len)
+    let held = held_here c.self.inside c.args.number c.in-Some.row.now (sym c.in-Some.ensures.value) _ (length c.args.values.now.items) c.self.view_is c.requires.held c.requires.kept in
+    omega (arith, held.1, c.max-position.ensures, c.emitted.ensures, c.len-2.ensures.len)
 
 pub copy_to-count-requires : goal.copy_to-count-requires
 copy_to-count-requires g c =
-    let s = c.self.inside in
-    let number = c.args.number in
-    let row = c.in-Some.row.now in
-    let found : row_of number s.members.members ≡ Some row = sym c.in-Some.ensures.value in
-    let items = c.args.values.now.items in
-    let held = subst (λ (v : Standing _). length items ≤ v.emitted) (sym c.self.view_is) c.requires.held in
-    let near = found_near s.counts.row s.counts.emitted s.floor s.members.last s.members.members c.self.invariant number (position_in s number row) (stands_at s number row found) in
-    omega (arith, held, near.0, c.max-position.ensures, c.emitted.ensures, c.len-2.ensures.len)
+    let held = held_here c.self.inside c.args.number c.in-Some.row.now (sym c.in-Some.ensures.value) _ (length c.args.values.now.items) c.self.view_is c.requires.held c.requires.kept in
+    let near = near_here c.self.inside c.args.number c.in-Some.row.now (sym c.in-Some.ensures.value) c.self.invariant in
+    omega (arith, held.0, near.0, c.max-position.ensures, c.emitted.ensures, c.len-2.ensures.len)
 
 pub leave-requires-clause-near : goal.leave-requires-clause-near
 leave-requires-clause-near g c =
-    let s = c.self.inside in
-    let number = c.args.number in
-    let row = c.in-Some.row.now in
-    let found : row_of number s.members.members ≡ Some row = sym c.in-Some.ensures.value in
-    let near = found_near s.counts.row s.counts.emitted s.floor s.members.last s.members.members c.self.invariant number (position_in s number row) (stands_at s number row found) in
+    let near = near_here c.self.inside c.args.number c.in-Some.row.now (sym c.in-Some.ensures.value) c.self.invariant in
     omega (arith, near.1, c.max-position.ensures)
 
 pub leave-requires-clause-some : goal.leave-requires-clause-some
 leave-requires-clause-some g c =
-    let s = c.self.inside in
-    let number = c.args.number in
-    let row = c.in-Some.row.now in
-    let found : row_of number s.members.members ≡ Some row = sym c.in-Some.ensures.value in
-    subst (λ p. 0 < get_or s.counts.row (p % length s.counts.row) 0) (sym c.max-position.ensures)
-    (leave_some s.counts.row s.counts.emitted s.floor s.members.last s.members.members c.self.invariant number (position_in s number row) (stands_at s number row found))
+    some_here c.self.inside c.args.number c.in-Some.row.now (sym c.in-Some.ensures.value) c.self.invariant c.max-position.result c.max-position.ensures
 
 pub enter-requires-clause-near : goal.enter-requires-clause-near
 enter-requires-clause-near g c =
-    let s = c.self.inside in
-    let number = c.args.number in
-    let row = c.in-Some.row.now in
+    let s = c.self.inside in let number = c.args.number in let row = c.in-Some.row.now in
     let found : row_of number s.members.members ≡ Some row = sym c.in-Some.ensures.value in
-    let near = found_near s.counts.row s.counts.emitted s.floor s.members.last s.members.members c.self.invariant number (position_in s number row) (stands_at s number row found) in
+    let near = near_here s number row found c.self.invariant in
     let long : length c.leave.new.self.row ≡ length s.counts.row = ap length c.leave.ensures.row ∙ length-set s.counts.row _ _ in
     omega (arith, near.1, c.max-position.ensures, long, c.leave.ensures.emitted)
 
 pub enter-requires-clause-room : goal.enter-requires-clause-room
 enter-requires-clause-room g c =
-    let s = c.self.inside in
-    let number = c.args.number in
-    let row = c.in-Some.row.now in
+    let s = c.self.inside in let number = c.args.number in let row = c.in-Some.row.now in
     let found : row_of number s.members.members ≡ Some row = sym c.in-Some.ensures.value in
     let q = c.max-position.result + c.copy_to-count.result in
     let left = c.leave.ensures.row ∙ ap (left_at s.counts.row) c.max-position.ensures in
     subst (λ r. get_or r (q % length r) 0 + 1 < 2 ^ 64) (sym left)
-    (enter_again s.counts.row s.counts.emitted s.floor s.members.last s.members.members c.self.invariant number (position_in s number row) (stands_at s number row found) q)
+    (room_here s number row found c.self.invariant q)
 
 pub invariant_of-self-then-count-gt0 : goal.invariant_of-self-then-count-gt0
 invariant_of-self-then-count-gt0 g c =
-    let s = c.self.inside in
-    let number = c.args.number in
-    let row = c.in-Some.row.now in
+    let s = c.self.inside in let number = c.args.number in let row = c.in-Some.row.now in let items = c.args.values.now.items in
     let found : row_of number s.members.members ≡ Some row = sym c.in-Some.ensures.value in
-    let items = c.args.values.now.items in
-    let held = subst (λ (v : Standing _). length items ≤ v.emitted) (sym c.self.view_is) c.requires.held in
-    let kept = kept_here s number row found (s.counts.emitted - length items)
-    (subst (λ (v : Standing _). IfSome (position_of number v.list) (λ position. v.emitted - length items ≤ position)) (sym c.self.view_is) c.requires.kept) in
+    let held = held_here s number row found _ (length items) c.self.view_is c.requires.held c.requires.kept in
     let count = c.copy_to-count.result in
-    let more : position_in s number row + count ≤ s.counts.emitted = omega (arith, c.copy_to-count.ensures.within, kept, held, c.max-position.ensures, c.emitted.ensures, c.len-2.ensures.len) in
+    let more : position_in s number row + count ≤ s.counts.emitted = omega (arith, c.copy_to-count.ensures.within, held.0, held.1, c.max-position.ensures, c.emitted.ensures, c.len-2.ensures.len) in
     let none : row.own ≡ [] = nil_from_length row.own (omega (arith, c.if-len-gt0.false, c.len.ensures)) in
     let next = c.max-position.result + count in
     let counts : c.enter.new.self.row ≡ entered (left_at s.counts.row (position_in s number row)) (position_in s number row + count) =
@@ -104,16 +71,11 @@ invariant_of-self-else-count-gt0 g c = untouched_sound c.self.inside c.args.numb
 
 pub returns-then-count-gt0-clause-some : goal.returns-then-count-gt0-clause-some
 returns-then-count-gt0-clause-some g c = λ _.
-    let s = c.self.inside in
-    let number = c.args.number in
-    let row = c.in-Some.row.now in
+    let s = c.self.inside in let number = c.args.number in let row = c.in-Some.row.now in let items = c.args.values.now.items in
     let found : row_of number s.members.members ≡ Some row = sym c.in-Some.ensures.value in
-    let items = c.args.values.now.items in
-    let held = subst (λ (v : Standing _). length items ≤ v.emitted) (sym c.self.view_is) c.requires.held in
-    let kept = kept_here s number row found (s.counts.emitted - length items)
-    (subst (λ (v : Standing _). IfSome (position_of number v.list) (λ position. v.emitted - length items ≤ position)) (sym c.self.view_is) c.requires.kept) in
+    let held = held_here s number row found _ (length items) c.self.view_is c.requires.held c.requires.kept in
     let count = c.copy_to-count.result in
-    let more : position_in s number row + count ≤ s.counts.emitted = omega (arith, c.copy_to-count.ensures.within, kept, held, c.max-position.ensures, c.emitted.ensures, c.len-2.ensures.len) in
+    let more : position_in s number row + count ≤ s.counts.emitted = omega (arith, c.copy_to-count.ensures.within, held.0, held.1, c.max-position.ensures, c.emitted.ensures, c.len-2.ensures.len) in
     let none : row.own ≡ [] = nil_from_length row.own (omega (arith, c.if-len-gt0.false, c.len.ensures)) in
     let next = c.max-position.result + count in
     let is = ap (λ p. p + count) c.max-position.ensures in
