@@ -12,8 +12,30 @@ pub struct Size {
 
 pub const MOST_THREADS: u32 = 64;
 
-/// Returns the seed, the number of threads, from 4 on, and that of their rounds. `None` where the words are no such.
-pub fn size_of(words: &[String]) -> Option<Size> {
+/// Which flow is recorded.
+#[derive(Clone, Copy)]
+pub enum Kind {
+    /// A state flow without a lock.
+    Word,
+    /// A state flow behind a gate.
+    State,
+    /// A shared flow that suspends.
+    Shared,
+    /// A shared flow that drops the oldest value.
+    Dropping,
+    /// A shared flow without a buffer.
+    Rendezvous,
+}
+
+/// What the program is to do.
+#[derive(Clone, Copy)]
+pub enum Task {
+    Stress(Size),
+    Record(Kind, Size),
+}
+
+/// Reads the seed, the number of threads, from 4 on, and that of their rounds. Returns None if the words are no such.
+fn size_of(words: &[String]) -> Option<Size> {
     let [seed, threads, rounds] = words else {
         return None;
     };
@@ -28,4 +50,28 @@ pub fn size_of(words: &[String]) -> Option<Size> {
         threads,
         rounds,
     })
+}
+
+fn kind_of(word: &str) -> Option<Kind> {
+    match word {
+        "word" => Some(Kind::Word),
+        "state" => Some(Kind::State),
+        "shared" => Some(Kind::Shared),
+        "dropping" => Some(Kind::Dropping),
+        "rendezvous" => Some(Kind::Rendezvous),
+        _ => None,
+    }
+}
+
+/// Reads what the program is to do. Returns None if the words say no such.
+pub fn task_of(words: &[String]) -> Option<Task> {
+    let is_record = words
+        .first()
+        .is_some_and(|word| word.as_str() == "--record");
+    if !is_record {
+        return Some(Task::Stress(size_of(words)?));
+    }
+    let kind = kind_of(words.get(1)?.as_str())?;
+    let size = size_of(words.get(2..)?)?;
+    Some(Task::Record(kind, size))
 }

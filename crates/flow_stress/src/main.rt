@@ -1,5 +1,6 @@
 //! Puts flows under the calls of many threads, and tells whether all that must hold of every run held:
-//! `flow_stress SEED THREADS ROUNDS`.
+//! `flow_stress SEED THREADS ROUNDS`. `flow_stress --record KIND SEED THREADS ROUNDS`, with a kind of `arguments.rt`, prints a record
+//! of calls of threads to a flow instead, which `flow_judge` reads.
 //!
 //! Each thread makes its rounds of calls, as the seed says. A quarter of the threads does each of these:
 //! - emits, polls and cancels at a shared flow that suspends (replay 2, room for 4 more);
@@ -25,16 +26,26 @@ mod exchanging;
 mod found;
 mod order;
 mod reading;
+mod recorded;
+mod recorded_shared;
+mod recorder;
+mod recording;
 mod shared_caller;
 mod state_caller;
 mod stress;
 mod word_caller;
 
-use arguments::{Size, size_of};
+use arguments::{Size, Task, task_of};
 use found::Found;
+use recorder::record;
+use std::alloc::AllocGlobal;
 use std::env::args;
 use std::io::{self, ErrorKind};
 use std::process::ExitCode;
+use std::random::RandomSource;
+use std::sync::Wait;
+use std::thread::Threads;
+use std::time::Clock;
 use stress::stress;
 
 const WRONG: u8 = 1;
@@ -62,19 +73,36 @@ fn tell_memory(rt: &HostRuntime) -> io::Result<u8> {
     Ok(OUT_OF_MEMORY)
 }
 
-fn read_size(rt: &HostRuntime) -> io::Result<Option<Size>> {
+fn read_task(rt: &HostRuntime) -> io::Result<Option<Task>> {
     let words: Vec<String> = args(rt)?.skip(1).collect(rt.alloc())?;
-    Ok(size_of(words.as_slice()))
+    Ok(task_of(words.as_slice()))
 }
 
 fn tell_usage(rt: &HostRuntime) -> io::Result<u8> {
-    println!(rt; "usage: flow_stress SEED THREADS ROUNDS")?;
+    println!(rt;
+        "usage: flow_stress [--record word|state|shared|dropping|rendezvous] SEED THREADS ROUNDS"
+    )?;
     Ok(REFUSED)
 }
 
+/// Does what was asked. The threads are those of `threads`.
+fn do_task<R: Threads + Wait + Clock + RandomSource + AllocGlobal + Sync>(
+    rt: &HostRuntime,
+    threads: &R,
+    task: Task,
+) -> io::Result<u8> {
+    match task {
+        Task::Stress(size) => tell(rt, size, stress(threads, rt.alloc(), size)),
+        Task::Record(kind, size) => {
+            record(threads, rt.alloc(), &mut rt.stdout(), kind, size)?;
+            Ok(0)
+        }
+    }
+}
+
 fn main(rt: HostRuntime) -> ExitCode {
-    let told = match read_size(&rt) {
-        Ok(Some(size)) => tell(&rt, size, stress(&rt, rt.alloc(), size)),
+    let told = match read_task(&rt) {
+        Ok(Some(task)) => do_task(&rt, &rt, task),
         Err(fault) if fault.kind() == ErrorKind::OutOfMemory => tell_memory(&rt),
         _ => tell_usage(&rt),
     };

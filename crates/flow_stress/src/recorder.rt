@@ -1,0 +1,223 @@
+//! Records what threads call of a flow.
+use crate::arguments::{Kind, Size};
+use crate::recorded::{Recorded, RecordedState, RecordedWord};
+use crate::recorded_shared::RecordedShared;
+use crate::recording::{Call, Entry, VALUES};
+use flow_law::{Config, Overflow};
+use flow_shared::{SharedFlow, StateFlow};
+use flow_testing::Start;
+use flow_word::WordState;
+use rand_core::utils::NextWord;
+use rand_pcg::Pcg32;
+use std::alloc::Global;
+use std::io::{self, ErrorKind, Write};
+use std::sync::Wait;
+use std::sync::atomic::{AtomicU64, Ordering};
+use std::thread::{Threads, for_each_mut};
+use std::time::Clock;
+
+/// The calls of one thread. All threads raise one clock, once before a call and once after it.
+#[derive(Drop)]
+struct Recorder<'a, 'c> {
+    flow: Recorded<'a>,
+    clock: &'c AtomicU64,
+    number: u32,
+    dice: Pcg32,
+    entries: Vec<Entry>,
+    /// A call was refused, or memory ran out.
+    is_stopped: bool,
+}
+
+impl<'a, 'c> Recorder<'a, 'c> {
+    fn value(&mut self) -> u64 {
+        u64::from(self.dice.next_word()) % VALUES
+    }
+
+    fn choose_of_state(&mut self) -> Call {
+        let is_subscribed = self.flow.is_subscribed();
+        match self.dice.next_word() % 10 {
+            0 | 1 => Call::Set(self.value()),
+            2 => Call::CompareAndSet(self.value(), self.value()),
+            3 => Call::Update,
+            4 => Call::Value,
+            5 => Call::SubscriptionCount,
+            6 if is_subscribed => Call::Unsubscribe,
+            _ if is_subscribed => Call::Next,
+            _ => Call::Subscribe,
+        }
+    }
+
+    /// Chooses a call of a shared flow. No other call emits its value.
+    fn choose_of_shared(&mut self) -> Call {
+        let is_subscribed = self.flow.is_subscribed();
+        let value = (self.entries.len() as u64)
+            .wrapping_mul(100)
+            .wrapping_add(u64::from(self.number));
+        match self.dice.next_word() % 12 {
+            0 | 1 => Call::TryEmit(value),
+            2 | 3 => Call::Emit(value),
+            4 => Call::SubscriptionCount,
+            5 => Call::ReplayCache,
+            6 => Call::ResetReplayCache,
+            7 if is_subscribed => Call::Unsubscribe,
+            _ if is_subscribed => Call::Next,
+            _ => Call::Subscribe,
+        }
+    }
+
+    fn choose(&mut self) -> Call {
+        if self.flow.is_shared() {
+            self.choose_of_shared()
+        } else {
+            self.choose_of_state()
+        }
+    }
+
+    fn tick(&self) -> u64 {
+        self.clock.fetch_add(1, Ordering::SeqCst)
+    }
+
+    /// Makes a call and records it. Returns None if it was refused.
+    fn record<R: Wait + Clock>(&mut self, rt: &R) -> Option<()> {
+        let call = self.choose();
+        let begin = self.tick();
+        let answer = self.flow.make(rt, call)?;
+        let end = self.tick();
+        self.entries
+            .push(Entry {
+                call,
+                answer,
+                begin,
+                end,
+            })
+            .ok()
+    }
+
+    fn record_all<R: Wait + Clock>(&mut self, rt: &R, rounds: u32) {
+        for _ in 0..rounds {
+            if !self.is_stopped {
+                self.is_stopped = self.record(rt).is_none();
+            }
+        }
+    }
+}
+
+/// Makes a recorder for each thread.
+fn recorders<'a, 'c>(
+    alloc: Global,
+    flow: &mut Recorded<'a>,
+    clock: &'c AtomicU64,
+    size: Size,
+) -> io::Result<Vec<Recorder<'a, 'c>>> {
+    let mut recorders = Vec::new(alloc);
+    for number in 0..size.threads {
+        recorders.push(Recorder {
+            flow: flow.another(),
+            clock,
+            number,
+            dice: Pcg32::new(size.seed, u64::from(number)),
+            entries: Vec::new(alloc),
+            is_stopped: false,
+        })?;
+    }
+    Ok(recorders)
+}
+
+/// Returns the record's text of the flow.
+fn flow_words(kind: Kind) -> &'static str {
+    match kind {
+        Kind::Word | Kind::State => "\"kind\": \"state\", \"initial\": 0",
+        Kind::Shared =>
+            "\"kind\": \"shared\", \"replay\": 1, \"extra\": 2, \"overflow\": \"suspend\"",
+        Kind::Dropping => {
+            "\"kind\": \"shared\", \"replay\": 1, \"extra\": 1, \"overflow\": \"drop_oldest\""
+        }
+        Kind::Rendezvous => {
+            "\"kind\": \"shared\", \"replay\": 0, \"extra\": 0, \"overflow\": \"suspend\""
+        }
+    }
+}
+
+fn config_of(kind: Kind) -> Config {
+    match kind {
+        Kind::Word | Kind::State | Kind::Rendezvous => Config::new(),
+        Kind::Shared => Config::new().replay(1).extra(2),
+        Kind::Dropping => Config::new()
+            .replay(1)
+            .extra(1)
+            .overflow(Overflow::DropOldest),
+    }
+}
+
+fn write_all<W: Write>(out: &mut W, kind: Kind, recorders: &[Recorder<'_, '_>]) -> io::Result<()> {
+    writeln!(out, "{{\"flow\": {{{}}}}}", flow_words(kind))?;
+    for recorder in recorders {
+        if recorder.is_stopped {
+            return Err(io::Error::from(ErrorKind::OutOfMemory));
+        }
+        for entry in &recorder.entries {
+            entry.write(out, recorder.number)?;
+        }
+    }
+    Ok(())
+}
+
+/// Makes the calls of all threads, which begin at the same time, and writes their record.
+fn record_by<R: Threads + Wait + Clock + Sync, W: Write>(
+    rt: &R,
+    alloc: Global,
+    out: &mut W,
+    mut flow: Recorded<'_>,
+    kind: Kind,
+    size: Size,
+) -> io::Result<()> {
+    let clock = AtomicU64::new(0);
+    let mut recorders = recorders(alloc, &mut flow, &clock, size)?;
+    let threads = recorders.len().max(1);
+    let start = Start::new(u64::from(size.threads));
+    for_each_mut(
+        rt,
+        &mut recorders,
+        threads,
+        &|_, recorder| {
+            start.wait();
+            recorder.record_all(rt, size.rounds)
+        },
+    );
+    if !start.is_kept() {
+        return Err(io::Error::from(ErrorKind::OutOfMemory));
+    }
+    write_all(out, kind, recorders.as_slice())
+}
+
+/// Records the calls of a new flow of this kind.
+pub fn record<R: Threads + Wait + Clock + Sync, W: Write>(
+    rt: &R,
+    alloc: Global,
+    out: &mut W,
+    kind: Kind,
+    size: Size,
+) -> io::Result<()> {
+    let (Ok((word, word_seat)), Ok((state, state_seat)), Ok((shared, shared_seat))) = (
+        WordState::new(alloc, 0, u32::MAX),
+        StateFlow::new(alloc, 0, u64::MAX),
+        SharedFlow::new(alloc, config_of(kind)),
+    ) else {
+        return Err(io::Error::from(ErrorKind::OutOfMemory));
+    };
+    let flow = match kind {
+        Kind::Word => Recorded::Word(RecordedWord {
+            setter: word.setter(word_seat),
+            reader: None,
+        }),
+        Kind::State => Recorded::State(RecordedState {
+            setter: state.setter(state_seat),
+            reader: None,
+        }),
+        Kind::Shared | Kind::Dropping | Kind::Rendezvous => Recorded::Shared(RecordedShared {
+            emitter: shared.emitter(shared_seat),
+            reader: None,
+        }),
+    };
+    record_by(rt, alloc, out, flow, kind, size)
+}
