@@ -1,2 +1,4 @@
+pub mod Callers
 pub mod InOrder
+pub mod Numbers
 pub mod Sizes

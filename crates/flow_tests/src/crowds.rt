@@ -1,6 +1,6 @@
 //! Crowds, and the order of what came from one emitter.
 use crate::compare::compare;
-use flow_crowd::{CrowdSize, Order, Received, run_crowd};
+use flow_crowd::{CrowdSize, Order, Received, run_crowd, run_pair};
 use std::alloc::Global;
 use std::process::Abort;
 use std::sync::Wait;
@@ -67,5 +67,16 @@ fn is_in_order(places: &[u64]) -> bool {
 fn values_of_one_emitter_come_in_order(rt: HostRuntime) {
     for (number, (places, wanted)) in PLACES.iter().enumerate() {
         compare(&rt, number, is_in_order(places), *wanted);
+    }
+}
+
+#[test]
+fn a_pair_hands_over_all_numbers_in_order(rt: HostRuntime) {
+    let got = run_pair(&rt, rt.alloc(), 40).expect(&rt, "memory and threads");
+    compare(&rt, 0, got.len(), 40);
+    let mut sent = 1u64;
+    for value in &got {
+        compare(&rt, 1, *value, sent);
+        sent = sent.saturating_add(1);
     }
 }

@@ -1,0 +1,5 @@
+pub mod CallerLemmas
+pub mod LineLemmas
+pub mod PairLemmas
+pub mod ReceivedLemmas
+pub mod WaitLemmas

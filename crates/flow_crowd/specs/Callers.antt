@@ -1,0 +1,46 @@
+-- What one caller at a shared flow has done, if it only emits or only reads. Begin with `Emits` and `Reads`.
+use Rattle.std.specs.Prelude.{◌≡◌, ◌⊎◌, ℕ, List, [], ◌∷◌, flat_map}
+use Rattle.std.specs.List.{AllByRecursion}
+use Rattle.flow_law.specs.declared.history.Knowledge.{Knowledge}
+use Rattle.flow_law.specs.declared.history.Said.{Said}
+use Rattle.flow_law.specs.declared.call.SharedCall.{SharedCall}
+use Rattle.flow_law.specs.declared.call.SharedCall.TheVariants as call
+use Rattle.flow_law.specs.declared.call.SharedReply.{SharedReply}
+use Rattle.flow_law.specs.declared.call.SharedReply.TheVariants as reply
+use Rattle.flow_law.specs.Accepted.{accepted}
+use Rattle.flow_law.specs.Done.{Made}
+use Rattle.flow_law.specs.Mailbox.{received_by}
+use Rattle.flow_law.specs.OneHistory.{said}
+
+-- one call with its reply
+abbrev pub Says : Type 0 → Type 0
+Says T = Said (SharedCall T) (SharedReply T)
+
+module _ {T : Type 0} where
+  -- an emission, or a poll of one
+  abbrev pub IsEmitting : SharedCall T → Type 0
+  IsEmitting (call.Emit v) = Unit {0}
+  IsEmitting (call.Poll e) = Unit {0}
+  IsEmitting _ = ⊥
+
+  -- the values that `next` gave to u in these calls, in order
+  abbrev pub taken_by : ℕ → List (Says T) → List T
+  taken_by u = flat_map (λ (e : Says T). received_by u e.call e.reply)
+
+  -- the token has only emitted since: the flow accepted these values of it, in this order
+  abbrev pub Emits : List T → Knowledge (Says T) → Knowledge (Says T) → Type 0
+  Emits values before after =
+      (added : List (Says T)) × Made added before after
+      × AllByRecursion (λ (e : Says T). IsEmitting e.call) added × (accepted added ≡ values)
+
+  -- the token has only called `next` of the subscriber u since, which gave these values, in this order
+  abbrev pub Reads : ℕ → List T → Knowledge (Says T) → Knowledge (Says T) → Type 0
+  Reads u values before after =
+      (added : List (Says T)) × Made added before after
+      × AllByRecursion (λ (e : Says T). e.call ≡ call.TakeNext u) added × (taken_by u added ≡ values)
+
+  -- the calls have a `subscribe` for the token of this name, which got this number
+  abbrev pub HasSubscribed : List ℕ → ℕ → List (Says T) → Type 0
+  HasSubscribed name u [] = ⊥
+  HasSubscribed name u (e ∷ es) =
+      (e ≡ said (call.Subscribe name []) (reply.Subscribed u)) ⊎ HasSubscribed name u es
