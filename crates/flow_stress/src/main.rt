@@ -15,8 +15,10 @@
 //! All threads begin at the same time. At the end no subscriber is left, each reader has read something, and both state flows
 //! have as much as all threads added.
 //!
-//! One part of this is proved: if callers only update a state flow without a lock, no update is lost (`run_count` of
-//! flow_count). Here each thread does other things, too, and all is tested.
+//! # What is proved
+//! Two parts, for every schedule. If callers only update a state flow without a lock, no update is lost (`run_count` of
+//! flow_count). If one thread sends into a flow that suspends and another one receives as many values, it receives what was
+//! sent, in order (`run_pair` of flow_crowd). Here each thread does other things, too, and all is tested.
 #![tactic(auto)]
 
 mod arguments;
