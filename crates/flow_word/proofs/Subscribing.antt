@@ -35,7 +35,7 @@ use Rattle.flow_word.specs.declared.view.LastGot.{LastGot}
 use Rattle.flow_word.specs.declared.view.Start.{Start}
 use Rattle.flow_word.specs.View.{StateKnowledge, begun, last_got, only}
 use Rattle.flow_word.specs.Rule.{counts, WordHolds}
-use Rattle.flow_word.specs.Steps.{received, value_in, IsPack, HasGot, Makes, receives, leaves, finds_room, enters}
+use Rattle.flow_word.specs.Steps.{received, value_in, IsPack, HasGot, Makes, reads_by, receives, leaves, finds_room, enters}
 use Rattle.flow_word.proofs.Keeps.{event_by, after_call, started, fits_at, makes_event, tells_event, found_is, still, counted}
 
 -- what a subscription knows holds of a history that fits its token
@@ -150,6 +150,37 @@ module _ (T : Type 0) (packs : ℕ → Type 0) (value_of : ℕ → T) (start : S
         λ x' has'. let same : Some x ≡ Some x' = sym has ∙ has' in let e : x ≡ x' = cc in
             subst (λ (z : LastGot). packs found × Makes value_of me (call.TakeNext z.number) (reply.Received (received value_of z.last found)) (g.0, carried_after me.1 g.1)
             × ((only g.0).subscriber ≡ Some (last_got z.number (Some found))) × HasGot packs value_of (begun value_of (only me.0).start) (only g.0).knows z.number (Some found)) e (g.4, g.5, g.6, g.7),
+      )
+
+  -- what the subscription knows after its call of `value`
+  got_still : (s : St) (r : Rule s) (v : V) (x : LastGot) (y : StateReply T) → IsStateHistory (begun value_of start) (r.history ++ event_by T packs value_of start (only v) call.GetValue y ∷ [])
+      → HasGot packs value_of (begun value_of start) (sees r.history (only v).knows) x.number x.last
+      → HasGot packs value_of (begun value_of start) (after_call T packs value_of start (only v) r.history call.GetValue y (only v).subscriber).knows x.number x.last
+  got_still s r v x y is old = let e = event_by T packs value_of start (only v) call.GetValue y in record {
+    given = given_stays state_flow state_lawful (begun value_of start) r.history (e ∷ []) (subscriber x.number) (only v).knows.name is.legal old.given;
+    got = ap (λ (z : StateFlowState T). last_of x.number z.subscribers) (after_all-snoc state_flow (begun value_of start) r.history e) ∙ old.got;
+    packed = old.packed;
+  }
+
+  -- a load of word 0 by a subscription, for `value`
+  pub reading_by : (slots id : ℕ) (me : Me Unit V) (x : LastGot) → me.0 ≡ only me.0 ∷ [] → (only me.0).subscriber ≡ Some x
+      → HasGot packs value_of (begun value_of (only me.0).start) (only me.0).knows x.number x.last → Allows Rule slots id me 0 (λ n. n) (reads_by packs value_of (step slots 0 0 0 none) me)
+  reading_by slots id me x is has old s r n at small =
+      let found : ℕ = get_or s.words 0 0 in let c : StateCall T = call.GetValue in let y : StateReply T = reply.Got (value_of found) in let v : V = me.0 in
+      let same = found_is T packs value_of start s r in let e = event_by T packs value_of start (only v) c y in
+      let replies : Replies (current r.history) c y = ap (λ (z : T). reply.Got z) (ap value_of same ∙ r.value) in
+      let is_history : IsStateHistory (begun value_of start) (r.history ++ e ∷ []) = IsHistory-snoc state_flow (begun value_of start) r.history e r.is_history replies tt in (
+        after_call T packs value_of start (only v) r.history c y (only v).subscriber ∷ [],
+        keeps,
+        tt,
+        makes_event T packs value_of start s r id v c y (only v).subscriber (set s.words 0 found) r.word is at replies tt (set-get_or s.words 0 0 ∙ r.words) r.packed r.value,
+        λ x' has'. let both : Some x ≡ Some x' = sym has ∙ has' in let e : x ≡ x' = cc in (
+          subst packs (sym same) r.packed,
+          tells_event T packs value_of start s r id v me.1 c y (only v).subscriber is at replies tt,
+          has',
+          subst (λ (z : LastGot). HasGot packs value_of (begun value_of (only v).start) (after_call T packs value_of start (only v) r.history c y (only v).subscriber).knows z.number z.last) e
+              (as_started s r id v _ x.number x.last is at (got_still s r v x y is_history (has_now s r id v x is at old))),
+        ),
       )
 
   -- a word 1 from which 1 is taken

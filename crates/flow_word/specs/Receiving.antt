@@ -35,29 +35,6 @@ module _ {Id T S C R : Type 0} (kind : Kind T S C R) (first : S) where
   ReceivesInTime old (Some value) new = Receives old value new
   ReceivesInTime old None new = FindsNone old new
 
-  -- values that were received one after the other, and failed a test
-  pub data PassesOver (Fails : T → Type 0) : NumberedToken Id (Said C R) → NumberedToken Id (Said C R) → Type 0 where
-    none_failed : {s : NumberedToken Id (Said C R)} → PassesOver Fails s s
-    one_failed : {s t u : NumberedToken Id (Said C R)} {value : T} → PassesOver Fails s t → Receives t value u → Fails value → PassesOver Fails s u
-
-  -- values that failed a test, and then this one, which passed it
-  pub record ReceivesIf (Passes Fails : T → Type 0) (old : NumberedToken Id (Said C R)) (value : T) (new : NumberedToken Id (Said C R)) : Type 0 where
-    pub between : NumberedToken Id (Said C R)
-    pub failed : PassesOver Fails old between
-    pub received : Receives between value new
-    pub passes : Passes value
-
-  -- values that failed a test, and then calls of `next` that found nothing
-  pub record PassesNone (Fails : T → Type 0) (old new : NumberedToken Id (Said C R)) : Type 0 where
-    pub between : NumberedToken Id (Said C R)
-    pub failed : PassesOver Fails old between
-    pub empty : FindsNone between new
-
-  -- what a wait for a value that passes a test came to at its end or in its time
-  abbrev pub ReceivesIfInTime : (Passes Fails : T → Type 0) → NumberedToken Id (Said C R) → Option T → NumberedToken Id (Said C R) → Type 0
-  ReceivesIfInTime Passes Fails old (Some value) new = ReceivesIf Passes Fails old value new
-  ReceivesIfInTime Passes Fails old None new = PassesNone Fails old new
-
   -- each value of a stream is what may be received at its turn, and there is no end
   abbrev pub Yields : NumberedToken Id (Said C R) → List T → Option T → Type 0
   Yields old [] (Some value) = (new : NumberedToken Id (Said C R)) × Receives old value new

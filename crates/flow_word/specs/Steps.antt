@@ -83,6 +83,11 @@ module _ {T : Type 0} (packs : ℕ → Type 0) (value_of : ℕ → T) where
   abbrev pub reads : Step Unit → Me Unit (List (Known T)) → ℕ → Me Unit (List (Known T)) → Type 0
   reads step before found after = packs found × Makes value_of before GetValue (Got (value_of found)) after
 
+  -- the same through the seat of a subscriber, which has then got last what it had got before
+  abbrev pub reads_by : Step Unit → Me Unit (List (Known T)) → ℕ → Me Unit (List (Known T)) → Type 0
+  reads_by step before found after = (x : LastGot) → (only before.0).subscriber ≡ Some x
+      → packs found × Makes value_of before GetValue (Got (value_of found)) after × ((only after.0).subscriber ≡ Some x) × HasGot packs value_of (begun value_of (only before.0).start) (only after.0).knows x.number x.last
+
   -- `next` of the subscriber whose seat it is, which has then got the value of the word found
   abbrev pub receives : Step Unit → Me Unit (List (Known T)) → ℕ → Me Unit (List (Known T)) → Type 0
   receives step before found after = (x : LastGot) → (only before.0).subscriber ≡ Some x

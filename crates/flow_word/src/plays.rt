@@ -2,7 +2,7 @@
 ghost use Rattle.std.specs.Prelude.{[], ◌++◌, map};
 ghost use Rattle.flow_law.specs.Growth.{makes, child};
 ghost use Rattle.flow_word.specs.View.{with_knows, first_of, others_of};
-ghost use Rattle.flow_word.specs.Steps.{reads, sets, exchanges, counts_live, receives, leaves, finds_room, enters, observes, looks};
+ghost use Rattle.flow_word.specs.Steps.{reads, reads_by, sets, exchanges, counts_live, receives, leaves, finds_room, enters, observes, looks};
 
 use crate::view::Known;
 use atomic_table::{Join, Play, Split};
@@ -13,6 +13,13 @@ pub(crate) struct Read;
 
 impl<T: Packed> Play<(), Sequence<Known<T>>> for Read {
     ghost then = { reads T.packs T.value_of };
+}
+
+/// A load of the value's word, for `value` through the seat of a subscription.
+pub(crate) struct ReadBy;
+
+impl<T: Packed> Play<(), Sequence<Known<T>>> for ReadBy {
+    ghost then = { reads_by T.packs T.value_of };
 }
 
 /// A swap of the value's word.

@@ -7,7 +7,7 @@ ghost use Rattle.flow_law.specs.declared.outcome.Next.TheVariants.{Gone};
 ghost use Rattle.flow_law.specs.StateFlow.{state_flow};
 ghost use Rattle.flow_law.specs.Tokens.{SubscribesIn, NextsIn, UnsubscribesIn, CallsAtOnceIn};
 
-use crate::plays::{Count, Enter, FindRoom, Leave, Make, Receive};
+use crate::plays::{Count, Enter, FindRoom, Leave, Make, ReadBy, Receive};
 use crate::token::{WordSeat, WordState, WordSubscription};
 use flow_law::{FlowFault, Next, Packed};
 use std::sync::Wait;
@@ -89,6 +89,16 @@ impl<T: Packed> WordState<T> {
         } else {
             Next::Value(T::unpack(word))
         }
+    }
+
+    /// Does the same as `value`, through the seat of a subscription. The subscriber does not receive the value by it.
+    pub(crate) fn value_by(&self, subscription: &mut WordSubscription<T>) -> T
+        requires { subscription.old.token.table_id ≡ self.now.table_id }
+        ensures called { CallsAtOnceIn state_flow self.now.first subscription.old.token call.GetValue
+            (reply.Got result) subscription.new.token }
+        ensures number { subscription.new.number ≡ subscription.old.number }
+    {
+        T::unpack(self.table.shared.load::<ReadBy>(&mut subscription.seat, 0))
     }
 
     /// Ends the subscription, and returns its seat, for other calls.

@@ -3,7 +3,8 @@ ghost use Rattle.std.specs.Prelude.{◌≡◌, true, false, None};
 ghost use Rattle.std.specs.Fn.{FnReturnsAt};
 ghost use Rattle.futures.specs.Task.{IsArmed, Keeps};
 ghost use Rattle.flow_law.specs.StateFlow.{state_flow};
-ghost use Rattle.flow_word.specs.Receiving.{Receives, ReceivesInTime, ReceivesIf, ReceivesIfInTime};
+ghost use Rattle.flow_word.specs.Receiving.{Receives, ReceivesInTime};
+ghost use Rattle.flow_word.specs.WaitingFor.{Looks, ReceivesIf, ReceivesIfInTime};
 
 use super::reader::WordReader;
 use flow_law::Packed;
@@ -115,28 +116,42 @@ impl<'a, T: Packed> WordReader<'a, T> {
 }
 
 impl<'a, T: Packed + Drop> WordReader<'a, T> {
-    /// Waits for the first value that passes a test, and returns it. The subscriber gets the values up to that one, each as
-    /// `changed` gives it; a value that it got before is not tested again.
+    /// Returns the current value, and takes it if the subscriber has not got it.
+    fn current(&mut self) -> T
+        ensures flow { self.new.flow ≡ self.old.flow }
+        ensures looked { Looks self.old.flow.first self.old.subscription result self.new.subscription }
+    {
+        let value = self.flow.value_by(&mut self.subscription);
+        match self.next() {
+            Some(newer) => newer,
+            None => value,
+        }
+    }
+
+    /// Waits until the current value passes a test, and returns it. It is tested at once, also if the subscriber got it
+    /// before. The subscriber gets the values up to the one that passed, each as `changed` gives it.
     ///
     /// # Source
-    /// `StateFlow.first { }`, for a new subscriber.
+    /// `StateFlow.first { }`.
     pub fn wait_for<R: Wait, F: Fn(&T) -> bool>(&mut self, rt: &R, test: F) -> T
         requires callable { F.IsAlwaysCallable test }
         ensures flow { self.new.flow ≡ self.old.flow }
-        ensures received { ReceivesIf state_flow self.old.flow.first
+        ensures received { ReceivesIf self.old.flow.first
             (λ value. FnReturnsAt F.Fn test value true) (λ value. FnReturnsAt F.Fn test value false)
             self.old.subscription result self.new.subscription }
     {
+        let mut value = self.current();
         for _ in rt.forever() {
-            let value = self.changed(rt);
             if test(&value) {
                 return value;
             }
+            value = self.changed(rt);
         }
         unreachable!()
     }
 
-    /// Waits as `wait_for` does, for no longer than `limit`, and returns `None` if no value has passed the test by then.
+    /// Waits as `wait_for` does, for no longer than `limit`, and returns `None` if no value has passed the test by then. The
+    /// current value is tested in any case.
     ///
     /// # Source
     /// `withTimeoutOrNull` around `StateFlow.first { }`.
@@ -148,20 +163,17 @@ impl<'a, T: Packed + Drop> WordReader<'a, T> {
     ) -> Option<T>
         requires callable { F.IsAlwaysCallable test }
         ensures flow { self.new.flow ≡ self.old.flow }
-        ensures received { ReceivesIfInTime state_flow self.old.flow.first
+        ensures received { ReceivesIfInTime self.old.flow.first
             (λ value. FnReturnsAt F.Fn test value true) (λ value. FnReturnsAt F.Fn test value false)
             self.old.subscription result self.new.subscription }
     {
         let limit = Limit::new(rt, limit);
+        let mut newest = self.current();
         for _ in rt.forever() {
-            match self.changed_within(rt, &limit) {
-                None => return None,
-                Some(value) => {
-                    if test(&value) {
-                        return Some(value);
-                    }
-                }
+            if test(&newest) {
+                return Some(newest);
             }
+            newest = self.changed_within(rt, &limit)?;
         }
         unreachable!()
     }
