@@ -18,8 +18,8 @@ use std::marker::Model;
 /// is pending and calls nothing.
 ///
 /// # Dropping
-/// Dropping it loses no value, but leaves the subscription in the flow, and perhaps a waker: its task may be woken once
-/// more. Call `into_reader` to get the reader back.
+/// Dropping the future ends its subscription, as dropping its reader does. Its task may be woken once more. Call
+/// `into_reader` to get the reader back.
 #[derive(Drop)]
 pub struct ChangedFuture<'a, T: Packed> {
     reader: Option<WordReader<'a, T>>,

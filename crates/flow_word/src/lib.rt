@@ -19,7 +19,8 @@
 //! ever succeed.
 //!
 //! # Dropping
-//! A dropped seat makes no more calls. A dropped subscription stays in the flow, and is counted.
+//! A dropped seat makes no more calls. A dropped subscription stays in the flow, and is counted. A dropped reader, and a
+//! stream or a future of one, ends its subscription.
 #![tactic(auto)]
 
 mod calls;

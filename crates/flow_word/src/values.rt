@@ -16,7 +16,7 @@ use std::marker::Model;
 /// value wakes the task. If no waker can be kept at that moment, the task asks to be polled again.
 ///
 /// # Dropping
-/// Dropping it leaves the subscription in the flow, and perhaps a waker: its task may be woken once more. Call
+/// Dropping the stream ends its subscription, as dropping its reader does. Its task may be woken once more. Call
 /// `into_reader` to get the reader back.
 ///
 /// # Source

@@ -15,11 +15,17 @@ use std::marker::Model;
 /// A subscription, and its word state. Contracts see both.
 ///
 /// # Dropping
-/// Dropping it leaves the subscription in the flow, where it is still counted. Call `unsubscribe` to end it.
-#[derive(Drop)]
+/// Dropping the reader ends its subscription, as `unsubscribe` does.
 pub struct WordReader<'a, T: Packed> {
     pub(crate) flow: &'a WordState<T>,
     pub(crate) subscription: WordSubscription<T>,
+}
+
+impl<T: Packed> Drop for WordReader<'_, T> {
+    fn drop(self) {
+        let Self { flow, subscription } = self;
+        let _seat = flow.unsubscribe(subscription);
+    }
 }
 
 impl<'a, T: Packed> Model for WordReader<'a, T> {

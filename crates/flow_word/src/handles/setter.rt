@@ -112,7 +112,7 @@ impl<'a, T: Packed> WordSetter<'a, T> {
         self.flow.compare_and_set(&mut self.seat, expect, update)
     }
 
-    /// Counts the subscribers. A dropped subscription is counted: only `unsubscribe` ends one.
+    /// Counts the subscribers. A subscription whose token was dropped is counted; one whose handle was dropped has ended.
     pub fn subscription_count(&mut self) -> u64
         ensures flow { self.new.flow ≡ self.old.flow }
         ensures counted { CallsAtOnceIn state_flow self.old.flow.first self.old.token call.SubscriptionCount
