@@ -1,11 +1,11 @@
 -- How the core's invariant is kept, for the fields that a private step leaves.
 -- The key facts: `sound_emitted` (a value more in the ring), `sound_trimmed`, `sound_standing` (other subscribers).
-use Rattle.std.proofs.Common.{◌≡◌, ℕ, ◌+◌, ◌-◌, ◌≤◌, ◌<◌, max, List, [], ◌∷◌, ◌++◌, length, map, Option, arith, length-append, length-drop}
+use Rattle.std.proofs.Common.{◌≡◌, ◌≢◌, ℕ, ◌+◌, ◌-◌, ◌≤◌, ◌<◌, max, List, [], ◌∷◌, ◌++◌, length, map, Option, sym, ap, ◌∙◌, arith, length-append, length-drop}
 use Rattle.circular_buffer.specs.Buffer.{buffer, keep_last}
 use Rattle.flow_law.specs.declared.states.Subscriber.{Subscriber}
 use Rattle.flow_law.specs.declared.states.Numbered.{Numbered}
 use Rattle.flow_law.specs.Laws.{RisesTo}
-use Rattle.flow_law.specs.Standing.{least_position}
+use Rattle.flow_law.specs.Standing.{Core, least_position}
 use Rattle.flow_law.specs.Covering.{kept_start, kept_need}
 use Rattle.flow_law.proofs.CoveringLemmas.{least_position_rises}
 use Rattle.flow_law.proofs.Rows.{rises_higher}
@@ -168,3 +168,10 @@ module _ {T A : Type 0} where
         issued = sound.issued;
         rising = sound.rising;
       }
+
+  -- the next number, where one is left
+  pub number_left : (c : Inside T A) (core : Core T) → fields_of c ≡ core → (c.issued ≡ c.config.limit → ⊥) → (c.issued + 1 ≡ core.issued + 1) × (core.issued ≢ core.config.limit)
+  number_left c core is left = (
+    ap (λ (k : Core T). k.issued + 1) is,
+    λ spent. left (ap (λ (k : Core T). k.issued) is ∙ spent ∙ sym (ap (λ (k : Core T). k.config.limit) is)),
+  )

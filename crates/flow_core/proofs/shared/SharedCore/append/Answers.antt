@@ -1,11 +1,11 @@
-use Rattle.std.proofs.Common.{◌≡◌, ◌+◌, ◌-◌, ◌==◌, ◌∙◌, true, false, length, refl, sym, ap, subst}
+use Rattle.std.proofs.Common.{◌≡◌, ◌-◌, ◌==◌, ◌∙◌, true, false, length, refl, sym, ap, subst}
 use Rattle.flow_law.specs.EmitRule.{append}
 use Rattle.std.specs.Bool.{OnFalse}
 use Rattle.flow_law.specs.Standing.{StandsFor}
 use Rattle.flow_law.specs.Covering.{Covers, kept_start}
 use Rattle.flow_law.proofs.HoldingLemmas.{covers}
 use Rattle.flow_core.specs.SharedCore.{fields_of, kept_full}
-use Rattle.flow_core.proofs.SoundLemmas.{sound_issued}
+use Rattle.flow_core.proofs.SoundLemmas.{sound_issued, number_left}
 use Rattle.flow_core.proofs.EmissionLemmas.{covers-appended, stands-appended, near_free}
 use Rattle.flow_core.proofs.shared.SharedCore.append.Goals as goal
 
@@ -13,9 +13,9 @@ pub invariant_of-self : goal.invariant_of-self
 invariant_of-self g c = sound_issued c.self.inside c.self.invariant c.if-self.false
 
 pub returns : goal.returns
-returns g c = (
-  ap (λ core. core.issued + 1) c.self.view_is,
-  λ spent. c.if-self.false (ap (λ core. core.issued) c.self.view_is ∙ spent ∙ sym (ap (λ core. core.config.limit) c.self.view_is)),
+returns g c = let issued = number_left c.self.inside _ c.self.view_is c.if-self.false in (
+  issued.0,
+  issued.1,
   λ s stands.
       let i = c.self.inside in
       let core = fields_of i in
