@@ -4,7 +4,6 @@ use Rattle.flow_law.specs.Values.{is_same_list}
 use Rattle.use_flows.specs.declared.screen.Screen.{Screen}
 use Rattle.use_flows.specs.declared.screen.Screen.TheVariants.{Loading, Ready, Failed}
 
--- both are loading, or have the same page or the same code
 abbrev pub is_same_screen : Screen → Screen → Bool
 is_same_screen Loading Loading = true
 is_same_screen (Ready page) (Ready other) = is_same_list nat_eq page other
