@@ -41,8 +41,9 @@ const stepCount = () => shown.steps?.places.length ?? 0;
 /** Plays the script that is in the editor, and shows what it gave. */
 function play() {
   const start = performance.now();
+  const bytes = new TextEncoder().encode(editor.text);
   try {
-    const answer = player.play(editor.text);
+    const answer = player.play(bytes);
     if (answer.status === STATUS.GIVEN) {
       showPlayed(textOf(answer).split("\n").slice(0, -1));
     } else {
@@ -54,7 +55,7 @@ function play() {
     document.body.dataset.status = "stopped";
   }
   const took = (performance.now() - start).toFixed(1);
-  told.textContent = `${new TextEncoder().encode(editor.text).length} bytes, ${took} ms`;
+  told.textContent = `${bytes.length} bytes, ${took} ms`;
   document.body.dataset.took = took;
 }
 

@@ -19,7 +19,8 @@ export class PlayedScript {
     this.text = text;
     this.steps = steps;
     this.lines = lines;
-    this.head = JSON.parse(text);
+    // Without the steps, which are long.
+    this.head = JSON.parse(text.slice(0, steps.open + 1) + text.slice(steps.close));
   }
 
   /** Returns the flows by their names. The one flow of version 1 has the name "flow", and no step names it. */
