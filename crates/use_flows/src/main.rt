@@ -30,7 +30,8 @@ fn main(rt: HostRuntime) -> Result<()> {
     println!(rt; "ready: {}", page.as_str())?;
     let mut flow = StateCore::new(rt.alloc(), 1i64, u64::MAX);
     let read = setting::set_and_read(&mut flow, 7)?;
-    println!(rt; "set and read: {read}")?;
+    let best = setting::raise(&mut flow, 5)?;
+    println!(rt; "set and read: {read}, and the best is {best}")?;
     print!(rt; "{}", played::lines(rt.alloc())?)?;
     Ok(())
 }

@@ -1,6 +1,5 @@
 //! The state of a screen: one thread sets it, and another one follows it until a page is there.
 ghost use Rattle.std.proofs.Common.{rules};
-ghost use Rattle.use_flows.specs.Screens.{is_same_screen};
 
 use flow_law::{FlowFault, FlowValue, OutOfMemory, Text};
 use flow_shared::{Setter, StateFlow, StateReader};
@@ -8,7 +7,7 @@ use std::alloc::Global;
 use std::sync::Wait;
 use std::thread::{Threads, join};
 
-#[derive(Drop)]
+#[derive(PartialEq, Drop)]
 pub enum Screen {
     Loading,
     Ready(Text),
@@ -16,7 +15,7 @@ pub enum Screen {
 }
 
 impl FlowValue for Screen {
-    ghost is_same = { is_same_screen };
+    ghost is_same = { ⟦<Screen as PartialEq>⟧.eq };
 
     fn try_copy(&self) -> Result<Screen, FlowFault> {
         match self {
@@ -27,12 +26,7 @@ impl FlowValue for Screen {
     }
 
     fn same(&self, other: &Screen) -> bool {
-        match (self, other) {
-            (Screen::Loading, Screen::Loading) => true,
-            (Screen::Ready(page), Screen::Ready(other)) => page.same(other),
-            (Screen::Failed(code), Screen::Failed(other)) => *code == *other,
-            _ => false,
-        }
+        *self == *other
     }
 
     ghost is_same_exact = { Prim.search rules };

@@ -1,5 +1,5 @@
-//! A contract of one's own: what is set is what is read.
-ghost use Rattle.std.specs.Prelude.{◌≡◌, IfOk};
+//! Contracts of one's own: what is set is what is read, and a best offer is at least each offer.
+ghost use Rattle.std.specs.Prelude.{◌≡◌, ◌≤ℤ◌, IfOk};
 
 use flow_core::StateCore;
 use flow_law::FlowFault;
@@ -11,4 +11,14 @@ pub fn set_and_read(flow: &mut StateCore<i64>, value: i64) -> Result<i64, FlowFa
 {
     flow.set(value);
     flow.value()
+}
+
+/// Raises the value to an offer, if that is higher, and returns the best offer so far.
+pub fn raise(best: &mut StateCore<i64>, offer: i64) -> Result<i64, FlowFault>
+    ensures above { IfOk result (λ value. offer ≤ℤ value) }
+    ensures holds { IfOk result (λ value. best.new.value ≡ value) }
+{
+    let value = best.value()?.max(offer);
+    best.set(value);
+    Ok(value)
 }

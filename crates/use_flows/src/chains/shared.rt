@@ -1,9 +1,8 @@
-//! A chain shared into a flow: it runs while somebody subscribes and two moments longer, and gives one item a turn.
+//! A chain shared into a flow: it runs while there is a subscriber and two moments longer, and gives one item a turn.
 use anyhow::Result;
 use flow_cold::OfRange;
-use flow_law::report::Report;
-use flow_law::{NEVER, Next, Started};
-use flow_sharing::{CoreHub, Sharing, share_in};
+use flow_law::Next;
+use flow_sharing::{CoreHub, NEVER, Report, Sharing, Started, share_in};
 use std::io;
 
 pub fn show(rt: &HostRuntime) -> Result<()> {
