@@ -34,8 +34,8 @@ returns-clause-called g c =
     let value_of = g.T.Packed.value_of in let s = c.subscription.inside in let old = only s.seat.me.0 in let new = only c.load.new.seat.me.0 in
     let told = c.load.ensures.2 (last_got s.number s.last) c.subscription.invariant.1 in
     let first : begun value_of old.start ≡ c.args.self.now.first =
-        ap (λ (n : NumberedToken g.row.T.Denot). begun value_of n.token.table_id.start) c.subscription.view_is
-        ∙ (ap (λ z. begun value_of z.start) c.requires ∙ (ap (λ z. begun value_of z.table_id.start) (sym c.self.view_is) ∙ ap (λ z. z.first) c.self.view_is)) in
+    ap (λ (n : NumberedToken g.row.T.Denot). begun value_of n.token.table_id.start) c.subscription.view_is
+    ∙ (ap (λ z. begun value_of z.start) c.requires ∙ (ap (λ z. begun value_of z.table_id.start) (sym c.self.view_is) ∙ ap (λ z. z.first) c.self.view_is)) in
     let adds = subst (λ (z : StateFlowState g.row.T.Denot × g.row.T.Denot). AddsOne (IsStateHistory z.0) old.knows call.GetValue (reply.Got z.1) new.knows) (λ i. (first i, sym c.unpack.ensures i)) told.1.0 in
     subst (λ (n : NumberedToken g.row.T.Denot). CallsAtOnceIn state_flow c.args.self.now.first n.token call.GetValue (reply.Got c.unpack.result) (token_of c.load.new.seat)) c.subscription.view_is
     (((λ i. word_id (c.load.ensures.0 i) (told.1.1 i)), adds), told.1.3)

@@ -22,6 +22,6 @@ returns-in_err-newest-clause-received g c =
     let now = c.loop.self.subscription in let new = c.changed_within.new.self.subscription in
     let none = subst (λ f. FindsNone state_flow f.first now new) c.loop.invariant.2 c.in_err-newest.ensures.received in
     subst (λ (r : Option g.row.T.Denot).
-        ReceivesIfInTime c.args.self.now.flow.first (λ value. FnReturnsAt g.F.Fn c.args.test value true) (λ value. FnReturnsAt g.F.Fn c.args.test value false) c.args.self.now.subscription r new)
+    ReceivesIfInTime c.args.self.now.flow.first (λ value. FnReturnsAt g.F.Fn c.args.test value true) (λ value. FnReturnsAt g.F.Fn c.args.test value false) c.args.self.now.subscription r new)
     (sym c.from_residual.ensures)
     (record { value = c.loop.newest; between = now; came = c.loop.invariant.3; fails = record { shown = _; shows = refl; says = record { met = c.if-test.ensures } }; empty = none })
