@@ -1,5 +1,6 @@
 -- Several values that are taken at once are what so many `next` in a row give.
--- The key facts: `taken_at_once` (of a core where nothing is queued), `drains_on` (one drain and then another one).
+-- The key facts: `taken_at_once` (of a core where nothing is queued), `drains_on` (one drain and then another one),
+-- `drains_lifted` (of a part, and so of the whole).
 use Rattle.std.proofs.Common.{◌≡◌, ℕ, zero, suc, ◌+◌, ◌-◌, ◌<◌, ◌≤◌, ◌==◌, true, false, if◌then◌else◌, List, [], ◌∷◌, ◌++◌, length, take, drop, Some, refl, sym, ap, ◌∙◌, subst, arith, length-append, length-drop, append_assoc}
 use Rattle.std.specs.Prelude.{Result, Ok}
 use Rattle.std.specs.List.{FoldsTo, slice_get}
@@ -13,7 +14,7 @@ use Rattle.flow_law.specs.declared.outcome.Next.{Next}
 use Rattle.flow_law.specs.declared.outcome.Next.TheVariants.{Value}
 use Rattle.flow_law.specs.declared.states.SharedFlowState.{SharedFlowState}
 use Rattle.flow_law.specs.declared.states.Subscriber.{Subscriber}
-use Rattle.flow_law.specs.Draining.{NextsGive, DrainsBy}
+use Rattle.flow_law.specs.Draining.{NextsGive, Takes, DrainsBy}
 use Rattle.flow_law.specs.SharedFlow.{answer, cache_start, values, position_of, own_of, stand_at, move_to}
 use Rattle.flow_law.specs.SharedHistory.{reply_by}
 use Rattle.flow_law.specs.SharedStep.{advance, next}
@@ -174,9 +175,9 @@ module _ {X T : Type 0} (R : X → Result (Next T) FlowFault → X → Type 0) w
     enough = (λ _. refl, λ _. refl);
   }
 
-  pub drains_on : (k most : ℕ) (old middle new : X) (list longer longest : List T) (result : Result Drained FlowFault) → k ≤ most → DrainsBy R k old list (Ok drained.Most) longer middle
-      → DrainsBy R (most - k) middle longer result longest new → DrainsBy R most old list result longest new
-  drains_on k most old middle new list longer longest result within first rest =
+  pub drains_on : (Ends : X → Result Drained FlowFault → X → Type 0) (k most : ℕ) (old middle new : X) (list longer longest : List T) (result : Result Drained FlowFault) → k ≤ most → DrainsBy R k old list (Ok drained.Most) longer middle
+      → Takes R Ends (most - k) middle longer result longest new → Takes R Ends most old list result longest new
+  drains_on Ends k most old middle new list longer longest result within first rest =
       let all : length (first.values ++ rest.values) ≡ length first.values + length rest.values = length-append first.values rest.values in
       let counted : length first.values ≡ k = first.enough.0 refl in
       record {
@@ -189,3 +190,22 @@ module _ {X T : Type 0} (R : X → Result (Next T) FlowFault → X → Type 0) w
         within = omega (arith, all, counted, rest.within, within);
         enough = (λ e. omega (arith, all, counted, rest.enough.0 e, within), λ e. rest.enough.1 (omega (arith, all, counted, e, within)));
       }
+
+-- ---- a drain of a part is a drain of the whole
+
+module _ {X Y T : Type 0} (R : X → Result (Next T) FlowFault → X → Type 0) (Q : Y → Result (Next T) FlowFault → Y → Type 0) (lift : X → Y)
+    (lifts : (before : X) (answer : Result (Next T) FlowFault) (after : X) → R before answer after → Q (lift before) answer (lift after)) where
+  give_lifted : (before : X) (values : List T) (after : X) → NextsGive R before values after → NextsGive Q (lift before) values (lift after)
+  give_lifted before [] after given = ap lift given
+  give_lifted before (v ∷ vs) after given = (lift given.0, lifts before (Ok (Value v)) given.0 given.1, give_lifted given.0 vs after given.2)
+
+  pub drains_lifted : (k : ℕ) (old new : X) (list longer : List T) → DrainsBy R k old list (Ok drained.Most) longer new → DrainsBy Q k (lift old) list (Ok drained.Most) longer (lift new)
+  drains_lifted k old new list longer d = record {
+    values = d.values;
+    last = lift d.last;
+    taken = give_lifted old d.values d.last d.taken;
+    ended = ap lift d.ended;
+    appended = d.appended;
+    within = d.within;
+    enough = d.enough;
+  }

@@ -1,5 +1,8 @@
 //! What the cores of all kinds of flow share: their kind of flow, and the calls of subscribers.
-ghost use Rattle.std.specs.Prelude.{◌≡◌, List, ℕ, IsOk};
+ghost use Rattle.std.specs.Prelude.{◌≡◌, ◌+◌, ◌≤◌, List, ℕ, Ok, IsOk};
+ghost use Rattle.std.specs.Vec.{vec_len, vec_capacity};
+ghost use Rattle.flow_law.specs.declared.outcome.Drained.TheVariants.{Most};
+ghost use Rattle.flow_law.specs.Draining.{DrainsBy};
 ghost use Rattle.flow_law.specs.declared.history.Event.{Event};
 ghost use Rattle.flow_law.specs.declared.history.Said.{Said};
 ghost use Rattle.flow_law.specs.History.{Kind, replied};
@@ -10,6 +13,7 @@ ghost use Rattle.flow_core.specs.SubId.{number_of};
 
 use crate::sub_id::SubId;
 use flow_law::{FlowFault, FlowValue, Guarded, Next, Said};
+use std::alloc::Allocator;
 
 /// A flow for one thread, of any kind.
 pub trait FlowCore: Guarded<Said = Said<Self::Call, Self::Reply>> {
@@ -38,6 +42,21 @@ pub trait FlowCore: Guarded<Said = Said<Self::Call, Self::Reply>> {
         ensures documented { Documents kind stands_as self.old (kind.take_next (number_of id))
             (replied kind kind.received result) self.new }
         ensures given { Self.Item.IsAlwaysCopied → IsOk result };
+
+    /// Takes values that the subscriber can receive, at most so many, to the end of the list. Returns how many, which may be
+    /// none; `next` gives the others.
+    fn take_held<B: Allocator>(
+        &mut self,
+        id: SubId,
+        most: usize,
+        values: &mut Vec<Self::Item, B>,
+    ) -> usize
+        ensures most { result ≤ most }
+        ensures taken { DrainsBy
+            (λ old answer new. Documents kind stands_as old (kind.take_next (number_of id))
+            (replied kind kind.received answer) new)
+            result self.old values.old.items (Ok Most) values.new.items self.new }
+        ensures room { (vec_len values.new ≡ vec_len values.old + result) × (vec_capacity values.old ≤ vec_capacity values.new) };
 
     fn unsubscribe(&mut self, id: SubId) -> bool
         ensures { Documents kind stands_as self.old (kind.unsubscribe (number_of id))

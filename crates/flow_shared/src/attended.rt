@@ -1,9 +1,13 @@
 //! The state that a flow's gate guards: the core, and the callers that sleep until the core has something for them.
-ghost use Rattle.std.specs.Prelude.{◌≡◌, ℕ, List, [], IsOk};
+ghost use Rattle.std.specs.Prelude.{◌≡◌, ◌+◌, ◌≤◌, ℕ, List, [], Ok, IsOk};
+ghost use Rattle.std.specs.Vec.{vec_len, vec_capacity};
+ghost use Rattle.flow_law.specs.Draining.{DrainsBy};
+ghost use Rattle.flow_law.specs.declared.outcome.Drained.TheVariants.{Most};
 ghost use Rattle.std.specs.Bool.{OnTrue};
 ghost use Rattle.flow_law.specs.History.{replied};
 ghost use Rattle.flow_law.specs.Standing.{Documents};
 ghost use Rattle.flow_core.specs.SubId.{number_of};
+ghost use Rattle.flow_shared.specs.Drains.{CoreNexts};
 ghost use Rattle.flow_shared.specs.Attended.{AttendedAs, attended_stands, Rests, Lasts, without, IsWait};
 
 use crate::core_call::CoreCall;
@@ -211,6 +215,24 @@ impl<S: FlowCore, A: Allocator + Copy> Attended<S, A> {
                 Ok(Next::Gone)
             }
         }
+    }
+
+    /// Takes values of the core that a subscriber can receive, at most so many, with nobody asleep. Returns how many.
+    pub(crate) fn take_held<B: Allocator>(
+        &mut self,
+        id: SubId,
+        most: usize,
+        values: &mut Vec<S::Item, B>,
+    ) -> usize
+        ensures most { result ≤ most }
+        ensures taken { DrainsBy (CoreNexts S.kind (number_of id) (AttendedAs S.sleeping S.stands_as)) result
+            self.old values.old.items (Ok Most) values.new.items self.new }
+        ensures room { (vec_len values.new ≡ vec_len values.old + result) × (vec_capacity values.old ≤ vec_capacity values.new) }
+    {
+        if self.is_alone() {
+            return self.core.take_held(id, most, values);
+        }
+        0
     }
 
     /// Returns whether a caller is to be woken.

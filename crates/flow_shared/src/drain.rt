@@ -25,8 +25,25 @@ use std::marker::Brand;
 use std::snapshot::Snapshot;
 use std::sync::Wait;
 
-/// Calls `next` of a core for each value. The list has room for all.
+/// Takes what a subscriber can receive, at most so many values, into a list that has room for all: first what the core
+/// holds for it, at once, and then by `next`.
 fn take_values<S: FlowCore, A: Allocator + Copy, B: Allocator>(
+    state: &mut Attended<S, A>,
+    id: SubId,
+    most: usize,
+    values: &mut Vec<S::Item, B>,
+) -> Result<Drained, FlowFault>
+    requires { vec_len values.old + most ≤ vec_capacity values.old }
+    ensures takes { TakesBy (CoreNexts S.kind (number_of id) (AttendedAs S.sleeping S.stands_as)) most
+        state.old values.old.items result values.new.items state.new }
+    ensures given { S.Item.IsAlwaysCopied → IsOk result }
+{
+    let taken = state.take_held(id, most, values);
+    take_each(state, id, most - taken, values)
+}
+
+/// `next` of a core again and again, each value into a list that has room for all.
+fn take_each<S: FlowCore, A: Allocator + Copy, B: Allocator>(
     state: &mut Attended<S, A>,
     id: SubId,
     most: usize,

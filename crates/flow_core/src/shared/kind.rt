@@ -43,6 +43,10 @@ impl<T: FlowValue, A: Allocator + Copy> FlowCore for SharedCore<T, A> {
         SharedCore::next(self, id)
     }
 
+    fn take_held<B: Allocator>(&mut self, id: SubId, most: usize, values: &mut Vec<T, B>) -> usize {
+        SharedCore::take_held(self, id, most, values)
+    }
+
     fn unsubscribe(&mut self, id: SubId) -> bool {
         SharedCore::unsubscribe(self, id)
     }

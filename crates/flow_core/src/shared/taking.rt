@@ -1,5 +1,6 @@
 //! Several values for a subscriber at once.
-ghost use Rattle.std.specs.Prelude.{◌≤◌, Ok};
+ghost use Rattle.std.specs.Prelude.{◌≡◌, ◌+◌, ◌≤◌, Ok};
+ghost use Rattle.std.specs.Vec.{vec_len, vec_capacity};
 ghost use Rattle.flow_law.specs.Draining.{DrainsBy};
 ghost use Rattle.flow_law.specs.declared.outcome.Drained.TheVariants.{Most};
 ghost use Rattle.flow_core.specs.SubId.{number_of};
@@ -24,6 +25,7 @@ impl<T: FlowValue, A: Allocator + Copy> SharedCore<T, A> {
         ensures most { result ≤ most }
         ensures taken { DrainsBy (Nexts (number_of id)) result
             self.old values.old.items (Ok Most) values.new.items self.new }
+        ensures room { (vec_len values.new ≡ vec_len values.old + result) × (vec_capacity values.old ≤ vec_capacity values.new) }
     {
         if self.queue.len() > 0 {
             return 0;

@@ -40,6 +40,16 @@ impl<T: FlowValue, A: Allocator + Copy> FlowCore for StateCore<T, A> {
         StateCore::next(self, id)
     }
 
+    /// A subscriber can receive one value at most, so `next` is as fast.
+    fn take_held<B: Allocator>(
+        &mut self,
+        _id: SubId,
+        _most: usize,
+        _values: &mut Vec<T, B>,
+    ) -> usize {
+        0
+    }
+
     fn unsubscribe(&mut self, id: SubId) -> bool {
         StateCore::unsubscribe(self, id)
     }

@@ -10,6 +10,7 @@ loop-taken-init g c =
     record {
       items = c.reserve.ensures.items ∙ sym (append-nil c.args.list.now.items);
       room = omega (arith, room);
+      grown = (omega (arith, c.reserve.ensures.len), c.reserve.ensures.capacity);
     }
 
 pub loop-taken-preserved : goal.loop-taken-preserved
@@ -17,6 +18,10 @@ loop-taken-preserved g c = record {
   items = c.push_reserved.ensures.items
       ∙ copied_one_more c.args.from c.loop-taken.taken c.args.values.now.items c.args.list.now.items c.loop-taken.list.items c.in-Ok.copy (sym c.in-Some.ensures ∙ ap Some (sym c.in-Ok.ensures.copy)) c.loop-taken.invariant.items;
   room = omega (arith, c.loop-taken.invariant.room, c.push_reserved.ensures.len, c.push_reserved.ensures.capacity);
+  grown = (
+    omega (arith, c.loop-taken.invariant.grown.0, c.push_reserved.ensures.len),
+    omega (arith, c.loop-taken.invariant.grown.1, c.push_reserved.ensures.capacity),
+  );
 }
 
 pub push_reserved-requires : goal.push_reserved-requires

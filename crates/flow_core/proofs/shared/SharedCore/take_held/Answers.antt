@@ -79,3 +79,6 @@ returns-clause-taken g c =
     subst (λ k. DrainsBy (Nexts number) count k c.args.values.now.items (Ok Most) c.take-taken.new.list.items c.trim.new.self) c.self.view_is
     (taken_at_once core number p c.self.invariant.reset_mark c.self.invariant.held idle none at count c.trim.new.self c.args.values.now.items c.take-taken.new.list.items (covers core) low more some longer
     (λ s covered. c.trim.ensures s (subst (λ u. Covers (fields_of (record i { subscribers = u })) s) (sym moved) covered)))
+
+pub returns-then-taken-eq0-clause-room : goal.returns-then-taken-eq0-clause-room
+returns-then-taken-eq0-clause-room g c = let room = c.take-taken.ensures.room in (omega (arith, room.0, c.if-taken-eq0.true), room.1)
