@@ -6,7 +6,6 @@ use Rattle.flow_law.specs.declared.chain.ChainFault.TheVariants.{OutOfMemory, No
 use Rattle.flow_law.specs.Chain.{Meaning, meaning_of, map_meaning, filter_meaning, take_while_meaning, transform_meaning, take_meaning, drop_meaning, drop_while_meaning, scan_meaning, running_reduce_meaning, flat_map_meaning, zip_meaning, distinct_meaning}
 use Rattle.flow_law.specs.ChainRun.{ChainRun, gives, list_run}
 use Rattle.flow_law.specs.OperatorRuns.{map_run, filter_run, take_while_run, transform_run, take_run, drop_run, drop_while_run, scan_run, running_reduce_run, flat_map_run, zip_run, distinct_run}
-use Rattle.flow_operators.specs.Kept.{unless_ended}
 use Rattle.flow_cold.specs.declared.script_chain.op.Op.{Op}
 use Rattle.flow_cold.specs.declared.script_chain.op.Op.TheVariants as op
 use Rattle.flow_cold.specs.declared.script_chain.op.Source.{Source}
@@ -14,7 +13,7 @@ use Rattle.flow_cold.specs.declared.script_chain.op.Source.TheVariants as source
 use Rattle.flow_cold.specs.declared.script_chain.ScriptChain.{ScriptChain}
 use Rattle.flow_cold.specs.Numbers.{computed, joined, passes, sums, spread_run}
 use Rattle.flow_cold.specs.ScriptChain.{node_whole, node_rest}
-use Rattle.flow_operators.specs.Sources.{range_run, scripted_run}
+use Rattle.flow_operators.specs.Sources.{range_rest, range_run, scripted_run}
 
 -- how deep the chain is
 abbrev pub depth_of : ScriptChain → ℕ
@@ -29,7 +28,7 @@ source_whole (source.Scripted s) = scripted_run s.entries.items
 -- of a source that was asked before
 abbrev pub source_rest : Source → ChainRun ℤ
 source_rest (source.List s) = list_run (drop s.at s.items.items)
-source_rest (source.Range s) = unless_ended s.ended (range_run s.next s.last)
+source_rest (source.Range s) = range_rest s
 source_rest (source.Scripted s) = scripted_run (drop s.at s.entries.items)
 
 -- the run of an operator on a run; `with_run` says which run of the other chain a zip pairs it with

@@ -3,14 +3,14 @@ use Rattle.std.specs.Prelude.{◌≡◌, ℕ, ◌+◌, ◌≤◌, max, ℤ, true
 use Rattle.flow_law.specs.ChainRun.{ChainRun, list_run}
 use Rattle.flow_law.specs.OperatorRuns.{zip_run}
 use Rattle.flow_operators.specs.Behind.{Leaves, AsksLeft, AsksRight}
-use Rattle.flow_operators.specs.Kept.{unless_ended, with_kept}
+use Rattle.flow_operators.specs.Kept.{with_kept}
 use Rattle.flow_operators.specs.declared.cold.Asked.{Asked}
 use Rattle.flow_cold.specs.declared.script_chain.node.Node.{Node, List, Range, Script, On', Zip'}
 use Rattle.flow_cold.specs.Numbers.{joined}
 use Rattle.flow_cold.specs.Operators.{operator_whole, stage_rest, IsStageOver}
 use Rattle.flow_cold.specs.OperatorAsks.{after_stage}
 use Rattle.flow_cold.specs.Pairing.{pairing_rest}
-use Rattle.flow_operators.specs.Sources.{range_run, scripted_run}
+use Rattle.flow_operators.specs.Sources.{range_left, range_rest, range_run, scripted_run}
 
 -- a source is 1 deep, an operator one deeper than its deeper side
 abbrev pub node_depth : Node → ℕ
@@ -31,7 +31,7 @@ node_whole (Zip' p left q right pairing) = zip_run (joined pairing.by) (node_who
 -- what is left of it
 abbrev pub node_rest : Node → ChainRun ℤ
 node_rest (List source) = list_run (drop source.at source.items.items)
-node_rest (Range source) = unless_ended source.ended (range_run source.next source.last)
+node_rest (Range source) = range_rest source
 node_rest (Script source) = scripted_run (drop source.at source.entries.items)
 node_rest (On' p upstream stage) = stage_rest stage (node_rest upstream)
 node_rest (Zip' p left q right pairing) = pairing_rest pairing (node_rest left) (node_rest right)
@@ -39,7 +39,7 @@ node_rest (Zip' p left q right pairing) = pairing_rest pairing (node_rest left) 
 -- the node gives nothing any more
 abbrev pub IsNodeOver : Node → Type 0
 IsNodeOver (List source) = length source.items.items ≤ source.at
-IsNodeOver (Range source) = source.ended ≡ true
+IsNodeOver (Range source) = range_left source ≡ 0
 IsNodeOver (Script source) = length source.entries.items ≤ source.at
 IsNodeOver (On' p upstream stage) = IsStageOver stage
 IsNodeOver (Zip' p left q right pairing) = pairing.ended ≡ true

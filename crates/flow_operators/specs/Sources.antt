@@ -1,8 +1,9 @@
 -- The runs of the sources. A list's is `list_run`.
-use Rattle.std.specs.Prelude.{ℕ, zero, suc, ◌+◌, ℤ, pos, ◌+ℤ◌, ◌-ℤ◌, int_lt, nat_abs, Bool, cond, List, [], ◌∷◌, drop}
+use Rattle.std.specs.Prelude.{ℕ, zero, suc, ◌+◌, ◌-◌, ℤ, pos, ◌+ℤ◌, ◌-ℤ◌, int_lt, nat_abs, cond, List, [], ◌∷◌, drop}
 use Rattle.flow_law.specs.declared.chain.ChainFault.TheVariants.{Source}
 use Rattle.flow_law.specs.declared.chain.End.TheVariants.{Completed, Failed}
 use Rattle.flow_law.specs.ChainRun.{ChainRun, gives, pends, ends, list_run}
+use Rattle.flow_operators.specs.declared.sources.of_range.OfRange.{OfRange}
 use Rattle.flow_operators.specs.declared.sources.scripted.Entry.{Entry}
 use Rattle.flow_operators.specs.declared.sources.scripted.Entry.TheVariants.{Item, Pending, Fault}
 use Rattle.flow_operators.specs.declared.sources.scripted.Scripted.{Scripted}
@@ -16,13 +17,16 @@ count_up first (suc n) = first ∷ count_up (first +ℤ pos 1) n
 abbrev pub span : ℤ → ℤ → ℕ
 span first last = cond (int_lt last first) 0 (nat_abs (last -ℤ first) + 1)
 
--- how many of them are left to give
-abbrev pub span_left : Bool → ℤ → ℤ → ℕ
-span_left has_ended next last = cond has_ended 0 (span next last)
-
 -- the numbers from the first to the last
 abbrev pub range_run : ℤ → ℤ → ChainRun ℤ
 range_run first last = list_run (count_up first (span first last))
+
+-- how many of a range's numbers are left to give: where its last one was given, one less than from `next` to `last`
+abbrev pub range_left : OfRange → ℕ
+range_left s = span s.next s.last - cond s.gave_last 1 0
+
+abbrev pub range_rest : OfRange → ChainRun ℤ
+range_rest s = list_run (count_up s.next (range_left s))
 
 -- the entries up to the first fault, which is the end
 abbrev pub scripted_run : {T : Type 0} → List (Entry T) → ChainRun T

@@ -1,7 +1,6 @@
 //! A range of whole numbers as a chain.
-ghost use Rattle.std.specs.Prelude.{◌≡◌, ◌^◌, min, true, ⊤};
-ghost use Rattle.flow_operators.specs.Kept.{unless_ended};
-ghost use Rattle.flow_operators.specs.Sources.{range_run, span_left};
+ghost use Rattle.std.specs.Prelude.{◌≡◌, ◌^◌, min, ⊤};
+ghost use Rattle.flow_operators.specs.Sources.{range_left, range_rest, range_run};
 ghost use Rattle.std.proofs.Common.{arith};
 
 use crate::cold::{Asked, Cold};
@@ -12,7 +11,8 @@ pub struct OfRange {
     first: i64,
     last: i64,
     next: i64,
-    ended: bool,
+    // Only looked at where `next` is `last`, so that an ask of another number compares and adds, and no more.
+    gave_last: bool,
 }
 
 impl OfRange {
@@ -27,7 +27,7 @@ impl OfRange {
             first,
             last,
             next: first,
-            ended: false,
+            gave_last: false,
         }
     }
 }
@@ -43,38 +43,34 @@ impl Cold for OfRange {
 
     ghost whole = { λ s _. range_run s.first s.last };
 
-    ghost rest = { λ s _. unless_ended s.ended (range_run s.next s.last) };
+    ghost rest = { λ s _. range_rest s };
 
     // There are so many numbers of 64 bits; the code knows that its own are among them.
-    ghost most_asks = { λ s. min (span_left s.ended s.next s.last) (2 ^ 64) };
+    ghost most_asks = { λ s. min (range_left s) (2 ^ 64) };
 
     ghost IsLimited = { ⊤ };
 
     ghost limit = { 2 ^ 64 };
 
-    ghost IsOver = { λ s. s.ended ≡ true };
+    ghost IsOver = { λ s. range_left s ≡ 0 };
 
     ghost AsksBehind = { λ _ _ _ _. ⊤ };
 
     fn ask(&mut self) -> Asked<i64> {
-        if self.ended {
-            return Asked::End;
-        }
         let item = self.next;
-        if item > self.last {
-            self.ended = true;
-            return Asked::End;
-        }
         if item < self.last {
             self.next = item + 1;
-        } else {
-            self.ended = true;
+            return Asked::Item(item);
         }
+        if self.gave_last || item > self.last {
+            return Asked::End;
+        }
+        self.gave_last = true;
         Asked::Item(item)
     }
 
     fn rewind(&mut self) {
-        self.ended = false;
+        self.gave_last = false;
         self.next = self.first;
     }
 
