@@ -46,7 +46,9 @@ pub enum Node {
 }
 
 /// Returns the chain's next answer.
+// Inlined into the ask of an operator: a source is asked there, and each operator costs one call.
 #[cycle(asking)]
+#[inline(always)]
 pub fn ask_node(node: &mut Node) -> Answer
     ensures whole { node_whole node.new ≡ node_whole node.old }
     ensures gives { AskGives (node_rest node.old) (asked_of result) (node_rest node.new) }
@@ -68,7 +70,7 @@ pub fn ask_node(node: &mut Node) -> Answer
             }
             let first = match pairing.kept {
                 Some(item) => item,
-                None => match ask_node(left) {
+                None => match ask_left(left) {
                     Answer::Item(item) => item,
                     answer => return pairing.without_item(answer),
                 },
@@ -81,6 +83,7 @@ pub fn ask_node(node: &mut Node) -> Answer
 /// Returns the next answer of an operator: asks its upstream until there is one, unless it has one without it.
 // The box is passed, and not the node in it: each ask would save a register more, to keep the node's place.
 #[cycle(asking)]
+#[inline(never)]
 fn ask_stage(upstream: &mut Box<Node>, stage: &mut Stage) -> Answer
     ensures whole { node_whole upstream.new.value ≡ node_whole upstream.old.value }
     ensures operator { (r : ChainRun ℤ)
@@ -104,6 +107,19 @@ fn ask_stage(upstream: &mut Box<Node>, stage: &mut Stage) -> Answer
             return answer;
         }
     }
+}
+
+/// Returns the next answer of a zip's left side.
+// Not inlined: `ask_node` is, and so must not call itself.
+#[cycle(asking)]
+#[inline(never)]
+fn ask_left(left: &mut Node) -> Answer
+    ensures whole { node_whole left.new ≡ node_whole left.old }
+    ensures gives { AskGives (node_rest left.old) (asked_of result) (node_rest left.new) }
+    ensures depth { node_depth left.new ≡ node_depth left.old }
+    ensures size { size-Node left.new ≤ size-Node left.old }
+{
+    ask_node(left)
 }
 
 /// Returns the answer of a zip that has a left item: asks its right side.

@@ -6,12 +6,15 @@ use Rattle.flow_cold.specs.Operators.{IsStageOver, operator_whole, stage_rest}
 use Rattle.flow_cold.specs.ScriptChain.{node_whole, node_rest, node_depth}
 use Rattle.flow_cold.proofs.script_chain.node.+asking.Given as goal
 
--- a stage is asked between its node and its upstream, and so is what a zip does with its right side
+-- a stage is asked between its node and its upstream, and so are the sides of a zip
 abbrev pub decreases-ask_node : goal.decreases-ask_node
 decreases-ask_node l = 2 * size-Node l.node.now
 
 abbrev pub decreases-ask_stage : goal.decreases-ask_stage
 decreases-ask_stage l = 2 * size-Node l.upstream.now.value + 1
+
+abbrev pub decreases-ask_left : goal.decreases-ask_left
+decreases-ask_left l = 2 * size-Node l.left.now + 1
 
 abbrev pub decreases-ask_right : goal.decreases-ask_right
 decreases-ask_right l = 2 * size-Node l.right.now + 1
