@@ -18,45 +18,12 @@ use Rattle.flow_gate.specs.Rule.{GateHolds, KnownAt, IsHeld}
 use Rattle.flow_law.specs.Growth.{sees, loses, adds, makes, child}
 use Rattle.flow_gate.specs.Steps.{stands_from, entered, observed, looked, left}
 use Rattle.flow_law.proofs.Names.{every_map, grew_refl, fits_more, fits_own, makes_fits, child_fits, child_apart, apart_child, makes_child, child_makes}
+use Rattle.flow_law.proofs.SeatLemmas.{Joined, joined_once, Parted, parted_once}
 use Rattle.flow_gate.proofs.Places.{at_only, at_two, at_none, at_inside, at_end, every_at, of_map, known_set, known_end, AllApart, apart_from}
 
 off_of : (b : Bool) → (b ≡ true → ⊥) → b ≡ false
 off_of true never = absurd (never refl)
 off_of false never = refl
-
--- where a knowledge of two views that became one was
-abbrev Joined : ℕ → ℕ → ℕ → ℕ → ℕ → ℕ → Type 0
-Joined id other i a p q = ((i ≡ id) × (a ≡ 0) × (p ≡ id) × (q ≡ 0)) ⊎ (((i ≡ id) × (a ≡ 1) × (p ≡ other) × (q ≡ 0)) ⊎ ((i ≢ id) × (i ≢ other) × (p ≡ i) × (q ≡ a)))
-
-joined_once : (id other : ℕ) → other ≢ id → (i a j b p q : ℕ) → Joined id other i a p q → Joined id other j b p q → (i ≡ j) × (a ≡ b)
-joined_once id other ne i a j b p q x y = ⊎_elim
-    (λ (u : (i ≡ id) × (a ≡ 0) × (p ≡ id) × (q ≡ 0)). ⊎_elim
-    (λ (v : (j ≡ id) × (b ≡ 0) × (p ≡ id) × (q ≡ 0)). (omega arith, omega arith))
-    (λ w. ⊎_elim (λ (v : (j ≡ id) × (b ≡ 1) × (p ≡ other) × (q ≡ 0)). absurd (ne (omega arith))) (λ (v : (j ≢ id) × (j ≢ other) × (p ≡ j) × (q ≡ b)). absurd (v.0 (omega arith))) w) y)
-    (λ z. ⊎_elim
-    (λ (u : (i ≡ id) × (a ≡ 1) × (p ≡ other) × (q ≡ 0)). ⊎_elim
-    (λ (v : (j ≡ id) × (b ≡ 0) × (p ≡ id) × (q ≡ 0)). absurd (ne (omega arith)))
-    (λ w. ⊎_elim (λ (v : (j ≡ id) × (b ≡ 1) × (p ≡ other) × (q ≡ 0)). (omega arith, omega arith)) (λ (v : (j ≢ id) × (j ≢ other) × (p ≡ j) × (q ≡ b)). absurd (v.1 (omega arith))) w) y)
-    (λ (u : (i ≢ id) × (i ≢ other) × (p ≡ i) × (q ≡ a)). ⊎_elim
-    (λ (v : (j ≡ id) × (b ≡ 0) × (p ≡ id) × (q ≡ 0)). absurd (u.0 (omega arith)))
-    (λ w. ⊎_elim (λ (v : (j ≡ id) × (b ≡ 1) × (p ≡ other) × (q ≡ 0)). absurd (u.1 (omega arith))) (λ (v : (j ≢ id) × (j ≢ other) × (p ≡ j) × (q ≡ b)). (omega arith, omega arith)) w) y) z) x
-
--- where a knowledge of a view that was cut in two was; the new view is the n-th
-abbrev Parted : ℕ → ℕ → ℕ → ℕ → ℕ → ℕ → Type 0
-Parted id n i a p q = ((i ≡ n) × (a ≡ 0) × (p ≡ id) × (q ≡ 1)) ⊎ (((i ≡ id) × (a ≡ 0) × (p ≡ id) × (q ≡ 0)) ⊎ ((i ≢ id) × (p ≡ i) × (q ≡ a)))
-
-parted_once : (id n : ℕ) → (i a j b p q : ℕ) → Parted id n i a p q → Parted id n j b p q → (i ≡ j) × (a ≡ b)
-parted_once id n i a j b p q x y = ⊎_elim
-    (λ (u : (i ≡ n) × (a ≡ 0) × (p ≡ id) × (q ≡ 1)). ⊎_elim
-    (λ (v : (j ≡ n) × (b ≡ 0) × (p ≡ id) × (q ≡ 1)). (omega arith, omega arith))
-    (λ w. ⊎_elim (λ (v : (j ≡ id) × (b ≡ 0) × (p ≡ id) × (q ≡ 0)). absurd (omega arith)) (λ (v : (j ≢ id) × (p ≡ j) × (q ≡ b)). absurd (v.0 (omega arith))) w) y)
-    (λ z. ⊎_elim
-    (λ (u : (i ≡ id) × (a ≡ 0) × (p ≡ id) × (q ≡ 0)). ⊎_elim
-    (λ (v : (j ≡ n) × (b ≡ 0) × (p ≡ id) × (q ≡ 1)). absurd (omega arith))
-    (λ w. ⊎_elim (λ (v : (j ≡ id) × (b ≡ 0) × (p ≡ id) × (q ≡ 0)). (omega arith, omega arith)) (λ (v : (j ≢ id) × (p ≡ j) × (q ≡ b)). absurd (v.0 (omega arith))) w) y)
-    (λ (u : (i ≢ id) × (p ≡ i) × (q ≡ a)). ⊎_elim
-    (λ (v : (j ≡ n) × (b ≡ 0) × (p ≡ id) × (q ≡ 1)). absurd (u.0 (omega arith)))
-    (λ w. ⊎_elim (λ (v : (j ≡ id) × (b ≡ 0) × (p ≡ id) × (q ≡ 0)). absurd (u.0 (omega arith))) (λ (v : (j ≢ id) × (p ≡ j) × (q ≡ b)). (omega arith, omega arith)) w) y) z) x
 
 module _ {S E : Type 0} (stands : S → List (Event E) → Type 0) where
   abbrev St : Type 0

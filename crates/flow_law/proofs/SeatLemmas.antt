@@ -53,10 +53,10 @@ module _ {X : Type 0} where
 -- ---- where a token stood before
 
 -- where a token of two views that became one was
-abbrev Joined : ℕ → ℕ → ℕ → ℕ → ℕ → ℕ → Type 0
+abbrev pub Joined : ℕ → ℕ → ℕ → ℕ → ℕ → ℕ → Type 0
 Joined id other i a p q = ((i ≡ id) × (a ≡ 0) × (p ≡ id) × (q ≡ 0)) ⊎ (((i ≡ id) × (a ≡ 1) × (p ≡ other) × (q ≡ 0)) ⊎ ((i ≢ id) × (i ≢ other) × (p ≡ i) × (q ≡ a)))
 
-joined_once : (id other : ℕ) → other ≢ id → (i a j b p q : ℕ) → Joined id other i a p q → Joined id other j b p q → (i ≡ j) × (a ≡ b)
+pub joined_once : (id other : ℕ) → other ≢ id → (i a j b p q : ℕ) → Joined id other i a p q → Joined id other j b p q → (i ≡ j) × (a ≡ b)
 joined_once id other ne i a j b p q x y = ⊎_elim
     (λ (u : (i ≡ id) × (a ≡ 0) × (p ≡ id) × (q ≡ 0)). ⊎_elim
     (λ (v : (j ≡ id) × (b ≡ 0) × (p ≡ id) × (q ≡ 0)). (omega arith, omega arith))
@@ -70,10 +70,10 @@ joined_once id other ne i a j b p q x y = ⊎_elim
     (λ w. ⊎_elim (λ (v : (j ≡ id) × (b ≡ 1) × (p ≡ other) × (q ≡ 0)). absurd (u.1 (omega arith))) (λ (v : (j ≢ id) × (j ≢ other) × (p ≡ j) × (q ≡ b)). (omega arith, omega arith)) w) y) z) x
 
 -- where a token of a view that was cut in two was; the new view is the n-th
-abbrev Parted : ℕ → ℕ → ℕ → ℕ → ℕ → ℕ → Type 0
+abbrev pub Parted : ℕ → ℕ → ℕ → ℕ → ℕ → ℕ → Type 0
 Parted id n i a p q = ((i ≡ n) × (a ≡ 0) × (p ≡ id) × (q ≡ 1)) ⊎ (((i ≡ id) × (a ≡ 0) × (p ≡ id) × (q ≡ 0)) ⊎ ((i ≢ id) × (p ≡ i) × (q ≡ a)))
 
-parted_once : (id n : ℕ) → (i a j b p q : ℕ) → Parted id n i a p q → Parted id n j b p q → (i ≡ j) × (a ≡ b)
+pub parted_once : (id n : ℕ) → (i a j b p q : ℕ) → Parted id n i a p q → Parted id n j b p q → (i ≡ j) × (a ≡ b)
 parted_once id n i a j b p q x y = ⊎_elim
     (λ (u : (i ≡ n) × (a ≡ 0) × (p ≡ id) × (q ≡ 1)). ⊎_elim
     (λ (v : (j ≡ n) × (b ≡ 0) × (p ≡ id) × (q ≡ 1)). (omega arith, omega arith))
