@@ -1,7 +1,7 @@
 //! Chains, their sources and operators, and the keys of all of them.
 
 use crate::head::text_at;
-use crate::words::{Form, Key, Need, Row, Shape};
+use crate::words::{Form, Key, Need, Row, Shape, key};
 use serde_json::Value;
 
 /// The most items of a source, entries of a scripted one, and numbers of a range.
@@ -14,36 +14,16 @@ pub const MOST_SPREAD: usize = 1_000;
 pub static CHAIN: Shape = Shape {
     name: "a chain",
     keys: &[
-        Key {
-            word: "from",
-            form: Form::Source,
-            need: Need::Always,
-        },
-        Key {
-            word: "ops",
-            form: Form::Operators,
-            need: Need::Always,
-        },
+        key!("from", Form::Source, Need::Always),
+        key!("ops", Form::Operators, Need::Always),
     ],
 };
 
-const OF: Key = Key {
-    word: "of",
-    form: Form::Numbers(MOST_ITEMS),
-    need: Need::Maybe,
-};
+const OF: Key = key!("of", Form::Numbers(MOST_ITEMS), Need::Maybe);
 
-const RANGE: Key = Key {
-    word: "range",
-    form: Form::Range,
-    need: Need::Maybe,
-};
+const RANGE: Key = key!("range", Form::Range, Need::Maybe);
 
-const SCRIPTED: Key = Key {
-    word: "script",
-    form: Form::Entries,
-    need: Need::Maybe,
-};
+const SCRIPTED: Key = key!("script", Form::Entries, Need::Maybe);
 
 /// The sources, by the one key that each has.
 static SOURCE_ROWS: [Row; 3] = [
@@ -89,86 +69,42 @@ static ANY_SOURCE: Shape = Shape {
 /// An entry of a scripted source that is a fault.
 pub static FAULT: Shape = Shape {
     name: "a fault",
-    keys: &[Key {
-        word: "fault",
-        form: Form::Short,
-        need: Need::Always,
-    }],
+    keys: &[key!("fault", Form::Short, Need::Always)],
 };
 
 /// The tag of an operator.
-const OP: Key = Key {
-    word: "op",
-    form: Form::Tag,
-    need: Need::Always,
-};
+const OP: Key = key!("op", Form::Tag, Need::Always);
 
-const BY_ARITHMETIC: Key = Key {
-    word: "by",
-    form: Form::OneOf(&["add", "mul"]),
-    need: Need::Always,
-};
+const BY_ARITHMETIC: Key = key!("by", Form::OneOf(&["add", "mul"]), Need::Always);
 
-const BY_TEST: Key = Key {
-    word: "by",
-    form: Form::OneOf(&["even", "odd", "lt", "gt", "ne"]),
-    need: Need::Always,
-};
+const BY_TEST: Key = key!(
+    "by",
+    Form::OneOf(&["even", "odd", "lt", "gt", "ne"]),
+    Need::Always
+);
 
-const BY_JOINING: Key = Key {
-    word: "by",
-    form: Form::OneOf(&["add", "mul", "left", "right"]),
-    need: Need::Always,
-};
+const BY_JOINING: Key = key!(
+    "by",
+    Form::OneOf(&["add", "mul", "left", "right"]),
+    Need::Always
+);
 
-const K: Key = Key {
-    word: "k",
-    form: Form::Signed,
-    need: Need::Always,
-};
+const K: Key = key!("k", Form::Signed, Need::Always);
 
 /// The number beside a test of which it is not known whether it has one.
-const MAYBE_K: Key = Key {
-    word: "k",
-    form: Form::Signed,
-    need: Need::Maybe,
-};
+const MAYBE_K: Key = key!("k", Form::Signed, Need::Maybe);
 
-const ADD: Key = Key {
-    word: "add",
-    form: Form::Numbers(16),
-    need: Need::Always,
-};
+const ADD: Key = key!("add", Form::Numbers(16), Need::Always);
 
-const N: Key = Key {
-    word: "n",
-    form: Form::Unsigned,
-    need: Need::Always,
-};
+const N: Key = key!("n", Form::Unsigned, Need::Always);
 
-const SPREAD_N: Key = Key {
-    word: "n",
-    form: Form::Spread,
-    need: Need::Always,
-};
+const SPREAD_N: Key = key!("n", Form::Spread, Need::Always);
 
-const INITIAL: Key = Key {
-    word: "from",
-    form: Form::Signed,
-    need: Need::Always,
-};
+const INITIAL: Key = key!("from", Form::Signed, Need::Always);
 
-const TO: Key = Key {
-    word: "to",
-    form: Form::OneOf(&["range", "repeat"]),
-    need: Need::Always,
-};
+const TO: Key = key!("to", Form::OneOf(&["range", "repeat"]), Need::Always);
 
-const WITH: Key = Key {
-    word: "with",
-    form: Form::Chain,
-    need: Need::Always,
-};
+const WITH: Key = key!("with", Form::Chain, Need::Always);
 
 /// An operator, which is told by its tag.
 macro_rules! operator {

@@ -1,6 +1,6 @@
 //! The heads of scripts, their flows, and the keys of both.
 
-use crate::words::{Form, Key, Need, Row, Shape};
+use crate::words::{Form, Key, Need, Row, Shape, key};
 
 /// The most steps of a script.
 pub const MOST_STEPS: usize = 10_000;
@@ -9,83 +9,39 @@ pub const MOST_STEPS: usize = 10_000;
 pub const MOST_FLOWS: usize = 64;
 
 /// The version, whose absence is a fault of its own.
-pub const VERSION: Key = Key {
-    word: "version",
-    form: Form::Version,
-    need: Need::Always,
-};
+pub const VERSION: Key = key!("version", Form::Version, Need::Always);
 
 /// A whole script.
 pub static SCRIPT: Shape = Shape {
     name: "the script",
     keys: &[
         VERSION,
-        Key {
-            word: "flow",
-            form: Form::Flow,
-            need: Need::OnlyInOne,
-        },
-        Key {
-            word: "flows",
-            form: Form::Flows,
-            need: Need::OnlyInTwo,
-        },
-        Key {
-            word: "steps",
-            form: Form::Steps,
-            need: Need::Always,
-        },
+        key!("flow", Form::Flow, Need::OnlyInOne),
+        key!("flows", Form::Flows, Need::OnlyInTwo),
+        key!("steps", Form::Steps, Need::Always),
     ],
 };
 
 /// The tag of a flow.
-const KIND: Key = Key {
-    word: "kind",
-    form: Form::Tag,
-    need: Need::Always,
-};
+const KIND: Key = key!("kind", Form::Tag, Need::Always);
 
-const REPLAY: Key = Key {
-    word: "replay",
-    form: Form::Short,
-    need: Need::Always,
-};
+const REPLAY: Key = key!("replay", Form::Short, Need::Always);
 
-const EXTRA: Key = Key {
-    word: "extra",
-    form: Form::Short,
-    need: Need::Always,
-};
+const EXTRA: Key = key!("extra", Form::Short, Need::Always);
 
-const OVERFLOW: Key = Key {
-    word: "overflow",
-    form: Form::OneOf(&["suspend", "drop_oldest", "drop_latest"]),
-    need: Need::Always,
-};
+const OVERFLOW: Key = key!(
+    "overflow",
+    Form::OneOf(&["suspend", "drop_oldest", "drop_latest"]),
+    Need::Always
+);
 
-const LIMIT: Key = Key {
-    word: "limit",
-    form: Form::Unsigned,
-    need: Need::Maybe,
-};
+const LIMIT: Key = key!("limit", Form::Unsigned, Need::Maybe);
 
-const INITIAL: Key = Key {
-    word: "initial",
-    form: Form::Signed,
-    need: Need::Always,
-};
+const INITIAL: Key = key!("initial", Form::Signed, Need::Always);
 
-const SHARED_CHAIN: Key = Key {
-    word: "chain",
-    form: Form::Chain,
-    need: Need::Always,
-};
+const SHARED_CHAIN: Key = key!("chain", Form::Chain, Need::Always);
 
-const STARTED: Key = Key {
-    word: "started",
-    form: Form::Started,
-    need: Need::Always,
-};
+const STARTED: Key = key!("started", Form::Started, Need::Always);
 
 /// The flows, by their tags.
 static FLOW_ROWS: [Row; 5] = [
@@ -133,15 +89,7 @@ pub const STARTED_WORDS: &[&str] = &["eagerly", "lazily"];
 pub static STOP: Shape = Shape {
     name: "\"started\"",
     keys: &[
-        Key {
-            word: "stop",
-            form: Form::Unsigned,
-            need: Need::Always,
-        },
-        Key {
-            word: "expire",
-            form: Form::Unsigned,
-            need: Need::MaybeInTwo,
-        },
+        key!("stop", Form::Unsigned, Need::Always),
+        key!("expire", Form::Unsigned, Need::MaybeInTwo),
     ],
 };

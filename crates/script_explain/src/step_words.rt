@@ -1,61 +1,25 @@
 //! The steps of scripts and their keys.
 
-use crate::words::{Form, Key, Need, Row};
+use crate::words::{Form, Key, Need, Row, key};
 
 /// The tag of a step.
-const DO: Key = Key {
-    word: "do",
-    form: Form::Tag,
-    need: Need::Always,
-};
+const DO: Key = key!("do", Form::Tag, Need::Always);
 
-const ON_FLOW: Key = Key {
-    word: "flow",
-    form: Form::Name,
-    need: Need::OnlyInTwo,
-};
+const ON_FLOW: Key = key!("flow", Form::Name, Need::OnlyInTwo);
 
-const NAME: Key = Key {
-    word: "name",
-    form: Form::Name,
-    need: Need::Always,
-};
+const NAME: Key = key!("name", Form::Name, Need::Always);
 
-const VALUE: Key = Key {
-    word: "value",
-    form: Form::Signed,
-    need: Need::Always,
-};
+const VALUE: Key = key!("value", Form::Signed, Need::Always);
 
-const EXPECT: Key = Key {
-    word: "expect",
-    form: Form::Signed,
-    need: Need::Always,
-};
+const EXPECT: Key = key!("expect", Form::Signed, Need::Always);
 
-const UPDATE: Key = Key {
-    word: "update",
-    form: Form::Signed,
-    need: Need::Always,
-};
+const UPDATE: Key = key!("update", Form::Signed, Need::Always);
 
-const AT: Key = Key {
-    word: "at",
-    form: Form::Unsigned,
-    need: Need::Always,
-};
+const AT: Key = key!("at", Form::Unsigned, Need::Always);
 
-const FIRST: Key = Key {
-    word: "first",
-    form: Form::Numbers(10_000),
-    need: Need::MaybeInTwo,
-};
+const FIRST: Key = key!("first", Form::Numbers(10_000), Need::MaybeInTwo);
 
-const CHAIN: Key = Key {
-    word: "chain",
-    form: Form::Chain,
-    need: Need::Always,
-};
+const CHAIN: Key = key!("chain", Form::Chain, Need::Always);
 
 /// A step, which is told by its tag.
 macro_rules! step {

@@ -97,6 +97,19 @@ pub struct Key {
     pub need: Need,
 }
 
+/// A key of an object: its word, what the format asks of its value, and in which versions it may be there.
+macro_rules! key {
+    ($word:expr, $form:expr, $need:expr) => {
+        Key {
+            word: $word,
+            form: $form,
+            need: $need,
+        }
+    };
+}
+
+pub(crate) use key;
+
 /// Returns the key of a word, in whatever version.
 pub fn key_named(keys: &'static [Key], word: &str) -> Option<Key> {
     for key in keys {

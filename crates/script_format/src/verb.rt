@@ -155,57 +155,39 @@ impl Kind {
     fn is_flow(self) -> bool
         ensures { result ≡ format.is_flow self }
     {
-        match self {
-            Kind::Absent => false,
-            _ => true,
-        }
+        !matches!(self, Kind::Absent)
     }
 
     /// Returns a flow into which the script emits.
     fn is_mutable(self) -> bool
         ensures { result ≡ format.is_mutable self }
     {
-        match self {
-            Kind::Shared | Kind::State => true,
-            _ => false,
-        }
+        matches!(self, Kind::Shared | Kind::State)
     }
 
     fn is_shared(self) -> bool
         ensures { result ≡ format.is_shared self }
     {
-        match self {
-            Kind::Shared => true,
-            _ => false,
-        }
+        matches!(self, Kind::Shared)
     }
 
     fn is_state(self) -> bool
         ensures { result ≡ format.is_state self }
     {
-        match self {
-            Kind::State => true,
-            _ => false,
-        }
+        matches!(self, Kind::State)
     }
 
     /// Returns a flow with one current value.
     fn has_value(self) -> bool
         ensures { result ≡ format.has_value self }
     {
-        match self {
-            Kind::State | Kind::StateIn => true,
-            _ => false,
-        }
+        matches!(self, Kind::State | Kind::StateIn)
     }
 
     /// A flow into which a chain is shared.
     fn is_sharing(self) -> bool
         ensures { result ≡ format.is_sharing self }
     {
-        match self {
-            Kind::Share | Kind::StateIn => true,
-            _ => false,
-        }
+        matches!(self, Kind::Share | Kind::StateIn)
     }
 }
