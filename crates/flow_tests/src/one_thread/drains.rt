@@ -32,7 +32,8 @@ pub const DRAINS: &[Example] = &[
             Values(&[1, 2, 3]),
         ],
     },
-    // A drain makes room, so a value that waited in the queue comes with the others.
+    // A drain makes room, so a value that waited in the queue comes with the others. Nothing is lost if a drain is
+    // refused: the second value stays in the flow, and the first one in the list.
     Example {
         config: Config {
             extra: 1,
@@ -45,6 +46,14 @@ pub const DRAINS: &[Example] = &[
             Emit(3, Queued(4)),
             Drain(0, 10, Ok(Empty)),
             Values(&[1, 2, 3]),
+            Emit(4, Done),
+            Emit(5, Queued(6)),
+            Emit(6, Queued(7)),
+            RefuseCopy(2),
+            Drain(0, 10, Err(FlowFault::OutOfMemory)),
+            Values(&[1, 2, 3, 4]),
+            Drain(0, 10, Ok(Empty)),
+            Values(&[1, 2, 3, 4, 5, 6]),
         ],
     },
     // A copy that is refused once is made again by the same drain.
@@ -56,24 +65,6 @@ pub const DRAINS: &[Example] = &[
             Emit(3, Done),
             Subscribe(4),
             RefuseCopy(2),
-            Drain(0, 10, Ok(Empty)),
-            Values(&[1, 2, 3]),
-        ],
-    },
-    // Nothing is lost if a drain is refused: the second value stays in the flow, and the first one in the list.
-    Example {
-        config: Config {
-            extra: 1,
-            ..UNBUFFERED
-        },
-        calls: &[
-            Subscribe(1),
-            Emit(1, Done),
-            Emit(2, Queued(3)),
-            Emit(3, Queued(4)),
-            RefuseCopy(2),
-            Drain(0, 10, Err(FlowFault::OutOfMemory)),
-            Values(&[1]),
             Drain(0, 10, Ok(Empty)),
             Values(&[1, 2, 3]),
         ],
