@@ -8,6 +8,9 @@ use crate::timed::Timed;
 use std::alloc::{AllocError, Global};
 use std::collections::HashMap;
 
+/// An odd number whose bits have no pattern.
+const FACTOR: u64 = 0x9e37_79b9_7f4a_7c15;
+
 /// What the search found.
 #[derive(Drop)]
 pub enum Found<M> {
@@ -106,17 +109,24 @@ fn candidates<C: Copy, M: Machine<C>>(
     Ok(todo)
 }
 
-fn key_of<C, M: Machine<C>>(
-    alloc: Global,
+/// Returns a number by which a state with its counts of calls is found again. Should two have the same number, the table is
+/// not closed, and its caller sees that.
+fn mark_of<C, M: Machine<C>>(
     state: &M,
     placed: &Vec<usize>,
-) -> Result<Vec<u64>, AllocError> {
-    let mut key = Vec::new(alloc);
+    key: &mut Vec<u64>,
+) -> Result<u64, AllocError> {
+    key.clear();
     for count in placed.as_slice() {
         key.push(*count as u64)?;
     }
-    state.write_key(&mut key)?;
-    Ok(key)
+    state.write_key(key)?;
+    let mut mark = FACTOR;
+    for word in key.as_slice() {
+        mark = (mark ^ *word).wrapping_mul(FACTOR);
+        mark ^= mark >> 32;
+    }
+    Ok(mark)
 }
 
 fn take_turn(stack: &mut Vec<Frame>) -> Turn {
@@ -215,8 +225,8 @@ pub fn search<C: Copy, M: Machine<C>>(
     }
     let state = first.try_copy(alloc)?;
     let mut known = HashMap::new(alloc);
-    let key = key_of(alloc, &state, &placed)?;
-    let _ = known.insert(key, 0)?;
+    let mut key = Vec::new(alloc);
+    let _ = known.insert(mark_of(&state, &placed, &mut key)?, 0)?;
     let mut nodes = Vec::new(alloc);
     let mut stack = Vec::new(alloc);
     let todo = candidates(alloc, callers, &state, &placed)?;
@@ -233,14 +243,14 @@ pub fn search<C: Copy, M: Machine<C>>(
                 let Some(next) = advance(alloc, callers, nodes.as_slice(), at, turn)? else {
                     continue;
                 };
-                let key = key_of(alloc, &next.state, &next.placed)?;
-                let seen = known.get(&key).copied();
+                let mark = mark_of(&next.state, &next.placed, &mut key)?;
+                let seen = known.get(&mark).copied();
                 if let Some(index) = seen {
                     set_edge(callers.len(), &mut nodes, at, turn, index)?;
                     continue;
                 }
                 let index = nodes.len();
-                let _ = known.insert(key, index)?;
+                let _ = known.insert(mark, index)?;
                 set_edge(callers.len(), &mut nodes, at, turn, index)?;
                 path.push(turn)?;
                 if owes_nothing(callers, &next.placed) {
