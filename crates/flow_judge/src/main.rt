@@ -1,10 +1,11 @@
 //! Judges recorded calls of a flow, read from standard input: whether the documented flow may have
-//! answered so. `flow_judge [--order]`, where `--order` tells the order of the calls that does.
+//! answered so. `flow_judge --order` tells the order of the calls that does, too; `flow_judge --draw [--text]` draws the calls over
+//! time, as SVG or as text.
 //!
 //! Statuses: 0 legal, 1 illegal, 2 refused, 3 gave up, 4 out of memory, or a read or a write failed.
 #![tactic(auto)]
 
-use record_judging::{REFUSED, judge_record};
+use record_judging::{Form, REFUSED, draw_record, judge_record};
 use std::env::args;
 use std::io::{self, Read, Write};
 use std::process::ExitCode;
@@ -12,11 +13,27 @@ use std::process::ExitCode;
 /// Out of memory, or a read or a write failed.
 const FAILED: u8 = 4;
 
-/// Returns whether the arguments ask for the order; `None` if they are wrong.
-fn order_asked(words: &[String]) -> Option<bool> {
+/// What is to be written.
+#[derive(Clone, Copy)]
+enum Task {
+    Judge,
+    JudgeWithOrder,
+    Draw(Form),
+}
+
+/// Reads what is to be written. Returns None if the words say no such.
+fn task_of(words: &[String]) -> Option<Task> {
     match words {
-        [] => Some(false),
-        [flag] => (flag.as_str() == "--order").then_some(true),
+        [] => Some(Task::Judge),
+        [word] => match word.as_str() {
+            "--order" => Some(Task::JudgeWithOrder),
+            "--draw" => Some(Task::Draw(Form::Svg)),
+            _ => None,
+        },
+        [one, other] => match (one.as_str(), other.as_str()) {
+            ("--draw", "--text") | ("--text", "--draw") => Some(Task::Draw(Form::Text)),
+            _ => None,
+        },
         _ => None,
     }
 }
@@ -30,13 +47,18 @@ fn arguments(rt: &HostRuntime) -> io::Result<Vec<String>> {
 fn run_program(rt: &HostRuntime) -> io::Result<u8> {
     let words = arguments(rt)?;
     let mut out = rt.stdout();
-    let Some(with_order) = order_asked(words.as_slice()) else {
-        writeln!(out, "usage: flow_judge [--order]")?;
+    let Some(task) = task_of(words.as_slice()) else {
+        writeln!(out, "usage: flow_judge [--order | --draw [--text]]")?;
         return Ok(REFUSED);
     };
     let mut bytes = Vec::new(rt.alloc());
     let _ = rt.stdin().read_to_end(&mut bytes)?;
-    judge_record(rt.alloc(), &mut out, bytes.as_slice(), with_order)
+    let alloc = rt.alloc();
+    match task {
+        Task::Judge => judge_record(alloc, &mut out, bytes.as_slice(), false),
+        Task::JudgeWithOrder => judge_record(alloc, &mut out, bytes.as_slice(), true),
+        Task::Draw(form) => draw_record(alloc, &mut out, bytes.as_slice(), form),
+    }
 }
 
 fn main(rt: HostRuntime) -> ExitCode {

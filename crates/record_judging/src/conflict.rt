@@ -3,8 +3,8 @@
 //! A *look* is a call that by its answer changed nothing. An order that explains calls also explains
 //! them without a look. So if the calls are illegal without some looks, these looks are not needed to
 //! say why.
-use crate::moments::is_illegal_by;
-use crate::order::write_call;
+use crate::moments::{first_moment, is_illegal_by};
+use crate::order::write_line;
 use crate::words::CallWord;
 use crate::written::{Sheet, WrittenAnswer, WrittenCall};
 use std::alloc::{AllocError, Global};
@@ -12,6 +12,9 @@ use std::io::{self, Write};
 
 /// After so many looks that are needed, all later ones are taken to be needed.
 const MOST_NEEDED: usize = 8;
+
+/// So many of the last looks are tried one by one first.
+const LAST_LOOKS: usize = 8;
 
 /// The numbers of the calls that are left out.
 #[derive(Drop)]
@@ -99,22 +102,37 @@ fn leave_out(
     Ok(low)
 }
 
-/// Returns the looks without which the calls by a moment are illegal as well.
+/// Leaves out all looks except the last ones, if the calls by a moment are illegal without them. Returns how many.
+fn leave_out_early(
+    alloc: Global,
+    sheet: &Sheet,
+    moment: u64,
+    left_out: &mut LeftOut,
+    looks: &[usize],
+) -> Result<usize, AllocError> {
+    let count = looks.len().saturating_sub(LAST_LOOKS);
+    let early = looks.get(..count).unwrap_or(&[]);
+    left_out.set(early, true);
+    if is_illegal_by(alloc, sheet, moment, left_out)? == Some(true) {
+        return Ok(count);
+    }
+    left_out.set(early, false);
+    Ok(0)
+}
+
+/// Returns the looks without which the calls by a moment are illegal as well. Those that are needed are mostly among the last
+/// ones.
 fn not_needed(alloc: Global, sheet: &Sheet, moment: u64) -> Result<LeftOut, AllocError> {
     let mut left_out = LeftOut::new(alloc);
     left_out.reserve(sheet.count)?;
     let looks = looks_by(alloc, sheet, moment)?;
-    let mut rest = looks.as_slice();
+    let early = leave_out_early(alloc, sheet, moment, &mut left_out, looks.as_slice())?;
+    let mut rest = looks.get(early..).unwrap_or(&[]);
     for _ in 0..MOST_NEEDED {
         let count = leave_out(alloc, sheet, moment, &mut left_out, rest)?;
         rest = rest.get(count.saturating_add(1)..).unwrap_or(&[]);
     }
     Ok(left_out)
-}
-
-/// Returns whether a call overlaps these moments.
-fn overlaps(call: WrittenCall, from: u64, to: u64) -> bool {
-    call.begin <= to && call.end.is_none_or(|end| from <= end)
 }
 
 /// Returns when the first look that is needed began, or the first call that ends at the moment.
@@ -148,48 +166,65 @@ fn change_before(sheet: &Sheet, moment: u64) -> u64 {
     begin
 }
 
-/// Writes a caller's calls that overlap these moments and are not left out.
-fn write_calls<W: Write>(
-    out: &mut W,
-    sheet: &Sheet,
-    caller: usize,
-    from: u64,
-    to: u64,
-    left_out: &LeftOut,
-) -> io::Result<()> {
-    let (Some(name), Some(row)) = (sheet.names.get(caller), sheet.rows.get(caller)) else {
-        return Ok(());
-    };
-    let name = name.as_str();
-    for call in row {
-        if overlaps(*call, from, to) && !left_out.has(call.number) {
-            write!(out, "  {}  {name} ", call.number)?;
-            write_call(out, sheet, *call)?;
-            match call.end {
-                Some(end) => writeln!(out, "  [{}, {end}]", call.begin)?,
-                None => writeln!(out, "  [{}, ..]", call.begin)?,
-            }
-        }
-    }
-    Ok(())
+/// The calls of an illegal record that contradict each other.
+#[derive(Drop)]
+pub struct Conflict {
+    /// No order explains the calls that began by this moment.
+    pub moment: u64,
+    /// When the last change began that was over before the calls that are needed.
+    pub from: u64,
+    left_out: LeftOut,
 }
 
-/// Writes the looks that are needed by a moment, and the changes from the last one on that was over
-/// before them.
-pub fn write_conflict<W: Write>(
-    alloc: Global,
-    out: &mut W,
-    sheet: &Sheet,
-    moment: u64,
-) -> io::Result<()> {
-    let left_out = not_needed(alloc, sheet, moment)?;
-    let from = change_before(sheet, begin_of(sheet, moment, &left_out));
-    writeln!(
-        out,
-        "by moment {moment} no order explains the calls; from {from} on there were:"
-    )?;
-    for caller in 0..sheet.names.len() {
-        write_calls(out, sheet, caller, from, moment, &left_out)?;
+impl Conflict {
+    /// Finds the conflict of an illegal record. Returns None if a search gave up.
+    pub fn find(alloc: Global, sheet: &Sheet) -> Result<Option<Conflict>, AllocError> {
+        let Some(moment) = first_moment(alloc, sheet)? else {
+            return Ok(None);
+        };
+        let left_out = not_needed(alloc, sheet, moment)?;
+        let from = change_before(sheet, begin_of(sheet, moment, &left_out));
+        Ok(Some(Conflict {
+            moment,
+            from,
+            left_out,
+        }))
     }
-    Ok(())
+
+    /// Returns whether a call overlaps the moments of the conflict.
+    pub fn overlaps(&self, call: WrittenCall) -> bool {
+        call.begin <= self.moment && call.end.is_none_or(|end| self.from <= end)
+    }
+
+    /// Returns whether a call is needed to say why the calls are illegal.
+    pub fn needs(&self, call: WrittenCall) -> bool {
+        self.overlaps(call) && !self.left_out.has(call.number)
+    }
+
+    /// Writes the moment, and the calls that are needed, in the order of their callers.
+    pub fn write<W: Write>(&self, out: &mut W, sheet: &Sheet) -> io::Result<()> {
+        let Conflict { moment, from, .. } = self;
+        writeln!(
+            out,
+            "by moment {moment} no order explains the calls; from {from} on there were:"
+        )?;
+        for caller in 0..sheet.names.len() {
+            self.write_calls(out, sheet, caller)?;
+        }
+        Ok(())
+    }
+
+    fn write_calls<W: Write>(&self, out: &mut W, sheet: &Sheet, caller: usize) -> io::Result<()> {
+        let Some(row) = sheet.rows.get(caller) else {
+            return Ok(());
+        };
+        for call in row {
+            if self.needs(*call) {
+                write!(out, "  ")?;
+                write_line(out, sheet, caller, *call)?;
+                writeln!(out)?;
+            }
+        }
+        Ok(())
+    }
 }

@@ -1,10 +1,9 @@
 //! The first moment at which a record goes wrong.
-use crate::conflict::{LeftOut, write_conflict};
+use crate::conflict::LeftOut;
 use crate::judging::{Outcome, judge};
 use crate::written::{Sheet, WrittenCall};
 use flow_check::Verdict;
 use std::alloc::{AllocError, Global};
-use std::io::{self, Write};
 
 /// Returns the calls that began by a moment, without those that are left out. Those that were not
 /// over then are pending, and if they happen they are answered as they were later.
@@ -29,7 +28,7 @@ fn calls_by(
 }
 
 /// Returns the ends of all calls in order.
-fn ends_of(alloc: Global, sheet: &Sheet) -> Result<Vec<u64>, AllocError> {
+pub fn ends_of(alloc: Global, sheet: &Sheet) -> Result<Vec<u64>, AllocError> {
     let mut ends = Vec::new(alloc);
     for calls in sheet.rows.as_slice() {
         for call in calls {
@@ -60,7 +59,7 @@ pub fn is_illegal_by(
 
 /// Returns the first end by which no order explains the calls of an illegal record, or None if a
 /// search gave up.
-fn first_moment(alloc: Global, sheet: &Sheet) -> Result<Option<u64>, AllocError> {
+pub fn first_moment(alloc: Global, sheet: &Sheet) -> Result<Option<u64>, AllocError> {
     let ends = ends_of(alloc, sheet)?;
     let none = LeftOut::new(alloc);
     let mut low = 0;
@@ -82,12 +81,4 @@ fn first_moment(alloc: Global, sheet: &Sheet) -> Result<Option<u64>, AllocError>
         }
     }
     Ok(ends.get(low).copied())
-}
-
-/// Writes the first moment by which no order explains the calls, and the calls around it.
-pub fn write_moment<W: Write>(alloc: Global, out: &mut W, sheet: &Sheet) -> io::Result<()> {
-    match first_moment(alloc, sheet)? {
-        Some(moment) => write_conflict(alloc, out, sheet, moment),
-        None => Ok(()),
-    }
 }

@@ -75,6 +75,30 @@ pub fn write_call<W: Write>(out: &mut W, sheet: &Sheet, call: WrittenCall) -> io
     write_answer(out, sheet.lists.as_slice(), call)
 }
 
+/// Writes the number of a caller's call, the caller, the call, and its moments.
+pub fn write_line<W: Write>(
+    out: &mut W,
+    sheet: &Sheet,
+    caller: usize,
+    call: WrittenCall,
+) -> io::Result<()> {
+    let Some(name) = sheet.names.get(caller) else {
+        return Ok(());
+    };
+    let name = name.as_str();
+    write!(out, "{}  {name} ", call.number)?;
+    write_call(out, sheet, call)?;
+    write_moments(out, call)
+}
+
+/// Writes when a call began and ended.
+fn write_moments<W: Write>(out: &mut W, call: WrittenCall) -> io::Result<()> {
+    match call.end {
+        Some(end) => write!(out, "  [{}, {end}]", call.begin),
+        None => write!(out, "  [{}, ..]", call.begin),
+    }
+}
+
 /// Returns what a part of a call is, if the call has several.
 fn part_words(call: WrittenCall, part: usize) -> &'static str {
     match (call.call, call.answer, part) {

@@ -1,7 +1,8 @@
 //! The verdict on a record, in words and as a status.
+use crate::conflict::Conflict;
+use crate::drawing::{Form, Picture, write_picture};
 use crate::explaining::explain;
 use crate::judging::{Outcome, judge};
-use crate::moments::write_moment;
 use crate::order::write_order;
 use crate::reading::read_sheet;
 use crate::refusal::{Part, Refusal, Unread, Wrong};
@@ -67,7 +68,9 @@ fn write_verdict<W: Write>(
         }
         Verdict::Illegal => {
             writeln!(out, "illegal")?;
-            write_moment(alloc, out, sheet)?;
+            if let Some(conflict) = Conflict::find(alloc, sheet)? {
+                conflict.write(out, sheet)?;
+            }
             Ok(ILLEGAL)
         }
         Verdict::GaveUp => {
@@ -94,6 +97,47 @@ pub fn judge_record<W: Write>(
     };
     match judge(alloc, &sheet, sheet.rows.as_slice())? {
         Outcome::Judged(verdict) => write_verdict(alloc, out, &sheet, verdict, with_order),
+        Outcome::Faulty(fault, number) => {
+            write_refusal(alloc, out, bytes, faulty(fault, number))
+        }
+    }
+}
+
+/// Draws the calls of a record of this verdict.
+fn draw_verdict<W: Write>(
+    alloc: Global,
+    out: &mut W,
+    sheet: &Sheet,
+    verdict: Verdict,
+    form: Form,
+) -> io::Result<u8> {
+    let (word, status, conflict) = match verdict {
+        Verdict::Legal(_) => ("legal", LEGAL, None),
+        Verdict::Illegal => ("illegal", ILLEGAL, Conflict::find(alloc, sheet)?),
+        Verdict::GaveUp => ("gave up", GAVE_UP, None),
+    };
+    let picture = Picture::new(alloc, sheet, conflict)?;
+    write_picture(alloc, out, sheet, &picture, word, form)?;
+    Ok(status)
+}
+
+/// Judges the record of these bytes as `judge_record` does, and draws its calls over time: of an illegal one those around the
+/// conflict, in which those are marked that contradict each other.
+///
+/// # Errors
+/// As `judge_record`.
+pub fn draw_record<W: Write>(
+    alloc: Global,
+    out: &mut W,
+    bytes: &[u8],
+    form: Form,
+) -> io::Result<u8> {
+    let sheet = match read_sheet(alloc, bytes) {
+        Ok(sheet) => sheet,
+        Err(unread) => return write_refusal(alloc, out, bytes, unread),
+    };
+    match judge(alloc, &sheet, sheet.rows.as_slice())? {
+        Outcome::Judged(verdict) => draw_verdict(alloc, out, &sheet, verdict, form),
         Outcome::Faulty(fault, number) => {
             write_refusal(alloc, out, bytes, faulty(fault, number))
         }

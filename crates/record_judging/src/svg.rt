@@ -1,0 +1,215 @@
+//! A picture of calls over time as SVG: a lane for each caller, and in it a bar with the words of each call.
+use crate::drawing::{Bar, Picture};
+use crate::order::write_call;
+use crate::written::{Sheet, WrittenCall};
+use std::alloc::{AllocError, Global};
+use std::io::{self, Write};
+
+/// The width of a letter.
+const LETTER: usize = 8;
+
+/// The least distance between two moments.
+const COLUMN: usize = 24;
+
+/// The height of a lane.
+const LANE: usize = 36;
+
+/// The space above the first lane, where the moments are.
+const TOP: usize = 76;
+
+/// The space at the edges of the picture.
+const MARGIN: usize = 16;
+
+/// Colours for a light background and for a dark one.
+const STYLE: &str = "<style>
+text{font:13px ui-monospace,SFMono-Regular,Menlo,Consolas,'DejaVu Sans Mono',monospace;fill:#1f2328}
+.p{fill:#ffffff}
+.t{font-size:10px;fill:#59636e}
+.x{stroke:#d1d9e0}
+.c{fill:#eaeef2}
+.w{fill:#ffebe9;stroke:#b3261e;stroke-width:2}
+@media (prefers-color-scheme:dark){
+text{fill:#e6edf3}
+.p{fill:#0d1117}
+.t{fill:#9198a1}
+.x{stroke:#3d444d}
+.c{fill:#262c36}
+.w{fill:#4c1b1b;stroke:#ff9a91}
+}
+</style>";
+
+/// Writes text so that it is no markup.
+fn write_escaped<W: Write>(out: &mut W, text: &str) -> io::Result<()> {
+    for letter in text.chars() {
+        match letter {
+            '&' => write!(out, "&amp;")?,
+            '<' => write!(out, "&lt;")?,
+            '>' => write!(out, "&gt;")?,
+            _ if letter < ' ' => write!(out, "?")?,
+            _ => write!(out, "{letter}")?,
+        }
+    }
+    Ok(())
+}
+
+/// Writes the words in the bar of a call.
+fn write_words<W: Write>(out: &mut W, sheet: &Sheet, call: WrittenCall) -> io::Result<()> {
+    write!(out, "{} ", call.number)?;
+    write_call(out, sheet, call)
+}
+
+/// Returns how wide the bar of a call has to be.
+fn width_of(alloc: Global, sheet: &Sheet, call: WrittenCall) -> io::Result<usize> {
+    let mut words = Vec::new(alloc);
+    write_words(&mut words, sheet, call)?;
+    Ok(words.len().saturating_mul(LETTER).saturating_add(MARGIN))
+}
+
+/// Returns the top of a lane.
+fn y_of(lane: usize) -> usize {
+    lane.saturating_mul(LANE).saturating_add(TOP)
+}
+
+/// Where each column of a picture is. Each bar has room for its words.
+#[derive(Drop)]
+struct Columns {
+    widths: Vec<usize>,
+    edges: Vec<usize>,
+}
+
+impl Columns {
+    fn new(alloc: Global, sheet: &Sheet, picture: &Picture) -> io::Result<Columns> {
+        let mut widths = Vec::new(alloc);
+        let mut left = MARGIN;
+        for bar in picture.bars.as_slice() {
+            widths.push(width_of(alloc, sheet, bar.call)?)?;
+            left = left.max(name_width(sheet, bar.caller));
+        }
+        let mut columns = Columns {
+            widths,
+            edges: Vec::new(alloc),
+        };
+        columns.edges.push(left)?;
+        for column in 0..picture.moments.len() {
+            columns.add_after(picture, column)?;
+        }
+        Ok(columns)
+    }
+
+    /// Returns where a column begins.
+    fn x_of(&self, column: usize) -> usize {
+        self.edges.get(column).copied().unwrap_or(0)
+    }
+
+    /// Adds the end of a column, after all bars that end there.
+    fn add_after(&mut self, picture: &Picture, column: usize) -> Result<(), AllocError> {
+        let mut end = self.x_of(column).saturating_add(COLUMN);
+        for (bar, width) in picture.bars.iter().zip(self.widths.iter()) {
+            if bar.last_column() == column {
+                end = end.max(self.x_of(bar.from).saturating_add(*width));
+            }
+        }
+        self.edges.push(end)?;
+        Ok(())
+    }
+
+    /// Returns where the last column ends.
+    fn right(&self) -> usize {
+        self.edges.last().copied().unwrap_or(MARGIN)
+    }
+}
+
+/// Returns how much room a caller's name takes.
+fn name_width(sheet: &Sheet, caller: usize) -> usize {
+    let letters = sheet.names.get(caller).map_or(0, |name| name.len());
+    letters.saturating_mul(LETTER).saturating_add(2 * MARGIN)
+}
+
+/// Writes a line and a number for each moment.
+fn write_moments<W: Write>(
+    out: &mut W,
+    picture: &Picture,
+    columns: &Columns,
+    bottom: usize,
+) -> io::Result<()> {
+    for (column, moment) in picture.moments.iter().enumerate() {
+        let x = columns.x_of(column);
+        writeln!(
+            out,
+            "<line class=\"x\" x1=\"{x}\" y1=\"{TOP}\" x2=\"{x}\" y2=\"{bottom}\"/><text class=\"t\" transform=\"translate({x} {}) rotate(-40)\">{moment}</text>",
+            TOP - 6
+        )?;
+    }
+    Ok(())
+}
+
+fn write_name<W: Write>(out: &mut W, sheet: &Sheet, bar: &Bar) -> io::Result<()> {
+    let y = y_of(bar.lane).saturating_add(LANE / 2 + 5);
+    write!(out, "<text x=\"{MARGIN}\" y=\"{y}\">")?;
+    if let Some(name) = sheet.names.get(bar.caller) {
+        write_escaped(out, name.as_str())?;
+    }
+    writeln!(out, "</text>")
+}
+
+fn write_bar<W: Write>(out: &mut W, sheet: &Sheet, columns: &Columns, bar: &Bar) -> io::Result<()> {
+    let x = columns.x_of(bar.from);
+    let width = columns.x_of(bar.to).saturating_sub(x).max(4);
+    let y = y_of(bar.lane);
+    let class = if bar.is_marked { "w" } else { "c" };
+    write!(
+        out,
+        "<rect class=\"{class}\" x=\"{x}\" y=\"{}\" width=\"{width}\" height=\"{}\" rx=\"3\"/><text x=\"{}\" y=\"{}\">",
+        y.saturating_add(5),
+        LANE - 10,
+        x.saturating_add(MARGIN / 2),
+        y.saturating_add(LANE / 2 + 5)
+    )?;
+    write_words(out, sheet, bar.call)?;
+    writeln!(out, "</text>")
+}
+
+/// Writes the lane of each caller: its name before its first call, and its calls.
+fn write_lanes<W: Write>(
+    out: &mut W,
+    sheet: &Sheet,
+    picture: &Picture,
+    columns: &Columns,
+) -> io::Result<()> {
+    let mut named: usize = 0;
+    for bar in picture.bars.as_slice() {
+        if bar.lane >= named {
+            write_name(out, sheet, bar)?;
+            named = bar.lane.saturating_add(1);
+        }
+        write_bar(out, sheet, columns, bar)?;
+    }
+    Ok(())
+}
+
+/// Writes a picture of calls of which this is the verdict.
+pub fn write_svg<W: Write>(
+    alloc: Global,
+    out: &mut W,
+    sheet: &Sheet,
+    picture: &Picture,
+    word: &str,
+) -> io::Result<()> {
+    let columns = Columns::new(alloc, sheet, picture)?;
+    let width = columns.right().saturating_add(MARGIN);
+    let bottom = y_of(picture.lanes());
+    let height = bottom.saturating_add(MARGIN);
+    writeln!(
+        out,
+        "<svg xmlns=\"http://www.w3.org/2000/svg\" viewBox=\"0 0 {width} {height}\" width=\"{width}\" height=\"{height}\" role=\"img\">"
+    )?;
+    writeln!(out, "<title>Recorded calls over time: {word}</title>")?;
+    writeln!(out, "{STYLE}")?;
+    writeln!(
+        out,
+        "<rect class=\"p\" width=\"100%\" height=\"100%\"/><text x=\"{MARGIN}\" y=\"24\">{word}</text>"
+    )?;
+    write_moments(out, picture, &columns, bottom)?;
+    write_lanes(out, sheet, picture, &columns)?;
+    writeln!(out, "</svg>")
+}
