@@ -36,6 +36,15 @@ const LINES = "[...document.querySelectorAll('#rows tr')].map((row) => row.cells
 const CHOSEN = "document.querySelector('#rows [aria-current]')?.dataset.step";
 const ROOT = "document.getElementById('picture').shadowRoot";
 const MARK = `${ROOT}.querySelector('.chosen')`;
+/** The picture's panel, the box of each name of a lane with the height at which the diagram has it, and the marked column. */
+const LANES = `(() => {
+  const root = ${ROOT};
+  const boxOf = (part) => (({ left, top, right, bottom }) => ({ left, top, right, bottom }))(part.getBoundingClientRect());
+  const lanes = [...root.querySelectorAll("svg text.a + line")].map((line) => boxOf(line.previousElementSibling));
+  const names = [...root.querySelectorAll(".names span")].map((each, at) =>
+    ({ name: each.textContent, box: boxOf(each), height: (lanes[at].top + lanes[at].bottom) / 2 }));
+  return { panel: boxOf(document.getElementById("picture")), names, column: boxOf(root.querySelector(".chosen")) };
+})()`;
 const SCRIPT = "document.getElementById('script')";
 const STATES = "document.getElementById('states').innerText.split('\\n').map((each) => each.trim().replaceAll(/\\s+/g, ' ')).filter(Boolean)";
 const pick = (name) => `{ const list = document.getElementById("examples"); list.value = ${JSON.stringify(name)}; list.dispatchEvent(new Event("change")); }`;
@@ -290,6 +299,29 @@ await test("a narrow screen", async () => {
   assert.ok(await narrow.evaluate("document.documentElement.scrollWidth") <= 380);
   await narrow.evaluate(pickRecord("illegal_state_torn_exchange"));
   assert.ok(await narrow.evaluate("document.documentElement.scrollWidth") <= 380);
+});
+await test("the names of lanes stay in sight", async () => {
+  const narrow = await chrome.open(`${address}#e=two_flows`, { width: 380, height: 800 });
+  const named = [...read("docs/pictures/two_flows.svg").matchAll(/<text class="a" [^>]*>([^<]*)<\/text>\n<line/g)].map(([, name]) => plain(name));
+  const begins = [];
+  for (const step of [1, 7, 13]) {
+    await narrow.evaluate(slide(step));
+    const { panel, names, column } = await narrow.evaluate(LANES);
+    assert.deepEqual(names.map(({ name }) => name), named);
+    for (const { name, box, height } of names) {
+      assert.ok(panel.left <= box.left && box.right <= Math.min(panel.right, column.left + 1), `${name} at step ${step}`);
+      assert.ok(box.top < height && height < box.bottom, `${name} is not at its lane`);
+    }
+    begins.push(await narrow.evaluate("document.getElementById('picture').scrollLeft"));
+  }
+  assert.ok(begins[0] < begins[1] && begins[1] < begins[2], `${begins}`);
+  await narrow.evaluate(pickRecord("legal_shared_own_first_values"));
+  await narrow.evaluate("document.getElementById('timeline').scrollLeft = 10_000");
+  const [shift, lefts] = await narrow.evaluate(`(() => {
+    const panel = document.getElementById("timeline"), { left } = panel.getBoundingClientRect();
+    return [panel.scrollLeft, [...panel.querySelectorAll("h3")].map((each) => each.getBoundingClientRect().left - left)];
+  })()`);
+  assert.ok(shift > 0 && lefts.length > 1 && lefts.every((each) => each >= 0 && each < 20), `${shift}: ${lefts}`);
 });
 if (shots) {
   const wide = { width: 1280, height: 860 }, small = { width: 380, height: 1500 };

@@ -1,16 +1,22 @@
 // The marble diagram, as the drawer drew it, and the column of a step in it.
-import { byId } from "./dom.js";
+import { byId, element } from "./dom.js";
 
 const SVG = "http://www.w3.org/2000/svg";
 
 const STYLE = `
 :host { display: block }
 svg { display: block }
+.drawn { width: max-content; min-width: 100% }
+.names { position: sticky; left: 0; width: 0; height: 0; pointer-events: none }
+.names span { position: absolute; padding: 0 6px 0 8px; background: var(--panel); font: var(--mono); line-height: 30px; white-space: pre }
 button { font: inherit; margin: 12px }
 .chosen { fill: var(--column); stroke: var(--accent) }`;
 
 /** How far a column's mark begins before its number, and how far above it the step's word rises. */
 const BEFORE = 5, ABOVE = 70;
+
+/** How far the box of a lane's name rises above the line on which the name is written. */
+const RISE = 19;
 
 const host = byId("picture");
 // A root of its own keeps the picture's style from the page.
@@ -25,10 +31,21 @@ export const diagram = () => drawn;
 /** Shows a diagram. */
 export function showDiagram(text) {
   drawn = text;
-  root.innerHTML = `<style>${STYLE}</style>${text}`;
+  root.innerHTML = `<style>${STYLE}</style><div class="drawn">${text}</div>`;
   const svg = root.querySelector("svg");
   columns = svg ? columnsOf(svg) : [];
+  svg?.before(namesOf(svg));
 }
+
+/** Returns the names of the lanes once more, each over its place, which stay in sight when the diagram is scrolled to the side. */
+function namesOf(svg) {
+  const lanes = [...svg.querySelectorAll("text.a")].filter((text) => text.nextElementSibling?.localName === "line");
+  const names = lanes.map((text) => element("span", { style: `top: ${text.getAttribute("y") - RISE}px` }, text.textContent));
+  return element("div", { class: "names", "aria-hidden": "true" }, ...names);
+}
+
+/** Returns how much of the diagram the names of the lanes cover at its left, in pixels. */
+export const widthOfNames = () => [...root.querySelectorAll(".names span")].reduce((most, name) => Math.max(most, name.offsetWidth), 0);
 
 /** Shows a button in place of a diagram, and calls `draw` when it is pressed. */
 export function offerDiagram(words, draw) {

@@ -18,9 +18,9 @@ const COVERED = 28;
 /** Returns how far to scroll so that a part from `from` to `to` is within `low` and `high`. */
 const shiftInto = (from, to, low, high) => (from < low ? from - low : Math.max(0, Math.min(to - high, from - low)));
 
-/** Scrolls a panel, and not the page, until a part of it is in sight. */
-export function bringInto(panel, part) {
+/** Scrolls a panel, and not the page, until a part of it is in sight, also if so much is covered at its left. */
+export function bringInto(panel, part, coveredLeft = 0) {
   const [outer, inner] = [panel, part].map((each) => each.getBoundingClientRect());
   panel.scrollTop += shiftInto(inner.top, inner.bottom, outer.top + COVERED, outer.bottom);
-  panel.scrollLeft += shiftInto(inner.left, inner.right, outer.left, outer.right);
+  panel.scrollLeft += shiftInto(inner.left, inner.right, outer.left + coveredLeft, outer.right);
 }

@@ -1,6 +1,6 @@
 // The page: a script that is typed is played at once, and each step is shown in the script, in the diagram, among the lines, and by the
 // state that its flows are in after it.
-import { diagram, markColumn, offerDiagram, onColumnClick, showDiagram } from "./diagram.js";
+import { diagram, markColumn, offerDiagram, onColumnClick, showDiagram, widthOfNames } from "./diagram.js";
 import { bringInto, byId } from "./dom.js";
 import { Editor, showWhy } from "./editor.js";
 import { entriesOf, markEntry, plainEntries, showEntries, stepOfEvent } from "./lines.js";
@@ -153,8 +153,11 @@ function choose(step, scrolls = true) {
   if (scrolls) {
     const entry = shown.entries.find((each) => each.step === chosen);
     said.textContent = entry ? `${words}: ${entry.words}: ${entry.line}. ${entry.rule}` : words;
-    for (const [panel, part] of [[byId("listing"), row], [byId("picture"), mark]].filter(([, part]) => part)) {
-      bringInto(panel, part);
+    if (row) {
+      bringInto(byId("listing"), row);
+    }
+    if (mark) {
+      bringInto(byId("picture"), mark, widthOfNames());
     }
     editor.scrollToMark();
   }

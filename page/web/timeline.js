@@ -43,8 +43,9 @@ export function showTimeline(calls, wrong) {
   const columns = new Map([...new Set(moments)].sort((a, b) => a - b).map((moment, at) => [moment, at]));
   const lanes = [...byCaller(numbered)].map(([by, own]) => {
     const name = `lane-${by}`;
-    const list = element("ol", { "aria-labelledby": name, style: `--columns: ${columns.size + 1}` }, ...own.map((each) => barOf(each, columns, wrong)));
-    return element("div", { class: "lane" }, element("h3", { id: name }, element("strong", {}, by)), list);
+    const list = element("ol", { "aria-labelledby": name }, ...own.map((each) => barOf(each, columns, wrong)));
+    const style = `--columns: ${columns.size + 1}`;
+    return element("div", { class: "lane", style }, element("h3", { id: name }, element("strong", {}, by)), list);
   });
   timeline.replaceChildren(...lanes);
 }
