@@ -58,16 +58,7 @@ export function offerDiagram(words, draw) {
 }
 
 /** Returns the numbers above the columns, each with its step. */
-function headsOf(svg) {
-  const marked = [...svg.querySelectorAll("text[data-step][x]")];
-  if (marked.length > 0) {
-    return marked.map((text) => [Number(text.dataset.step), text]);
-  }
-  // A drawer without the attribute: a text that begins with a number, and that a rising word follows.
-  return [...svg.querySelectorAll("text.h[x]")]
-    .filter((text) => /^\d/.test(text.textContent) && text.nextElementSibling?.getAttribute("transform")?.includes("rotate"))
-    .map((text) => [Number.parseInt(text.textContent, 10), text]);
-}
+const headsOf = (svg) => [...svg.querySelectorAll("text[data-step][x]")].map((text) => [Number(text.dataset.step), text]);
 
 /** Returns the box of each step's column. */
 function columnsOf(svg) {
