@@ -1,5 +1,10 @@
 pub mod CallerLemmas
+pub mod CrowdLemmas
+pub mod EndLemmas
 pub mod LineLemmas
+pub mod NumberLemmas
 pub mod PairLemmas
+pub mod PlaceLemmas
 pub mod ReceivedLemmas
+pub mod SubscribedLemmas
 pub mod WaitLemmas

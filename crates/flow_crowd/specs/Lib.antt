@@ -1,4 +1,4 @@
 pub mod Callers
-pub mod InOrder
+pub mod Crowds
 pub mod Numbers
 pub mod Sizes

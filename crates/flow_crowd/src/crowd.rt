@@ -1,98 +1,114 @@
-//! A crowd: its tokens, which are made first, and its threads.
-ghost use Rattle.std.specs.Prelude.{◌≡◌, IfErr};
+//! A crowd: its callers are made, then its threads, and in the end all callers meet.
+ghost use Rattle.std.specs.Prelude.{◌≡◌, ◌<◌, ◌+◌, All, IfErr, IfOk, IfSome, vec_len};
+ghost use Rattle.flow_law.specs.Growth.{first_knowledge};
+ghost use Rattle.flow_crowd.specs.Crowds.{GotAll};
 
-use crate::caller::Caller;
-use crate::reader::Received;
+use crate::emitters::{emitters_of, start_emitters};
 use crate::size::CrowdSize;
-use crate::worker::Worker;
-use crossbeam_utils::atomic::AtomicCell;
-use flow_law::{Config, FlowFault};
-use flow_shared::SharedFlow;
+use crate::subscribers::{Ended, apart, start_subscribers, subscribe_all};
+use flow_law::{Config, FlowFault, Overflow};
+use flow_shared::{Seat, SharedFlow};
 use std::alloc::Global;
 use std::sync::Wait;
 use std::thread;
-use std::thread::{JoinHandle, Scope, Threads};
+use std::thread::{Scope, Threads, join_promised};
 
-/// Starts a thread for each worker. Where one cannot be made, all are to stop.
-fn start_all<'s, E, R: Wait + Sync>(
+/// Runs a crowd in a scope, through the first seat of its flow. All subscribe before any thread starts; those that emit
+/// start first. If a thread cannot be made, the subscribers without one are dropped, and no emitter waits for them.
+fn run_in<'s, E, R: Threads + Wait + Sync>(
     rt: &'s R,
     alloc: Global,
     scope: &Scope<'s, E>,
-    workers: Vec<Worker<'s>>,
+    flow: &'s SharedFlow<u64>,
+    seat: Seat<u64>,
     size: CrowdSize,
-    stop: &AtomicCell<bool>,
-) -> Vec<JoinHandle<Option<Received>>> {
-    let mut handles = Vec::new(alloc);
-    for worker in workers {
-        let is_started = match scope.spawn(move || worker.run(rt, size)) {
-            Ok(handle) => handles.push(handle).is_ok(),
-            Err(_) => false,
-        };
-        if !is_started {
-            stop.store(true);
-            break;
-        }
-    }
-    handles
+) -> Option<Vec<Vec<u64>>>
+    requires suspends { flow.now.first.config.overflow ≡ Overflow.Suspend }
+    requires buffer { 0 < flow.now.first.config.replay + flow.now.first.config.extra }
+    requires table { seat.table_id ≡ flow.now.table_id }
+    requires first { seat.knows ≡ first_knowledge }
+    ensures count { IfSome result (λ got. vec_len got ≡ size.subscribers) }
+    ensures got { IfSome result (λ got. All (λ list. GotAll size list.items) got.items) }
+{
+    let mut maker = flow.emitter(seat);
+    let Ok(emitters) = maker.others(alloc, size.emitters) else {
+        return None;
+    };
+    let readers = subscribe_all(rt, alloc, &mut maker, size.subscribers)?;
+    let emitting = start_emitters(rt, alloc, scope, flow, emitters, u64::from(size.values))?;
+    let reading = start_subscribers(rt, alloc, scope, flow, readers, size.emitted())?;
+    let Ok(seats) = join_promised(rt, emitting) else {
+        return None;
+    };
+    let Ok(ended) = join_promised(rt, reading) else {
+        return None;
+    };
+    let mut emitters = emitters_of(alloc, flow, seats)?;
+    let Ended { mut readers, got } = apart(alloc, flow, ended)?;
+    maker.meet_twice(rt, &mut emitters, &mut readers);
+    Some(got)
 }
 
-/// What the subscribers got, in their order. Where there is no room for it, all are to stop.
-fn join_all<R: Threads>(
+/// Runs a crowd at this flow, in a scope of its own.
+fn run_at<R: Threads + Wait + Sync>(
     rt: &R,
     alloc: Global,
-    handles: Vec<JoinHandle<Option<Received>>>,
-    stop: &AtomicCell<bool>,
-) -> Vec<Received> {
-    let mut all = Vec::new(alloc);
-    for handle in handles {
-        if let Some(received) = handle.join(rt) {
-            if all.push(received).is_err() {
-                stop.store(true);
-            }
-        }
-    }
-    all
+    flow: &SharedFlow<u64>,
+    seat: Seat<u64>,
+    size: CrowdSize,
+) -> Option<Vec<Vec<u64>>>
+    requires suspends { flow.now.first.config.overflow ≡ Overflow.Suspend }
+    requires buffer { 0 < flow.now.first.config.replay + flow.now.first.config.extra }
+    requires table { seat.table_id ≡ flow.now.table_id }
+    requires first { seat.knows ≡ first_knowledge }
+    ensures count { IfSome result (λ got. vec_len got ≡ size.subscribers) }
+    ensures got { IfSome result (λ got. All (λ list. GotAll size list.items) got.items) }
+{
+    thread::scope(
+        thread::scope_env(),
+        rt,
+        move |scope| -> Option<Vec<Vec<u64>>>
+            requires suspends { flow.now.first.config.overflow ≡ Overflow.Suspend }
+            requires buffer { 0 < flow.now.first.config.replay + flow.now.first.config.extra }
+            requires table { seat.table_id ≡ flow.now.table_id }
+            requires first { seat.knows ≡ first_knowledge }
+            ensures count { IfSome result (λ got. vec_len got ≡ size.subscribers) }
+            ensures got { IfSome result (λ got. All (λ list. GotAll size list.items) got.items) }
+        { run_in(rt, alloc, scope, flow, seat, size) },
+    )
 }
 
-/// Makes the tokens, runs all threads, and answers what the subscribers got. `None` where all were to stop.
-fn run_threads<'a, R: Threads + Wait + Sync>(
-    rt: &'a R,
+/// Runs a crowd at a new flow. `None` if memory or a thread was refused.
+fn at_new_flow<R: Threads + Wait + Sync>(
+    rt: &R,
     alloc: Global,
     size: CrowdSize,
-    maker: &mut Caller<'a>,
-) -> Option<Vec<Received>> {
-    let stop = maker.stop;
-    let workers = maker.workers(rt, alloc, size)?;
-    let received = thread::scope(thread::scope_env(), rt, move |scope| {
-        let handles = start_all(rt, alloc, scope, workers, size, stop);
-        join_all(rt, alloc, handles, stop)
-    });
-    if stop.load() { None } else { Some(received) }
-}
-
-fn run<R: Threads + Wait + Sync>(rt: &R, alloc: Global, size: CrowdSize) -> Option<Vec<Received>> {
+) -> Option<Vec<Vec<u64>>>
+    ensures count { IfSome result (λ got. vec_len got ≡ size.subscribers) }
+    ensures got { IfSome result (λ got. All (λ list. GotAll size list.items) got.items) }
+{
     let (flow, seat) = SharedFlow::new(alloc, Config::new().extra(16)).ok()?;
-    let stop = AtomicCell::new(false);
-    let mut maker = Caller {
-        flow: &flow,
-        seat,
-        stop: &stop,
-    };
-    run_threads(rt, alloc, size, &mut maker)
+    run_at(rt, alloc, &flow, seat, size)
 }
 
-/// Runs a crowd at a new shared flow with no replay and room for 16 values more, whose emitters wait for the slowest
-/// subscriber (`BufferOverflow.SUSPEND`), and answers what each subscriber got.
+/// Runs a crowd at a new shared flow with no replay and room for 16 values, whose emitters wait for the slowest
+/// subscriber (`BufferOverflow.SUSPEND`). Returns what each subscriber got.
 ///
-/// The subscriptions are made before anybody emits. Emitter i, from 0, emits `values` numbers from `i * values` on, in
-/// order; each subscriber reads until it has the values of all. The call waits until all threads have ended. It is
-/// refused where memory was wanting or a thread could not be made; what was emitted by then is lost.
+/// The subscriptions are made before any emitter emits. Emitter i, from 0, emits `values` numbers, from `i * values` on,
+/// in order; each subscriber reads until it has as many values as all emit. The call waits until all threads have ended.
+///
+/// Each subscriber got all values of all emitters, each emitter's in its order, whatever the schedule was.
+///
+/// # Errors
+/// `OutOfMemory` if there is no memory, or a thread could not be made. What was emitted by then is lost.
 pub fn run_crowd<R: Threads + Wait + Sync>(
     rt: &R,
     alloc: Global,
     size: CrowdSize,
-) -> Result<Vec<Received>, FlowFault>
-    ensures { IfErr result (λ fault. fault ≡ FlowFault.OutOfMemory) }
+) -> Result<Vec<Vec<u64>>, FlowFault>
+    ensures count { IfOk result (λ got. vec_len got ≡ size.subscribers) }
+    ensures got { IfOk result (λ got. All (λ list. GotAll size list.items) got.items) }
+    ensures memory { IfErr result (λ fault. fault ≡ FlowFault.OutOfMemory) }
 {
-    run(rt, alloc, size).ok_or(FlowFault::OutOfMemory)
+    at_new_flow(rt, alloc, size).ok_or(FlowFault::OutOfMemory)
 }

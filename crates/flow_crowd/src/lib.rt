@@ -1,32 +1,27 @@
-//! A crowd at one shared flow: several threads emit into it, and several subscribers, each in a thread of its own, read all
-//! that was emitted.
-//!
-//! # What a crowd shows
-//! Under `BufferOverflow.SUSPEND` no subscriber loses a value, and the values of one emitter come in the order in which it
-//! emitted them. Nothing is said of the order between two emitters. Of a crowd this is tested.
+//! Threads at one shared flow: several emit into it, and several subscribers, each in a thread of its own, read all that was
+//! emitted.
 //!
 //! # What is proved
-//! A pair of threads: if `run_pair` returns what the receiver got, that is what the sender sent, whole and in order, whatever
-//! the schedule was. Each thread proves what it did itself; once both have met twice, that is all that was done, and the laws
-//! of the flow give the rest.
+//! If `run_crowd` returns what its subscribers got, each of them got all values of all emitters, each emitter's in its order,
+//! whatever the schedule was. Nothing is said of the order between two emitters. If `run_pair` returns what one thread received
+//! of another, that is what was sent, whole and in order.
+//!
+//! Under `BufferOverflow.SUSPEND` no subscriber loses a value. Each thread proves what it did itself; once all callers have
+//! met twice, that is all that was done, and the laws of the flow give the rest.
 //!
 //! # Stopping
-//! Where a thread is refused memory, or one cannot be made, a flag is set that every thread reads while it waits. All
-//! then stop, and the answer is out of memory.
+//! All subscribe before a thread starts, and those that emit start first. If a thread cannot be made, the subscribers without
+//! one are dropped: no emitter waits for them, the threads that were made end, and the answer is out of memory.
 #![tactic(auto)]
 
-mod caller;
 mod crowd;
-mod order;
+mod emitters;
 mod pair;
-mod reader;
 mod receiving;
 mod sending;
 mod size;
-mod worker;
+mod subscribers;
 
 pub use crowd::run_crowd;
-pub use order::Order;
 pub use pair::run_pair;
-pub use reader::Received;
 pub use size::CrowdSize;

@@ -3,7 +3,7 @@ ghost use Rattle.std.specs.Prelude.{◌≡◌, ◌≢◌, false, IfOk, IfSome, N
 ghost use Rattle.flow_script.specs.Telling.{Tells, memory_line};
 ghost use Rattle.flow_script.specs.Watching.{inner_of, has_failed};
 ghost use Rattle.flow_program.specs.Arguments.{command_of};
-ghost use Rattle.flow_program.specs.CrowdLines.{IsCrowdText, Runs, RunsCount, RunsCrowd, count_line, value_line};
+ghost use Rattle.flow_program.specs.CrowdLines.{Runs, RunsCount, RunsCrowd, count_line, crowd_lines, value_line};
 ghost use Rattle.flow_program.specs.Program.{RunsScript, usage_line};
 
 use crate::command::{count_of, crowd_of};
@@ -47,10 +47,10 @@ pub fn refuse_arguments<W: Write>(output: &mut Watched<W>, kind: ErrorKind) -> u
 
 /// Returns the lines of a crowd that has run. `None` if memory or a thread is refused.
 fn crowd_lines<H: Threads + Wait + Sync>(rt: &H, alloc: Global, size: CrowdSize) -> Option<String>
-    ensures { IfSome result (IsCrowdText size) }
+    ensures { IfSome result (λ lines. string_bytes lines ≡ crowd_lines size) }
 {
-    let received = run_crowd(rt, alloc, size).ok()?;
-    crowd_text(alloc, received.as_slice(), size).ok()
+    let got = run_crowd(rt, alloc, size).ok()?;
+    crowd_text(alloc, got.as_slice(), size).ok()
 }
 
 /// Runs a crowd, and prints what its subscribers got.

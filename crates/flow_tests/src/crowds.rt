@@ -1,10 +1,7 @@
-//! Crowds, and the order of what came from one emitter.
+//! Crowds and pairs of threads.
 use crate::compare::compare;
-use flow_crowd::{CrowdSize, Order, Received, run_crowd, run_pair};
-use std::alloc::Global;
+use flow_crowd::{CrowdSize, run_crowd, run_pair};
 use std::process::Abort;
-use std::sync::Wait;
-use std::thread::Threads;
 
 /// Emitters, subscribers, values of each emitter, and what each subscriber is to get.
 const CROWDS: &[(u32, u32, u32, u64)] = &[
@@ -16,17 +13,27 @@ const CROWDS: &[(u32, u32, u32, u64)] = &[
     (3, 2, 0, 0),
 ];
 
-fn run<R: Threads + Wait + Sync + Abort>(
-    rt: &R,
-    alloc: Global,
-    place: usize,
-    size: CrowdSize,
-    wanted: Received,
-) {
-    let received = run_crowd(rt, alloc, size).expect(rt, "memory and threads");
-    compare(rt, place, received.len(), size.subscribers as usize);
-    for each in &received {
-        compare(rt, place, *each, wanted);
+/// Whether the numbers from `first` to before `end` are there, one after the other, whatever is between them.
+fn is_in_order(values: &[u64], first: u64, end: u64) -> bool {
+    let mut next = first;
+    for value in values {
+        if first <= *value && *value < end {
+            if *value != next {
+                return false;
+            }
+            next = next.saturating_add(1);
+        }
+    }
+    next == end
+}
+
+/// Each emitter's values came, in its order.
+fn check_order(rt: &impl Abort, place: usize, got: &[u64], size: CrowdSize) {
+    let mut first = 0u64;
+    for _ in 0..size.emitters {
+        let end = first.saturating_add(u64::from(size.values));
+        compare(rt, place, is_in_order(got, first, end), true);
+        first = end;
     }
 }
 
@@ -36,37 +43,12 @@ fn each_subscriber_gets_all_in_order(rt: HostRuntime) {
         let (emitters, subscribers, values, count) = *crowd;
         let size = CrowdSize::new(emitters, subscribers, values).expect(&rt, "in range");
         compare(&rt, place, size.emitted(), count);
-        let wanted = Received {
-            count,
-            is_in_order: true,
-        };
-        run(&rt, rt.alloc(), place, size, wanted);
-    }
-}
-
-/// Places as they came from an emitter of three values, and whether they are in order.
-const PLACES: &[(&[u64], bool)] = &[
-    (&[], true),
-    (&[0, 1], true),
-    (&[0, 1, 2], true),
-    (&[1], false),
-    (&[0, 2], false),
-    (&[0, 0, 1], false),
-    (&[0, 1, 2, 3], false),
-];
-
-fn is_in_order(places: &[u64]) -> bool {
-    let mut order = Order::new(3);
-    for place in places {
-        order.add(*place);
-    }
-    order.is_kept()
-}
-
-#[test]
-fn values_of_one_emitter_come_in_order(rt: HostRuntime) {
-    for (number, (places, wanted)) in PLACES.iter().enumerate() {
-        compare(&rt, number, is_in_order(places), *wanted);
+        let got = run_crowd(&rt, rt.alloc(), size).expect(&rt, "memory and threads");
+        compare(&rt, place, got.len(), subscribers as usize);
+        for list in &got {
+            compare(&rt, place, list.len() as u64, count);
+            check_order(&rt, place, list.as_slice(), size);
+        }
     }
 }
 

@@ -1,0 +1,74 @@
+-- A crowd: what each subscriber gets, and what each token of it did. Begin with `GotAll`.
+use Rattle.std.specs.Prelude.{◌≡◌, ℕ, suc, ◌+◌, ◌*◌, ◌<◌, leb, ltb, ◌&&◌, Bool, List, [], length, filter}
+use Rattle.std.specs.List.{AllByRecursion}
+use Rattle.atomic_table.specs.Seated.{TableId}
+use Rattle.flow_law.specs.declared.history.Knowledge.{Knowledge}
+use Rattle.flow_law.specs.declared.call.SharedCall.{SharedCall}
+use Rattle.flow_law.specs.declared.call.SharedCall.TheVariants as call
+use Rattle.flow_law.specs.Growth.{child_name, first_knowledge}
+use Rattle.flow_law.specs.Tokens.{Token, NumberedToken}
+use Rattle.flow_law.specs.Closed.{nth_child}
+use Rattle.flow_law.specs.Done.{done_by}
+use Rattle.flow_crowd.specs.declared.emitters.EmitsAll.{EmitsAll}
+use Rattle.flow_crowd.specs.declared.size.CrowdSize.{CrowdSize}
+use Rattle.flow_crowd.specs.declared.subscribers.ReadsAll.{ReadsAll}
+use Rattle.flow_crowd.specs.Callers.{Says, Emits, HasSubscribed, taken_by}
+use Rattle.flow_crowd.specs.Numbers.{numbers_from}
+
+-- ---- what a subscriber gets
+
+-- the number is one of so many, from the first one on
+abbrev pub is_within : ℕ → ℕ → ℕ → Bool
+is_within first n v = leb first v && ltb v (first + n)
+
+-- as many values as all emitters emit, and of each emitter all that it emits, in its order
+pub record GotAll (size : CrowdSize) (got : List ℕ) : Type 0 where
+  pub count : length got ≡ size.emitters * size.values
+  -- of the j-th emitter, from 0
+  pub in_order : (j : ℕ) → j < size.emitters →
+      filter (is_within (j * size.values) size.values) got ≡ numbers_from (j * size.values) size.values
+
+-- ---- what the tokens did
+
+-- a subscription without first values
+abbrev pub IsSubscribing : {T : Type 0} → SharedCall T → Type 0
+IsSubscribing (call.Subscribe name first) = first ≡ []
+IsSubscribing _ = ⊥
+
+module _ {T : Type 0} where
+  -- it is the first seat, which has only subscribed
+  pub record IsMaker (k : Knowledge (Says T)) : Type 0 where
+    pub name : k.name ≡ []
+    pub did : AllByRecursion (λ (e : Says T). IsSubscribing e.call) (done_by k)
+
+  -- a new subscription: the n-th token, from 0, that the first seat made, by these calls
+  pub record IsSubscribed {Id : Type 0} (did : List (Says T)) (n : ℕ) (s : NumberedToken Id (Says T)) : Type 0 where
+    pub name : s.token.knows.name ≡ child_name [] (suc n)
+    pub made : s.token.knows.made ≡ 0
+    pub silent : done_by s.token.knows ≡ []
+    pub subscribed : HasSubscribed s.token.knows.name s.number did
+
+  -- The token is the n-th, from 0, that the first seat made by these calls, and the subscriber u. It has only read, and
+  -- this is what it got.
+  pub record HasRead (did : List (Says T)) (n u : ℕ) (got : List T) (k : Knowledge (Says T)) : Type 0 where
+    pub name : k.name ≡ child_name [] (suc n)
+    pub made : k.made ≡ 0
+    pub subscribed : HasSubscribed k.name u did
+    pub only : AllByRecursion (λ (e : Says T). e.call ≡ call.TakeNext u) (done_by k)
+    pub taken : taken_by u (done_by k) ≡ got
+
+-- the i-th emitter of a crowd, from 0, has emitted its values
+abbrev pub HasEmitted : ℕ → ℕ → Knowledge (Says ℕ) → Type 0
+HasEmitted values i k = Emits (numbers_from (i * values) values) (nth_child i first_knowledge) k
+
+-- ---- what the threads promise
+
+-- to emit so many numbers, from the first one on, through this seat of the flow
+abbrev pub WillEmit : TableId → Token TableId (Says ℕ) → ℕ → ℕ → EmitsAll → Type 0
+WillEmit flow seat first count p =
+    (seat.table_id ≡ flow) × (p.seat.value ≡ seat) × (p.first ≡ first) × (p.count ≡ count)
+
+-- to read so many values by this subscription of the flow
+abbrev pub WillRead : TableId → NumberedToken TableId (Says ℕ) → ℕ → ReadsAll → Type 0
+WillRead flow subscription count p =
+    (subscription.token.table_id ≡ flow) × (p.subscription.value ≡ subscription) × (p.count ≡ count)
