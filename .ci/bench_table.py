@@ -138,11 +138,11 @@ def print_times(programs, parts):
 
 
 def print_instructions(programs, parts):
-    """Prints instructions an operation, which do not depend on what else the machine does."""
+    """Prints instructions an operation, which do not depend on what else the machine does. The goals are those of times."""
     head("ours", "peer's")
     for row, peers in rows(programs, parts):
         if row.counted:
             few = {**row.sizes, "count": min(row.sizes["count"], 16_000)}
             ours, *theirs = [programs.instructions(row.workload, peer, few) for peer in (row.ours, *peers)]
             count, peer = min(zip(theirs, peers))
-            line(dataclasses.replace(row, goal=None), peer, ours, count)
+            line(row, peer, ours, count)
