@@ -1,11 +1,12 @@
 """Runs the bench's programs: what an operation costs, in nanoseconds and in instructions."""
 import json
 import re
+import resource
 import shutil
 import subprocess
 import sys
 
-OF_FLOWS = {"flow", "flow_drain", "gated", "gated_drain", "plain"}
+OF_FLOWS = {"flow", "flow_drain", "gated", "gated_drain", "gated_asleep", "plain"}
 ROUNDS = 3
 
 
@@ -20,22 +21,24 @@ class Programs:
         return [str(program), workload, peer, *(f"{name}={size}" for name, size in sizes.items())]
 
     def run(self, workload, peer, sizes):
-        """What the program prints, or nothing if it was built without this peer."""
-        return answer(subprocess.run(self.command(workload, peer, sizes), capture_output=True, text=True, check=True).stdout)
+        """What the program prints, and its processor time, or nothing if it was built without this peer."""
+        before = processor_time()
+        printed = answer(subprocess.run(self.command(workload, peer, sizes), capture_output=True, text=True, check=True).stdout)
+        return printed and {**printed, "processor": processor_time() - before}
 
     def has(self, workload, peer):
         return self.run(workload, peer, {"count": 16, "repeats": 1}) is not None
 
-    def cost(self, case):
-        """Nanoseconds an operation, and the sum."""
+    def cost(self, case, clock="nanoseconds"):
+        """Nanoseconds an operation by this clock, and the sum."""
         printed = self.run(*case)
         if printed is None:
             sys.exit(f"there is no such case: {case}")
-        return printed["nanoseconds"] / max(printed["operations"], 1), printed["sum"]
+        return printed[clock] / max(printed["operations"], 1), printed["sum"]
 
-    def costs(self, cases):
+    def costs(self, cases, clock):
         """The least cost of each case, of some rounds through all of them. All have to do the same work."""
-        rounds = [[self.cost(case) for case in cases] for _ in range(ROUNDS)]
+        rounds = [[self.cost(case, clock) for case in cases] for _ in range(ROUNDS)]
         if len({total for costs in rounds for _, total in costs}) > 1:
             sys.exit(f"these do not do the same work: {cases}")
         return self.least(rounds)
@@ -63,6 +66,12 @@ class Programs:
         if counted is None or printed is None:
             sys.exit(f"valgrind: {workload} {peer} {sizes}: {ran.stderr}")
         return int(counted[1]), printed["operations"]
+
+
+def processor_time():
+    """Nanoseconds that all programs took which have ended, on all processors."""
+    used = resource.getrusage(resource.RUSAGE_CHILDREN)
+    return (used.ru_utime + used.ru_stime) * 1e9
 
 
 def answer(printed):

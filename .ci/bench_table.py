@@ -5,6 +5,7 @@ import bench_collections
 
 NEXT_LOCKS = ("ref_mutex", "ref_yielding", "ref_parking_lot")
 DRAIN_LOCKS = tuple(f"{lock}_drain" for lock in NEXT_LOCKS)
+WAITING = ("ref_yielding", "ref_condvar")
 
 
 @dataclasses.dataclass
@@ -20,6 +21,8 @@ class Row:
     goal: float | None = None
     # Whether its instructions can be counted, which is of use for one thread.
     counted: bool = True
+    # What is measured: "nanoseconds" by the clock on the wall, or those of all processors together.
+    clock: str = "nanoseconds"
 
     def cases(self, peers):
         return [(self.workload, peer, self.sizes) for peer in (self.ours, *peers)]
@@ -83,9 +86,24 @@ def crowds():
             yield Row(f"{title} {way}", "crowd", sizes, ours, peers, goal, counted=False)
 
 
+def sleepers():
+    """Threads that sleep while they wait. Their processor time is that of one repeat."""
+    for emitters, readers, room in ((2, 3, 0), (2, 3, 4), (2, 2, 16), (8, 8, 16)):
+        sizes = {"threads": emitters, "subscribers": readers, "room": room, "count": 10_000, "repeats": 1}
+        title = f"asleep, {emitters} and {readers}, room {room}"
+        yield Row(title, "crowd", sizes, "gated_asleep", WAITING, 1.1, counted=False)
+        yield Row(f"{title}, processor", "crowd", sizes, "gated_asleep", WAITING, 1.0, counted=False, clock="processor")
+        if room:
+            yield Row(title, "crowd", sizes, "gated_asleep", ("async_broadcast",), counted=False)
+    many = {"threads": 1, "subscribers": 1000, "count": 500, "repeats": 1}
+    yield Row("asleep, 1 and 1,000, room 16", "crowd", many, "gated_asleep", ("ref_condvar",), counted=False)
+    idle = {"repeats": 1}
+    yield Row("a reader waits for 1 s, processor", "idle", idle, "gated_asleep", ("ref_condvar",), counted=False, clock="processor")
+
+
 def chains():
     yield Row("the script's chain", "script_chain", {"count": 1_000_000}, "flow", ("plain",), 1.1)
-    yield Row("a chain of types", "generic_chain", {"count": 1_000_000}, "flow", ("plain",))
+    yield Row("a chain of types", "generic_chain", {"count": 1_000_000}, "flow", ("plain",), 1.2)
 
 
 def scripts():
@@ -93,7 +111,15 @@ def scripts():
     return ()
 
 
-PARTS = {"core": one_thread, "gated": gated, "state": states, "crowd": crowds, "chain": chains, "script": scripts}
+PARTS = {
+    "core": one_thread,
+    "gated": gated,
+    "state": states,
+    "crowd": crowds,
+    "asleep": sleepers,
+    "chain": chains,
+    "script": scripts,
+}
 
 
 def head(first, second):
@@ -122,7 +148,7 @@ def rows(programs, parts):
 def measured(programs, parts):
     """Each row, the fastest of its peers, and nanoseconds an operation of both."""
     for row, peers in rows(programs, parts):
-        ours, *theirs = programs.costs(row.cases(peers))
+        ours, *theirs = programs.costs(row.cases(peers), row.clock)
         time, peer = min(zip(theirs, peers))
         yield row, peer, ours, time
     if "script" in parts:

@@ -1,4 +1,4 @@
-//! What to time: `WORKLOAD PEER [count=N] [subscribers=N] [before=N] [threads=N] [repeats=N]`.
+//! What to time: `WORKLOAD PEER [count=N] [subscribers=N] [before=N] [threads=N] [room=N] [repeats=N]`.
 use std::time::Instant;
 
 #[derive(Clone, Copy)]
@@ -8,6 +8,8 @@ pub struct Sizes {
     /// Values that are emitted before the clock starts.
     pub before: u64,
     pub threads: u64,
+    /// How many values the flow of a crowd keeps for its subscribers.
+    pub room: u64,
     pub repeats: u64,
 }
 
@@ -26,6 +28,7 @@ impl Sizes {
             subscribers: 1,
             before: 0,
             threads: 1,
+            room: 16,
             repeats: 5,
         };
         for word in words {
@@ -36,6 +39,7 @@ impl Sizes {
                 "subscribers" => sizes.subscribers = number,
                 "before" => sizes.before = number,
                 "threads" => sizes.threads = number,
+                "room" => sizes.room = number,
                 "repeats" => sizes.repeats = number,
                 _ => return Err(format!("no size {name}")),
             }

@@ -1,6 +1,6 @@
 //! async-broadcast, whose senders wait for the slowest receiver, or drop the oldest value.
 use crate::arguments::{Sizes, Taken};
-use crate::crowd::{self, deliveries};
+use crate::crowd::deliveries;
 use crate::delivery::{Admission, Delivery};
 use async_broadcast::{broadcast, Receiver, Sender};
 use std::future::Future;
@@ -135,6 +135,6 @@ fn run(flow: Broadcast, sizes: Sizes) -> i64 {
 
 /// Times a crowd whose threads park while they wait.
 pub fn time_crowd(sizes: Sizes) -> Taken {
-    let flow = Broadcast::new(false, crowd::ROOM, sizes.subscribers);
+    let flow = Broadcast::new(false, sizes.room as usize, sizes.subscribers);
     Taken::by(deliveries(sizes), || run(flow, sizes))
 }

@@ -1,4 +1,4 @@
-//! Threads that emit, and threads that each receive all that was emitted, through one flow with room for 16 values.
+//! Threads that emit, and threads that each receive all that was emitted, through one flow.
 //!
 //! No subscriber loses a value: an emitter waits for the slowest one. A delivery is an operation, and the time is that
 //! of all threads, their making included.
@@ -8,16 +8,52 @@ use crate::flows::{Flow, AT_ONCE};
 use crate::locks::Lock;
 use crate::shared::{Emit, Next};
 use crate::slab::Id;
-use std::marker::PhantomData;
 use std::thread;
+use std::time::Duration;
 
-pub const ROOM: usize = 16;
+/// How threads reach the flow that they share.
+pub trait Shared: Sync {
+    fn new(flow: Flow) -> Self;
 
-/// How the subscribers of a crowd receive.
-#[derive(Clone, Copy)]
-pub enum Reading {
-    ByNext,
-    ByDrain,
+    /// Emits the values that begin with the first one.
+    fn emit_all(&self, first: i64, count: i64);
+
+    /// Receives so many values, and returns their sum.
+    fn read_all(&self, id: Id, count: u64) -> i64;
+}
+
+/// Subscribers receive by `next`. A thread that waits lets others run first.
+pub struct PollNext<L>(L);
+
+/// Subscribers receive by `drain`. A thread that waits lets others run first.
+pub struct PollDrain<L>(L);
+
+impl<L: Lock<Flow>> Shared for PollNext<L> {
+    fn new(flow: Flow) -> Self {
+        PollNext(L::new(flow))
+    }
+
+    fn emit_all(&self, first: i64, count: i64) {
+        emit_all(&self.0, first, count);
+    }
+
+    fn read_all(&self, id: Id, count: u64) -> i64 {
+        read_by_next(&self.0, id, count)
+    }
+}
+
+impl<L: Lock<Flow>> Shared for PollDrain<L> {
+    fn new(flow: Flow) -> Self {
+        PollDrain(L::new(flow))
+    }
+
+    fn emit_all(&self, first: i64, count: i64) {
+        emit_all(&self.0, first, count);
+    }
+
+    fn read_all(&self, id: Id, count: u64) -> i64 {
+        read_by_drain(&self.0, id, count)
+    }
 }
 
 fn emit_all<L: Lock<Flow>>(flow: &L, first: i64, count: i64) {
@@ -64,20 +100,16 @@ fn read_by_drain<L: Lock<Flow>>(flow: &L, id: Id, count: u64) -> i64 {
     sum
 }
 
-fn run<L: Lock<Flow>>(flow: &L, ids: Vec<Id>, reading: Reading, sizes: Sizes) -> i64 {
+fn run<S: Shared>(shared: &S, ids: Vec<Id>, sizes: Sizes) -> i64 {
     let emitted = sizes.threads * sizes.count;
     let count = sizes.count as i64;
     thread::scope(|scope| {
-        let read = move |id| match reading {
-            Reading::ByNext => read_by_next(flow, id, emitted),
-            Reading::ByDrain => read_by_drain(flow, id, emitted),
-        };
         let readers: Vec<_> = ids
             .into_iter()
-            .map(|id| scope.spawn(move || read(id)))
+            .map(|id| scope.spawn(move || shared.read_all(id, emitted)))
             .collect();
         for emitter in 0..sizes.threads as i64 {
-            scope.spawn(move || emit_all(flow, emitter * count, count));
+            scope.spawn(move || shared.emit_all(emitter * count, count));
         }
         let sums = readers
             .into_iter()
@@ -91,13 +123,32 @@ pub fn deliveries(sizes: Sizes) -> u64 {
     sizes.threads * sizes.count * sizes.subscribers
 }
 
-/// Times a crowd over the `ref` flow behind a lock.
-pub fn time_crowd<L: Lock<Flow>>(_lock: PhantomData<L>, reading: Reading, sizes: Sizes) -> Taken {
-    let config = Config::new(0, ROOM as u32, Overflow::Suspend);
+/// A flow that keeps so many values, and its subscribers.
+fn subscribed<S: Shared>(room: u64, subscribers: u64) -> (S, Vec<Id>) {
+    let config = Config::new(0, room as u32, Overflow::Suspend);
     let mut flow = Flow::new(config).expect("the configuration is right");
-    let ids = (0..sizes.subscribers)
+    let ids = (0..subscribers)
         .map(|_| flow.subscribe().expect("there are numbers"))
         .collect();
-    let flow = L::new(flow);
-    Taken::by(deliveries(sizes), || run(&flow, ids, reading, sizes))
+    (S::new(flow), ids)
+}
+
+/// Times a crowd over the `ref` flow.
+pub fn time_crowd<S: Shared>(sizes: Sizes) -> Taken {
+    let (shared, ids) = subscribed::<S>(sizes.room, sizes.subscribers);
+    Taken::by(deliveries(sizes), || run(&shared, ids, sizes))
+}
+
+/// Times a subscriber that waits for a second, and receives one value.
+pub fn time_idle<S: Shared>() -> Taken {
+    let (shared, ids) = subscribed::<S>(1, 1);
+    let (shared, id) = (&shared, ids[0]);
+    Taken::by(1, || {
+        thread::scope(|scope| {
+            let reader = scope.spawn(move || shared.read_all(id, 1));
+            thread::sleep(Duration::from_secs(1));
+            shared.emit_all(1, 1);
+            reader.join().expect("a reader does not panic")
+        })
+    })
 }

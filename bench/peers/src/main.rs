@@ -7,6 +7,7 @@ mod arguments;
 mod async_broadcast_peer;
 mod chain;
 mod collect;
+mod condvar;
 mod config;
 mod crowd;
 mod delivery;
@@ -24,8 +25,9 @@ mod tokio_peer;
 mod turns;
 
 use arguments::{Sizes, Taken};
+use condvar::Sleeping;
 use config::Overflow::{DropOldest, Suspend};
-use crowd::{time_crowd, Reading};
+use crowd::{time_crowd, time_idle, PollDrain, PollNext};
 use delivery::{time_admitting, time_emitting, time_reading, Admission, Delivery};
 use flows::{alone, locked, ByDrain, ByNext, Flow};
 use locks::{Lock, Yielding};
@@ -64,7 +66,8 @@ fn alone_by_next(workload: &str, sizes: Sizes) -> Option<Taken> {
 fn locked_by_next<L: Lock<Flow>, S: Lock<State>>(workload: &str, sizes: Sizes) -> Option<Taken> {
     let subscribers = sizes.subscribers;
     match workload {
-        "crowd" => Some(time_crowd(PhantomData::<L>, Reading::ByNext, sizes)),
+        "crowd" => Some(time_crowd::<PollNext<L>>(sizes)),
+        "idle" => Some(time_idle::<PollNext<L>>()),
         "state_update" => Some(time_updates(PhantomData::<S>, sizes)),
         "suspend_admit" => time_admission(
             workload,
@@ -82,7 +85,7 @@ fn locked_by_next<L: Lock<Flow>, S: Lock<State>>(workload: &str, sizes: Sizes) -
 
 fn locked_by_drain<L: Lock<Flow>>(workload: &str, sizes: Sizes) -> Option<Taken> {
     match workload {
-        "crowd" => Some(time_crowd(PhantomData::<L>, Reading::ByDrain, sizes)),
+        "crowd" => Some(time_crowd::<PollDrain<L>>(sizes)),
         _ => time_delivery(
             workload,
             ByDrain::new(locked::<L>(DropOldest, sizes.subscribers)),
@@ -91,12 +94,11 @@ fn locked_by_drain<L: Lock<Flow>>(workload: &str, sizes: Sizes) -> Option<Taken>
     }
 }
 
-#[cfg(feature = "parking_lot")]
-fn parking_lot(workload: &str, reading: Reading, sizes: Sizes) -> Option<Taken> {
-    use parking_lot::Mutex;
-    match reading {
-        Reading::ByNext => locked_by_next::<Mutex<Flow>, Mutex<State>>(workload, sizes),
-        Reading::ByDrain => locked_by_drain::<Mutex<Flow>>(workload, sizes),
+fn asleep(workload: &str, sizes: Sizes) -> Option<Taken> {
+    match workload {
+        "crowd" => Some(time_crowd::<Sleeping>(sizes)),
+        "idle" => Some(time_idle::<Sleeping>()),
+        _ => None,
     }
 }
 
@@ -129,12 +131,15 @@ fn run(workload: &str, peer: &str, sizes: Sizes) -> Option<Taken> {
         ),
         "ref_mutex" => locked_by_next::<Mutex<Flow>, Mutex<State>>(workload, sizes),
         "ref_mutex_drain" => locked_by_drain::<Mutex<Flow>>(workload, sizes),
+        "ref_condvar" => asleep(workload, sizes),
         "ref_yielding" => locked_by_next::<Yielding<Flow>, Yielding<State>>(workload, sizes),
         "ref_yielding_drain" => locked_by_drain::<Yielding<Flow>>(workload, sizes),
         #[cfg(feature = "parking_lot")]
-        "ref_parking_lot" => parking_lot(workload, Reading::ByNext, sizes),
+        "ref_parking_lot" => {
+            locked_by_next::<parking_lot::Mutex<Flow>, parking_lot::Mutex<State>>(workload, sizes)
+        }
         #[cfg(feature = "parking_lot")]
-        "ref_parking_lot_drain" => parking_lot(workload, Reading::ByDrain, sizes),
+        "ref_parking_lot_drain" => locked_by_drain::<parking_lot::Mutex<Flow>>(workload, sizes),
         #[cfg(feature = "tokio")]
         "tokio" => tokio(workload, sizes),
         #[cfg(feature = "async-broadcast")]

@@ -122,6 +122,11 @@ impl<T: Clone> SharedFlow<T> {
         self.is_offered(number) || self.place_in_queue(number).is_some()
     }
 
+    /// Returns how many emissions wait.
+    pub fn emissions_waiting(&self) -> usize {
+        self.queue.len() + usize::from(self.is_offering())
+    }
+
     /// Ends the wait of an emission. Returns whether it waited.
     pub fn cancel(&mut self, number: u64) -> bool {
         if self.is_offered(number) {
