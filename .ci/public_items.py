@@ -133,7 +133,7 @@ def first_sentence(item):
 
 
 PUBLIC = re.compile(r"pub (struct|enum|trait|type|const|fn) (\w+)")
-types, impls = {}, []  # by crate (or public module, as `flow_law::report`) and name; every implementation
+types, impls = {}, []  # by crate (or public module) and name; every implementation
 crates = [folder.name for folder in sorted((top / "crates").iterdir()) if (folder / "src/lib.rt").exists()]
 for crate in crates:
     modules = re.findall(r"^pub mod (\w+);", (top / "crates" / crate / "src/lib.rt").read_text(), re.M)

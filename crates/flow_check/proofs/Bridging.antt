@@ -1,7 +1,7 @@
 -- Steps of a checker's states go through a record in an order exactly if a history explains it in that order, if each step of a
 -- state adds to the history for which the state stands. Begin with `Leads` and `Follows`.
 use Rattle.std.proofs.Common.{ℕ, ◌+◌, ◌<◌, ◌≤◌, Bool, List, [], ◌∷◌, ◌++◌, length, Option, sym, ◌∙◌, arith}
-use Rattle.flow_law.specs.declared.history.Event.{Event}
+use Rattle.flow_law.specs.declared.history.HistoryEvent.{HistoryEvent}
 use Rattle.flow_law.specs.declared.history.Said.{Said}
 use Rattle.flow_law.specs.History.{Kind, IsHistory}
 use Rattle.flow_law.proofs.Owners.{history_left}
@@ -13,10 +13,10 @@ use Rattle.flow_check.proofs.Places.{Counts, counts_more, next_same}
 use Rattle.flow_check.proofs.Ordering.{Goes}
 
 -- `Stands m k h` says that the state m stands for what the history h led to in k turns
-module _ {M T S X R C : Type 0} (stepped : M → ℕ → C → Option M) (may_skip : C → Bool) (kind : Kind T S X R) (Adds : List (Event (Said X R)) → ℕ → C → List (Event (Said X R)) → Type 0)
-    (callers : Calls C) (first : S) (Stands : M → ℕ → List (Event (Said X R)) → Type 0) where
+module _ {M T S X R C : Type 0} (stepped : M → ℕ → C → Option M) (may_skip : C → Bool) (kind : Kind T S X R) (Adds : List (HistoryEvent (Said X R)) → ℕ → C → List (HistoryEvent (Said X R)) → Type 0)
+    (callers : Calls C) (first : S) (Stands : M → ℕ → List (HistoryEvent (Said X R)) → Type 0) where
   abbrev Log : Type 0
-  Log = List (Event (Said X R))
+  Log = List (HistoryEvent (Said X R))
 
   -- each step of the first so many turns adds to the history
   abbrev pub Leads : ℕ → Type 0

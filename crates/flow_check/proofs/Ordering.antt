@@ -5,7 +5,7 @@ use Rattle.std.proofs.lemmas.Bool.{false≢true}
 use Rattle.std.proofs.lemmas.List.{append_assoc, append-nil}
 use Rattle.std.proofs.lemmas.Option.{slice_get_within, same_Some}
 use Rattle.std.proofs.lemmas.Bool.Decides.{leb_tells}
-use Rattle.flow_law.specs.declared.history.Event.{Event}
+use Rattle.flow_law.specs.declared.history.HistoryEvent.{HistoryEvent}
 use Rattle.flow_law.specs.declared.history.Said.{Said}
 use Rattle.flow_law.specs.History.{Kind, IsHistory}
 use Rattle.flow_law.proofs.Rows.{split}
@@ -15,9 +15,9 @@ use Rattle.flow_check.specs.Orders.{turns_of, all_of, Explains}
 use Rattle.flow_check.proofs.Turns.{turns-take, turn_counts, find_turn}
 use Rattle.flow_check.proofs.Timing.{earlier}
 
-module _ {T S X R C : Type 0} (kind : Kind T S X R) (Adds : List (Event (Said X R)) → ℕ → C → List (Event (Said X R)) → Type 0) (callers : Calls C) (first : S) where
+module _ {T S X R C : Type 0} (kind : Kind T S X R) (Adds : List (HistoryEvent (Said X R)) → ℕ → C → List (HistoryEvent (Said X R)) → Type 0) (callers : Calls C) (first : S) where
   abbrev Log : Type 0
-  Log = List (Event (Said X R))
+  Log = List (HistoryEvent (Said X R))
 
   -- after the turns p the caller's next call is c
   abbrev pub IsNext : List ℕ → ℕ → Timed C → Type 0

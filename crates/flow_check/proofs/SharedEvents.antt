@@ -2,7 +2,7 @@
 use Rattle.std.proofs.Common.{◌≡◌, ℕ, ◌+◌, false, List, [], ◌∷◌, ◌++◌, length, sym, subst, append-nil}
 use Rattle.std.proofs.lemmas.Bool.{cond-false}
 use Rattle.flow_law.specs.declared.config.Config.{Config}
-use Rattle.flow_law.specs.declared.history.Event.{Event}
+use Rattle.flow_law.specs.declared.history.HistoryEvent.{HistoryEvent}
 use Rattle.flow_law.specs.declared.history.Said.{Said}
 use Rattle.flow_law.specs.declared.call.SharedCall.{SharedCall}
 use Rattle.flow_law.specs.Growth.{event}
@@ -33,7 +33,7 @@ StandsIn callers config limit m k h = StandsAs (length callers) m k (after_all (
 pub in_order : (config : Config) (limit : ℕ) (h : History ℕ) → InOrder (after_all (first_of config limit) h)
 in_order config limit h = always_in_order (record config { limit = limit }) h
 
-abbrev pub told : ℕ → SharedCall ℕ → Reply → Event (Said (SharedCall ℕ) Reply)
+abbrev pub told : ℕ → SharedCall ℕ → Reply → HistoryEvent (Said (SharedCall ℕ) Reply)
 told caller c r = event (name_of caller) (said c r)
 
 module _ (callers : Calls SharedEntry) (config : Config) (limit : ℕ) (m : Kept) (k : ℕ) (h : History ℕ) (st : StandsIn callers config limit m k h) where

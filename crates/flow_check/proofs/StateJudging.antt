@@ -4,7 +4,7 @@ use Rattle.std.proofs.lemmas.List.{length-map}
 use Rattle.std.proofs.lemmas.Bool.{false≢true}
 use Rattle.std.proofs.lemmas.Bool.Decides.{eqb_tells}
 use Rattle.std.proofs.lemmas.Option.{cond_some}
-use Rattle.flow_law.specs.declared.history.Event.{Event}
+use Rattle.flow_law.specs.declared.history.HistoryEvent.{HistoryEvent}
 use Rattle.flow_law.specs.declared.history.Said.{Said}
 use Rattle.flow_law.specs.declared.call.StateCall.{StateCall}
 use Rattle.flow_law.specs.declared.call.StateReply.{StateReply}
@@ -98,7 +98,7 @@ module _ (callers : Calls StateEntry) (initial limit : ℕ) where
   sound : (h : StateHistory ℕ) → IsHistory state_flow first h → IsSound (state_after_all first h)
   sound h is = let counted = is_counted limit initial h is.legal in record { numbers = counted.numbers; once = counted.once }
 
-  stands_more : (m : Kept) (k : ℕ) (h : StateHistory ℕ) (e : Event (Said (StateCall ℕ) (StateReply ℕ)))
+  stands_more : (m : Kept) (k : ℕ) (h : StateHistory ℕ) (e : HistoryEvent (Said (StateCall ℕ) (StateReply ℕ)))
       → StandsAs (length callers) m (k + 1) (after (state_after_all first h) e.what.call e.what.reply) (with_owner (gives e.name e.what.call e.what.reply) (owners_all state_flow [] h))
       → Stands m (k + 1) (h ++ e ∷ [])
   stands_more m k h e st =

@@ -5,7 +5,7 @@
 -- An order is a list of callers: at each turn the next call of that caller happens. Here 0, 1, 0 explains the calls, and 1, 0, 0
 -- does not: after it the value is 1.
 use Rattle.std.specs.Prelude.{◌≡◌, ℕ, ◌+◌, ◌<◌, ◌==◌, false, if◌then◌else◌, List, [], ◌∷◌, ◌++◌, length, take, slice_get, Some, IsSome}
-use Rattle.flow_law.specs.declared.history.Event.{Event}
+use Rattle.flow_law.specs.declared.history.HistoryEvent.{HistoryEvent}
 use Rattle.flow_law.specs.declared.history.Said.{Said}
 use Rattle.flow_law.specs.History.{Kind, IsHistory}
 use Rattle.flow_check.specs.declared.timed.Timed.{Timed}
@@ -35,16 +35,16 @@ module _ {C : Type 0} (callers : Calls C) (order : List ℕ) where
   HasAllEnded = (caller k : ℕ) (c : Timed C) → recorded callers caller k ≡ Some c → IsSome c.end → k < turns_of caller order
 
 -- `Adds h caller c part` says that after the history h the caller's recorded call c adds these events.
-module _ {T S X R C : Type 0} (kind : Kind T S X R) (Adds : List (Event (Said X R)) → ℕ → C → List (Event (Said X R)) → Type 0) where
+module _ {T S X R C : Type 0} (kind : Kind T S X R) (Adds : List (HistoryEvent (Said X R)) → ℕ → C → List (HistoryEvent (Said X R)) → Type 0) where
   -- A history of a flow that began in the state `first` explains the calls in this order.
   pub record Explains (callers : Calls C) (first : S) (order : List ℕ) : Type 0 where
     -- the events that each turn adds to the history
-    pub parts : List (List (Event (Said X R)))
+    pub parts : List (List (HistoryEvent (Said X R)))
     pub one_each : length parts ≡ length order
     -- each turn is its caller's next recorded call, which adds these events
     pub turns : (n caller : ℕ) → slice_get order n ≡ Some caller
         → (c : Timed C) × HappensAt callers order n caller c
-        × ((part : List (Event (Said X R))) × (slice_get parts n ≡ Some part) × Adds (all_of (take n parts)) caller c.call part)
+        × ((part : List (HistoryEvent (Said X R))) × (slice_get parts n ≡ Some part) × Adds (all_of (take n parts)) caller c.call part)
     pub in_time : KeepsTime callers order
     pub complete : HasAllEnded callers order
     -- the history is legal and owned

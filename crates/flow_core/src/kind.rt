@@ -3,7 +3,7 @@ ghost use Rattle.std.specs.Prelude.{◌≡◌, ◌+◌, ◌≤◌, List, ℕ, Ok
 ghost use Rattle.std.specs.Vec.{vec_len, vec_capacity};
 ghost use Rattle.flow_law.specs.declared.outcome.Drained.TheVariants.{Most};
 ghost use Rattle.flow_law.specs.Draining.{DrainsBy};
-ghost use Rattle.flow_law.specs.declared.history.Event.{Event};
+ghost use Rattle.flow_law.specs.declared.history.HistoryEvent.{HistoryEvent};
 ghost use Rattle.flow_law.specs.declared.history.Said.{Said};
 ghost use Rattle.flow_law.specs.History.{Kind, replied};
 ghost use Rattle.flow_law.specs.Lawful.{Lawful};
@@ -80,9 +80,9 @@ pub trait FlowCore: Guarded<Said = Said<Self::Call, Self::Reply>> {
     ghost lawful: { Lawful kind };
 
     /// Behind a gate, it stands for the histories of its kind.
-    ghost stands_so: { (start core : Self) (h : List (Event (Said Self.Call Self.Reply)))
+    ghost stands_so: { (start core : Self) (h : List (HistoryEvent (Said Self.Call Self.Reply)))
         → Self.stands start core h → StandsForHistory kind stands_as (first start) core h };
 
-    ghost stands_then: { (start core : Self) (h : List (Event (Said Self.Call Self.Reply)))
+    ghost stands_then: { (start core : Self) (h : List (HistoryEvent (Said Self.Call Self.Reply)))
         → StandsForHistory kind stands_as (first start) core h → Self.stands start core h };
 }

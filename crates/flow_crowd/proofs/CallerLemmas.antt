@@ -4,7 +4,7 @@ use Rattle.std.specs.Prelude.{flat_map}
 use Rattle.std.specs.List.{AllByRecursion}
 use Rattle.std.proofs.lemmas.Bool.{cond-true}
 use Rattle.flow_law.specs.declared.fault.FlowFault.{FlowFault}
-use Rattle.flow_law.specs.declared.history.Event.{Event}
+use Rattle.flow_law.specs.declared.history.HistoryEvent.{HistoryEvent}
 use Rattle.flow_law.specs.declared.history.Knowledge.{Knowledge}
 use Rattle.flow_law.specs.declared.outcome.Emit.{Emit}
 use Rattle.flow_law.specs.declared.outcome.Next.TheVariants.{Value, Empty}
@@ -49,7 +49,7 @@ module _ {T : Type 0} where
     flat-append (λ (e : Says T). accepted_by e.call e.reply) x.0 y.0 ∙ ap (λ l. l ++ accepted y.0) x.3 ∙ ap (λ l. v ++ l) y.3,
   )
 
-  module _ (IsHistory : List (Event (Says T)) → Type 0) (before after : Knowledge (Says T)) where
+  module _ (IsHistory : List (HistoryEvent (Says T)) → Type 0) (before after : Knowledge (Says T)) where
     pub emits_one : (v : T) (r : Emit) → AddsOne IsHistory before (call.Emit v) (reply.Emitted r) after → Emits (v ∷ []) before after
     emits_one v r a = (said (call.Emit v) (reply.Emitted r) ∷ [], made_one IsHistory before after (call.Emit v) (reply.Emitted r) a, (tt, tt), refl)
 
@@ -72,7 +72,7 @@ module _ {T : Type 0} where
     flat-append (λ (e : Says T). received_by u e.call e.reply) x.0 y.0 ∙ ap (λ l. l ++ taken_by u y.0) x.3 ∙ ap (λ l. v ++ l) y.3,
   )
 
-  module _ (IsHistory : List (Event (Says T)) → Type 0) (u : ℕ) (before after : Knowledge (Says T)) where
+  module _ (IsHistory : List (HistoryEvent (Says T)) → Type 0) (u : ℕ) (before after : Knowledge (Says T)) where
     pub reads_one : (v : T) → AddsOne IsHistory before (call.TakeNext u) (reply.Received (Value v)) after → Reads u (v ∷ []) before after
     reads_one v a = (
       said (call.TakeNext u) (reply.Received (Value v)) ∷ [],
@@ -114,4 +114,4 @@ module _ {T : Type 0} where
 -- a seat that was just made has done nothing
 pub made_silent : {E : Type 0} (k : Knowledge E) → NamesOnlyMade k.name k.made k.seen → done_by (child k) ≡ []
 made_silent {E} k names = said_by_silent (child_name k.name (k.made + 1)) k.seen
-    (every_weaker (λ (e : Event E). IsMadeBy k.name k.made e.name) (λ (e : Event E). e.name ≢ child_name k.name (k.made + 1)) (λ e n same. let p = n (k.made + 1) [] same in omega arith) k.seen names)
+    (every_weaker (λ (e : HistoryEvent E). IsMadeBy k.name k.made e.name) (λ (e : HistoryEvent E). e.name ≢ child_name k.name (k.made + 1)) (λ e n same. let p = n (k.made + 1) [] same in omega arith) k.seen names)

@@ -3,7 +3,7 @@ use Rattle.std.proofs.Common.{inl, inr, ◌≡◌, ◌⊎◌, ⊎_elim, ℕ, ◌
 use Rattle.std.specs.Prelude.{flat_map}
 use Rattle.std.specs.List.{AllByRecursion}
 use Rattle.flow_law.specs.declared.config.Overflow.TheVariants.{Suspend}
-use Rattle.flow_law.specs.declared.history.Event.{Event}
+use Rattle.flow_law.specs.declared.history.HistoryEvent.{HistoryEvent}
 use Rattle.flow_law.specs.declared.history.Knowledge.{Knowledge}
 use Rattle.flow_law.specs.declared.states.SharedFlowState.{SharedFlowState}
 use Rattle.flow_law.specs.History.{IsHistory}
@@ -40,7 +40,7 @@ module _ {T : Type 0} where
   module _ (ks : List (Knowledge (Says T))) (h : History T) (all : AreAll ks) (closed : IsClosed h ks) where
     -- as many values as the tokens gave
     pub line_length : length (line h) ≡ total (λ (k : Knowledge (Says T)). length (accepted (done_by k))) ks
-    line_length = flat_length accepted_in (map (λ e. e.what) h) ∙ total_map (λ (e : Says T). length (accepted_in e)) (λ (e : Event (Says T)). e.what) h
+    line_length = flat_length accepted_in (map (λ e. e.what) h) ∙ total_map (λ (e : Says T). length (accepted_in e)) (λ (e : HistoryEvent (Says T)). e.what) h
         ∙ (all_done ks h all closed).sums (λ (e : Says T). length (accepted_in e))
         ∙ total_by (λ (k : Knowledge (Says T)). total (λ (e : Says T). length (accepted_in e)) (done_by k)) (λ (k : Knowledge (Says T)). length (accepted (done_by k))) (λ k. sym (flat_length accepted_in (done_by k))) ks
 

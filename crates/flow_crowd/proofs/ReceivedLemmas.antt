@@ -8,7 +8,7 @@ use Rattle.std.proofs.lemmas.Bool.{cond_both, cond-false}
 use Rattle.flow_law.specs.declared.config.Config.{Config}
 use Rattle.flow_law.specs.declared.config.Overflow.{Overflow}
 use Rattle.flow_law.specs.declared.config.Overflow.TheVariants.{Suspend, DropOldest}
-use Rattle.flow_law.specs.declared.history.Event.{Event}
+use Rattle.flow_law.specs.declared.history.HistoryEvent.{HistoryEvent}
 use Rattle.flow_law.specs.declared.outcome.Next.TheVariants.{Value, Empty, Gone}
 use Rattle.flow_law.specs.declared.call.SharedCall.{SharedCall}
 use Rattle.flow_law.specs.declared.call.SharedCall.TheVariants as call
@@ -68,7 +68,7 @@ module _ {T : Type 0} where
   EndsNothing _ = Unit {0}
 
   abbrev pub NothingEnded : History T → Type 0
-  NothingEnded = AllByRecursion (λ (e : Event (Says T)). EndsNothing e.what.call)
+  NothingEnded = AllByRecursion (λ (e : HistoryEvent (Says T)). EndsNothing e.what.call)
 
   no_cancel : (c : SharedCall T) → EndsNothing c → is_cancel c ≡ false
   no_cancel (call.TryEmit v) e = refl
@@ -83,7 +83,7 @@ module _ {T : Type 0} where
   no_cancel call.SubscriptionCount e = refl
 
   none_cancelled : (h : History T) → NothingEnded h → NoneCancelled h
-  none_cancelled = every_weaker (λ (e : Event (Says T)). EndsNothing e.what.call) (λ (e : Event (Says T)). is_cancel e.what.call ≡ false) (λ e. no_cancel e.what.call)
+  none_cancelled = every_weaker (λ (e : HistoryEvent (Says T)). EndsNothing e.what.call) (λ (e : HistoryEvent (Says T)). is_cancel e.what.call ≡ false) (λ e. no_cancel e.what.call)
 
   -- ---- a subscriber has no first values of its own
 
@@ -141,13 +141,13 @@ module _ {T : Type 0} where
     pub subscribed : Whole h
     subscribed =
         let f = found k name u h has in
-        let e : Event (Says T) = event k (said (call.Subscribe name []) (reply.Subscribed u)) in
+        let e : HistoryEvent (Says T) = event k (said (call.Subscribe name []) (reply.Subscribed u)) in
         let begun = f.0 ++ e ∷ [] in
         let legal : IsLegalFrom first (begun ++ f.1) = subst (IsLegalFrom first) f.2 is.legal in
         let left : IsLegalFrom first begun = Rattle.flow_law.proofs.Owners.legal_left shared_flow first begun f.1 legal in
         let told = (legal_right shared_flow first f.0 (e ∷ []) left).0 in
         let there : Has u (after_all first begun) = subst (Has u) (sym (after_all-append shared_flow first f.0 (e ∷ []))) ((shared_subscribing []).has (after_all first f.0) name u told) in
-        let rest : NothingEnded f.1 = every_right (λ (e : Event (Says T)). EndsNothing e.what.call) begun f.1 (subst NothingEnded f.2 ended) in
+        let rest : NothingEnded f.1 = every_right (λ (e : HistoryEvent (Says T)). EndsNothing e.what.call) begun f.1 (subst NothingEnded f.2 ended) in
         subst Whole (sym f.2) (
           given_stays shared_flow shared_lawful first begun f.1 (subscriber u) name legal (last_given shared_flow f.0 e (record { number = subscriber u; name = name }) refl),
           subst (Has u) (sym (after_all-append shared_flow first begun f.1)) (stays u (after_all first begun) f.1 rest there),
@@ -155,7 +155,7 @@ module _ {T : Type 0} where
 
   -- who calls `next` of a subscriber has its number
   speakers : (u : ℕ) (s : SharedFlowState T) (owners : List Owner) (h : History T) → UpTo ((shared_lawful {T = T}).issued s) owners → IsLegalFrom s h → IsOwned shared_flow owners h
-      → AllByRecursion (λ (e : Event (Says T)). e.what.call ≡ call.TakeNext u → owner_of (subscriber u) (owners_all shared_flow owners h) ≡ Some e.name) h
+      → AllByRecursion (λ (e : HistoryEvent (Says T)). e.what.call ≡ call.TakeNext u → owner_of (subscriber u) (owners_all shared_flow owners h) ≡ Some e.name) h
   speakers u s owners [] up legal owned = tt
   speakers u s owners (e ∷ es) up legal owned = (
     (λ next. owner_stays shared_flow shared_lawful s owners (e ∷ es) (subscriber u) e.name up legal (subst (λ (c : SharedCall T). MaySpeak (shared_flow {T = T}) ((shared_flow {T = T}).speaks_of c) owners e.name) next owned.0)),
@@ -203,8 +203,8 @@ module _ {T : Type 0} where
     received_all k name u has enough =
         let config = first.config in let s = state_after config h in
         let there = subscribed first h is ended k name u has in
-        let mine : AllByRecursion (λ (e : Event (Says T)). (e.name ≡ name) ⊎ (received_by u e.what.call e.what.reply ≡ [])) h =
-        every_weaker (λ (e : Event (Says T)). e.what.call ≡ call.TakeNext u → owner_of (subscriber u) (owners_all shared_flow [] h) ≡ Some e.name) (λ (e : Event (Says T)). (e.name ≡ name) ⊎ (received_by u e.what.call e.what.reply ≡ []))
+        let mine : AllByRecursion (λ (e : HistoryEvent (Says T)). (e.name ≡ name) ⊎ (received_by u e.what.call e.what.reply ≡ [])) h =
+        every_weaker (λ (e : HistoryEvent (Says T)). e.what.call ≡ call.TakeNext u → owner_of (subscriber u) (owners_all shared_flow [] h) ≡ Some e.name) (λ (e : HistoryEvent (Says T)). (e.name ≡ name) ⊎ (received_by u e.what.call e.what.reply ≡ []))
         (λ e f. own_or_none u e.what.call e.what.reply e.name name (λ next. same_owner e.name name (sym (f next) ∙ there.0))) h (speakers u first [] h tt is.legal is.owned) in
         let got : received u h ≡ taken_by u (said_by name h) = all_received u h ∙ flat_alone (λ (e : Says T). received_by u e.call e.reply) name h mine in
         let has : IsSome (position_of u s.subscribers) = subst (λ (t : SharedFlowState T). Has u (after_all t h)) is.begins.0 there.1 in

@@ -3,7 +3,7 @@ use Rattle.std.proofs.Common.{◌≡◌, ℕ, false, List, [], ◌∷◌, Option
 use mathlib.Core.Option.{some, some-injective, some-ne-none}
 use lib.ListN.{get_elem?}
 use Rattle.atomic_table.specs.Table.{Final, Seen}
-use Rattle.flow_law.specs.declared.history.Event.{Event}
+use Rattle.flow_law.specs.declared.history.HistoryEvent.{HistoryEvent}
 use Rattle.flow_law.specs.declared.history.Knowledge.{Knowledge}
 use Rattle.flow_law.specs.Growth.{Fits}
 use Rattle.flow_gate.specs.declared.view.SeatView.{SeatView}
@@ -14,13 +14,13 @@ word_at : (ws : List ℕ) (n : ℕ) → get_elem? ws 0 ≡ some n → get_or ws 
 word_at [] n e = absurd (some-ne-none n (sym e))
 word_at (x ∷ xs) n e = some-injective x n e
 
-module _ {S E : Type 0} (stands : S → List (Event E) → Type 0) where
+module _ {S E : Type 0} (stands : S → List (HistoryEvent E) → Type 0) where
   pub closes : (id : ℕ) (k : Knowledge E) (v : SeatView E) (ws : List ℕ) (xs : List (Option S)) (n : ℕ) (o : Option S) → v ≡ seat_view (k ∷ []) false → Final (Seen (GateHolds stands) id v) ws xs
-      → get_elem? ws 0 ≡ some n → n ≡ 0 → get_elem? xs 0 ≡ some o → IfSome o (λ x. (history : List (Event E)) × stands x history × Fits history k)
+      → get_elem? ws 0 ≡ some n → n ≡ 0 → get_elem? xs 0 ≡ some o → IfSome o (λ x. (history : List (HistoryEvent E)) × stands x history × Fits history k)
   closes id k v ws xs n o is f at zero_there there =
       let s = f.0 in let r : GateHolds stands s = f.1.0 in
       let free : get_or s.words 0 0 ≡ 0 = ap (λ l. get_or l 0 0) f.2 ∙ (word_at ws n at ∙ zero_there) in
       let x = r.free free in
       let same : Some x.0 ≡ o = some-injective (Some x.0) o (sym (f.4 0 (Some x.0) x.1) ∙ there) in
       let seat : get_elem? s.views id ≡ some (seat_view (k ∷ []) false) = f.1.1 ∙ ap some is in
-      subst (λ (p : Option S). IfSome p (λ y. (history : List (Event E)) × stands y history × Fits history k)) same (r.history, x.2, r.fits id 0 k (seat_view (k ∷ []) false, seat, refl))
+      subst (λ (p : Option S). IfSome p (λ y. (history : List (HistoryEvent E)) × stands y history × Fits history k)) same (r.history, x.2, r.fits id 0 k (seat_view (k ∷ []) false, seat, refl))

@@ -9,7 +9,7 @@ use prog.Atomic.{either}
 use Rattle.std.specs.List.{AllByRecursion}
 use Rattle.atomic_table.specs.Table.{State, Me, step, keeps, takes, gives, stepped, Allows, Splits, Joins}
 use Rattle.atomic_table.proofs.Lists.{at_set, set_again, set_here, set_else, at_longer}
-use Rattle.flow_law.specs.declared.history.Event.{Event}
+use Rattle.flow_law.specs.declared.history.HistoryEvent.{HistoryEvent}
 use Rattle.flow_law.specs.declared.history.Knowledge.{Knowledge}
 use Rattle.flow_gate.specs.declared.view.SeatView.{SeatView}
 use Rattle.flow_law.specs.Growth.{IsApartFrom, Fits, NamesOnlyMade, events_of}
@@ -25,7 +25,7 @@ off_of : (b : Bool) → (b ≡ true → ⊥) → b ≡ false
 off_of true never = absurd (never refl)
 off_of false never = refl
 
-module _ {S E : Type 0} (stands : S → List (Event E) → Type 0) where
+module _ {S E : Type 0} (stands : S → List (HistoryEvent E) → Type 0) where
   abbrev St : Type 0
   St = State (Option S) (SeatView E)
 
@@ -45,7 +45,7 @@ module _ {S E : Type 0} (stands : S → List (Event E) → Type 0) where
       (known_set views id i a (seat_view (map f v.known) b) t x)) all
 
   -- and still fit the history
-  changed_fits : (log : List (Event E)) (f : Knowledge E → Knowledge E) → ((u : Knowledge E) → Fits log u → Fits log (f u)) → (views : List (SeatView E)) (id : ℕ) (v : SeatView E) (b : Bool)
+  changed_fits : (log : List (HistoryEvent E)) (f : Knowledge E → Knowledge E) → ((u : Knowledge E) → Fits log u → Fits log (f u)) → (views : List (SeatView E)) (id : ℕ) (v : SeatView E) (b : Bool)
       → get_elem? views id ≡ some v → ((i a : ℕ) (t : Knowledge E) → KnownAt views i a t → Fits log t) → (i a : ℕ) (t : Knowledge E) → KnownAt (set views id (seat_view (map f v.known) b)) i a t → Fits log t
   changed_fits log f still views id v b at all i a t x = ⊎_elim
       (λ (h : (i ≡ id) × (get_elem? (map f v.known) a ≡ some t)). let u = of_map f v.known a t h.1 in subst (Fits log) u.2 (still u.0 (all id a u.0 (v, at, u.1))))
@@ -87,10 +87,10 @@ module _ {S E : Type 0} (stands : S → List (Event E) → Type 0) where
     apart = apart;
   }
 
-  sees_fits : (log : List (Event E)) (t : Knowledge E) → Fits log t → Fits log (sees log t)
+  sees_fits : (log : List (HistoryEvent E)) (t : Knowledge E) → Fits log t → Fits log (sees log t)
   sees_fits log t f = (grew_refl t.name log, f.1)
 
-  loses_fits : (log : List (Event E)) (t : Knowledge E) → Fits log t → Fits log (loses t)
+  loses_fits : (log : List (HistoryEvent E)) (t : Knowledge E) → Fits log t → Fits log (loses t)
   loses_fits log t f = f
 
   pub observes : (slots id : ℕ) (me : Me (Option S) (SeatView E)) → me.0.holds ≡ false → Allows Rule slots id me 0 (λ n. n) (observed stands (step slots 0 0 0 none) me)
@@ -153,7 +153,7 @@ module _ {S E : Type 0} (stands : S → List (Event E) → Type 0) where
   leaves slots id t x w me one is fine = subst (λ (m : Me (Option S) (SeatView E)). Allows Rule slots id m 0 (λ _. 0) (λ _. left w (step slots 0 0 0 none) m 0)) (sym is) (λ s r long at _.
       let v : SeatView E = seat_view (t ∷ []) true in let v' : SeatView E = seat_view (adds w t ∷ []) false in let wide = r.wide in
       let seen : t.seen ≡ r.history = (r.holder id v at refl).0 in
-      let log : List (Event E) = t.seen ++ events_of t.name w in
+      let log : List (HistoryEvent E) = t.seen ++ events_of t.name w in
       let same : r.history ++ events_of t.name w ≡ log = ap (λ l. l ++ events_of t.name w) (sym seen) in
       let mine : KnownAt s.views id 0 t = (v, at, refl) in
       let others : (i a : ℕ) (u : Knowledge E) → i ≢ id → KnownAt s.views i a u → Fits log u = λ i a u ne p.
@@ -270,7 +270,7 @@ module _ {S E : Type 0} (stands : S → List (Event E) → Type 0) where
       (known_end mid i a right x p))
 
 -- The same, where what the histories begin from is known to the step by another name.
-module _ {F S E : Type 0} (stands : F → S → List (Event E) → Type 0) (k : F) (f : Option F) (from : f ≡ Some k) (slots id : ℕ) where
+module _ {F S E : Type 0} (stands : F → S → List (HistoryEvent E) → Type 0) (k : F) (f : Option F) (from : f ≡ Some k) (slots id : ℕ) where
   pub enters_from : (t : Knowledge E) (me : Me (Option S) (SeatView E)) → me.0 ≡ seat_view (t ∷ []) false → Allows (GateHolds (stands k)) slots id me 0 (λ n. either (eqb n 0) 1 n) (entered (stands_from stands f) (step slots 0 0 1 none) me)
   enters_from t me is = subst (λ (h : Option F). Allows (GateHolds (stands k)) slots id me 0 (λ n. either (eqb n 0) 1 n) (entered (stands_from stands h) (step slots 0 0 1 none) me)) (sym from) (enters (stands k) slots id t me is)
 

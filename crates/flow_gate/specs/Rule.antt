@@ -4,7 +4,7 @@ use Rattle.std.specs.List.{AllByRecursion}
 use mathlib.Core.Option.{some}
 use lib.ListN.{get_elem?}
 use Rattle.atomic_table.specs.Table.{State}
-use Rattle.flow_law.specs.declared.history.Event.{Event}
+use Rattle.flow_law.specs.declared.history.HistoryEvent.{HistoryEvent}
 use Rattle.flow_law.specs.declared.history.Knowledge.{Knowledge}
 use Rattle.flow_law.specs.Growth.{Fits, IsApartFrom}
 use Rattle.flow_gate.specs.declared.view.SeatView.{SeatView}
@@ -18,9 +18,9 @@ KnownAt {E} views i a k = (v : SeatView E) × (get_elem? views i ≡ some v) × 
 abbrev pub IsHeld : {E : Type 0} → List (SeatView E) → Type 0
 IsHeld {E} views = (i : ℕ) × (k : Knowledge E) × (get_elem? views i ≡ some (seat_view (k ∷ []) true))
 
-pub record GateHolds {S E : Type 0} (stands : S → List (Event E) → Type 0) (s : State (Option S) (SeatView E)) : Type 0 where
+pub record GateHolds {S E : Type 0} (stands : S → List (HistoryEvent E) → Type 0) (s : State (Option S) (SeatView E)) : Type 0 where
   -- the one history of the gate
-  pub history : List (Event E)
+  pub history : List (HistoryEvent E)
   pub wide : length s.words ≡ 1
   -- some state stood for it, also while the gate is taken
   pub sound : (state : S) × stands state history

@@ -2,7 +2,7 @@
 use Rattle.std.specs.Prelude.{◌≡◌, ◌≢◌, ℕ, true, false, List, [], ◌∷◌, map, Option, Some, None, Box}
 use Rattle.std.specs.List.{AllByRecursion}
 use Rattle.atomic_table.specs.Table.{Me, Step, rest}
-use Rattle.flow_law.specs.declared.history.Event.{Event}
+use Rattle.flow_law.specs.declared.history.HistoryEvent.{HistoryEvent}
 use Rattle.flow_law.specs.declared.history.Knowledge.{Knowledge}
 use Rattle.flow_law.specs.Growth.{Fits, sees, loses, adds}
 use Rattle.flow_gate.specs.declared.view.SeatView.{SeatView}
@@ -20,15 +20,15 @@ module _ {E : Type 0} where
   others_of (k ∷ ks) = ks
 
   -- the state lies in a box, so that what is moved in and out of the slot is small
-  abbrev pub boxed : {S A : Type 0} → (S → S → List (Event E) → Type 0) → S → Box S A → List (Event E) → Type 0
+  abbrev pub boxed : {S A : Type 0} → (S → S → List (HistoryEvent E) → Type 0) → S → Box S A → List (HistoryEvent E) → Type 0
   boxed stands first state history = stands first state.value history
 
   -- for which histories a state stands, where the first state may not be known
-  abbrev pub stands_from : {S F : Type 0} → (F → S → List (Event E) → Type 0) → Option F → S → List (Event E) → Type 0
+  abbrev pub stands_from : {S F : Type 0} → (F → S → List (HistoryEvent E) → Type 0) → Option F → S → List (HistoryEvent E) → Type 0
   stands_from stands (Some first) state history = stands first state history
   stands_from stands None state history = Unit {0}
 
-  module _ {S : Type 0} (stands : S → List (Event E) → Type 0) where
+  module _ {S : Type 0} (stands : S → List (HistoryEvent E) → Type 0) where
     -- what a caller at the table holds
     abbrev pub Pass : Type 0
     Pass = Me (Option S) (SeatView E)
@@ -36,19 +36,19 @@ module _ {E : Type 0} where
     -- the gate was free, and the seat has the state with the history that it stands for; or the exchange was lost
     abbrev pub entered : Step (Option S) → Pass → ℕ → Pass → Type 0
     entered step before found after =
-        (found ≡ 0 → (history : List (Event E)) × (state : S) × stands state history × AllByRecursion (Fits history) before.0.known
+        (found ≡ 0 → (history : List (HistoryEvent E)) × (state : S) × stands state history × AllByRecursion (Fits history) before.0.known
         × (after ≡ (seat_view (map (sees history) before.0.known) true, (0, Some state) ∷ before.1)))
         × (found ≢ 0 → after ≡ (seat_view (map loses before.0.known) false, before.1))
 
     -- the history so far was seen, and some state stands for it
     abbrev pub observed : Step (Option S) → Pass → ℕ → Pass → Type 0
     observed step before found after =
-        (history : List (Event E)) × (state : S) × stands state history × AllByRecursion (Fits history) before.0.known × (after ≡ (seat_view (map (sees history) before.0.known) before.0.holds, before.1))
+        (history : List (HistoryEvent E)) × (state : S) × stands state history × AllByRecursion (Fits history) before.0.known × (after ≡ (seat_view (map (sees history) before.0.known) before.0.holds, before.1))
 
     -- nothing has changed, and some state stands for the history so far
     abbrev pub looked : Step (Option S) → Pass → ℕ → Pass → Type 0
     looked step before found after =
-        (history : List (Event E)) × (state : S) × stands state history × AllByRecursion (Fits history) before.0.known × (after ≡ before)
+        (history : List (HistoryEvent E)) × (state : S) × stands state history × AllByRecursion (Fits history) before.0.known × (after ≡ before)
 
   -- the state is at home, with what the seat adds
   abbrev pub left : {S : Type 0} → List E → Step (Option S) → Me (Option S) (SeatView E) → ℕ → Me (Option S) (SeatView E) → Type 0

@@ -2,7 +2,7 @@
 use Rattle.std.specs.Prelude.{◌≡◌, false, true, List, [], ◌∷◌, ◌++◌, Option, None}
 use Rattle.atomic_table.specs.Seated.{TableId}
 use Rattle.atomic_table.specs.declared.shared.Seat.{Seat as TableSeat}
-use Rattle.flow_law.specs.declared.history.Event.{Event}
+use Rattle.flow_law.specs.declared.history.HistoryEvent.{HistoryEvent}
 use Rattle.flow_law.specs.declared.history.Knowledge.{Knowledge}
 use Rattle.flow_law.specs.Growth.{Fits, events_of, knowledge, first_knowledge, sees}
 use Rattle.flow_law.specs.Tokens as flows
@@ -46,11 +46,11 @@ module _ {S E : Type 0} where
   abbrev pub held_state : S → Token E → S → HeldState S E
   held_state first t state = record { first = first; token = t; state = state }
 
-module _ {S E : Type 0} (stands : S → S → List (Event E) → Type 0) (gate : Origin S) where
+module _ {S E : Type 0} (stands : S → S → List (HistoryEvent E) → Type 0) (gate : Origin S) where
   -- A caller that enters finds a state that stands for a history. It begins with all that the token had seen and goes
   -- on with events of others, within the token's rule of names; the token has seen it from then on.
   pub record Finds (before : Token E) (held : HeldState S E) : Type 0 where
-    pub history : List (Event E)
+    pub history : List (HistoryEvent E)
     pub stood : stands gate.first held.state history
     pub fits : Fits history before.knows
     pub first : held.first ≡ gate.first
@@ -62,7 +62,7 @@ module _ {S E : Type 0} (stands : S → S → List (Event E) → Type 0) (gate :
 
   -- Two tokens meet: both have then seen one history, for which some state stood, and which fits what each had seen.
   pub record MeetsAtGate (one other one_after other_after : Token E) : Type 0 where
-    pub history : List (Event E)
+    pub history : List (HistoryEvent E)
     pub stood : (state : S) × stands gate.first state history
     pub fits_one : Fits history one.knows
     pub fits_other : Fits history other.knows
@@ -71,17 +71,17 @@ module _ {S E : Type 0} (stands : S → S → List (Event E) → Type 0) (gate :
 
   -- the state stands for a history
   abbrev pub StandsForSome : S → Type 0
-  StandsForSome state = (history : List (Event E)) × stands gate.first state history
+  StandsForSome state = (history : List (HistoryEvent E)) × stands gate.first state history
 
   -- the state stands for a history that begins with all that the token has seen and goes on with events of others, within
   -- the token's rule of names
   abbrev pub StandsAfter : Token E → S → Type 0
-  StandsAfter t state = (history : List (Event E)) × stands gate.first state history × Fits history t.knows
+  StandsAfter t state = (history : List (HistoryEvent E)) × stands gate.first state history × Fits history t.knows
 
   -- some state stood for such a history
   abbrev pub HasStood : Token E → Type 0
   HasStood t = (state : S) × StandsAfter t state
 
 -- the state of a caller inside stands for what was found followed by events of its own
-abbrev pub StandsWith : {S E : Type 0} → (S → S → List (Event E) → Type 0) → HeldState S E → List E → Type 0
+abbrev pub StandsWith : {S E : Type 0} → (S → S → List (HistoryEvent E) → Type 0) → HeldState S E → List E → Type 0
 StandsWith stands held added = stands held.first held.state (held.token.knows.seen ++ events_of held.token.knows.name added)

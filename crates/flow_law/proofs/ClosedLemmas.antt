@@ -3,7 +3,7 @@ use Rattle.std.proofs.Common.{◌≡◌, ℕ, ◌+◌, ◌≤◌, ◌<◌, inl, 
 use Rattle.std.specs.List.{AllByRecursion}
 use Rattle.std.proofs.lemmas.List.{append_cancel_left}
 use Rattle.std.proofs.lemmas.Bool.Decides.{Decides-eqb}
-use Rattle.flow_law.specs.declared.history.Event.{Event}
+use Rattle.flow_law.specs.declared.history.HistoryEvent.{HistoryEvent}
 use Rattle.flow_law.specs.declared.history.Knowledge.{Knowledge}
 use Rattle.flow_law.specs.Growth.{child_name, IsMadeBy, NamesOnlyMade}
 use Rattle.flow_law.proofs.Names.{every_weaker, longer}
@@ -33,8 +33,8 @@ module _ {E : Type 0} where
   both_of P Q [] a b = tt
   both_of P Q (k ∷ ks) a b = ((a.0, b.0), both_of P Q ks a.1 b.1)
 
-  names_in : (ks : List (Knowledge E)) → HasName [] ks → AllByRecursion (HasChildren ks) ks → (h : List (Event E)) → AllByRecursion (λ (k : Knowledge E). NamesOnlyMade k.name k.made h) ks
-      → AllByRecursion (λ (e : Event E). HasName e.name ks) h
+  names_in : (ks : List (Knowledge E)) → HasName [] ks → AllByRecursion (HasChildren ks) ks → (h : List (HistoryEvent E)) → AllByRecursion (λ (k : Knowledge E). NamesOnlyMade k.name k.made h) ks
+      → AllByRecursion (λ (e : HistoryEvent E). HasName e.name ks) h
   names_in ks first children [] names = tt
   names_in ks first children (e ∷ es) names = (
     walk ks e.name (both_of (λ (k : Knowledge E). IsMadeBy k.name k.made e.name) (HasChildren ks) ks
@@ -46,11 +46,11 @@ module _ {E : Type 0} where
 
   -- Q speaks of what an event says and of the name that it bears
   module _ (Q : List ℕ → E → Type 0) where
-    tail_every : (k : List ℕ) (e : Event E) (es : List (Event E)) → AllByRecursion (Q k) (said_by k (e ∷ es)) → AllByRecursion (Q k) (said_by k es)
+    tail_every : (k : List ℕ) (e : HistoryEvent E) (es : List (HistoryEvent E)) → AllByRecursion (Q k) (said_by k (e ∷ es)) → AllByRecursion (Q k) (said_by k es)
     tail_every k e es = split (is_same_name k e.name) (λ b. AllByRecursion (Q k) (cond b (e.what ∷ said_by k es) (said_by k es)) → AllByRecursion (Q k) (said_by k es)) (λ _ a. a.1) (λ _ a. a)
 
-    said_by_every : (ks : List (Knowledge E)) (h : List (Event E)) → AllByRecursion (λ (k : Knowledge E). AllByRecursion (Q k.name) (said_by k.name h)) ks → AllByRecursion (λ (e : Event E). HasName e.name ks) h
-        → AllByRecursion (λ (e : Event E). Q e.name e.what) h
+    said_by_every : (ks : List (Knowledge E)) (h : List (HistoryEvent E)) → AllByRecursion (λ (k : Knowledge E). AllByRecursion (Q k.name) (said_by k.name h)) ks → AllByRecursion (λ (e : HistoryEvent E). HasName e.name ks) h
+        → AllByRecursion (λ (e : HistoryEvent E). Q e.name e.what) h
     said_by_every ks [] all has = tt
     said_by_every ks (e ∷ es) all has = (
       (let k = named (λ (k : Knowledge E). AllByRecursion (Q k.name) (said_by k.name (e ∷ es))) e.name ks has.0 all in
@@ -59,7 +59,7 @@ module _ {E : Type 0} where
       said_by_every ks es (every_weaker (λ (k : Knowledge E). AllByRecursion (Q k.name) (said_by k.name (e ∷ es))) (λ (k : Knowledge E). AllByRecursion (Q k.name) (said_by k.name es)) (λ k a. tail_every k.name e es a) ks all) has.1,
     )
 
-    move : (h : List (Event E)) (ks : List (Knowledge E)) → AllByRecursion (Accounts h) ks → AllByRecursion (λ (k : Knowledge E). AllByRecursion (Q k.name) (done_by k)) ks
+    move : (h : List (HistoryEvent E)) (ks : List (Knowledge E)) → AllByRecursion (Accounts h) ks → AllByRecursion (λ (k : Knowledge E). AllByRecursion (Q k.name) (done_by k)) ks
         → AllByRecursion (λ (k : Knowledge E). AllByRecursion (Q k.name) (said_by k.name h)) ks
     move h [] a b = tt
     move h (k ∷ ks) a b = (subst (AllByRecursion (Q k.name)) (sym a.0.done) b.0, move h ks a.1 b.1)
@@ -75,16 +75,16 @@ module _ {E : Type 0} where
   total_zero (k ∷ ks) = let h = total_zero ks in omega arith
 
   module _ (f : E → ℕ) where
-    abbrev sum_of : List (Event E) → Knowledge E → ℕ
+    abbrev sum_of : List (HistoryEvent E) → Knowledge E → ℕ
     sum_of h k = total f (said_by k.name h)
 
-    none_more : (e : Event E) (es : List (Event E)) (ks : List (Knowledge E)) → (HasName e.name ks → ⊥) → total (sum_of (e ∷ es)) ks ≡ total (sum_of es) ks
+    none_more : (e : HistoryEvent E) (es : List (HistoryEvent E)) (ks : List (Knowledge E)) → (HasName e.name ks → ⊥) → total (sum_of (e ∷ es)) ks ≡ total (sum_of es) ks
     none_more e es [] lacks = refl
     none_more e es (k ∷ ks) lacks =
         let h : total (sum_of (e ∷ es)) ks ≡ total (sum_of es) ks = none_more e es ks (λ x. lacks (inr x)) in
         let i : total f (said_by k.name (e ∷ es)) ≡ total f (said_by k.name es) = ap (total f) (said_by_no k.name e es (same_not k.name e.name (λ p. lacks (inl p)))) in omega arith
 
-    one_more : (e : Event E) (es : List (Event E)) (ks : List (Knowledge E)) → HasName e.name ks → AreApart ks → total (sum_of (e ∷ es)) ks ≡ f e.what + total (sum_of es) ks
+    one_more : (e : HistoryEvent E) (es : List (HistoryEvent E)) (ks : List (Knowledge E)) → HasName e.name ks → AreApart ks → total (sum_of (e ∷ es)) ks ≡ f e.what + total (sum_of es) ks
     one_more e es [] has apart = absurd has
     one_more e es (k ∷ ks) (inl p) apart =
         let h : total (sum_of (e ∷ es)) ks ≡ total (sum_of es) ks = none_more e es ks (λ x. apart.0 (subst (λ (n : List ℕ). HasName n ks) (sym p) x)) in
@@ -93,26 +93,26 @@ module _ {E : Type 0} where
         let h : total (sum_of (e ∷ es)) ks ≡ f e.what + total (sum_of es) ks = one_more e es ks has apart.1 in
         let i : total f (said_by k.name (e ∷ es)) ≡ total f (said_by k.name es) = ap (total f) (said_by_no k.name e es (same_not k.name e.name (λ p. apart.0 (subst (λ (n : List ℕ). HasName n ks) (sym p) has)))) in omega arith
 
-    sum_said_by : (ks : List (Knowledge E)) (h : List (Event E)) → AreApart ks → AllByRecursion (λ (e : Event E). HasName e.name ks) h → total (λ (e : Event E). f e.what) h ≡ total (sum_of h) ks
+    sum_said_by : (ks : List (Knowledge E)) (h : List (HistoryEvent E)) → AreApart ks → AllByRecursion (λ (e : HistoryEvent E). HasName e.name ks) h → total (λ (e : HistoryEvent E). f e.what) h ≡ total (sum_of h) ks
     sum_said_by ks [] apart has = sym (total_zero ks)
     sum_said_by ks (e ∷ es) apart has =
-        let h : total (λ (e : Event E). f e.what) es ≡ total (sum_of es) ks = sum_said_by ks es apart has.1 in
+        let h : total (λ (e : HistoryEvent E). f e.what) es ≡ total (sum_of es) ks = sum_said_by ks es apart has.1 in
         let i : total (sum_of (e ∷ es)) ks ≡ f e.what + total (sum_of es) ks = one_more e es ks has.0 apart in omega arith
 
-  all_names : (ks : List (Knowledge E)) (h : List (Event E)) → AreAll ks → IsClosed h ks → AllByRecursion (λ (e : Event E). HasName e.name ks) h
+  all_names : (ks : List (Knowledge E)) (h : List (HistoryEvent E)) → AreAll ks → IsClosed h ks → AllByRecursion (λ (e : HistoryEvent E). HasName e.name ks) h
   all_names ks h all closed = names_in ks all.first all.children h (every_weaker (Accounts h) (λ (k : Knowledge E). NamesOnlyMade k.name k.made h) (λ k a. a.names) ks closed)
 
   -- what holds under each token's name of all that it did holds of each event under its name
-  pub every_named : (Q : List ℕ → E → Type 0) (ks : List (Knowledge E)) (h : List (Event E)) → AreAll ks → IsClosed h ks → AllByRecursion (λ (k : Knowledge E). AllByRecursion (Q k.name) (done_by k)) ks
-      → AllByRecursion (λ (e : Event E). Q e.name e.what) h
+  pub every_named : (Q : List ℕ → E → Type 0) (ks : List (Knowledge E)) (h : List (HistoryEvent E)) → AreAll ks → IsClosed h ks → AllByRecursion (λ (k : Knowledge E). AllByRecursion (Q k.name) (done_by k)) ks
+      → AllByRecursion (λ (e : HistoryEvent E). Q e.name e.what) h
   every_named Q ks h all closed did = said_by_every Q ks h (move Q h ks closed did) (all_names ks h all closed)
 
   -- what holds of all that each of the tokens did holds of each event
-  pub every_done : (P : E → Type 0) (ks : List (Knowledge E)) (h : List (Event E)) → AreAll ks → IsClosed h ks → AllByRecursion (λ (k : Knowledge E). AllByRecursion P (done_by k)) ks
-      → AllByRecursion (λ (e : Event E). P e.what) h
+  pub every_done : (P : E → Type 0) (ks : List (Knowledge E)) (h : List (HistoryEvent E)) → AreAll ks → IsClosed h ks → AllByRecursion (λ (k : Knowledge E). AllByRecursion P (done_by k)) ks
+      → AllByRecursion (λ (e : HistoryEvent E). P e.what) h
   every_done P ks h all closed did = every_named (λ name. P) ks h all closed did
 
-  pub all_done : (ks : List (Knowledge E)) (h : List (Event E)) → AreAll ks → IsClosed h ks → IsAllDone h ks
+  pub all_done : (ks : List (Knowledge E)) (h : List (HistoryEvent E)) → AreAll ks → IsClosed h ks → IsAllDone h ks
   all_done ks h all closed = record {
     names = all_names ks h all closed;
     every = λ p did. every_done (λ (x : E). IsTrue (p x)) ks h all closed did;

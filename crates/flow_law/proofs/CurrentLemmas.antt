@@ -5,7 +5,7 @@ use Rattle.std.specs.List.{AllByRecursion}
 use Rattle.std.proofs.lemmas.Bool.{cond_both, cond-true}
 use Rattle.std.proofs.lemmas.Bool.Decides.{Decides-eqb}
 use Rattle.flow_law.specs.declared.fault.FlowFault.TheVariants.{Exhausted, OutOfMemory}
-use Rattle.flow_law.specs.declared.history.Event.{Event}
+use Rattle.flow_law.specs.declared.history.HistoryEvent.{HistoryEvent}
 use Rattle.flow_law.specs.declared.history.Said.{Said}
 use Rattle.flow_law.specs.declared.outcome.Next.{Next}
 use Rattle.flow_law.specs.declared.outcome.Next.TheVariants.{Value, Empty}
@@ -184,7 +184,7 @@ module _ {T : Type 0} where
       tracks : Tracks u (state_after_all (first_state_flow limit first) before) (last_got u before)
       tracks = tracks_all u (first_state_flow limit first) None before (opened_tracks u limit first) legal
 
-      settles : (r : Next T) (e : Event (Said (StateCall T) (StateReply T))) (since : StateHistory T) → IsThere u (state_after_all (first_state_flow limit first) before) → IsNext u r e
+      settles : (r : Next T) (e : HistoryEvent (Said (StateCall T) (StateReply T))) (since : StateHistory T) → IsThere u (state_after_all (first_state_flow limit first) before) → IsNext u r e
           → IsLegalState (first_state_flow limit first) (before ++ e ∷ since) → IsSteady (after (state_after_all (first_state_flow limit first) before) e.what.call e.what.reply) since
           → last_got u (before ++ e ∷ since) ≡ Some (state_after_all (first_state_flow limit first) (before ++ e ∷ since)).value
       settles r e since there asks all calm =

@@ -1,7 +1,7 @@
 -- What a token has done: after one call, after a meeting, and between two histories in which it has done the same.
 use Rattle.std.proofs.Common.{◌≡◌, ℕ, ◌+◌, Bool, true, false, cond, List, [], ◌∷◌, ◌++◌, length, refl, sym, ap, ◌∙◌, subst, arith, append_assoc, append-nil, length-append, ◌⊎◌, ⊎_elim, map}
 use Rattle.std.specs.List.{AllByRecursion, flat_map}
-use Rattle.flow_law.specs.declared.history.Event.{Event}
+use Rattle.flow_law.specs.declared.history.HistoryEvent.{HistoryEvent}
 use Rattle.flow_law.specs.declared.history.Knowledge.{Knowledge}
 use Rattle.flow_law.specs.declared.history.Said.{Said}
 use Rattle.flow_law.specs.Growth.{event, IsSilent, IsMadeBy, NamesOnlyMade, GrowsByOthers, Fits}
@@ -52,18 +52,18 @@ yes_no : true ≡ false → ⊥
 yes_no e = cc
 
 module _ {E : Type 0} where
-  pub said_by-append : (k : List ℕ) (g h : List (Event E)) → said_by k (g ++ h) ≡ said_by k g ++ said_by k h
+  pub said_by-append : (k : List ℕ) (g h : List (HistoryEvent E)) → said_by k (g ++ h) ≡ said_by k g ++ said_by k h
   said_by-append k [] h = refl
   said_by-append k (e ∷ es) h = split (is_same_name k e.name) (λ b. cond b (e.what ∷ said_by k (es ++ h)) (said_by k (es ++ h)) ≡ cond b (e.what ∷ said_by k es) (said_by k es) ++ said_by k h)
       (λ _. ap (λ l. e.what ∷ l) (said_by-append k es h)) (λ _. said_by-append k es h)
 
-  pub said_by_yes : (k : List ℕ) (e : Event E) (es : List (Event E)) → is_same_name k e.name ≡ true → said_by k (e ∷ es) ≡ e.what ∷ said_by k es
+  pub said_by_yes : (k : List ℕ) (e : HistoryEvent E) (es : List (HistoryEvent E)) → is_same_name k e.name ≡ true → said_by k (e ∷ es) ≡ e.what ∷ said_by k es
   said_by_yes k e es t = ap (λ b. cond b (e.what ∷ said_by k es) (said_by k es)) t
 
-  pub said_by_no : (k : List ℕ) (e : Event E) (es : List (Event E)) → is_same_name k e.name ≡ false → said_by k (e ∷ es) ≡ said_by k es
+  pub said_by_no : (k : List ℕ) (e : HistoryEvent E) (es : List (HistoryEvent E)) → is_same_name k e.name ≡ false → said_by k (e ∷ es) ≡ said_by k es
   said_by_no k e es t = ap (λ b. cond b (e.what ∷ said_by k es) (said_by k es)) t
 
-  pub said_by_silent : (k : List ℕ) (h : List (Event E)) → IsSilent k h → said_by k h ≡ []
+  pub said_by_silent : (k : List ℕ) (h : List (HistoryEvent E)) → IsSilent k h → said_by k h ≡ []
   said_by_silent k [] a = refl
   said_by_silent k (e ∷ es) a = said_by_no k e es (same_not k e.name (λ (p : k ≡ e.name). a.0 (sym p))) ∙ said_by_silent k es a.1
 
@@ -71,14 +71,14 @@ module _ {E : Type 0} where
   said_by_one k x = said_by_yes k (event k x) [] (same_refl k)
 
   -- events of others add nothing
-  pub said_by_others : (k : List ℕ) (h more : List (Event E)) → IsSilent k more → said_by k (h ++ more) ≡ said_by k h
+  pub said_by_others : (k : List ℕ) (h more : List (HistoryEvent E)) → IsSilent k more → said_by k (h ++ more) ≡ said_by k h
   said_by_others k h more a = said_by-append k h more ∙ ap (λ l. said_by k h ++ l) (said_by_silent k more a) ∙ append-nil (said_by k h)
 
-  pub said_by_grown : (k : List ℕ) (h later : List (Event E)) → GrowsByOthers k h later → said_by k later ≡ said_by k h
+  pub said_by_grown : (k : List ℕ) (h later : List (HistoryEvent E)) → GrowsByOthers k h later → said_by k later ≡ said_by k h
   said_by_grown k h later g = ap (said_by k) g.1 ∙ said_by_others k h g.0 g.2
 
   -- where all other events give nothing, all events give what those of this name give
-  pub flat_alone : {X : Type 0} (f : E → List X) (k : List ℕ) (h : List (Event E)) → AllByRecursion (λ (e : Event E). (e.name ≡ k) ⊎ (f e.what ≡ [])) h → flat_map f (map (λ e. e.what) h) ≡ flat_map f (said_by k h)
+  pub flat_alone : {X : Type 0} (f : E → List X) (k : List ℕ) (h : List (HistoryEvent E)) → AllByRecursion (λ (e : HistoryEvent E). (e.name ≡ k) ⊎ (f e.what ≡ [])) h → flat_map f (map (λ e. e.what) h) ≡ flat_map f (said_by k h)
   flat_alone f k [] a = refl
   flat_alone f k (e ∷ es) a = split (is_same_name k e.name) (λ b. f e.what ++ flat_map f (map (λ e. e.what) es) ≡ flat_map f (cond b (e.what ∷ said_by k es) (said_by k es)))
       (λ _. ap (λ l. f e.what ++ l) (flat_alone f k es a.1))
@@ -87,17 +87,17 @@ module _ {E : Type 0} where
 
   -- ---- one history after the other
 
-  pub extends_refl : (h : List (Event E)) → Extends h h
+  pub extends_refl : (h : List (HistoryEvent E)) → Extends h h
   extends_refl h = ([], sym (append-nil h))
 
-  pub extends_trans : (a b c : List (Event E)) → Extends a b → Extends b c → Extends a c
+  pub extends_trans : (a b c : List (HistoryEvent E)) → Extends a b → Extends b c → Extends a c
   extends_trans a b c x y = (x.0 ++ y.0, y.1 ∙ ap (λ l. l ++ y.0) x.1 ∙ append_assoc a x.0 y.0)
 
-  pub names_left : (name : List ℕ) (made : ℕ) (a b : List (Event E)) → Extends a b → NamesOnlyMade name made b → NamesOnlyMade name made a
-  names_left name made a b x n = every_left (λ (e : Event E). IsMadeBy name made e.name) a x.0 (subst (NamesOnlyMade name made) x.1 n)
+  pub names_left : (name : List ℕ) (made : ℕ) (a b : List (HistoryEvent E)) → Extends a b → NamesOnlyMade name made b → NamesOnlyMade name made a
+  names_left name made a b x n = every_left (λ (e : HistoryEvent E). IsMadeBy name made e.name) a x.0 (subst (NamesOnlyMade name made) x.1 n)
 
   -- where the token has done the same after the later one, it has done so in between
-  pub squeezed : (k : List ℕ) (a h b : List (Event E)) → Extends a h → Extends h b → said_by k b ≡ said_by k a → said_by k h ≡ said_by k a
+  pub squeezed : (k : List ℕ) (a h b : List (HistoryEvent E)) → Extends a h → Extends h b → said_by k b ≡ said_by k a → said_by k h ≡ said_by k a
   squeezed k a h b x y same =
       let one : said_by k h ≡ said_by k a ++ said_by k x.0 = ap (said_by k) x.1 ∙ said_by-append k a x.0 in
       let two : said_by k b ≡ (said_by k a ++ said_by k x.0) ++ said_by k y.0 = ap (said_by k) y.1 ∙ said_by-append k h y.0 ∙ ap (λ l. l ++ said_by k y.0) one in
@@ -118,7 +118,7 @@ module _ {E : Type 0} where
   }
 
   -- it has met others
-  pub made_fits : (h : List (Event E)) (k after : Knowledge E) → Fits h k → after.name ≡ k.name → after.made ≡ k.made → after.seen ≡ h → Made [] k after
+  pub made_fits : (h : List (HistoryEvent E)) (k after : Knowledge E) → Fits h k → after.name ≡ k.name → after.made ≡ k.made → after.seen ≡ h → Made [] k after
   made_fits h k after f name made seen = record {
     name = name;
     made = made;
@@ -127,17 +127,17 @@ module _ {E : Type 0} where
   }
 
   -- a history that a token's knowledge fits, and one between two that it has seen
-  pub accounts_fits : (h : List (Event E)) (k : Knowledge E) → Fits h k → Accounts h k
+  pub accounts_fits : (h : List (HistoryEvent E)) (k : Knowledge E) → Fits h k → Accounts h k
   accounts_fits h k f = record { done = said_by_grown k.name k.seen h f.0; names = f.1 }
 
-  pub accounts_between : (h : List (Event E)) (k later : Knowledge E) → Extends k.seen h → Extends h later.seen → Made [] k later → NamesOnlyMade later.name later.made later.seen → Accounts h k
+  pub accounts_between : (h : List (HistoryEvent E)) (k later : Knowledge E) → Extends k.seen h → Extends h later.seen → Made [] k later → NamesOnlyMade later.name later.made later.seen → Accounts h k
   accounts_between h k later x y same names = record {
     done = squeezed k.name k.seen h later.seen x y (ap (λ (n : List ℕ). said_by n later.seen) (sym same.name) ∙ same.done ∙ append-nil (done_by k));
     names = names_left k.name k.made h later.seen y (subst (λ (n : List ℕ). NamesOnlyMade n k.made later.seen) same.name (subst (λ (m : ℕ). NamesOnlyMade later.name m later.seen) same.made names));
   }
 
   -- what a token accounts for is the same where it has done nothing since
-  pub accounts_before : (h : List (Event E)) (old k : Knowledge E) → Made [] old k → Accounts h k → Accounts h old
+  pub accounts_before : (h : List (HistoryEvent E)) (old k : Knowledge E) → Made [] old k → Accounts h k → Accounts h old
   accounts_before h old k same a = record {
     done = ap (λ (n : List ℕ). said_by n h) (sym same.name) ∙ a.done ∙ same.done ∙ append-nil (done_by old);
     names = subst (λ (n : List ℕ). NamesOnlyMade n old.made h) same.name (subst (λ (m : ℕ). NamesOnlyMade k.name m h) same.made a.names);
@@ -145,7 +145,7 @@ module _ {E : Type 0} where
 
 module _ {C R : Type 0} where
   -- one call is one
-  pub made_one : (IsHistory : List (Event (Said C R)) → Type 0) (before after : Knowledge (Said C R)) (c : C) (r : R) → AddsOne IsHistory before c r after → Made (said c r ∷ []) before after
+  pub made_one : (IsHistory : List (HistoryEvent (Said C R)) → Type 0) (before after : Knowledge (Said C R)) (c : C) (r : R) → AddsOne IsHistory before c r after → Made (said c r ∷ []) before after
   made_one IsHistory before after c r a =
       let g = a.grows in let k = before.name in record {
         name = a.name;

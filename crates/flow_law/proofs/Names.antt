@@ -2,7 +2,7 @@
 use Rattle.std.proofs.Common.{◌≡◌, ◌≢◌, ℕ, ◌+◌, ◌≤◌, ◌⊎◌, List, [], ◌∷◌, ◌++◌, map, length, refl, sym, ap, ◌∙◌, subst, inl, inr, ⊎_elim, arith, append_assoc, append-nil, length-append}
 use Rattle.std.proofs.lemmas.List.{append_cancel_left}
 use Rattle.std.specs.List.{AllByRecursion}
-use Rattle.flow_law.specs.declared.history.Event.{Event}
+use Rattle.flow_law.specs.declared.history.HistoryEvent.{HistoryEvent}
 use Rattle.flow_law.specs.declared.history.Knowledge.{Knowledge}
 use Rattle.flow_law.specs.Growth.{IsMadeBy, GrowsByOthers, NamesOnlyMade, Fits, IsApartFrom, event, events_of}
 use Rattle.flow_law.specs.Growth.{makes, child}
@@ -46,23 +46,23 @@ pub numbered_self : (k : List ℕ) (m : ℕ) → IsMadeBy k m k
 numbered_self k m j r e = absurd (longer k j r e)
 
 module _ {E : Type 0} where
-  pub grew_refl : (k : List ℕ) (h : List (Event E)) → GrowsByOthers k h h
+  pub grew_refl : (k : List ℕ) (h : List (HistoryEvent E)) → GrowsByOthers k h h
   grew_refl k h = ([], sym (append-nil h), tt)
 
-  pub grew_more : (k : List ℕ) (h h' more : List (Event E)) → GrowsByOthers k h h' → AllByRecursion (λ e. e.name ≢ k) more → GrowsByOthers k h (h' ++ more)
+  pub grew_more : (k : List ℕ) (h h' more : List (HistoryEvent E)) → GrowsByOthers k h h' → AllByRecursion (λ e. e.name ≢ k) more → GrowsByOthers k h (h' ++ more)
   grew_more k h h' more g a = (g.0 ++ more, ap (λ l. l ++ more) g.1 ∙ append_assoc h g.0 more, every_append (λ e. e.name ≢ k) g.0 more g.2 a)
 
   -- a seat named n adds events, of which another seat sees that they aren't its own
-  pub fits_more : (log : List (Event E)) (t : Knowledge E) (n : List ℕ) (w : List E) → n ≢ t.name → IsMadeBy t.name t.made n → Fits log t → Fits (log ++ events_of n w) t
+  pub fits_more : (log : List (HistoryEvent E)) (t : Knowledge E) (n : List ℕ) (w : List E) → n ≢ t.name → IsMadeBy t.name t.made n → Fits log t → Fits (log ++ events_of n w) t
   fits_more log t n w other num f = (
-    grew_more t.name t.seen log (events_of n w) f.0 (every_map (λ (e : Event E). e.name ≢ t.name) (event n) (λ _. other) w),
-    every_append (λ e. IsMadeBy t.name t.made e.name) log (events_of n w) f.1 (every_map (λ (e : Event E). IsMadeBy t.name t.made e.name) (event n) (λ _. num) w),
+    grew_more t.name t.seen log (events_of n w) f.0 (every_map (λ (e : HistoryEvent E). e.name ≢ t.name) (event n) (λ _. other) w),
+    every_append (λ e. IsMadeBy t.name t.made e.name) log (events_of n w) f.1 (every_map (λ (e : HistoryEvent E). IsMadeBy t.name t.made e.name) (event n) (λ _. num) w),
   )
 
   -- the seat that adds them has seen them
-  pub fits_own : (log : List (Event E)) (t : Knowledge E) (w : List E) → Fits log t → NamesOnlyMade t.name t.made (log ++ events_of t.name w)
+  pub fits_own : (log : List (HistoryEvent E)) (t : Knowledge E) (w : List E) → Fits log t → NamesOnlyMade t.name t.made (log ++ events_of t.name w)
   fits_own log t w f = every_append (λ e. IsMadeBy t.name t.made e.name) log (events_of t.name w) f.1
-      (every_map (λ (e : Event E). IsMadeBy t.name t.made e.name) (event t.name) (λ _. numbered_self t.name t.made) w)
+      (every_map (λ (e : HistoryEvent E). IsMadeBy t.name t.made e.name) (event t.name) (λ _. numbered_self t.name t.made) w)
 
   module _ (s : Knowledge E) where
     abbrev k : List ℕ
@@ -78,10 +78,10 @@ module _ {E : Type 0} where
     below_child : (n : List ℕ) → IsMadeBy k m n → IsMadeBy (k ++ (m + 1) ∷ []) 0 n
     below_child n h j r e = let p = h (m + 1) (j ∷ r) (e ∙ append_assoc k ((m + 1) ∷ []) (j ∷ r)) in absurd (omega arith)
 
-    pub makes_fits : (log : List (Event E)) → Fits log s → Fits log (makes s)
+    pub makes_fits : (log : List (HistoryEvent E)) → Fits log s → Fits log (makes s)
     makes_fits log f = (f.0, every_weaker (λ e. IsMadeBy k m e.name) (λ e. IsMadeBy k (m + 1) e.name) (λ e. numbered_more k m (m + 1) e.name (omega arith)) log f.1)
 
-    pub child_fits : (log : List (Event E)) → Fits log s → Fits log (child s)
+    pub child_fits : (log : List (HistoryEvent E)) → Fits log s → Fits log (child s)
     child_fits log f = let g = f.0 in (
       (
         g.0,

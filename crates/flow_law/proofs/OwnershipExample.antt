@@ -2,7 +2,7 @@
 use Rattle.std.proofs.Common.{ℕ, true, false, List, [], ◌∷◌, refl}
 use Rattle.flow_law.specs.declared.config.Config.{Config}
 use Rattle.flow_law.specs.declared.config.Overflow.TheVariants.{Suspend}
-use Rattle.flow_law.specs.declared.history.Event.{Event}
+use Rattle.flow_law.specs.declared.history.HistoryEvent.{HistoryEvent}
 use Rattle.flow_law.specs.declared.history.Said.{Said}
 use Rattle.flow_law.specs.declared.outcome.Emit.TheVariants.{Queued}
 use Rattle.flow_law.specs.declared.outcome.Next.TheVariants.{Value, Gone}
@@ -16,7 +16,7 @@ use Rattle.flow_law.specs.SharedHistory.{History, IsLegal, shared_flow}
 abbrev bufferless : Config
 bufferless = record { replay = 0; extra = 0; overflow = Suspend; limit = 1000 }
 
-abbrev by : List ℕ → SharedCall ℕ → SharedReply ℕ → Event (Said (SharedCall ℕ) (SharedReply ℕ))
+abbrev by : List ℕ → SharedCall ℕ → SharedReply ℕ → HistoryEvent (Said (SharedCall ℕ) (SharedReply ℕ))
 by name c r = record { name = name; what = record { call = c; reply = r } }
 
 -- the first seat subscribes, which gives 1 to the subscription's seat, and emits, which gives 2 to itself

@@ -4,7 +4,7 @@ use borrow.Author.Count.{below_more}
 use Rattle.std.proofs.Math.ListN.{set}
 use Rattle.std.proofs.lemmas.List.{get_or-set_same, get_or-set_other, get_or_default}
 use Rattle.std.proofs.lemmas.Bool.Decides.{Decides-eqb}
-use Rattle.flow_law.specs.declared.history.Event.{Event}
+use Rattle.flow_law.specs.declared.history.HistoryEvent.{HistoryEvent}
 use Rattle.flow_law.specs.declared.history.Knowledge.{Knowledge}
 use Rattle.flow_law.specs.declared.history.Said.{Said}
 use Rattle.flow_law.specs.Growth.{NamesOnlyMade, event}
@@ -42,10 +42,10 @@ module _ {Id T S C R : Type 0} (kind : Kind T S C R) (first : S) where
       let name : t'.knows.name ≡ t.knows.name = ap (λ (x : Token Id (Said C R)). x.knows.name) e in let made : t'.knows.made ≡ t.knows.made = ap (λ (x : Token Id (Said C R)). x.knows.made) e in record {
         only_meets = (ap (λ (x : Token Id (Said C R)). x.table_id) e, made_fits m.history t.knows t'.knows m.fits_other name made seen);
         history = subst (IsHistory kind first) (sym seen) m.is_history;
-        names = subst (λ (h : List (Event (Said C R))). NamesOnlyMade t'.knows.name t'.knows.made h) (sym seen)
+        names = subst (λ (h : List (HistoryEvent (Said C R))). NamesOnlyMade t'.knows.name t'.knows.made h) (sym seen)
             (subst (λ (n : List ℕ). NamesOnlyMade n t'.knows.made m.history) (sym name) (subst (λ (n : ℕ). NamesOnlyMade t.knows.name n m.history) (sym made) m.fits_other.1));
         since = extends_trans start.knows.seen one.knows.seen t'.knows.seen s.1.grows (m.fits_one.0.0, seen ∙ m.fits_one.0.1);
-        into = subst (λ (h : List (Event (Said C R))). Extends t'.knows.seen h) (seen ∙ sym one_seen) (extends_refl t'.knows.seen);
+        into = subst (λ (h : List (HistoryEvent (Said C R))). Extends t'.knows.seen h) (seen ∙ sym one_seen) (extends_refl t'.knows.seen);
       }
 
   -- the two may be named in either order
@@ -56,7 +56,7 @@ module _ {Id T S C R : Type 0} (kind : Kind T S C R) (first : S) where
   meets_later start a b t t' m x = record { only_meets = m.only_meets; history = m.history; names = m.names; since = m.since; into = extends_trans t'.knows.seen a.seen b.seen m.into x }
 
   -- a token that was met before and after this history accounts for it
-  pub accounts_met : (h : List (Event (Said C R))) (o p q r : Knowledge (Said C R)) (t u w : Token Id (Said C R)) → MeetsInTurn kind first o p t u → MeetsInTurn kind first q r u w → Extends p.seen h → Extends h q.seen → Accounts h t.knows
+  pub accounts_met : (h : List (HistoryEvent (Said C R))) (o p q r : Knowledge (Said C R)) (t u w : Token Id (Said C R)) → MeetsInTurn kind first o p t u → MeetsInTurn kind first q r u w → Extends p.seen h → Extends h q.seen → Accounts h t.knows
   accounts_met h o p q r t u w m n x y =
       accounts_before h t.knows u.knows m.only_meets.1
       (accounts_between h u.knows w.knows (extends_trans u.knows.seen p.seen h m.into x) (extends_trans h q.seen w.knows.seen y n.since) n.only_meets.1 n.names)
@@ -85,7 +85,7 @@ module _ {Id T S C R : Type 0} (kind : Kind T S C R) (first : S) where
         )
 
     -- two rounds of meetings: a history between them has what each token had done
-    pub accounts_all : (h : List (Event (Said C R))) (o p q r : Knowledge (Said C R)) (xs ys zs : List W) → Extends p.seen h → Extends h q.seen
+    pub accounts_all : (h : List (HistoryEvent (Said C R))) (o p q r : Knowledge (Said C R)) (xs ys zs : List W) → Extends p.seen h → Extends h q.seen
         → ((i : ℕ) (d : W) → i < length xs → MeetsInTurn kind first o p (seat (get_or xs i d)) (seat (get_or ys i d)))
         → ((i : ℕ) (d : W) → i < length xs → MeetsInTurn kind first q r (seat (get_or ys i d)) (seat (get_or zs i d)))
         → IsClosed h (map (λ (w : W). (seat w).knows) xs)

@@ -1,7 +1,7 @@
 -- A worked example of the state flow is a legal history, and a second reply of the same value is not.
 use Rattle.std.proofs.Common.{inl, inr, ◌≡◌, ◌≢◌, ◌==◌, arith, ℕ, true, false, [], ◌∷◌, Some, None, refl}
 use Rattle.std.proofs.lemmas.Bool.Decides.{nat_tests}
-use Rattle.flow_law.specs.declared.history.Event.{Event}
+use Rattle.flow_law.specs.declared.history.HistoryEvent.{HistoryEvent}
 use Rattle.flow_law.specs.declared.history.Said.{Said}
 use Rattle.flow_law.specs.declared.fault.FlowFault.TheVariants.{Unsupported}
 use Rattle.flow_law.specs.declared.outcome.Next.TheVariants.{Value, Empty}
@@ -11,7 +11,7 @@ use Rattle.flow_law.specs.declared.call.StateReply.{StateReply}
 use Rattle.flow_law.specs.declared.call.StateReply.TheVariants.{Done, Got, Answered, Subscribed, Received, Counted, Cached, Refused}
 use Rattle.flow_law.specs.StateFlow.{StateHistory, first_state_flow, IsLegalState}
 
-abbrev pub event : StateCall ℕ → StateReply ℕ → Event (Said (StateCall ℕ) (StateReply ℕ))
+abbrev pub event : StateCall ℕ → StateReply ℕ → HistoryEvent (Said (StateCall ℕ) (StateReply ℕ))
 event call reply = record { name = []; what = record { call = call; reply = reply } }
 
 abbrev state_run : StateHistory ℕ

@@ -1,6 +1,6 @@
 -- What a token of any kind of flow knows of its subscriber, as the history grows.
 use Rattle.std.proofs.Common.{ℕ, List, [], ◌∷◌, ◌++◌, sym, subst}
-use Rattle.flow_law.specs.declared.history.Event.{Event}
+use Rattle.flow_law.specs.declared.history.HistoryEvent.{HistoryEvent}
 use Rattle.flow_law.specs.declared.history.Said.{Said}
 use Rattle.flow_law.specs.Growth.{event, GrowsByOthers}
 use Rattle.flow_law.specs.OneHistory.{said}
@@ -11,7 +11,7 @@ use Rattle.flow_law.proofs.Owners.{legal_left, legal_right, last_given, given_st
 
 module _ {T S C R : Type 0} (kind : Kind T S C R) (law : Lawful kind) where
   abbrev Log : Type 0
-  Log = List (Event (Said C R))
+  Log = List (HistoryEvent (Said C R))
 
   pub given_grows : (first : S) (name : List ℕ) (number : Number) (old new : Log) → IsHistory kind first new → GrowsByOthers name old new → IsGiven kind name number old → IsGiven kind name number new
   given_grows first name number old new is grown given =
@@ -32,7 +32,7 @@ module _ {T S C R : Type 0} (kind : Kind T S C R) (law : Lawful kind) where
       → IsGiven kind name (subscriber u) h → IsSubscribed kind u h
       → IsGiven kind name (subscriber u) (h ++ event name (said (kind.take_next u) r) ∷ []) × IsSubscribed kind u (h ++ event name (said (kind.take_next u) r) ∷ [])
   subscription_next first name u h r is given there =
-      let last : Event (Said C R) = event name (said (kind.take_next u) r) in (
+      let last : HistoryEvent (Said C R) = event name (said (kind.take_next u) r) in (
         given_stays kind law first h (last ∷ []) (subscriber u) name is.legal given,
         λ other l.
             subst (kind.HasSubscriber u) (sym (after_all-snoc kind other h last))
@@ -43,7 +43,7 @@ module _ {T S C R : Type 0} (kind : Kind T S C R) (law : Lawful kind) where
   pub subscription_given : (subscribe : List ℕ → C) → Subscribing kind subscribe → (h : Log) (by name : List ℕ) (u : ℕ)
       → IsGiven kind name (subscriber u) (h ++ event by (said (subscribe name) (kind.subscribed u)) ∷ []) × IsSubscribed kind u (h ++ event by (said (subscribe name) (kind.subscribed u)) ∷ [])
   subscription_given subscribe subscribing h by name u =
-      let last : Event (Said C R) = event by (said (subscribe name) (kind.subscribed u)) in (
+      let last : HistoryEvent (Said C R) = event by (said (subscribe name) (kind.subscribed u)) in (
         last_given kind h last (record { number = subscriber u; name = name }) (subscribing.gives by name u),
         λ other l.
             subst (kind.HasSubscriber u) (sym (after_all-snoc kind other h last))

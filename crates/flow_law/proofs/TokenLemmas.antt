@@ -2,7 +2,7 @@
 use Rattle.std.proofs.Common.{◌≡◌, ◌⊎◌, IfErr, ℕ, Bool, true, List, [], ◌∷◌, ◌++◌, Option, Some, None, Result, Ok, Err, refl, sym, subst, ◌+◌}
 use Rattle.flow_law.specs.declared.fault.FlowFault.{FlowFault}
 use Rattle.flow_law.specs.declared.fault.FlowFault.TheVariants.{OutOfMemory, TooLarge, NeedsBuffer, Exhausted, Unsupported, Busy}
-use Rattle.flow_law.specs.declared.history.Event.{Event}
+use Rattle.flow_law.specs.declared.history.HistoryEvent.{HistoryEvent}
 use Rattle.flow_law.specs.declared.history.Knowledge.{Knowledge}
 use Rattle.flow_law.specs.declared.history.Said.{Said}
 use Rattle.flow_law.specs.declared.outcome.Next.{Next}
@@ -19,7 +19,7 @@ use Rattle.flow_law.proofs.Subscriptions.{given_grows, subscription_grows, subsc
 
 -- one call of a core that stands for a history
 module _ {K T S C R : Type 0} (kind : Kind T S C R) (StandsAs : K → S → Type 0) where
-  pub stands_next : (first : S) (x y : K) (h : List (Event (Said C R))) (name : List ℕ) (c : C) (r : R) → StandsForHistory kind StandsAs first x h → Documents kind StandsAs x c r y → MayCall kind c name h
+  pub stands_next : (first : S) (x y : K) (h : List (HistoryEvent (Said C R))) (name : List ℕ) (c : C) (r : R) → StandsForHistory kind StandsAs first x h → Documents kind StandsAs x c r y → MayCall kind c name h
       → StandsForHistory kind StandsAs first y (h ++ event name (said c r) ∷ [])
   stands_next first x y h name c r stood documents may = let step = documents (after_all kind first h) stood.1 in (
     IsHistory-snoc kind first h (event name (said c r)) stood.0 step.0 may,
@@ -28,7 +28,7 @@ module _ {K T S C R : Type 0} (kind : Kind T S C R) (StandsAs : K → S → Type
 
 module _ {T S C R : Type 0} (kind : Kind T S C R) (law : Lawful kind) where
   -- a call that a token may make it still may where others have called
-  pub may_grows : (first : S) (c : C) (name : List ℕ) (old new : List (Event (Said C R))) → IsHistory kind first new → GrowsByOthers name old new → MayCall kind c name old → MayCall kind c name new
+  pub may_grows : (first : S) (c : C) (name : List ℕ) (old new : List (HistoryEvent (Said C R))) → IsHistory kind first new → GrowsByOthers name old new → MayCall kind c name old → MayCall kind c name new
   may_grows first c name old new is grown = at (kind.speaks_of c)
     where
       at : (o : Option Number) → MaySpeak kind o (owners_all kind [] old) name → MaySpeak kind o (owners_all kind [] new) name
@@ -36,19 +36,19 @@ module _ {T S C R : Type 0} (kind : Kind T S C R) (law : Lawful kind) where
       at (Some number) may = given_grows kind law first name number old new is grown may
 
   -- who speaks of no number may call
-  pub may_speak_of_none : (c : C) (name : List ℕ) (h : List (Event (Said C R))) → kind.speaks_of c ≡ None → MayCall kind c name h
+  pub may_speak_of_none : (c : C) (name : List ℕ) (h : List (HistoryEvent (Said C R))) → kind.speaks_of c ≡ None → MayCall kind c name h
   may_speak_of_none c name h none = subst (λ o. MaySpeak kind o (owners_all kind [] h) name) (sym none) tt
 
-  pub may_speak : (c : C) (number : Number) (name : List ℕ) (h : List (Event (Said C R))) → kind.speaks_of c ≡ Some number → IsGiven kind name number h → MayCall kind c name h
+  pub may_speak : (c : C) (number : Number) (name : List ℕ) (h : List (HistoryEvent (Said C R))) → kind.speaks_of c ≡ Some number → IsGiven kind name number h → MayCall kind c name h
   may_speak c number name h speaks given = subst (λ o. MaySpeak kind o (owners_all kind [] h) name) (sym speaks) given
 
   -- a subscription that has met another token
-  pub subscription_met : (first : S) (k : Knowledge (Said C R)) (u : ℕ) (h : List (Event (Said C R))) → IsHistory kind first h → Fits h k → IsSubscription kind k u → IsSubscription kind (sees h k) u
+  pub subscription_met : (first : S) (k : Knowledge (Said C R)) (u : ℕ) (h : List (HistoryEvent (Said C R))) → IsHistory kind first h → Fits h k → IsSubscription kind k u → IsSubscription kind (sees h k) u
   subscription_met first k u h is fits old = subscription_grows kind law first k.name u k.seen h is fits.0 old.0 old.1
 
   module _ (first : S) (before after : Knowledge (Said C R)) (c : C) (r : R) (a : AddsOne (IsHistory kind first) before c r after) where
     -- the history before the call, with what others had added
-    abbrev earlier : List (Event (Said C R))
+    abbrev earlier : List (HistoryEvent (Said C R))
     earlier = before.seen ++ a.grows.0
 
     whole : IsHistory kind first (earlier ++ event before.name (said c r) ∷ [])
@@ -76,7 +76,7 @@ module _ {T S C R : Type 0} (kind : Kind T S C R) (law : Lawful kind) where
     pub given_after : (number : Number) → IsGiven kind before.name number before.seen → IsGiven kind after.name number after.seen
     given_after number given =
         let now : IsGiven kind before.name number earlier = given_grows kind law first before.name number before.seen earlier is_earlier (a.grows.0, refl, a.grows.2) given in
-        subst (λ (z : List ℕ × List (Event (Said C R))). IsGiven kind z.0 number z.1) (λ i. (sym a.name i, sym a.grows.1 i))
+        subst (λ (z : List ℕ × List (HistoryEvent (Said C R))). IsGiven kind z.0 number z.1) (λ i. (sym a.name i, sym a.grows.1 i))
         (given_stays kind law first earlier (event before.name (said c r) ∷ []) number before.name whole.legal now)
 
     there : (u : ℕ) → IsSubscription kind before u → kind.HasSubscriber u (after_all kind first earlier)
@@ -86,7 +86,7 @@ module _ {T S C R : Type 0} (kind : Kind T S C R) (law : Lawful kind) where
   subscription_after_next first before after u r a old =
       let now = still first before after (kind.take_next u) r a u old in
       let grown = subscription_next kind law first before.name u (earlier first before after (kind.take_next u) r a) r (whole first before after (kind.take_next u) r a) now.0 now.1 in
-      subst (λ (z : List ℕ × List (Event (Said C R))). IsGiven kind z.0 (subscriber u) z.1 × IsSubscribed kind u z.1) (λ i. (sym a.name i, sym a.grows.1 i)) grown
+      subst (λ (z : List ℕ × List (HistoryEvent (Said C R))). IsGiven kind z.0 (subscriber u) z.1 × IsSubscribed kind u z.1) (λ i. (sym a.name i, sym a.grows.1 i)) grown
 
   -- a subscriber is never told that it is gone
   pub never_gone : (first : S) (before after : Knowledge (Said C R)) (u : ℕ) → AddsOne (IsHistory kind first) before (kind.take_next u) (kind.received Gone) after → IsSubscription kind before u → ⊥
@@ -117,7 +117,7 @@ module _ {T S C R : Type 0} (kind : Kind T S C R) (law : Lawful kind) where
   subscription_made subscribe subscribing first before between u a =
       let name = child_name before.name (before.made + 1) in
       let given = subscription_given kind law subscribe subscribing (before.seen ++ a.grows.0) before.name name u in
-      subst (λ (z : List ℕ × List (Event (Said C R))). IsGiven kind z.0 (subscriber u) z.1 × IsSubscribed kind u z.1) (λ i. (child_name (sym a.name i) (sym a.made i + 1), sym a.grows.1 i)) given
+      subst (λ (z : List ℕ × List (HistoryEvent (Said C R))). IsGiven kind z.0 (subscriber u) z.1 × IsSubscribed kind u z.1) (λ i. (child_name (sym a.name i) (sym a.made i + 1), sym a.grows.1 i)) given
 
 module _ {Id T S C R : Type 0} (kind : Kind T S C R) (law : Lawful kind) (first : S) (old new : NumberedToken Id (Said C R)) (subscribed : IsSubscription kind old.token.knows old.number) (number : new.number ≡ old.number) where
   pub nexts_now : (answer : Result (Next T) FlowFault) → CallsAtOnceIn kind first old.token (kind.take_next old.number) (replied kind kind.received answer) new.token → NextsNowIn kind first old answer new

@@ -1,7 +1,7 @@
 -- What updates come to.
 use Rattle.std.proofs.Common.{◌≡◌, ℕ, zero, suc, ◌+◌, ⊎_elim, true, false, List, [], ◌∷◌, ◌++◌, refl, sym, ap, ◌∙◌, subst, arith}
 use Rattle.std.specs.List.{AllByRecursion}
-use Rattle.flow_law.specs.declared.history.Event.{Event}
+use Rattle.flow_law.specs.declared.history.HistoryEvent.{HistoryEvent}
 use Rattle.flow_law.specs.declared.history.Knowledge.{Knowledge}
 use Rattle.flow_law.specs.declared.history.Said.{Said}
 use Rattle.flow_law.specs.declared.call.StateCall.{StateCall}
@@ -73,11 +73,11 @@ module _ {T : Type 0} (g : T → T) where
   step s call.ReplayCache r p u = refl
   step s call.ResetReplayCache r p u = refl
 
-  pub value_updated : (s : StateFlowState T) (h : StateHistory T) → IsLegalState s h → AllByRecursion (λ (e : Event (Says T)). UpdatesBy g e.what.call e.what.reply) h
-      → (state_after_all s h).value ≡ iterate g (total (λ (e : Event (Says T)). update_by e.what.call e.what.reply) h) s.value
+  pub value_updated : (s : StateFlowState T) (h : StateHistory T) → IsLegalState s h → AllByRecursion (λ (e : HistoryEvent (Says T)). UpdatesBy g e.what.call e.what.reply) h
+      → (state_after_all s h).value ≡ iterate g (total (λ (e : HistoryEvent (Says T)). update_by e.what.call e.what.reply) h) s.value
   value_updated s [] legal all = refl
   value_updated s (e ∷ es) legal all =
-      let c = e.what.call in let r = e.what.reply in let n = total (λ (e : Event (Says T)). update_by e.what.call e.what.reply) es in
+      let c = e.what.call in let r = e.what.reply in let n = total (λ (e : HistoryEvent (Says T)). update_by e.what.call e.what.reply) es in
       value_updated (after s c r) es legal.1 all.1 ∙ ap (iterate g n) (step s c r legal.0 all.0) ∙ sym (iterate_plus (update_by c r) n s.value)
 
   pub all_updated : (first : StateFlowState T) (ks : List (Knowledge (Says T))) (h : StateHistory T) → IsLegalState first h → AreAll ks → IsClosed h ks

@@ -3,7 +3,7 @@ use Rattle.std.specs.Prelude.{◌≡◌, Bool, true, false, List, [], ◌∷◌,
 use Rattle.std.specs.List.{AllByRecursion}
 use Rattle.flow_law.specs.declared.config.Config.{Config}
 use Rattle.flow_law.specs.declared.config.Overflow.TheVariants.{Suspend}
-use Rattle.flow_law.specs.declared.history.Event.{Event}
+use Rattle.flow_law.specs.declared.history.HistoryEvent.{HistoryEvent}
 use Rattle.flow_law.specs.declared.history.Said.{Said}
 use Rattle.flow_law.specs.declared.call.SharedCall.{SharedCall}
 use Rattle.flow_law.specs.declared.call.SharedCall.TheVariants as call
@@ -30,7 +30,7 @@ module _ {T : Type 0} where
 
   -- no emission was cancelled
   abbrev pub NoneCancelled : History T → Type 0
-  NoneCancelled = AllByRecursion (λ (e : Event (Said (SharedCall T) (SharedReply T))). is_cancel e.what.call ≡ false)
+  NoneCancelled = AllByRecursion (λ (e : HistoryEvent (Said (SharedCall T) (SharedReply T))). is_cancel e.what.call ≡ false)
 
   -- the emitted values, and then the queued ones
   abbrev pub emitted_and_queued : SharedFlowState T → List T

@@ -2,7 +2,7 @@
 -- Begin with `IsClosed`. `all_done` (proofs/ClosedLemmas) says what follows: what the tokens did is all that was done.
 use Rattle.std.specs.Prelude.{◌≡◌, ℕ, suc, ◌+◌, ◌≤◌, ◌⊎◌, Bool, IsTrue, List, [], ◌∷◌}
 use Rattle.std.specs.List.{AllByRecursion}
-use Rattle.flow_law.specs.declared.history.Event.{Event}
+use Rattle.flow_law.specs.declared.history.HistoryEvent.{HistoryEvent}
 use Rattle.flow_law.specs.declared.history.Knowledge.{Knowledge}
 use Rattle.flow_law.specs.Growth.{child_name, NamesOnlyMade, knowledge, child}
 use Rattle.flow_law.specs.Done.{total, said_by, done_by}
@@ -33,25 +33,25 @@ module _ {E : Type 0} where
   -- ---- what they did
 
   -- In this history the token has done just what it had done when it knew this, and the history keeps its rule of names.
-  pub record Accounts (h : List (Event E)) (k : Knowledge E) : Type 0 where
+  pub record Accounts (h : List (HistoryEvent E)) (k : Knowledge E) : Type 0 where
     pub done : said_by k.name h ≡ done_by k
     pub names : NamesOnlyMade k.name k.made h
 
   -- the history has what each of them did, and nothing else under their names
-  abbrev pub IsClosed : List (Event E) → List (Knowledge E) → Type 0
+  abbrev pub IsClosed : List (HistoryEvent E) → List (Knowledge E) → Type 0
   IsClosed h ks = AllByRecursion (Accounts h) ks
 
   -- what all of them did is all that was done
-  pub record IsAllDone (h : List (Event E)) (ks : List (Knowledge E)) : Type 0 where
+  pub record IsAllDone (h : List (HistoryEvent E)) (ks : List (Knowledge E)) : Type 0 where
     -- each event is one of the tokens'
-    pub names : AllByRecursion (λ (e : Event E). HasName e.name ks) h
+    pub names : AllByRecursion (λ (e : HistoryEvent E). HasName e.name ks) h
     -- each event passes a test that all that each of them did passes
     pub every : (p : E → Bool)
         → AllByRecursion (λ (k : Knowledge E). AllByRecursion (λ (x : E). IsTrue (p x)) (done_by k)) ks
-        → AllByRecursion (λ (e : Event E). IsTrue (p e.what)) h
+        → AllByRecursion (λ (e : HistoryEvent E). IsTrue (p e.what)) h
     -- what the events come to is the sum of what each of them did
     pub sums : (f : E → ℕ)
-        → total (λ (e : Event E). f e.what) h ≡ total (λ (k : Knowledge E). total f (done_by k)) ks
+        → total (λ (e : HistoryEvent E). f e.what) h ≡ total (λ (k : Knowledge E). total f (done_by k)) ks
 
   -- ---- one seat, and seats that were made through it
 
@@ -71,4 +71,4 @@ module _ {E : Type 0} where
 
 -- In a closed history each event is one of the tokens', and what they did is all that was done.
 abbrev pub LawClosed : Type 0 → Type 0
-LawClosed E = (ks : List (Knowledge E)) (h : List (Event E)) → AreAll ks → IsClosed h ks → IsAllDone h ks
+LawClosed E = (ks : List (Knowledge E)) (h : List (HistoryEvent E)) → AreAll ks → IsClosed h ks → IsAllDone h ks

@@ -1,7 +1,7 @@
 -- How a subscriber of a state flow comes to the current value (`StateFlow`).
 -- Begin with `Converges`: what one `next` gives, by the last value that the subscriber got.
 use Rattle.std.specs.Prelude.{◌≡◌, ◌≢◌, ◌⊎◌, ℕ, ◌==◌, if◌then◌else◌, [], ◌∷◌, ◌++◌, Option, Some, None, IsSome}
-use Rattle.flow_law.specs.declared.history.Event.{Event}
+use Rattle.flow_law.specs.declared.history.HistoryEvent.{HistoryEvent}
 use Rattle.flow_law.specs.declared.history.Said.{Said}
 use Rattle.flow_law.specs.declared.outcome.Next.{Next}
 use Rattle.flow_law.specs.declared.outcome.Next.TheVariants.{Value, Empty}
@@ -39,7 +39,7 @@ module _ {T : Type 0} where
       ((last ≡ Some current) × (r ≡ Empty)) ⊎ ((last ≢ Some current) × (r ≡ Value current))
 
   -- the event is a `next` of u that answered r
-  abbrev pub IsNext : ℕ → Next T → Event (Said (StateCall T) (StateReply T)) → Type 0
+  abbrev pub IsNext : ℕ → Next T → HistoryEvent (Said (StateCall T) (StateReply T)) → Type 0
   IsNext u r e = (e.what.call ≡ TakeNext u) × (e.what.reply ≡ Received r)
 
   -- u is a subscriber in this state
@@ -53,7 +53,7 @@ module _ {T : Type 0} where
         → Replies (state_after_all first before) (TakeNext u) (Received r)
         → GivesCurrent (state_after_all first before).value (last_got u before) r
     -- after one `next`, the last value that u got is the current one until an event changes it
-    pub settles : (r : Next T) (e : Event (Said (StateCall T) (StateReply T)))
+    pub settles : (r : Next T) (e : HistoryEvent (Said (StateCall T) (StateReply T)))
         (since : StateHistory T) → IsThere u (state_after_all first before) → IsNext u r e
         → IsLegalState first (before ++ e ∷ since)
         → IsSteady (after (state_after_all first before) e.what.call e.what.reply) since

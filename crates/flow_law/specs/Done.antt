@@ -1,7 +1,7 @@
 -- What one token has itself done, of all that it has seen.
 -- Begin with `Made`: what any number of its calls add to that.
 use Rattle.std.specs.Prelude.{◌≡◌, ℕ, ◌+◌, nat_eq, Bool, List, [], ◌∷◌, ◌++◌, if◌then◌else◌}
-use Rattle.flow_law.specs.declared.history.Event.{Event}
+use Rattle.flow_law.specs.declared.history.HistoryEvent.{HistoryEvent}
 use Rattle.flow_law.specs.declared.history.Knowledge.{Knowledge}
 use Rattle.flow_law.specs.Values.{is_same_list}
 
@@ -16,7 +16,7 @@ total f (x ∷ xs) = f x + total f xs
 
 module _ {E : Type 0} where
   -- what the events of this name say, in their order
-  abbrev pub said_by : List ℕ → List (Event E) → List E
+  abbrev pub said_by : List ℕ → List (HistoryEvent E) → List E
   said_by name [] = []
   said_by name (e ∷ es) = if is_same_name name e.name then e.what ∷ said_by name es else said_by name es
 
@@ -25,8 +25,8 @@ module _ {E : Type 0} where
   done_by k = said_by k.name k.seen
 
   -- the later history begins with the earlier one
-  abbrev pub Extends : List (Event E) → List (Event E) → Type 0
-  Extends earlier later = (more : List (Event E)) × (later ≡ earlier ++ more)
+  abbrev pub Extends : List (HistoryEvent E) → List (HistoryEvent E) → Type 0
+  Extends earlier later = (more : List (HistoryEvent E)) × (later ≡ earlier ++ more)
 
   -- The token has made these calls and no others since, in this order. No seat was made through it.
   pub record Made (added : List E) (before after : Knowledge E) : Type 0 where

@@ -3,7 +3,7 @@
 -- Begin with `Grows`: what one call adds to the history that its token has seen.
 use Rattle.std.specs.Prelude.{◌≡◌, ◌≢◌, ℕ, ◌+◌, ◌≤◌, List, [], ◌∷◌, ◌++◌, map}
 use Rattle.std.specs.List.{AllByRecursion}
-use Rattle.flow_law.specs.declared.history.Event.{Event}
+use Rattle.flow_law.specs.declared.history.HistoryEvent.{HistoryEvent}
 use Rattle.flow_law.specs.declared.history.Knowledge.{Knowledge}
 
 -- ---- names
@@ -20,33 +20,33 @@ IsMadeBy name made other = (j : ℕ) (rest : List ℕ) → other ≡ name ++ j �
 
 module _ {E : Type 0} where
   -- the event of this name
-  abbrev pub event : List ℕ → E → Event E
+  abbrev pub event : List ℕ → E → HistoryEvent E
   event name what = record { name = name; what = what }
 
   -- the events that a token of this name adds
-  abbrev pub events_of : List ℕ → List E → List (Event E)
+  abbrev pub events_of : List ℕ → List E → List (HistoryEvent E)
   events_of name added = map (event name) added
 
   -- none of the events bears the name
-  abbrev pub IsSilent : List ℕ → List (Event E) → Type 0
-  IsSilent name = AllByRecursion (λ (e : Event E). e.name ≢ name)
+  abbrev pub IsSilent : List ℕ → List (HistoryEvent E) → Type 0
+  IsSilent name = AllByRecursion (λ (e : HistoryEvent E). e.name ≢ name)
 
   -- the rule of names: what a token of this name has seen, through which so many seats were made
-  abbrev pub NamesOnlyMade : List ℕ → ℕ → List (Event E) → Type 0
-  NamesOnlyMade name made = AllByRecursion (λ (e : Event E). IsMadeBy name made e.name)
+  abbrev pub NamesOnlyMade : List ℕ → ℕ → List (HistoryEvent E) → Type 0
+  NamesOnlyMade name made = AllByRecursion (λ (e : HistoryEvent E). IsMadeBy name made e.name)
 
   -- the later history is the earlier one, then events of others
-  abbrev pub GrowsByOthers : List ℕ → List (Event E) → List (Event E) → Type 0
-  GrowsByOthers name earlier later = (between : List (Event E)) × (later ≡ earlier ++ between) × IsSilent name between
+  abbrev pub GrowsByOthers : List ℕ → List (HistoryEvent E) → List (HistoryEvent E) → Type 0
+  GrowsByOthers name earlier later = (between : List (HistoryEvent E)) × (later ≡ earlier ++ between) × IsSilent name between
 
   -- the later history is the earlier one, then events of others, then the token's own event
-  abbrev pub Grows : List ℕ → List (Event E) → E → List (Event E) → Type 0
-  Grows name earlier what later = (between : List (Event E)) × (later ≡ (earlier ++ between) ++ event name what ∷ []) × IsSilent name between
+  abbrev pub Grows : List ℕ → List (HistoryEvent E) → E → List (HistoryEvent E) → Type 0
+  Grows name earlier what later = (between : List (HistoryEvent E)) × (later ≡ (earlier ++ between) ++ event name what ∷ []) × IsSilent name between
 
   -- ---- what a token knows
 
   -- what a token with these parts knows
-  abbrev pub knowledge : List ℕ → ℕ → ℕ → List (Event E) → Knowledge E
+  abbrev pub knowledge : List ℕ → ℕ → ℕ → List (HistoryEvent E) → Knowledge E
   knowledge name made lost seen = record { name = name; made = made; lost = lost; seen = seen }
 
   -- of the first seat
@@ -54,7 +54,7 @@ module _ {E : Type 0} where
   first_knowledge = knowledge [] 0 0 []
 
   -- the history begins with what the token has seen, the rest is by others, and it keeps the token's rule of names
-  abbrev pub Fits : List (Event E) → Knowledge E → Type 0
+  abbrev pub Fits : List (HistoryEvent E) → Knowledge E → Type 0
   Fits history k = GrowsByOthers k.name k.seen history × NamesOnlyMade k.name k.made history
 
   -- the other has another name, which this one's rule of names allows
@@ -62,7 +62,7 @@ module _ {E : Type 0} where
   IsApartFrom k other = (k.name ≢ other.name) × IsMadeBy k.name k.made other.name
 
   -- the token has seen this history
-  abbrev pub sees : List (Event E) → Knowledge E → Knowledge E
+  abbrev pub sees : List (HistoryEvent E) → Knowledge E → Knowledge E
   sees history k = knowledge k.name k.made k.lost history
 
   -- it has lost an exchange

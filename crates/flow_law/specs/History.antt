@@ -3,7 +3,7 @@
 use Rattle.std.specs.Prelude.{◌≡◌, ℕ, Bool, false, List, [], ◌∷◌, if◌then◌else◌, Option, Some, None, Result, Ok, Err, ◌==◌}
 use Rattle.flow_law.specs.declared.fault.FlowFault.{FlowFault}
 use Rattle.flow_law.specs.declared.fault.Refused.{Refused}
-use Rattle.flow_law.specs.declared.history.Event.{Event}
+use Rattle.flow_law.specs.declared.history.HistoryEvent.{HistoryEvent}
 use Rattle.flow_law.specs.declared.history.Knowledge.{Knowledge}
 use Rattle.flow_law.specs.declared.history.Said.{Said}
 use Rattle.flow_law.specs.declared.outcome.Next.{Next}
@@ -73,21 +73,21 @@ module _ {T S C R : Type 0} (kind : Kind T S C R) where
   replied wrap (Err fault) = kind.refused fault
 
   -- the state that a history leads to
-  abbrev pub after_all : S → List (Event (Said C R)) → S
+  abbrev pub after_all : S → List (HistoryEvent (Said C R)) → S
   after_all s [] = s
   after_all s (e ∷ es) = after_all (kind.after s e.what.call e.what.reply) es
 
   -- each reply is the flow's, in the state that the events before it lead to
-  abbrev pub IsLegal : S → List (Event (Said C R)) → Type 0
+  abbrev pub IsLegal : S → List (HistoryEvent (Said C R)) → Type 0
   IsLegal s [] = Unit {0}
   IsLegal s (e ∷ es) = kind.Replies s e.what.call e.what.reply × IsLegal (kind.after s e.what.call e.what.reply) es
 
   -- the owners after an event
-  abbrev pub owners_after : List Owner → Event (Said C R) → List Owner
+  abbrev pub owners_after : List Owner → HistoryEvent (Said C R) → List Owner
   owners_after owners e = with_owner (kind.gives e.name e.what.call e.what.reply) owners
 
   -- the owners that a history leads to, the latest first
-  abbrev pub owners_all : List Owner → List (Event (Said C R)) → List Owner
+  abbrev pub owners_all : List Owner → List (HistoryEvent (Said C R)) → List Owner
   owners_all owners [] = owners
   owners_all owners (e ∷ es) = owners_all (owners_after owners e) es
 
@@ -97,28 +97,28 @@ module _ {T S C R : Type 0} (kind : Kind T S C R) where
   MaySpeak (Some number) owners name = owner_of number owners ≡ Some name
 
   -- each event that speaks of a number is of the caller that owns it
-  abbrev pub IsOwned : List Owner → List (Event (Said C R)) → Type 0
+  abbrev pub IsOwned : List Owner → List (HistoryEvent (Said C R)) → Type 0
   IsOwned owners [] = Unit {0}
   IsOwned owners (e ∷ es) = MaySpeak (kind.speaks_of e.what.call) owners e.name × IsOwned (owners_after owners e) es
 
   -- a history that a flow may have had that began in this state, its first one
-  pub record IsHistory (first : S) (h : List (Event (Said C R))) : Type 0 where
+  pub record IsHistory (first : S) (h : List (HistoryEvent (Said C R))) : Type 0 where
     pub begins : kind.MayBegin first
     pub legal : IsLegal first h
     pub owned : IsOwned [] h
 
   -- the token of this name may make this call after this history
-  abbrev pub MayCall : C → List ℕ → List (Event (Said C R)) → Type 0
+  abbrev pub MayCall : C → List ℕ → List (HistoryEvent (Said C R)) → Type 0
   MayCall call name h = MaySpeak (kind.speaks_of call) (owners_all [] h) name
 
   -- ---- what a token knows of its number
 
   -- the history gave this number to the token of this name
-  abbrev pub IsGiven : List ℕ → Number → List (Event (Said C R)) → Type 0
+  abbrev pub IsGiven : List ℕ → Number → List (HistoryEvent (Said C R)) → Type 0
   IsGiven name number h = owner_of number (owners_all [] h) ≡ Some name
 
   -- the number is a subscriber's after the history, whichever state the flow began in
-  abbrev pub IsSubscribed : ℕ → List (Event (Said C R)) → Type 0
+  abbrev pub IsSubscribed : ℕ → List (HistoryEvent (Said C R)) → Type 0
   IsSubscribed number h = (first : S) → IsLegal first h → kind.HasSubscriber number (after_all first h)
 
   -- the history that the token has seen gave it this subscriber's number, and the subscriber is still there after it

@@ -1,6 +1,6 @@
 -- What a call of a flow for several threads does, as the token sees it through which it was made.
 use Rattle.std.specs.Prelude.{◌≡◌, ◌≤◌, List}
-use Rattle.flow_law.specs.declared.history.Event.{Event}
+use Rattle.flow_law.specs.declared.history.HistoryEvent.{HistoryEvent}
 use Rattle.flow_law.specs.declared.history.Knowledge.{Knowledge}
 use Rattle.flow_law.specs.declared.history.Said.{Said}
 use Rattle.flow_law.specs.Growth.{Grows, NamesOnlyMade}
@@ -12,7 +12,7 @@ said call reply = record { call = call; reply = reply }
 -- `IsHistory` says which histories the flow may have had.
 -- The token has then seen one of them, which begins with all that it had seen and goes on with events of others. Its last
 -- event is this call with this reply, under the token's name, and the history keeps the token's rule of names.
-pub record AddsOne {C R : Type 0} (IsHistory : List (Event (Said C R)) → Type 0) (before : Knowledge (Said C R)) (call : C) (reply : R) (after : Knowledge (Said C R)) : Type 0 where
+pub record AddsOne {C R : Type 0} (IsHistory : List (HistoryEvent (Said C R)) → Type 0) (before : Knowledge (Said C R)) (call : C) (reply : R) (after : Knowledge (Said C R)) : Type 0 where
   pub name : after.name ≡ before.name
   pub made : after.made ≡ before.made
   -- a call that waits may have lost exchanges first

@@ -2,7 +2,7 @@
 -- Begin with `Replays`: what `next` gives to a subscriber that reads while no other call is made.
 use Rattle.std.specs.Prelude.{◌≡◌, ℕ, List, [], ◌∷◌, ◌++◌}
 use Rattle.flow_law.specs.declared.config.Config.{Config}
-use Rattle.flow_law.specs.declared.history.Event.{Event}
+use Rattle.flow_law.specs.declared.history.HistoryEvent.{HistoryEvent}
 use Rattle.flow_law.specs.declared.history.Said.{Said}
 use Rattle.flow_law.specs.declared.outcome.Next.{Next}
 use Rattle.flow_law.specs.declared.outcome.Next.TheVariants.{Value, Empty}
@@ -21,7 +21,7 @@ module _ {T : Type 0} where
   OnlyReads u (e ∷ es) = (e.what.call ≡ TakeNext u) × OnlyReads u es
 
   -- the event subscribes with these own first values, and the subscriber gets the number u
-  abbrev pub IsSubscribe : ℕ → List T → Event (Said (SharedCall T) (SharedReply T)) → Type 0
+  abbrev pub IsSubscribe : ℕ → List T → HistoryEvent (Said (SharedCall T) (SharedReply T)) → Type 0
   IsSubscribe u first e =
       (name : List ℕ) × (e.what.call ≡ Subscribe name first) × (e.what.reply ≡ Subscribed u)
 
@@ -33,7 +33,7 @@ module _ {T : Type 0} where
   -- u, which enters in the state s by the event e, reads while no other call is made: it receives its own first values,
   -- then the replay cache or the offered value, in order, and then Empty
   pub record Replays (u : ℕ) (first : List T) (s : SharedFlowState T)
-      (e : Event (Said (SharedCall T) (SharedReply T))) (reads : History T) : Type 0 where
+      (e : HistoryEvent (Said (SharedCall T) (SharedReply T))) (reads : History T) : Type 0 where
     -- what is left for it after these reads
     pub rest : List T
     pub in_order : first ++ found_at_entry s ≡ received u reads ++ rest
@@ -43,7 +43,7 @@ module _ {T : Type 0} where
   -- each subscriber that entered and then read, without another call, until the end of the history
   abbrev pub EachReplays : Config → History T → Type 0
   EachReplays config h =
-      (before reads : History T) (e : Event (Said (SharedCall T) (SharedReply T)))
+      (before reads : History T) (e : HistoryEvent (Said (SharedCall T) (SharedReply T)))
       (u : ℕ) (first : List T) → h ≡ before ++ e ∷ reads → IsSubscribe u first e
       → OnlyReads u reads → Replays u first (state_after config before) e reads
 

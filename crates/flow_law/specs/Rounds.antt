@@ -2,7 +2,7 @@
 -- Begin with `MeetsInTurn`. After a second round a history from between the two has just what each token did
 -- (`accounts_all`, proofs/RoundLemmas): the first round leaves nothing out, and in the second one no token has done more.
 use Rattle.std.specs.Prelude.{◌≡◌, List, []}
-use Rattle.flow_law.specs.declared.history.Event.{Event}
+use Rattle.flow_law.specs.declared.history.HistoryEvent.{HistoryEvent}
 use Rattle.flow_law.specs.declared.history.Knowledge.{Knowledge}
 use Rattle.flow_law.specs.declared.history.Said.{Said}
 use Rattle.flow_law.specs.declared.call.StateCall.{StateCall}
@@ -32,7 +32,7 @@ module _ {Id T S C R : Type 0} (kind : Kind T S C R) (first : S) where
 module _ {T S C R : Type 0} (kind : Kind T S C R) (first : S) where
   -- some history of the flow has what each of these tokens had done, and nothing else under their names
   abbrev pub HasClosedHistory : List (Knowledge (Said C R)) → Type 0
-  HasClosedHistory ks = (h : List (Event (Said C R))) × IsHistory kind first h × IsClosed h ks
+  HasClosedHistory ks = (h : List (HistoryEvent (Said C R))) × IsHistory kind first h × IsClosed h ks
 
 -- the value after a history that has what each of these tokens had done, and nothing else under their names
 abbrev pub IsFinalValue : {T : Type 0} → StateFlowState T → List (Knowledge (Said (StateCall T) (StateReply T))) → T → Type 0

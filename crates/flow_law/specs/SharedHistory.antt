@@ -5,7 +5,7 @@ use Rattle.flow_law.specs.declared.fault.FlowFault.{FlowFault}
 use Rattle.flow_law.specs.declared.fault.FlowFault.TheVariants.{OutOfMemory}
 use Rattle.flow_law.specs.declared.outcome.Emit.TheVariants.{Queued}
 use Rattle.flow_law.specs.declared.outcome.Next.TheVariants.{Value}
-use Rattle.flow_law.specs.declared.history.Event.{Event}
+use Rattle.flow_law.specs.declared.history.HistoryEvent.{HistoryEvent}
 use Rattle.flow_law.specs.declared.history.Said.{Said}
 use Rattle.flow_law.specs.declared.call.SharedCall.{SharedCall}
 use Rattle.flow_law.specs.declared.call.SharedCall.TheVariants as call
@@ -117,7 +117,7 @@ module _ {T : Type 0} where
 
 -- a history of a shared flow
 abbrev pub History : Type 0 → Type 0
-History T = List (Event (Said (SharedCall T) (SharedReply T)))
+History T = List (HistoryEvent (Said (SharedCall T) (SharedReply T)))
 
 module _ {T : Type 0} where
   -- the state after all events of a history

@@ -3,7 +3,7 @@
 use Rattle.std.specs.Prelude.{◌≡◌, ℕ, ◌-◌, min, List, [], ◌∷◌, length, drop, Bool}
 use Rattle.std.specs.Bool.{OnTrue}
 use Rattle.flow_law.specs.declared.config.Config.{Config}
-use Rattle.flow_law.specs.declared.history.Event.{Event}
+use Rattle.flow_law.specs.declared.history.HistoryEvent.{HistoryEvent}
 use Rattle.flow_law.specs.declared.history.Said.{Said}
 use Rattle.flow_law.specs.History.{Kind, IsHistory, after_all}
 use Rattle.flow_law.specs.declared.call.SharedCall.{SharedCall}
@@ -31,7 +31,7 @@ module _ {K T S C R : Type 0} (kind : Kind T S C R) (StandsAs : K → S → Type
 
   -- a core stands for a history: a flow that began in this state may have had it, and the core stands for the state that it
   -- leads to
-  abbrev pub StandsForHistory : S → K → List (Event (Said C R)) → Type 0
+  abbrev pub StandsForHistory : S → K → List (HistoryEvent (Said C R)) → Type 0
   StandsForHistory first core h = IsHistory kind first h × StandsAs core (after_all kind first h)
 
 -- ---- shared flows

@@ -1,7 +1,7 @@
 -- The documented state flow (`MutableStateFlow`) of one thread, and its histories.
 use Rattle.std.specs.Prelude.{◌≡◌, ◌≢◌, ◌⊎◌, ℕ, ◌+◌, ◌==◌, Bool, true, false, not, if◌then◌else◌, List, [], ◌∷◌, ◌++◌, length, filter, Option, Some, None, IsSome, is_some}
 use Rattle.flow_law.specs.declared.fault.FlowFault.TheVariants.{Exhausted, OutOfMemory, Unsupported}
-use Rattle.flow_law.specs.declared.history.Event.{Event}
+use Rattle.flow_law.specs.declared.history.HistoryEvent.{HistoryEvent}
 use Rattle.flow_law.specs.declared.history.Said.{Said}
 use Rattle.flow_law.specs.declared.outcome.Next.TheVariants.{Value, Empty, Gone}
 use Rattle.flow_law.specs.declared.call.StateCall.{StateCall}
@@ -126,7 +126,7 @@ module _ {T : Type 0} where
 
 -- a history of a state flow
 abbrev pub StateHistory : Type 0 → Type 0
-StateHistory T = List (Event (Said (StateCall T) (StateReply T)))
+StateHistory T = List (HistoryEvent (Said (StateCall T) (StateReply T)))
 
 module _ {T : Type 0} where
   -- the state that a history leads to

@@ -3,7 +3,7 @@
 use Rattle.std.specs.Prelude.{◌≡◌, ◌≢◌, ℕ, ◌+◌, true, List, Result, Ok, Err}
 use Rattle.flow_law.specs.declared.fault.FlowFault.{FlowFault}
 use Rattle.flow_law.specs.declared.fault.FlowFault.TheVariants.{Busy}
-use Rattle.flow_law.specs.declared.history.Event.{Event}
+use Rattle.flow_law.specs.declared.history.HistoryEvent.{HistoryEvent}
 use Rattle.flow_law.specs.declared.history.Knowledge.{Knowledge}
 use Rattle.flow_law.specs.declared.history.Said.{Said}
 use Rattle.flow_law.specs.declared.outcome.Next.{Next}
@@ -82,7 +82,7 @@ module _ {Id T S C R : Type 0} (kind : Kind T S C R) (first : S) where
 
   -- both tokens have then seen one history of the flow, which fits what each had seen
   pub record MeetsIn (one other one_after other_after : Token Id (Said C R)) : Type 0 where
-    pub history : List (Event (Said C R))
+    pub history : List (HistoryEvent (Said C R))
     pub is_history : IsHistory kind first history
     pub fits_one : Fits history one.knows
     pub fits_other : Fits history other.knows

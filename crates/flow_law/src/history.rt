@@ -5,7 +5,7 @@ use crate::sequence::Sequence;
 
 /// One event of a history: the name of the token through which the call was made, and what the event says. Only
 /// contracts use events; no value of this type is made.
-pub struct Event<E> {
+pub struct HistoryEvent<E> {
     pub name: Sequence<u64>,
     pub what: E,
 }
@@ -25,5 +25,5 @@ pub struct Knowledge<E> {
     /// The number of exchanges at the gate that it lost.
     pub lost: u64,
     /// The history that it has seen.
-    pub seen: Sequence<Event<E>>,
+    pub seen: Sequence<HistoryEvent<E>>,
 }

@@ -13,7 +13,7 @@ mod guarded;
 mod history;
 mod laws;
 mod outcome;
-pub mod report;
+mod report;
 mod sequence;
 mod sharing;
 mod states;
@@ -27,12 +27,13 @@ pub use errors::{
 };
 pub use fault::{FlowFault, Refused};
 pub use guarded::Guarded;
-pub use history::{Event, Knowledge, Said};
+pub use history::{HistoryEvent, Knowledge, Said};
 pub use laws::{
     law_accepted, law_admitted, law_closed, law_conflated, law_current, law_delivered,
     law_idle_since, law_lagged, law_no_idle_queue, law_replay, law_turn_account, law_updated,
 };
 pub use outcome::{Drained, Emit, Next};
+pub use report::{Event, Report, ShareFault};
 pub use sequence::Sequence;
 pub use sharing::{Command, NEVER, SharingObservation, Started};
 pub use states::{

@@ -4,7 +4,7 @@ use Rattle.flow_law.specs.declared.call.StateCall.{StateCall}
 use Rattle.flow_law.specs.declared.call.StateCall.TheVariants.{Set, GetValue}
 use Rattle.flow_law.specs.declared.call.StateReply.{StateReply}
 use Rattle.flow_law.specs.declared.call.StateReply.TheVariants.{Done, Got}
-use Rattle.flow_law.specs.declared.history.Event.{Event}
+use Rattle.flow_law.specs.declared.history.HistoryEvent.{HistoryEvent}
 use Rattle.flow_law.specs.declared.history.Knowledge.{Knowledge}
 use Rattle.flow_law.specs.declared.history.Said.{Said}
 use Rattle.flow_law.specs.Growth.{child_name, event}
@@ -16,21 +16,21 @@ Says = Said (StateCall ℕ) (StateReply ℕ)
 
 module _ {E : Type 0} where
   -- the history has this event
-  abbrev pub Has : Event E → List (Event E) → Type 0
-  Has e h = (before : List (Event E)) × (after : List (Event E)) × (h ≡ before ++ e ∷ after)
+  abbrev pub Has : HistoryEvent E → List (HistoryEvent E) → Type 0
+  Has e h = (before : List (HistoryEvent E)) × (after : List (HistoryEvent E)) × (h ≡ before ++ e ∷ after)
 
   -- the history has both events, the first one before the second one
-  abbrev pub ComesBefore : Event E → Event E → List (Event E) → Type 0
+  abbrev pub ComesBefore : HistoryEvent E → HistoryEvent E → List (HistoryEvent E) → Type 0
   ComesBefore first second h =
-      (before : List (Event E)) × (between : List (Event E)) × (after : List (Event E))
+      (before : List (HistoryEvent E)) × (between : List (HistoryEvent E)) × (after : List (HistoryEvent E))
       × (h ≡ before ++ first ∷ (between ++ second ∷ after))
 
 -- the caller of this name set the value
-abbrev pub set_by : List ℕ → ℕ → Event Says
+abbrev pub set_by : List ℕ → ℕ → HistoryEvent Says
 set_by name value = event name (said (Set value) Done)
 
 -- the caller of this name read the value
-abbrev pub read_by : List ℕ → ℕ → Event Says
+abbrev pub read_by : List ℕ → ℕ → HistoryEvent Says
 read_by name value = event name (said GetValue (Got value))
 
 -- the token has seen that its maker set the value

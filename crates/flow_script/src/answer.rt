@@ -1,7 +1,6 @@
 //! What a script answers, and what is seen beside it.
 
-use flow_law::report::{Report, ShareFault};
-use flow_law::{ChainFault, End, FlowFault, Next};
+use flow_law::{ChainFault, End, FlowFault, Next, Report, ShareFault};
 
 /// The answer of a step, or of a flow that was refused when it was made. Its line is that of `add_answer`.
 #[derive(Drop)]

@@ -2,8 +2,7 @@
 ghost use Rattle.std.specs.Prelude.{◌≡◌, ◌↔◌, false, true};
 ghost use Rattle.flow_script.specs.Memory.{IsToldFlowFault, IsToldChainFault, IsToldFault, IsToldEnd};
 
-use flow_law::report::ShareFault;
-use flow_law::{ChainFault, End, FlowFault};
+use flow_law::{ChainFault, End, FlowFault, ShareFault};
 
 pub fn is_flow_memory(fault: FlowFault) -> bool
     ensures { (result ≡ false) ↔ IsToldFlowFault fault }

@@ -4,8 +4,7 @@ ghost use Rattle.flow_script.specs.Refusals.{Answers, AnswersRefusal, AnswersTur
 
 use crate::answer::Answer;
 use crate::memory::{is_flow_memory, is_memory};
-use flow_law::FlowFault;
-use flow_law::report::ShareFault;
+use flow_law::{FlowFault, ShareFault};
 use script_chain_format::ScriptFault;
 
 /// Why a flow of a script was not made.

@@ -4,8 +4,7 @@ ghost use Rattle.flow_script.specs.Lines as lines;
 
 use crate::chain_lines::add_with_chain_fault;
 use crate::lines::{add_line, add_with_flow_fault};
-use flow_law::Command;
-use flow_law::report::{Event, Report, ShareFault};
+use flow_law::{Command, Event, Report, ShareFault};
 use std::alloc::AllocError;
 
 fn command_text(command: Command) -> &'static str

@@ -5,7 +5,7 @@ use Rattle.std.proofs.Math.Seq.{drop-append_seam}
 use Rattle.std.proofs.lemmas.List.{map-append}
 use Rattle.std.specs.List.{FoldsTo}
 use Rattle.flow_law.specs.declared.fault.FlowFault.{FlowFault}
-use Rattle.flow_law.specs.declared.history.Event.{Event}
+use Rattle.flow_law.specs.declared.history.HistoryEvent.{HistoryEvent}
 use Rattle.flow_law.specs.declared.history.Said.{Said}
 use Rattle.flow_law.specs.declared.outcome.Next.{Next}
 use Rattle.flow_law.specs.declared.outcome.Next.TheVariants as next
@@ -64,11 +64,11 @@ module _ {K T S C R : Type 0} (kind : Kind T S C R) (StandsAs : K → S → Type
     pub subscribed : IsSubscription kind t.knows n
     pub names : NamesOnlyMade t.knows.name t.knows.made t.knows.seen
 
-  abbrev pub seeing : Token (Said C R) → ℕ → List (Event (Said C R)) → Token (Said C R)
+  abbrev pub seeing : Token (Said C R) → ℕ → List (HistoryEvent (Said C R)) → Token (Said C R)
   seeing t lost history = knowing t (knowledge t.knows.name t.knows.made lost history)
 
   -- one call more, of a caller who found this history
-  module _ (before : Token (Said C R)) (lost : ℕ) (history : List (Event (Said C R))) (core after_core : K) (r : R) (more : before.knows.lost ≤ lost) (fits : Fits history before.knows)
+  module _ (before : Token (Said C R)) (lost : ℕ) (history : List (HistoryEvent (Said C R))) (core after_core : K) (r : R) (more : before.knows.lost ≤ lost) (fits : Fits history before.knows)
       (stood : StandsForHistory kind StandsAs flow.first core history) (subscribed : IsSubscription kind before.knows n) (documents : Documents kind StandsAs core (kind.take_next n) r after_core) where
     abbrev after : Token (Said C R)
     after = seeing before lost (history ++ event before.knows.name (said (kind.take_next n) r) ∷ [])
@@ -88,7 +88,7 @@ module _ {K T S C R : Type 0} (kind : Kind T S C R) (StandsAs : K → S → Type
         made = refl;
         lost = more;
         history = stands.0;
-        grows = (fits.0.0, ap (λ (l : List (Event (Said C R))). l ++ event before.knows.name (said (kind.take_next n) r) ∷ []) fits.0.1, fits.0.2);
+        grows = (fits.0.0, ap (λ (l : List (HistoryEvent (Said C R))). l ++ event before.knows.name (said (kind.take_next n) r) ∷ []) fits.0.1, fits.0.2);
         names = fits_own history before.knows (said (kind.take_next n) r ∷ []) fits;
       },
     )
@@ -109,18 +109,18 @@ module _ {K T S C R : Type 0} (kind : Kind T S C R) (StandsAs : K → S → Type
   gives : (values : List T) (t : Token (Said C R)) (core last : K) → Stays t core → NextsGive (CoreNexts kind n StandsAs) core values last
       → Gives t values (knowing t (adds (said_values kind n values) t.knows)) last
   gives [] t core last s taken =
-      subst (λ (h : List (Event (Said C R))). Gives t [] (seeing t t.knows.lost h) last) (sym (append-nil t.knows.seen)) (refl, subst (Stays t) taken s)
+      subst (λ (h : List (HistoryEvent (Said C R))). Gives t [] (seeing t t.knows.lost h) last) (sym (append-nil t.knows.seen)) (refl, subst (Stays t) taken s)
   gives (v ∷ values) t core last s taken =
       let one = calls t t.knows.lost t.knows.seen core taken.0 (kind.received (next.Value v)) (omega arith) (fits_itself t core s) s.stood s.subscribed taken.1 in
       let here = stays t t.knows.lost t.knows.seen core taken.0 (kind.received (next.Value v)) (omega arith) (fits_itself t core s) s.stood s.subscribed taken.1 in
       let e = event t.knows.name (said (kind.take_next n) (kind.received (next.Value v))) in
       let middle = seeing t t.knows.lost (t.knows.seen ++ e ∷ []) in
       let others = gives values middle taken.0 last here taken.2 in
-      let all = subst (λ (h : List (Event (Said C R))). Gives middle values (seeing t t.knows.lost h) last) (append_assoc t.knows.seen (e ∷ []) (events_of t.knows.name (said_values kind n values))) others in
+      let all = subst (λ (h : List (HistoryEvent (Said C R))). Gives middle values (seeing t t.knows.lost h) last) (append_assoc t.knows.seen (e ∷ []) (events_of t.knows.name (said_values kind n values))) others in
       ((numbered middle n, (one, refl), all.0), all.1)
 
   -- the call that ended it, of a caller who found this history
-  module _ (before : Token (Said C R)) (lost : ℕ) (history : List (Event (Said C R))) (core : K) (more : before.knows.lost ≤ lost) (fits : Fits history before.knows)
+  module _ (before : Token (Said C R)) (lost : ℕ) (history : List (HistoryEvent (Said C R))) (core : K) (more : before.knows.lost ≤ lost) (fits : Fits history before.knows)
       (stood : StandsForHistory kind StandsAs flow.first core history) (subscribed : IsSubscription kind before.knows n) where
     abbrev Ends : Result Drained FlowFault → K → Type 0
     Ends result new =
@@ -144,21 +144,21 @@ module _ {K T S C R : Type 0} (kind : Kind T S C R) (StandsAs : K → S → Type
   ends_after : (result : Result Drained FlowFault) (t : Token (Said C R)) (core new : K) → Stays t core → EndsByCall (CoreNexts kind n StandsAs) core result new
       → EndsByCall (NextsOf kind flow) (numbered t n) result (numbered (adding t (said_end kind n result)) n) × Stays (adding t (said_end kind n result)) new
   ends_after (Ok drained.Most) t core new s ended =
-      subst (λ (h : List (Event (Said C R))). EndsByCall (NextsOf kind flow) (numbered t n) (Ok drained.Most) (numbered (seeing t t.knows.lost h) n) × Stays (seeing t t.knows.lost h) new)
+      subst (λ (h : List (HistoryEvent (Said C R))). EndsByCall (NextsOf kind flow) (numbered t n) (Ok drained.Most) (numbered (seeing t t.knows.lost h) n) × Stays (seeing t t.knows.lost h) new)
       (sym (append-nil t.knows.seen)) (refl, subst (Stays t) ended s)
   ends_after (Ok drained.Empty) t core new s ended = ends t t.knows.lost t.knows.seen core (omega arith) (fits_itself t core s) s.stood s.subscribed (Ok drained.Empty) new ended (λ e. cc)
   ends_after (Ok drained.Gone) t core new s ended = ends t t.knows.lost t.knows.seen core (omega arith) (fits_itself t core s) s.stood s.subscribed (Ok drained.Gone) new ended (λ e. cc)
   ends_after (Err fault) t core new s ended = ends t t.knows.lost t.knows.seen core (omega arith) (fits_itself t core s) s.stood s.subscribed (Err fault) new ended (λ e. cc)
 
-  all_seen : (name : List ℕ) (history : List (Event (Said C R))) (e : Said C R) (values end : List (Said C R))
+  all_seen : (name : List ℕ) (history : List (HistoryEvent (Said C R))) (e : Said C R) (values end : List (Said C R))
       → ((history ++ event name e ∷ []) ++ events_of name values) ++ events_of name end ≡ history ++ events_of name ((e ∷ values) ++ end)
   all_seen name history e values end =
       append_assoc (history ++ event name e ∷ []) (events_of name values) (events_of name end)
       ∙ append_assoc history (event name e ∷ []) (events_of name values ++ events_of name end)
-      ∙ ap (λ (l : List (Event (Said C R))). history ++ event name e ∷ l) (sym (map-append (event name) values end))
+      ∙ ap (λ (l : List (HistoryEvent (Said C R))). history ++ event name e ∷ l) (sym (map-append (event name) values end))
 
   -- all calls of a caller who found this history
-  module _ (before : Token (Said C R)) (lost : ℕ) (history : List (Event (Said C R))) (core : K) (more : before.knows.lost ≤ lost) (fits : Fits history before.knows)
+  module _ (before : Token (Said C R)) (lost : ℕ) (history : List (HistoryEvent (Said C R))) (core : K) (more : before.knows.lost ≤ lost) (fits : Fits history before.knows)
       (stood : StandsForHistory kind StandsAs flow.first core history) (subscribed : IsSubscription kind before.knows n) where
     -- what it has seen then
     abbrev pub seen_after : List T → Result Drained FlowFault → Token (Said C R)
@@ -182,7 +182,7 @@ module _ {K T S C R : Type 0} (kind : Kind T S C R) (StandsAs : K → S → Type
         let middle = seeing before lost (history ++ event before.knows.name (said (kind.take_next n) r) ∷ []) in
         let others = gives values middle taken.0 last here taken.2 in
         let then = adding middle (said_values kind n values) in
-        let e = subst (λ (h : List (Event (Said C R))). EndsByCall (NextsOf kind flow) (numbered then n) result (numbered (seeing before lost h) n) × Stays (seeing before lost h) new)
+        let e = subst (λ (h : List (HistoryEvent (Said C R))). EndsByCall (NextsOf kind flow) (numbered then n) result (numbered (seeing before lost h) n) × Stays (seeing before lost h) new)
         (all_seen before.knows.name history (said (kind.take_next n) r) (said_values kind n values) (said_end kind n result)) (ends_after result then last new others.1 ended) in
         record { last = then; taken = (numbered middle n, (one, refl), others.0); ended = e.0; stays = e.1 }
 
@@ -208,9 +208,9 @@ pub appended_since : {T : Type 0} (old new values : List T) → new ≡ old ++ v
 appended_since old new values e = ap (drop (length old)) e ∙ drop-append_seam old values
 
 -- Who is inside, from the core that was lent to it to leaving: `since` is what the evidence says of the list before.
-module _ {K T S C R : Type 0} (kind : Kind T S C R) (start : K → S) (StandsAs : K → S → Type 0) (stands : K → K → List (Event (Said C R)) → Type 0)
-    (so : (first core : K) (h : List (Event (Said C R))) → stands first core h → StandsForHistory kind StandsAs (start first) core h)
-    (back : (first core : K) (h : List (Event (Said C R))) → StandsForHistory kind StandsAs (start first) core h → stands first core h) (law : Lawful kind) (n : ℕ) where
+module _ {K T S C R : Type 0} (kind : Kind T S C R) (start : K → S) (StandsAs : K → S → Type 0) (stands : K → K → List (HistoryEvent (Said C R)) → Type 0)
+    (so : (first core : K) (h : List (HistoryEvent (Said C R))) → stands first core h → StandsForHistory kind StandsAs (start first) core h)
+    (back : (first core : K) (h : List (HistoryEvent (Said C R))) → StandsForHistory kind StandsAs (start first) core h → stands first core h) (law : Lawful kind) (n : ℕ) where
   module _ (held : HeldState K (Said C R)) (stood : stands held.first held.state held.token.knows.seen) (subscribed : IsSubscription kind held.token.knows n)
       (names : NamesOnlyMade held.token.knows.name held.token.knows.made held.token.knows.seen) (lent new : K) (is : lent ≡ held.state)
       (most : ℕ) (some : 1 ≤ most) (old_list since new_list : List T) (same : since ≡ old_list) (result : Result Drained FlowFault) (t : TakesBy (CoreNexts kind n StandsAs) most lent old_list result new_list new) where

@@ -1,6 +1,6 @@
 -- From what the gate says to whoever enters, and what a core says of one call, to what a call of a flow says.
 use Rattle.std.proofs.Common.{◌≡◌, ℕ, ◌≤◌, List, [], ◌∷◌, ◌++◌, refl, sym, ap, ◌∙◌, subst, Option, Some, None, IfSome}
-use Rattle.flow_law.specs.declared.history.Event.{Event}
+use Rattle.flow_law.specs.declared.history.HistoryEvent.{HistoryEvent}
 use Rattle.flow_law.specs.declared.history.Said.{Said}
 use Rattle.flow_law.specs.Growth.{event, knowledge, adds, GrowsByOthers}
 use Rattle.flow_law.specs.History.{Kind, IsHistory, MayCall}
@@ -15,9 +15,9 @@ use Rattle.flow_gate.specs.Tokens.{Token, Origin, HeldState, Finds, HasStood}
 use Rattle.flow_shared.specs.Calls.{SaysIn}
 
 -- K are the cores; `start` is the state that a new one stands for, and `stands` says for which histories one stands
-module _ {K T S C R : Type 0} (kind : Kind T S C R) (start : K → S) (StandsAs : K → S → Type 0) (stands : K → K → List (Event (Said C R)) → Type 0)
-    (so : (first core : K) (h : List (Event (Said C R))) → stands first core h → StandsForHistory kind StandsAs (start first) core h)
-    (back : (first core : K) (h : List (Event (Said C R))) → StandsForHistory kind StandsAs (start first) core h → stands first core h) where
+module _ {K T S C R : Type 0} (kind : Kind T S C R) (start : K → S) (StandsAs : K → S → Type 0) (stands : K → K → List (HistoryEvent (Said C R)) → Type 0)
+    (so : (first core : K) (h : List (HistoryEvent (Said C R))) → stands first core h → StandsForHistory kind StandsAs (start first) core h)
+    (back : (first core : K) (h : List (HistoryEvent (Said C R))) → StandsForHistory kind StandsAs (start first) core h → stands first core h) where
   -- x is the core as it was lent, y what it became; c' is the call as it was named on leaving
   module _ (held : HeldState K (Said C R)) (x y : K) (c c' : C) (r : R) (stood : stands held.first held.state held.token.knows.seen) (lent : x ≡ held.state) (named : c' ≡ c)
       (documents : Documents kind StandsAs x c r y) (may : MayCall kind c held.token.knows.name held.token.knows.seen) where
@@ -34,7 +34,7 @@ module _ {K T S C R : Type 0} (kind : Kind T S C R) (start : K → S) (StandsAs 
   -- some core stood for a history that begins with what the token has seen: so that is a history, too
   pub has_seen : (flow : Origin S) (gate : Origin K) (t : Token (Said C R)) → origin gate.table_id (start gate.first) ≡ flow → HasStood stands gate t → IsHistory kind flow.first t.knows.seen
   has_seen flow gate t is stood = let of_gate = stood.1 in let grown = of_gate.2.0 in
-      history_left kind flow.first t.knows.seen grown.0 (subst (λ (z : S × List (Event (Said C R))). IsHistory kind z.0 z.1) (λ i. ((is i).first, grown.1 i)) (so gate.first stood.0 of_gate.0 of_gate.1).0)
+      history_left kind flow.first t.knows.seen grown.0 (subst (λ (z : S × List (HistoryEvent (Said C R))). IsHistory kind z.0 z.1) (λ i. ((is i).first, grown.1 i)) (so gate.first stood.0 of_gate.0 of_gate.1).0)
 
   -- who enters, and what it then says
   module _ (law : Lawful kind) (flow : Origin S) (gate : Origin K) (before : Token (Said C R)) (held : HeldState K (Said C R)) (is : origin gate.table_id (start gate.first) ≡ flow) (f : Finds stands gate before held) where
@@ -73,7 +73,7 @@ module _ {K T S C R : Type 0} (kind : Kind T S C R) (start : K → S) (StandsAs 
         made = refl;
         lost = lost;
         history = subst (λ (t : Token (Said C R)). IsHistory kind flow.first (t.knows.seen ++ event t.knows.name (said call r) ∷ [])) f.token said_here.1;
-        grows = (f.fits.0.0, ap (λ (l : List (Event (Said C R))). l ++ event before.knows.name (said call r) ∷ []) f.fits.0.1, f.fits.0.2);
+        grows = (f.fits.0.0, ap (λ (l : List (HistoryEvent (Said C R))). l ++ event before.knows.name (said call r) ∷ []) f.fits.0.1, f.fits.0.2);
         names = fits_own f.history before.knows (said call r ∷ []) f.fits;
       }
 

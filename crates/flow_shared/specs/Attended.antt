@@ -6,7 +6,7 @@ use Rattle.flow_law.specs.declared.outcome.Emit.{Emit}
 use Rattle.flow_law.specs.declared.outcome.Emit.TheVariants.{Done}
 use Rattle.flow_law.specs.declared.outcome.Next.{Next}
 use Rattle.flow_law.specs.declared.outcome.Next.TheVariants.{Value}
-use Rattle.flow_law.specs.declared.history.Event.{Event}
+use Rattle.flow_law.specs.declared.history.HistoryEvent.{HistoryEvent}
 use Rattle.flow_law.specs.declared.history.Said.{Said}
 use Rattle.flow_law.specs.History.{Kind}
 use Rattle.flow_law.specs.Sleeping.{FindsNothing, Sleeping}
@@ -24,7 +24,7 @@ module _ {K A T S C R : Type 0} {kind : Kind T S C R} (sleeping : Sleeping kind)
     pub emitters : All (λ e. sleeping.waits e s ≡ true) w.emitters
 
   -- from the state that a gate began with: a state, and a history that it stands for
-  abbrev pub attended_stands : (K → S) → (K → S → Type 0) → Attended K A T S C R → Attended K A T S C R → List (Event (Said C R)) → Type 0
+  abbrev pub attended_stands : (K → S) → (K → S → Type 0) → Attended K A T S C R → Attended K A T S C R → List (HistoryEvent (Said C R)) → Type 0
   attended_stands first StandsAs start w h = StandsForHistory kind (AttendedAs StandsAs) (first start.core) w h
 
 -- the sleepers without the one of this number, if there is a number

@@ -3,7 +3,7 @@
 use Rattle.std.specs.Prelude.{◌≡◌, ℕ, List, ◌∷◌, [], ◌++◌, true, Result, Ok, Err}
 use Rattle.atomic_table.specs.Seated.{TableId}
 use Rattle.flow_law.specs.declared.fault.FlowFault.{FlowFault}
-use Rattle.flow_law.specs.declared.history.Event.{Event}
+use Rattle.flow_law.specs.declared.history.HistoryEvent.{HistoryEvent}
 use Rattle.flow_law.specs.declared.history.Said.{Said}
 use Rattle.flow_law.specs.declared.outcome.Next.{Next}
 use Rattle.flow_law.specs.Growth.{Fits, adds, event}
@@ -67,7 +67,7 @@ module _ {T S C R : Type 0} (kind : Kind T S C R) (flow : Origin S) where
   -- The core stands for the state after a history of the flow, which begins with all that the token had seen, goes on with events
   -- of others and keeps the token's rule of names.
   abbrev pub ClosesAs : {K : Type 0} → (K → S → Type 0) → Token (Said C R) → K → Type 0
-  ClosesAs StandsAs t core = (history : List (Event (Said C R))) × StandsForHistory kind StandsAs flow.first core history × Fits history t.knows
+  ClosesAs StandsAs t core = (history : List (HistoryEvent (Said C R))) × StandsForHistory kind StandsAs flow.first core history × Fits history t.knows
 
 -- ---- a caller inside
 

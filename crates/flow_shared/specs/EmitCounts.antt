@@ -1,6 +1,6 @@
 -- How many events of a name are an `emit`.
 use Rattle.std.specs.Prelude.{ℕ, ◌+◌, nat_eq, Bool, true, List, [], ◌∷◌, Option, Some, None}
-use Rattle.flow_law.specs.declared.history.Event.{Event}
+use Rattle.flow_law.specs.declared.history.HistoryEvent.{HistoryEvent}
 use Rattle.flow_law.specs.declared.history.Said.{Said}
 use Rattle.flow_law.specs.declared.call.SharedCall.{SharedCall}
 use Rattle.flow_law.specs.declared.call.SharedCall.TheVariants.{Emit}
@@ -19,7 +19,7 @@ module _ {T : Type 0} where
   emit_of _ _ = 0
 
   -- how many events of a name are an `emit`
-  abbrev pub emits : List ℕ → List (Event (Said (SharedCall T) (SharedReply T))) → ℕ
+  abbrev pub emits : List ℕ → List (HistoryEvent (Said (SharedCall T) (SharedReply T))) → ℕ
   emits name [] = 0
   emits name (e ∷ es) = emit_of (is_same_name name e.name) e.what.call + emits name es
 

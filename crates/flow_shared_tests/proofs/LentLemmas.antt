@@ -4,7 +4,7 @@ use Rattle.std.specs.List.{slice_get}
 use Rattle.std.specs.Option.{option_map_or}
 use Rattle.std.proofs.lemmas.List.{drop_all, append-nil}
 use Rattle.flow_law.specs.declared.fault.FlowFault.{FlowFault}
-use Rattle.flow_law.specs.declared.history.Event.{Event}
+use Rattle.flow_law.specs.declared.history.HistoryEvent.{HistoryEvent}
 use Rattle.flow_law.specs.declared.history.Knowledge.{Knowledge}
 use Rattle.flow_law.specs.declared.history.Said.{Said}
 use Rattle.flow_law.specs.declared.outcome.Next.{Next}
@@ -78,7 +78,7 @@ module _ {T : Type 0} (u : ℕ) where
       h : History T
       h = before.seen ++ a.grows.0
 
-      e : Event (Said (SharedCall T) (SharedReply T))
+      e : HistoryEvent (Said (SharedCall T) (SharedReply T))
       e = event before.name (said (call.TakeNext u) (reply.Received Empty))
 
       s : SharedFlowState T
@@ -132,11 +132,11 @@ reads_in_order u config h lags = record {
 }
 
 module _ {T : Type 0} (u : ℕ) where
-  after_last : (m : Beside T) (h : StateHistory T) (e : Event (Said (StateCall T) (StateReply T))) → beside_after u m (h ++ e ∷ []) ≡ follows u (beside_after u m h) e.what.call e.what.reply
+  after_last : (m : Beside T) (h : StateHistory T) (e : HistoryEvent (Said (StateCall T) (StateReply T))) → beside_after u m (h ++ e ∷ []) ≡ follows u (beside_after u m h) e.what.call e.what.reply
   after_last m [] e = refl
   after_last m (x ∷ xs) e = after_last (follows u m x.what.call x.what.reply) xs e
 
-  last_agrees : (m : Beside T) (h : StateHistory T) (e : Event (Said (StateCall T) (StateReply T))) → AgreeAll u m (h ++ e ∷ []) → Agrees u (beside_after u m h) e.what.call e.what.reply
+  last_agrees : (m : Beside T) (h : StateHistory T) (e : HistoryEvent (Said (StateCall T) (StateReply T))) → AgreeAll u m (h ++ e ∷ []) → Agrees u (beside_after u m h) e.what.call e.what.reply
   last_agrees m [] e agrees = agrees.0
   last_agrees m (x ∷ xs) e agrees = last_agrees (follows u m x.what.call x.what.reply) xs e agrees.1
 

@@ -2,8 +2,7 @@
 ghost use Rattle.std.specs.Prelude.{◌≡◌};
 ghost use Rattle.flow_law.specs.SharingTurn.{refusal, reported};
 
-use flow_law::report::{Event, Report, ShareFault};
-use flow_law::{Command, FlowFault};
+use flow_law::{Command, Event, FlowFault, Report, ShareFault};
 
 /// Reports a refused call of the hub: `Busy` is an event, each other refusal a fault.
 pub(crate) fn refusal_of(fault: FlowFault) -> Result<Event, ShareFault>

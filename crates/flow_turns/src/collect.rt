@@ -11,8 +11,7 @@ use crate::answers::refusal_of;
 use crate::hub::Hub;
 use crate::sharing::Sharing;
 use flow_cold::{Asked, Cold};
-use flow_law::report::{Event, ShareFault};
-use flow_law::{FlowFault, Refused};
+use flow_law::{Event, FlowFault, Refused, ShareFault};
 
 /// Asks the chain, once in a turn. The answer is the chain's own, also if it is `OutOfMemory`.
 fn ask_chain<C: Cold>(chain: &mut C) -> Asked<C::Item>

@@ -57,8 +57,9 @@ mod turn;
 
 pub use core_hub::CoreHub;
 pub use flow_cold::{Asked, Cold};
-pub use flow_law::report::{Event, Report, ShareFault};
-pub use flow_law::{ChainFault, Command, End, NEVER, SharingObservation, Started};
+pub use flow_law::{
+    ChainFault, Command, End, Event, NEVER, Report, ShareFault, SharingObservation, Started,
+};
 pub use hub::Hub;
 pub use laws::{law_turn_over_core, law_turn_over_state_core};
 pub use policy::{Backwards, Policy};

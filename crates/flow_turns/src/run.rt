@@ -7,7 +7,7 @@ ghost use Rattle.flow_turns.specs.Runs.{RunsTo};
 use crate::hub::Hub;
 use crate::sharing::Sharing;
 use flow_cold::Cold;
-use flow_law::report::{Event, ShareFault};
+use flow_law::{Event, ShareFault};
 use std::sync::Wait;
 use std::thread::yield_now;
 use std::time::{Clock, Duration};

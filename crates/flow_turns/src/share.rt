@@ -15,8 +15,7 @@ use crate::sharing::Sharing;
 use crate::state_hub::StateHub;
 use flow_cold::Cold;
 use flow_core::{SharedCore, StateCore};
-use flow_law::report::ShareFault;
-use flow_law::{Config, FlowValue, Overflow, Started};
+use flow_law::{Config, FlowValue, Overflow, ShareFault, Started};
 use std::alloc::Allocator;
 
 /// The least number of values that a shared chain keeps for slow subscribers.

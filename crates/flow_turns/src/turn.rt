@@ -14,8 +14,7 @@ use crate::hub::Hub;
 use crate::policy::Policy;
 use crate::sharing::Sharing;
 use flow_cold::Cold;
-use flow_law::report::{Event, Report, ShareFault};
-use flow_law::{Command, FlowFault, Started};
+use flow_law::{Command, Event, FlowFault, Report, ShareFault, Started};
 
 impl<C: Cold, H: Hub<Item = C::Item>> Sharing<C, H> {
     /// Makes a sharing that has observed nothing. The hub has no emission that waits.

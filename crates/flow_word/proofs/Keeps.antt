@@ -8,7 +8,7 @@ use lib.Seq.{set-get_or}
 use prog.Atomic.{either}
 use Rattle.atomic_table.specs.Table.{State, Me, step, Act, keeps, carried_after, Valid, stepped, Allows}
 use Rattle.atomic_table.proofs.Lists.{set_again}
-use Rattle.flow_law.specs.declared.history.Event.{Event}
+use Rattle.flow_law.specs.declared.history.HistoryEvent.{HistoryEvent}
 use Rattle.flow_law.specs.declared.history.Said.{Said}
 use Rattle.flow_law.specs.declared.call.StateCall.{StateCall}
 use Rattle.flow_law.specs.declared.call.StateCall.TheVariants as call
@@ -45,7 +45,7 @@ module _ (T : Type 0) (packs : ℕ → Type 0) (value_of : ℕ → T) (start : S
   abbrev pub now : StateHistory T → StateFlowState T
   now h = state_after_all (begun value_of start) h
 
-  abbrev pub event_by : Known T → StateCall T → StateReply T → Event (Said (StateCall T) (StateReply T))
+  abbrev pub event_by : Known T → StateCall T → StateReply T → HistoryEvent (Said (StateCall T) (StateReply T))
   event_by x c r = event x.knows.name (said c r)
 
   -- the token after its call, which is then this subscriber
@@ -85,7 +85,7 @@ module _ (T : Type 0) (packs : ℕ → Type 0) (value_of : ℕ → T) (start : S
       h : StateHistory T
       h = r.history
 
-      e : Event (Said (StateCall T) (StateReply T))
+      e : HistoryEvent (Said (StateCall T) (StateReply T))
       e = event_by x c y
 
       h' : StateHistory T
@@ -124,7 +124,7 @@ module _ (T : Type 0) (packs : ℕ → Type 0) (value_of : ℕ → T) (start : S
     refl,
   )
     where
-      e : Event (Said (StateCall T) (StateReply T))
+      e : HistoryEvent (Said (StateCall T) (StateReply T))
       e = event_by (only v) c y
 
       h' : StateHistory T

@@ -6,8 +6,7 @@ mod turns;
 
 use crate::head::{flow_of, number_at, text_at};
 use crate::losses::Losses;
-use flow_law::report::{Event, Report, ShareFault};
-use flow_law::{ChainFault, Command, End, FlowFault, Next};
+use flow_law::{ChainFault, Command, End, Event, FlowFault, Next, Report, ShareFault};
 use flow_script::{Answer, Told};
 use flows::shared_rules;
 use serde_json::Value;

@@ -1,8 +1,7 @@
 //! The items that the turns of a sharing put into its flow.
 
 use flow_cold::{Asked, ChainFault, Cold, ScriptChain};
-use flow_law::Command;
-use flow_law::report::{Event, Report};
+use flow_law::{Command, Event, Report};
 use script_chain_format::{ScriptFault, Version, chain_in};
 use serde_json::Value;
 use std::alloc::{AllocError, Global};

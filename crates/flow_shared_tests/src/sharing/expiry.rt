@@ -4,9 +4,9 @@ use crate::sharing::playing::{Chain, Example};
 use crate::sharing::sharing_steps::Step::{Flow, Turn};
 use crate::steps::Step::{Cache, Current, Next, Subscribe, Unsubscribe};
 use flow_law::Command::{Keep, Start, Stop, StopAndReset};
+use flow_law::Event::{Idle, Put};
 use flow_law::Next::{Empty, Value};
 use flow_law::Started;
-use flow_law::report::Event::{Idle, Put};
 
 /// It stops after 100 milliseconds without a subscriber, and forgets after 50 more.
 const STARTED: Started = Started::WhileSubscribed {

@@ -6,10 +6,10 @@ use crate::sharing::sharing_steps::Step::{
 };
 use crate::sharing::test_hub::Behaviour::{Accepts, KeepsCache, KeepsEmissions, Queues, Refuses};
 use flow_law::Command::{Keep, Start, Stop, StopAndReset};
+use flow_law::Event::{self, Completed, Idle, Put, Queued, Waiting};
 use flow_law::FlowFault::{Busy, OutOfMemory};
 use flow_law::NEVER;
-use flow_law::report::Event::{self, Completed, Idle, Put, Queued, Waiting};
-use flow_law::report::ShareFault::Flow;
+use flow_law::ShareFault::Flow;
 
 const EXAMPLES: &[Example] = &[
     // A kept item is put again in the next turn. At a stop it is dropped, and the chain starts from its first item.

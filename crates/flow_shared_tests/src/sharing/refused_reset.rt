@@ -2,9 +2,8 @@
 use crate::compare::compare;
 use flow_cold::OfList;
 use flow_law::Command::{Keep, Start};
-use flow_law::report::Event::{Idle, Put};
-use flow_law::report::{Report, ShareFault};
-use flow_law::{ChainFault, FlowFault, Started};
+use flow_law::Event::{Idle, Put};
+use flow_law::{ChainFault, FlowFault, Report, ShareFault, Started};
 use flow_sharing::{Sharing, StateHub, state_in};
 use flow_testing::CopyLimited;
 use std::alloc::Global;

@@ -3,8 +3,7 @@ use crate::compare::compare;
 use crate::sharing::test_hub::Behaviour;
 use crate::steps;
 use flow_cold::Scripted;
-use flow_law::Command;
-use flow_law::report::{Event, Report, ShareFault};
+use flow_law::{Command, Event, Report, ShareFault};
 use flow_sharing::{Hub, Sharing};
 use std::process::Abort;
 

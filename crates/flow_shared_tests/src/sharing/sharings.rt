@@ -5,9 +5,9 @@ use crate::sharing::sharing_steps::Step::{Count, Flow, Refused, Turn, Turns};
 use crate::sharing::{expiry, on_cores};
 use crate::steps::Step::{Cache, Current, Next, Subscribe, Unsubscribe};
 use flow_law::Command::{Keep, Start, Stop};
+use flow_law::Event::{Completed, Idle, Pending, Put, Queued, Waiting};
 use flow_law::Next::{Empty, Value};
-use flow_law::report::Event::{Completed, Idle, Pending, Put, Queued, Waiting};
-use flow_law::report::ShareFault::{Backwards, Chain as OfChain, Ended};
+use flow_law::ShareFault::{Backwards, Chain as OfChain, Ended};
 use flow_law::{ChainFault, NEVER, Started};
 
 const EXAMPLES: &[Example] = &[

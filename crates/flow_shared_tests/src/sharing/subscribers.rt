@@ -2,9 +2,8 @@
 use crate::compare::compare;
 use flow_cold::OfRange;
 use flow_law::Command::{Keep, Start};
-use flow_law::report::Event::Put;
-use flow_law::report::Report;
-use flow_law::{Next, Started};
+use flow_law::Event::Put;
+use flow_law::{Next, Report, Started};
 use flow_sharing::{share_in, state_in};
 
 /// The chain is started, and puts its first item.

@@ -4,7 +4,7 @@ use crate::sharing::playing::Chain;
 use crate::sharing::sharing_steps::Step::Turn;
 use crate::sharing::sharing_steps::turn;
 use flow_law::Command::{Keep, Start, StopAndReset};
-use flow_law::report::Event::{Completed, Idle, Put};
+use flow_law::Event::{Completed, Idle, Put};
 use flow_law::{Next, Started};
 use flow_sharing::{Sharing, WordHub};
 use flow_word::WordState;

@@ -1,8 +1,7 @@
 //! The rules of the turns of a shared chain, and of collections.
 
 use crate::rules::{Case, Rule, Says};
-use flow_law::report::Event;
-use flow_law::{ChainFault, Command};
+use flow_law::{ChainFault, Command, Event};
 
 /// The rules of turns. Of a line the first one counts.
 pub static TURN_RULES: [Rule; 16] = [
