@@ -7,6 +7,8 @@
 #[cfg(test)]
 mod dice;
 #[cfg(test)]
+mod orders;
+#[cfg(test)]
 mod plain;
 #[cfg(test)]
 mod random;

@@ -1,10 +1,6 @@
-//! A plain search through all orders of a small record, to compare the checker with. It shares no
-//! code with the checker and remembers no states.
-use flow_check::{StateAnswer, StateEntry, StateOperation, Timed};
-use std::alloc::{AllocError, Global};
-
-/// How many callers the records have.
-pub const CALLERS: usize = 3;
+//! A state flow of one thread, by the documentation alone. It shares no code with the checker.
+use crate::orders::{CALLERS, Plain};
+use flow_check::{StateAnswer, StateEntry, StateOperation};
 
 /// What a caller has received.
 #[derive(Clone, Copy)]
@@ -102,14 +98,6 @@ impl PlainFlow {
     }
 }
 
-/// A place in the search: what has happened, and the caller that is tried next.
-#[derive(Clone, Copy)]
-struct Place {
-    flow: PlainFlow,
-    done: [usize; CALLERS],
-    caller: usize,
-}
-
 fn is_same(one: StateAnswer, other: StateAnswer) -> bool {
     match (one, other) {
         (StateAnswer::Done, StateAnswer::Done) => true,
@@ -121,89 +109,18 @@ fn is_same(one: StateAnswer, other: StateAnswer) -> bool {
     }
 }
 
-/// Returns whether some call that has not happened was over before this moment.
-fn is_late(rows: &[Vec<Timed<StateEntry>>], done: &[usize; CALLERS], moment: u64) -> bool {
-    for (caller, row) in rows.iter().enumerate() {
-        for (index, call) in row.iter().enumerate() {
-            if caller < CALLERS && index >= done[caller] {
-                if let Some(end) = call.end {
-                    if end < moment {
-                        return true;
-                    }
-                }
-            }
-        }
-    }
-    false
-}
+impl Plain for PlainFlow {
+    type Entry = StateEntry;
 
-/// Returns whether all calls that ended have happened.
-fn is_end(rows: &[Vec<Timed<StateEntry>>], done: &[usize; CALLERS]) -> bool {
-    for (caller, row) in rows.iter().enumerate() {
-        for (index, call) in row.iter().enumerate() {
-            if caller < CALLERS && index >= done[caller] && call.end.is_some() {
-                return false;
-            }
+    fn after(mut self, caller: usize, entry: StateEntry) -> Option<PlainFlow> {
+        let answer = self.call(caller, entry.operation)?;
+        match entry.answer {
+            Some(recorded) if !is_same(answer, recorded) => None,
+            _ => Some(self),
         }
     }
-    true
-}
 
-/// Returns the place after the caller's next call, if that may happen and is answered as recorded.
-fn after(rows: &[Vec<Timed<StateEntry>>], place: &Place) -> Option<Place> {
-    let caller = place.caller;
-    if caller >= CALLERS {
-        return None;
+    fn may_skip(_entry: StateEntry) -> bool {
+        false
     }
-    let index = place.done[caller];
-    let call = rows.get(caller)?.as_slice().get(index).copied()?;
-    if is_late(rows, &place.done, call.begin) {
-        return None;
-    }
-    let mut flow = place.flow;
-    let answer = flow.call(caller, call.call.operation)?;
-    if let Some(recorded) = call.call.answer {
-        if !is_same(answer, recorded) {
-            return None;
-        }
-    }
-    let mut done = place.done;
-    done[caller] = index.wrapping_add(1);
-    Some(Place {
-        flow,
-        done,
-        caller: 0,
-    })
-}
-
-/// Returns whether some order explains the calls, by trying all.
-pub fn is_explained(alloc: Global, rows: &[Vec<Timed<StateEntry>>]) -> Result<bool, AllocError> {
-    let first = Place {
-        flow: PlainFlow::new(),
-        done: [0; CALLERS],
-        caller: 0,
-    };
-    if is_end(rows, &first.done) {
-        return Ok(true);
-    }
-    let mut path = Vec::new(alloc);
-    path.push(first)?;
-    for _ in 0..10_000_000 {
-        let Some(mut place) = path.pop() else {
-            return Ok(false);
-        };
-        if place.caller >= CALLERS {
-            continue;
-        }
-        let next = after(rows, &place);
-        place.caller = place.caller.wrapping_add(1);
-        path.push(place)?;
-        if let Some(next) = next {
-            if is_end(rows, &next.done) {
-                return Ok(true);
-            }
-            path.push(next)?;
-        }
-    }
-    Ok(false)
 }

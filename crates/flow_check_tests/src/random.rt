@@ -1,6 +1,7 @@
 //! Random small records, most of them changed so that many are illegal.
 use crate::dice::Dice;
-use crate::plain::{CALLERS, PlainFlow, is_explained};
+use crate::orders::{CALLERS, is_explained};
+use crate::plain::PlainFlow;
 use crate::records::{Outcome, judge_rows};
 use flow_check::{StateAnswer, StateEntry, StateOperation, Timed};
 use std::alloc::{AllocError, Global};
@@ -101,7 +102,7 @@ fn agrees_with_a_plain_search(rt: HostRuntime) -> Result<(), AllocError> {
     let mut legal: u32 = 0;
     for place in 0..RECORDS {
         let rows = record(rt.alloc(), &mut dice)?;
-        let wanted = if is_explained(rt.alloc(), rows.as_slice())? {
+        let wanted = if is_explained(rt.alloc(), PlainFlow::new(), rows.as_slice())? {
             legal = legal.wrapping_add(1);
             Outcome::Legal
         } else {

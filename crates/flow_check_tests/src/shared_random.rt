@@ -1,10 +1,10 @@
 //! Random small records of shared flows, most of them changed so that many are illegal.
 use crate::dice::Dice;
-use crate::plain::CALLERS;
+use crate::orders::{CALLERS, is_explained};
 use crate::records::Outcome;
 use crate::shared_plain::{PlainShared, list_of};
 use crate::shared_records::judge_rows;
-use crate::shared_search::{Rows, is_explained};
+use crate::shared_search::Rows;
 use flow_check::{SharedAnswer, SharedEntry, SharedOperation, Timed};
 use flow_law::{Config, Overflow};
 use std::alloc::{AllocError, Global};
@@ -209,7 +209,7 @@ fn agrees_with_a_plain_search_of_shared_flows(rt: HostRuntime) -> Result<(), All
     for place in 0..RECORDS {
         let config = config_of(&mut dice);
         let rows = record(rt.alloc(), config, &mut dice)?;
-        let wanted = if is_explained(rt.alloc(), config, &rows)? {
+        let wanted = if is_explained(rt.alloc(), PlainShared::new(config), rows.as_slice())? {
             legal = legal.wrapping_add(1);
             Outcome::Legal
         } else {
