@@ -5,24 +5,4 @@
 #![tactic(auto)]
 
 #[cfg(test)]
-mod dice;
-#[cfg(test)]
-mod orders;
-#[cfg(test)]
-mod plain;
-#[cfg(test)]
-mod random;
-#[cfg(test)]
-mod records;
-#[cfg(test)]
-mod shared;
-#[cfg(test)]
-mod shared_plain;
-#[cfg(test)]
-mod shared_random;
-#[cfg(test)]
-mod shared_records;
-#[cfg(test)]
-mod shared_search;
-#[cfg(test)]
-mod state;
+mod tests;

@@ -8,32 +8,4 @@
 #![tactic(auto)]
 
 #[cfg(test)]
-mod compare;
-#[cfg(test)]
-mod crowds;
-#[cfg(test)]
-mod dropping;
-#[cfg(test)]
-mod emissions;
-#[cfg(test)]
-mod errors;
-#[cfg(test)]
-mod many_threads;
-#[cfg(test)]
-mod shared;
-#[cfg(test)]
-mod state;
-#[cfg(test)]
-mod streams;
-#[cfg(test)]
-mod threads;
-#[cfg(test)]
-mod timeouts;
-#[cfg(test)]
-mod turns;
-#[cfg(test)]
-mod waits;
-#[cfg(test)]
-mod word;
-#[cfg(test)]
-mod word_waits;
+mod tests;

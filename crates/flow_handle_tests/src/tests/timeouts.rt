@@ -1,5 +1,5 @@
 //! Readers of shared and state flows that wait for no longer than a time limit, or for a state that passes a test.
-use crate::compare::compare;
+use crate::tests::compare::compare;
 use flow_law::Config;
 use flow_shared::{Emitter, Reader, Setter, SharedFlow, StateFlow, StateReader};
 use std::process::Abort;

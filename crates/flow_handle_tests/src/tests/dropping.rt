@@ -1,5 +1,5 @@
 //! Handles and futures that are dropped: a subscription ends, and an emission that waits is cancelled.
-use crate::compare::compare;
+use crate::tests::compare::compare;
 use flow_law::Config;
 use flow_shared::{
     EmitAnswer, Emitter, Reader, ReceiveFuture, SharedFlow, StateFlow, Subscription,

@@ -1,8 +1,8 @@
 //! Random small records, most of them changed so that many are illegal.
-use crate::dice::Dice;
-use crate::orders::{CALLERS, is_explained};
-use crate::plain::PlainFlow;
-use crate::records::{Outcome, judge_rows};
+use crate::tests::dice::Dice;
+use crate::tests::orders::{CALLERS, is_explained};
+use crate::tests::plain::PlainFlow;
+use crate::tests::records::{Outcome, judge_rows};
 use flow_check::{StateAnswer, StateEntry, StateOperation, Timed};
 use std::alloc::{AllocError, Global};
 

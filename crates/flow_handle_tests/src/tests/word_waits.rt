@@ -1,5 +1,5 @@
 //! Readers of a word state that sleep until there is a value.
-use crate::compare::compare;
+use crate::tests::compare::compare;
 use flow_word::{WordReader, WordSetter, WordState};
 use futures::StreamExt;
 use futures::executor::block_on;

@@ -1,7 +1,7 @@
 //! One caller that goes to threads in turn, and meets what the current thread holds.
 ghost use Rattle.std.specs.Prelude.{◌≡◌};
 
-use crate::compare::compare;
+use crate::tests::compare::compare;
 use flow_law::{Config, OutOfMemory};
 use flow_shared::{Emitter, Reader, Seat, SharedFlow};
 use std::process::Abort;

@@ -1,5 +1,5 @@
 //! Several emitters and readers that wait for each other, with little room or none.
-use crate::compare::compare;
+use crate::tests::compare::compare;
 use flow_law::{Config, OutOfMemory};
 use flow_shared::{Emitter, Reader, SharedFlow};
 use std::alloc::Global;

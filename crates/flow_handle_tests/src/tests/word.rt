@@ -1,5 +1,5 @@
 //! Setters and readers of a word state, on one thread.
-use crate::compare::compare;
+use crate::tests::compare::compare;
 use flow_law::Exhausted;
 use flow_word::{WordReader, WordSetter, WordState};
 use std::process::Abort;

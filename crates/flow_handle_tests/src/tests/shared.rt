@@ -1,5 +1,5 @@
 //! Emitters and readers of a shared flow, on one thread.
-use crate::compare::compare;
+use crate::tests::compare::compare;
 use flow_law::{Config, Exhausted, NumberError, OutOfMemory, Rejected};
 use flow_shared::{DrainEnd, Emitter, Reader, SharedFlow};
 use std::alloc::Global;

@@ -1,6 +1,6 @@
 //! Records of shared flows in few words, and what comes of one.
-use crate::records::Outcome;
-use crate::shared_search::Rows;
+use crate::tests::records::Outcome;
+use crate::tests::shared_search::Rows;
 use flow_check::{
     FaultKind, Record, SharedAnswer, SharedEntry, SharedOperation, Timed, Verdict, check_shared,
 };

@@ -1,5 +1,5 @@
 //! Readers as streams, and handles as futures: their tasks sleep in an executor until the flow wakes them.
-use crate::compare::compare;
+use crate::tests::compare::compare;
 use flow_law::{Config, OutOfMemory};
 use flow_shared::{Emitter, Reader, SharedFlow, StateFlow};
 use futures::StreamExt;

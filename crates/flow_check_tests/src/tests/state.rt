@@ -1,5 +1,5 @@
 //! Records of state flows. Each says in its comment why it is legal or illegal.
-use crate::records::{Outcome, call, judge, order_of, pending};
+use crate::tests::records::{Outcome, call, judge, order_of, pending};
 use flow_check::StateAnswer::{Done, Empty, Number, Truth, Value};
 use flow_check::StateOperation;
 use flow_check::StateOperation::{

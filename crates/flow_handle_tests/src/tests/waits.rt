@@ -1,5 +1,5 @@
 //! Callers that wait: they sleep until there is a value, or room.
-use crate::compare::compare;
+use crate::tests::compare::compare;
 use flow_law::{Config, NumberError, OutOfMemory, Rejected};
 use flow_shared::{Emitter, Reader, Setter, SharedFlow, StateFlow, StateReader};
 use std::ops::Range;

@@ -1,6 +1,6 @@
 //! What the plain search needs of a shared flow: whether it answers a call as recorded.
-use crate::orders::Plain;
-use crate::shared_plain::PlainShared;
+use crate::tests::orders::Plain;
+use crate::tests::shared_plain::PlainShared;
 use flow_check::{SharedAnswer, SharedEntry, SharedOperation, Timed};
 
 pub type Rows = Vec<Vec<Timed<SharedEntry<'static>>>>;

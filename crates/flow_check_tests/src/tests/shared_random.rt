@@ -1,10 +1,10 @@
 //! Random small records of shared flows, most of them changed so that many are illegal.
-use crate::dice::Dice;
-use crate::orders::{CALLERS, is_explained};
-use crate::records::Outcome;
-use crate::shared_plain::{PlainShared, list_of};
-use crate::shared_records::judge_rows;
-use crate::shared_search::Rows;
+use crate::tests::dice::Dice;
+use crate::tests::orders::{CALLERS, is_explained};
+use crate::tests::records::Outcome;
+use crate::tests::shared_plain::{PlainShared, list_of};
+use crate::tests::shared_records::judge_rows;
+use crate::tests::shared_search::Rows;
 use flow_check::{SharedAnswer, SharedEntry, SharedOperation, Timed};
 use flow_law::{Config, Overflow};
 use std::alloc::{AllocError, Global};

@@ -1,5 +1,5 @@
 //! Setters and readers of a state flow, on one thread.
-use crate::compare::compare;
+use crate::tests::compare::compare;
 use flow_law::{OutOfMemory, Unsupported};
 use flow_shared::{DrainEnd, Setter, StateFlow, StateReader};
 use std::alloc::Global;

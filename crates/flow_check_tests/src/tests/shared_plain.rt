@@ -1,6 +1,6 @@
 //! A shared flow of one thread as its documentation tells it: every value ever emitted, positions
 //! of subscribers among them, and numbers. It shares no code with the checker.
-use crate::orders::CALLERS;
+use crate::tests::orders::CALLERS;
 use flow_check::{SharedAnswer, SharedOperation};
 use flow_law::{Config, Overflow};
 

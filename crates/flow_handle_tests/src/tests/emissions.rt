@@ -1,7 +1,7 @@
 //! Emissions that wait, through a handle.
 ghost use Rattle.std.specs.Prelude.{◌≡◌};
 
-use crate::compare::compare;
+use crate::tests::compare::compare;
 use flow_law::{Config, EmitNowError, NumberError, Rejected};
 use flow_shared::{BoundEmission, EmitAnswer, Emitter, PollAnswer, Reader, Seat, SharedFlow};
 use std::sync::Wait;

@@ -1,5 +1,5 @@
 //! Many more threads than cores: emitters and readers that sleep while they wait for each other, and give way now and then.
-use crate::compare::compare;
+use crate::tests::compare::compare;
 use flow_law::{Config, OutOfMemory};
 use flow_shared::{Emitter, Reader, SharedFlow};
 use std::alloc::Global;

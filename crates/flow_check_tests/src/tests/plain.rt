@@ -1,5 +1,5 @@
 //! A state flow of one thread, by the documentation alone. It shares no code with the checker.
-use crate::orders::{CALLERS, Plain};
+use crate::tests::orders::{CALLERS, Plain};
 use flow_check::{StateAnswer, StateEntry, StateOperation};
 
 /// What a caller has received.

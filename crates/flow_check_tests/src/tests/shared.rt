@@ -1,6 +1,6 @@
 //! Records of shared flows. Each says in its comment why it is legal or illegal.
-use crate::records::Outcome;
-use crate::shared_records::{call, judge, pending};
+use crate::tests::records::Outcome;
+use crate::tests::shared_records::{call, judge, pending};
 use flow_check::SharedAnswer::{Done, Empty, Number, Truth, Value, Values};
 use flow_check::SharedOperation::{
     Emit, EmitCancelled, EmitOrNot, EmitReturned, Next, ReplayCache, ResetReplayCache, Subscribe,

@@ -1,7 +1,7 @@
 //! Handles on several threads. What these tests count is only tested: `run_count` of flow_count proves of a state flow without
 //! a lock that no update is lost.
-use crate::compare::compare;
-use crate::state::one_more;
+use crate::tests::compare::compare;
+use crate::tests::state::one_more;
 use flow_law::{Config, OutOfMemory};
 use flow_shared::{Emitter, Reader, Setter, SharedFlow, StateFlow};
 use std::sync::Wait;
