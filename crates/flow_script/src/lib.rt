@@ -18,6 +18,9 @@
 //! # Lines
 //! The text of a script has a line for each answer (`text_of`): `lines` has those of flows, `chain_lines` those of
 //! collections, `share_lines` those of turns.
+//!
+//! # Losses
+//! `Losses` finds the values that subscribers lose in a flow that drops its oldest values, for those that show it.
 #![tactic(auto)]
 
 mod answer;
@@ -25,6 +28,8 @@ mod chain_lines;
 mod collecting;
 mod flow_steps;
 mod lines;
+mod losses;
+mod members;
 mod memory;
 mod numbers;
 mod observing;
@@ -44,6 +49,8 @@ mod transfer;
 mod watched;
 
 pub use answer::{Answer, Answers, NotMade, Seen, Subscriber, Told};
+pub use losses::{Loss, Losses};
+pub use members::{number_at, text_at};
 pub use playing::{answers_of, lines_of, play, played};
 pub use script_format::{
     Build, FlowStep, NamedFlow, Script, ScriptFault, ScriptFlow, Step, read_script,

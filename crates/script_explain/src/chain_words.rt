@@ -1,7 +1,7 @@
 //! Chains, their sources and operators, and the keys of all of them.
 
-use crate::head::text_at;
 use crate::words::{Form, Key, Need, Row, Shape, key};
+use flow_script::text_at;
 use serde_json::Value;
 
 /// The most items of a source, entries of a scripted one, and numbers of a range.

@@ -1,8 +1,8 @@
 //! The words of which one is right.
 
-use crate::head::text_at;
 use crate::step_words::{is_allowed, step_rows};
 use crate::words::{Key, Row, Version};
+use flow_script::text_at;
 use json_places::nearest;
 use serde_json::{Map, Value};
 use std::alloc::{AllocError, Global};

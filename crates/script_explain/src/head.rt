@@ -1,25 +1,10 @@
 //! A script that was read as JSON: its version, its steps and its flows.
 
 use crate::words::Version;
+use flow_script::text_at;
 use json_places::{Spot, Text};
 use serde_json::Value;
 use std::alloc::AllocError;
-
-/// Returns the text of a member, or none.
-pub fn text_at<'a>(value: &'a Value, key: &str) -> &'a str {
-    match value.get(key) {
-        Some(member) => member.as_str().unwrap_or(""),
-        None => "",
-    }
-}
-
-/// Returns the number of a member, or 0.
-pub fn number_at(value: &Value, key: &str) -> i64 {
-    match value.get(key) {
-        Some(member) => member.as_i64().unwrap_or(0),
-        None => 0,
-    }
-}
 
 /// Returns the items of a list, or none.
 pub fn items_of(value: &Value) -> &[Value] {

@@ -1,7 +1,8 @@
 //! The steps that introduce names.
 
-use crate::head::{Script, text_at};
+use crate::head::Script;
 use crate::report::Report;
+use flow_script::text_at;
 use json_places::Text;
 use serde_json::Value;
 use std::alloc::AllocError;

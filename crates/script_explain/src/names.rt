@@ -1,10 +1,11 @@
 //! The names that the steps of a script use, and those that they introduce twice.
 
 use crate::choices::Choices;
-use crate::head::{Script, text_at};
+use crate::head::Script;
 use crate::introduced::{Named, introduced_before};
 use crate::report::{EXPECTED, Looked, Report};
 use crate::words::Version;
+use flow_script::text_at;
 use json_places::Spot;
 use serde_json::Value;
 

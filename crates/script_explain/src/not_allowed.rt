@@ -2,9 +2,10 @@
 
 use crate::choices::Choices;
 use crate::flow_words::flow_rows;
-use crate::head::{Script, text_at};
+use crate::head::Script;
 use crate::report::{EXPECTED, Looked, Report};
 use crate::words::{Version, row_named};
+use flow_script::text_at;
 use json_places::Spot;
 use std::alloc::AllocError;
 

@@ -4,10 +4,10 @@ mod flows;
 mod states;
 mod turns;
 
-use crate::head::{flow_of, number_at, text_at};
-use crate::losses::Losses;
+use crate::head::flow_of;
+use crate::losses::{KnownFlow, add_loss};
 use flow_law::{ChainFault, Command, End, Event, FlowFault, Next, Report, ShareFault};
-use flow_script::{Answer, Told};
+use flow_script::{Answer, Told, number_at, text_at};
 use flows::shared_rules;
 use serde_json::Value;
 use states::state_rules;
@@ -211,40 +211,17 @@ fn rule_of(flow: Option<&Value>, step: &Value, answer: &Answer) -> &'static str 
     }
 }
 
-/// Takes a step on a flow that drops its oldest values. If subscribers lose a value by it, `words` gets the rule.
-fn add_loss<'a>(
-    alloc: Global,
-    losses: &mut Vec<Losses<'a>>,
-    words: &mut String,
-    flow: &Value,
-    step: &'a Value,
-    told: &Told,
-) -> Result<(), AllocError> {
-    let name = text_at(step, "flow");
-    for known in &mut *losses {
-        if known.flow == name {
-            return known.add_step(words, step, told);
-        }
-    }
-    let mut new = Losses::new(alloc, name, flow);
-    new.add_step(words, step, told)?;
-    losses.push(new)?;
-    Ok(())
-}
-
 /// Returns the rule of the next step, on a flow of the script.
 fn next_rule<'a>(
     alloc: Global,
-    losses: &mut Vec<Losses<'a>>,
+    known: &mut Vec<KnownFlow<'a>>,
     flow: Option<&Value>,
     step: &'a Value,
     told: &Told,
 ) -> Result<String, AllocError> {
     let mut words = String::new(alloc);
-    if let Some(flow) = flow
-        && has(flow, "overflow", "drop_oldest")
-    {
-        add_loss(alloc, losses, &mut words, flow, step, told)?;
+    if let Some(flow) = flow {
+        add_loss(alloc, known, &mut words, flow, step, told)?;
     }
     if words.is_empty() {
         words.push_str(rule_of(flow, step, &told.answer))?;
@@ -267,14 +244,14 @@ pub fn rules_of(
     steps: &[Value],
     answers: &[Told],
 ) -> Result<Vec<String>, AllocError> {
-    let mut losses = Vec::new(alloc);
+    let mut known = Vec::new(alloc);
     let mut rules = Vec::new(alloc);
     for (place, step) in steps.iter().enumerate() {
         let Some(told) = answers.get(place) else {
             break;
         };
         let flow = flow_of(script, step);
-        rules.push(next_rule(alloc, &mut losses, flow, step, told)?)?;
+        rules.push(next_rule(alloc, &mut known, flow, step, told)?)?;
     }
     Ok(rules)
 }

@@ -1,24 +1,48 @@
 //! A picture that grows by the marks of one step after the other.
 
-use crate::buffers::Buffer;
 use crate::marks::{Marks, Named, marks_of};
 use crate::picture::{Label, Note, Picture, Sign, Words};
-use crate::script_words::{number_of, text_of};
 use crate::turns::Asking;
 use flow_law::{Command, Event, Report};
-use flow_script::{Answer, Told};
+use flow_script::{Answer, Loss, Losses, Told, number_at, text_at};
 use indexmap::{IndexMap, IndexSet};
 use script_chain_format::Version;
 use serde_json::Value;
 use std::alloc::{AllocError, Global};
+
+/// For how many subscribers a step shows at most what they lose.
+const MOST_LOST: usize = 16;
 
 /// What a picture shows of a flow beside its answers.
 #[derive(Drop)]
 struct Inside {
     /// The chain of a sharing.
     asking: Option<Asking>,
-    /// The buffer of a flow that drops its oldest values.
-    buffer: Option<Buffer>,
+    /// What subscribers lose, by their lanes, in a flow that drops its oldest values.
+    losses: Option<Losses<usize>>,
+}
+
+/// Marks a value on the lanes of the subscribers that lose it.
+fn mark_loss(picture: &mut Picture<'_>, loss: Loss<'_, usize>) {
+    for lane in loss.losers.iter().take(MOST_LOST) {
+        picture.add_mark(*lane, Sign::Lost, Words::Number(loss.value), Note::None);
+    }
+}
+
+/// Takes the next step on a flow, which is about the subscriber of this lane, if about any. What subscribers lose by it is
+/// marked.
+fn mark_losses(
+    picture: &mut Picture<'_>,
+    losses: &mut Losses<usize>,
+    lane: Option<usize>,
+    step: &Value,
+    told: &Told,
+) -> Result<(), AllocError> {
+    match losses.add_step(lane, step, told)? {
+        Some(loss) => mark_loss(picture, loss),
+        None => {}
+    }
+    Ok(())
 }
 
 /// A picture that grows by a column with each step.
@@ -70,7 +94,7 @@ impl<'a> Drawing<'a> {
         };
         let inside = Inside {
             asking,
-            buffer: Buffer::new(self.alloc, flow),
+            losses: Losses::new(self.alloc, flow),
         };
         if self.flows.insert(name).is_err() || self.insides.push(inside).is_err() {
             self.fail();
@@ -79,31 +103,31 @@ impl<'a> Drawing<'a> {
 
     /// The lane of the flow that a step is about.
     fn flow_lane(&self, step: &Value) -> usize {
-        self.flows.get_index_of(text_of(step, "flow")).unwrap_or(0)
+        self.flows.get_index_of(text_at(step, "flow")).unwrap_or(0)
     }
 
     /// The lane of the subscriber or the emission that a step is about.
     fn named_lane(&self, step: &Value) -> Option<usize> {
-        Some(*self.lanes.get(text_of(step, "name"))?)
+        Some(*self.lanes.get(text_at(step, "name"))?)
     }
 
     /// The label of a name that a step introduces.
     fn label_of(&self, step: &'a Value) -> Label<'a> {
         let flow = if self.flows.len() > 1 {
-            Some(text_of(step, "flow"))
+            Some(text_at(step, "flow"))
         } else {
             None
         };
         Label {
-            name: text_of(step, "name"),
+            name: text_at(step, "name"),
             flow,
         }
     }
 
     /// A lane for the name that a step introduces, unless it is that of an emission that is done at once.
     fn add_name(&mut self, step: &'a Value, answer: &Answer) {
-        let waits = match text_of(step, "do") {
-            "emit" if !matches!(answer, Answer::Done) => Some(number_of(step, "value")),
+        let waits = match text_at(step, "do") {
+            "emit" if !matches!(answer, Answer::Done) => Some(number_at(step, "value")),
             "subscribe" => None,
             _ => return,
         };
@@ -153,7 +177,7 @@ impl<'a> Drawing<'a> {
         let Told { answer, seen, .. } = told;
         let lane = self.named_lane(step);
         let emission = self.picture.open_value(lane);
-        let marks = marks_of(text_of(step, "do"), answer, emission.is_some());
+        let marks = marks_of(text_at(step, "do"), answer, emission.is_some());
         let Marks(on_flow, on_named, content) = marks.seen(*seen);
         let words = content.words(step, line, emission);
         match (on_flow, seen.emitted) {
@@ -167,21 +191,18 @@ impl<'a> Drawing<'a> {
         self.mark_lost(flow, lane, step, told);
     }
 
-    /// What the step takes from subscribers, if its flow drops its oldest values.
+    /// Marks the value that the step takes from subscribers, if its flow drops its oldest values.
     fn mark_lost(&mut self, flow: usize, lane: Option<usize>, step: &Value, told: &Told) {
         let Some(
             Inside {
-                buffer: Some(buffer),
+                losses: Some(losses),
                 ..
             },
         ) = self.insides.get_mut(flow)
         else {
             return;
         };
-        if buffer
-            .add_step(&mut self.picture, lane, step, told)
-            .is_err()
-        {
+        if mark_losses(&mut self.picture, losses, lane, step, told).is_err() {
             self.fail();
         }
     }

@@ -3,7 +3,7 @@
 //! # Lanes and marks
 //! `steps_picture` has a lane for each flow, each subscriber and each emission that was not done at once, and a column for each step
 //! that was played; `collection_picture` has two lanes, one for a chain's source and one for what it gave. The table in `marks` has the
-//! marks of a step; `buffers` finds what subscribers lose, and `turns` the items that turns put into their flows.
+//! marks of a step, and `turns` finds the items that turns put into their flows.
 //!
 //! # Where the marks stand
 //! `add_parts` gives each column of a picture a width in characters, cuts the picture into bands of at most `MOST_WIDTH`, and lists
@@ -19,7 +19,6 @@
 //! empty text, an empty list or 0; no call fails for it.
 #![tactic(auto)]
 
-mod buffers;
 mod collection;
 mod drawing;
 mod frame;

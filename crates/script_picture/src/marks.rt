@@ -1,9 +1,8 @@
 //! The marks of a step, by its tag and its answer.
 
 use crate::picture::{Sign, Words};
-use crate::script_words::number_of;
 use flow_law::Next;
-use flow_script::{Answer, Seen};
+use flow_script::{Answer, Seen, number_at};
 use serde_json::Value;
 
 /// What stands in the marks of a step.
@@ -141,7 +140,7 @@ impl Content {
     pub fn words<'a>(self, step: &Value, line: &'a str, emission: Option<i64>) -> Words<'a> {
         match self {
             Content::Nothing => Words::None,
-            Content::Member(key) => Words::Number(number_of(step, key)),
+            Content::Member(key) => Words::Number(number_at(step, key)),
             Content::Line => Words::Text(line),
             Content::Received(value) => Words::Number(value),
             Content::Emission => Words::Number(emission.unwrap_or(0)),

@@ -58,12 +58,6 @@ impl<'a> Played<'a> {
         }
     }
 
-    /// The step that wrote the line before that of a place, and its answer, where there is such a step.
-    pub fn step_before(&self, place: usize) -> Option<(&'a Value, &'a Answer)> {
-        let (before, step) = self.step_at(place.checked_sub(1)?)?;
-        Some((step, &self.told(before)?.answer))
-    }
-
     /// Adds to `words` what stands before the line at a place: the end of the line before it, with its rule unless that is empty,
     /// and the step that wrote the line, in words. The error says that memory was refused.
     pub fn add_words_before(

@@ -1,23 +1,8 @@
 //! The words of a script that was read, and of its lines.
 
 use crate::page::Page;
+use flow_script::text_at;
 use serde_json::Value;
-
-/// The text of a member of an object: an empty one, where it has no such member or that is no text.
-pub fn text_of<'a>(value: &'a Value, key: &str) -> &'a str {
-    match value.get(key) {
-        Some(member) => member.as_str().unwrap_or(""),
-        None => "",
-    }
-}
-
-/// The number of a member, or 0.
-pub fn number_of(value: &Value, key: &str) -> i64 {
-    match value.get(key) {
-        Some(member) => member.as_i64().unwrap_or(0),
-        None => 0,
-    }
-}
 
 /// The items of a member of an object: none, where it has no such member or that is no list.
 pub fn items_of<'a>(value: &'a Value, key: &str) -> &'a [Value] {
@@ -89,7 +74,7 @@ fn add_chain(page: &mut Page, chain: &Value) {
     }
     for op in items_of(chain, "ops") {
         page.push_str(", ");
-        page.push_str(text_of(op, "op"));
+        page.push_str(text_at(op, "op"));
         add_members(page, op, "op");
     }
 }
@@ -121,7 +106,7 @@ const STEP_KEYS: &[&str] = &[
 
 /// A step in words.
 pub fn add_step(page: &mut Page, step: &Value) {
-    page.push_str(text_of(step, "do"));
+    page.push_str(text_at(step, "do"));
     for key in STEP_KEYS {
         if let Some(value) = step.get(*key) {
             add_member(page, key, value);
@@ -138,7 +123,7 @@ const FLOW_KEYS: &[&str] = &[
 pub fn add_flow(page: &mut Page, name: &str, flow: &Value) {
     page.push_str(name);
     page.push_str(": ");
-    page.push_str(text_of(flow, "kind"));
+    page.push_str(text_at(flow, "kind"));
     for key in FLOW_KEYS {
         if let Some(value) = flow.get(*key) {
             page.push_str(", ");

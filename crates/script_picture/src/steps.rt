@@ -4,7 +4,8 @@ use crate::drawing::Drawing;
 use crate::page::Page;
 use crate::picture::Picture;
 use crate::played::Played;
-use crate::script_words::{add_flow, text_of};
+use crate::script_words::add_flow;
+use flow_script::text_at;
 use script_chain_format::{Version, version_of};
 use serde_json::Value;
 use std::alloc::{AllocError, Global};
@@ -12,7 +13,7 @@ use std::alloc::{AllocError, Global};
 /// The flow of a script that names none, unless its steps only collect chains.
 fn single_flow(script: &Value) -> Option<&Value> {
     let flow = script.get("flow")?;
-    if text_of(flow, "kind") == "none" {
+    if text_at(flow, "kind") == "none" {
         None
     } else {
         Some(flow)

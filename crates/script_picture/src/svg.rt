@@ -6,11 +6,12 @@ use crate::page::Page;
 use crate::parts::parts_of;
 use crate::picture::Label;
 use crate::played::Played;
-use crate::script_words::{add_collection, text_of};
+use crate::script_words::add_collection;
 use crate::steps::{add_all_heads, add_heads};
 use crate::style::{LEAST_WIDTH, LEGEND, LEGEND_HEIGHT, STYLE};
 use crate::svg_marks::{END_TEXT, add_attribute, add_cell, begin_step_number, begin_text, pixels};
 use crate::widths::{add_head, add_label};
+use flow_script::text_at;
 use serde_json::Value;
 use std::alloc::{AllocError, Global};
 
@@ -33,7 +34,7 @@ fn add_step_head(page: &mut Page, numbered: Numbered<'_>, x: usize, y: usize) {
     page.push(' ');
     page.push_number(y);
     page.push_str(") rotate(-24)\">");
-    page.push_str(text_of(numbered.step, "do"));
+    page.push_str(text_at(numbered.step, "do"));
     page.push_str(END_TEXT);
 }
 
