@@ -1,4 +1,4 @@
--- What a source is as a chain, and what an operator of a script makes of a chain.
+-- What an operator of a script makes of a chain.
 use Rattle.std.specs.Prelude.{◌≡◌, ℕ, ◌+◌, ◌≤◌, ◌<◌, max, ℤ, None, drop}
 use Rattle.std.specs.Ordering.{int_eq}
 use Rattle.flow_law.specs.declared.chain.ChainFault.{ChainFault}
@@ -8,28 +8,13 @@ use Rattle.flow_law.specs.ChainRun.{ChainRun, gives, list_run}
 use Rattle.flow_law.specs.OperatorRuns.{map_run, filter_run, take_while_run, transform_run, take_run, drop_run, drop_while_run, scan_run, running_reduce_run, flat_map_run, zip_run, distinct_run}
 use Rattle.flow_cold.specs.declared.script_chain.op.Op.{Op}
 use Rattle.flow_cold.specs.declared.script_chain.op.Op.TheVariants as op
-use Rattle.flow_cold.specs.declared.script_chain.op.Source.{Source}
-use Rattle.flow_cold.specs.declared.script_chain.op.Source.TheVariants as source
 use Rattle.flow_cold.specs.declared.script_chain.ScriptChain.{ScriptChain}
 use Rattle.flow_cold.specs.Numbers.{computed, joined, passes, sums, spread_run}
 use Rattle.flow_cold.specs.ScriptChain.{node_whole, node_rest}
-use Rattle.flow_operators.specs.Sources.{range_rest, range_run, scripted_run}
 
 -- how deep the chain is
 abbrev pub depth_of : ScriptChain → ℕ
 depth_of chain = chain.depth
-
--- the whole run of a source
-abbrev pub source_whole : Source → ChainRun ℤ
-source_whole (source.List s) = list_run s.items.items
-source_whole (source.Range s) = range_run s.first s.last
-source_whole (source.Scripted s) = scripted_run s.entries.items
-
--- of a source that was asked before
-abbrev pub source_rest : Source → ChainRun ℤ
-source_rest (source.List s) = list_run (drop s.at s.items.items)
-source_rest (source.Range s) = range_rest s
-source_rest (source.Scripted s) = scripted_run (drop s.at s.entries.items)
 
 -- the run of an operator on a run; `with_run` says which run of the other chain a zip pairs it with
 abbrev pub op_run : (ScriptChain → ChainRun ℤ) → Op → ChainRun ℤ → ChainRun ℤ

@@ -6,3 +6,4 @@ pub mod Operators
 pub mod Pairing
 pub mod Part
 pub mod ScriptChain
+pub mod Sources

@@ -12,6 +12,7 @@ mod op;
 mod operator;
 mod pairing;
 mod running_reduce;
+mod source;
 mod source_number;
 mod stage;
 mod state;

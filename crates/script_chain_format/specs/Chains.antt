@@ -8,7 +8,8 @@ use Rattle.flow_cold.specs.declared.script_chain.op.Source.{Source}
 use Rattle.flow_cold.specs.declared.script_chain.op.Op.{Op}
 use Rattle.flow_cold.specs.declared.script_chain.op.Op.TheVariants.{Take}
 use Rattle.flow_cold.specs.declared.script_chain.ScriptChain.{ScriptChain}
-use Rattle.flow_cold.specs.Build.{depth_of, op_depth, op_whole, source_whole}
+use Rattle.flow_cold.specs.Build.{depth_of, op_depth, op_whole}
+use Rattle.flow_cold.specs.Sources.{source_whole}
 use Rattle.flow_cold.specs.ScriptChain.{node_whole}
 use Rattle.script_chain_format.specs.declared.reading.fault.ScriptFault.{ScriptFault}
 use Rattle.script_chain_format.specs.Results.{result_map}

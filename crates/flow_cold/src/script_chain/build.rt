@@ -2,9 +2,10 @@
 ghost use Rattle.std.specs.Prelude.{◌≡◌, ◌≤◌, ⊤, ℕ, ℤ, IfOk, IfErr, MatchResult};
 ghost use Rattle.flow_law.specs.Chain.{meaning_of};
 ghost use Rattle.flow_law.specs.ChainRun.{ChainRun, asks};
-ghost use Rattle.flow_cold.specs.Build.{AddsDepth, Refuses, RefusesDepth, TakesNone, depth_of, op_depth, op_meaning, op_rest, op_whole, source_rest, source_whole};
+ghost use Rattle.flow_cold.specs.Build.{AddsDepth, Refuses, RefusesDepth, TakesNone, depth_of, op_depth, op_meaning, op_rest, op_whole};
 ghost use Rattle.flow_cold.specs.Part.{part_depth, part_rest, part_whole};
 ghost use Rattle.flow_cold.specs.ScriptChain.{IsNodeOver, NodeAsksBehind, node_depth, node_rest, node_whole};
+ghost use Rattle.flow_cold.specs.Sources.{source_rest, source_whole};
 
 use crate::script_chain::ScriptChain;
 use crate::script_chain::drop_while::DroppingWhile;
@@ -118,12 +119,10 @@ impl ScriptChain {
         ensures rest { ⟦<ScriptChain as Cold>⟧.rest result tt ≡ source_rest source }
         ensures depth { depth_of result ≡ 1 }
     {
-        let node = match source {
-            Source::List(list) => Node::List(list),
-            Source::Range(range) => Node::Range(range),
-            Source::Scripted(script) => Node::Script(script),
-        };
-        ScriptChain { depth: 1, node }
+        ScriptChain {
+            depth: 1,
+            node: Node::Source(source),
+        }
     }
 
     /// Adds an operator.

@@ -1,10 +1,11 @@
 //! A chain of whole numbers as a tree, with sources as its leaves and operators above them.
-ghost use Rattle.std.specs.Prelude.{◌≡◌, ◌≤◌, ℤ, true, false};
+ghost use Rattle.std.specs.Prelude.{◌≡◌, ◌≢◌, ◌≤◌, ℤ, true, false};
 ghost use Rattle.flow_law.specs.ChainRun.{ChainRun, gives};
 ghost use Rattle.flow_law.specs.OperatorRuns.{zip_run};
 ghost use Rattle.flow_cold.specs.declared.script_chain.node.Node.{size-Node};
 ghost use Rattle.flow_operators.specs.Asking.{AskGives, IsFinal};
-ghost use Rattle.flow_operators.specs.Behind.{AsksOnce, Leaves};
+ghost use Rattle.flow_operators.specs.Behind.{AsksLeft, AsksOnce, AsksRight, Leaves};
+ghost use Rattle.flow_operators.specs.Kept.{with_kept};
 ghost use Rattle.flow_cold.specs.Answers.{asked_of};
 ghost use Rattle.flow_cold.specs.Numbers.{joined};
 ghost use Rattle.flow_cold.specs.OperatorAsks.{after_stage};
@@ -13,9 +14,9 @@ ghost use Rattle.flow_cold.specs.Pairing.{pairing_rest};
 ghost use Rattle.flow_cold.specs.ScriptChain.{IsNodeOver, NodeAsksBehind, node_depth, node_rest, node_whole};
 
 use crate::script_chain::answer::Answer;
+use crate::script_chain::op::Source;
 use crate::script_chain::operator::Operator;
 use crate::script_chain::pairing::Pairing;
-use flow_operators::{Cold, OfList, OfRange, Scripted};
 
 /// How an ask of an operator begins.
 #[derive(Clone, Copy)]
@@ -36,19 +37,18 @@ pub struct Stage {
 }
 
 /// A source, an operator on an upstream, or a zip of two.
+// Three variants: the compiler compares where it would else jump by a table, and begins with the last one.
 #[derive(Drop)]
 pub enum Node {
-    List(OfList<i64>),
-    Range(OfRange),
-    Script(Scripted<i64>),
-    On(Box<Node>, Stage),
+    Source(Source),
     Zip(Box<Node>, Box<Node>, Pairing),
+    On(Box<Node>, Stage),
 }
 
 /// Returns the chain's next answer.
-// Inlined into the ask of an operator: a source is asked there, and each operator costs one call.
+// Not inlined: each node costs one call, which saves one register, as all that is asked is found from the node.
 #[cycle(asking)]
-#[inline(always)]
+#[inline(never)]
 pub fn ask_node(node: &mut Node) -> Answer
     ensures whole { node_whole node.new ≡ node_whole node.old }
     ensures gives { AskGives (node_rest node.old) (asked_of result) (node_rest node.new) }
@@ -60,30 +60,15 @@ pub fn ask_node(node: &mut Node) -> Answer
     ensures size { size-Node node.new ≤ size-Node node.old }
 {
     match node {
-        Node::List(list) => Answer::of(list.ask()),
-        Node::Range(range) => Answer::of(range.ask()),
-        Node::Script(script) => Answer::of(script.ask()),
+        Node::Source(source) => source.ask(),
+        Node::Zip(left, right, pairing) => ask_pair(left, right, pairing),
         Node::On(upstream, stage) => ask_stage(upstream, stage),
-        Node::Zip(left, right, pairing) => {
-            if pairing.ended {
-                return Answer::End;
-            }
-            let first = match pairing.kept {
-                Some(item) => item,
-                None => match ask_left(left) {
-                    Answer::Item(item) => item,
-                    answer => return pairing.without_item(answer),
-                },
-            };
-            ask_right(right, pairing, first)
-        }
     }
 }
 
 /// Returns the next answer of an operator: asks its upstream until there is one, unless it has one without it.
-// The box is passed, and not the node in it: each ask would save a register more, to keep the node's place.
 #[cycle(asking)]
-#[inline(never)]
+#[inline(always)]
 fn ask_stage(upstream: &mut Box<Node>, stage: &mut Stage) -> Answer
     ensures whole { node_whole upstream.new.value ≡ node_whole upstream.old.value }
     ensures operator { (r : ChainRun ℤ)
@@ -109,23 +94,43 @@ fn ask_stage(upstream: &mut Box<Node>, stage: &mut Stage) -> Answer
     }
 }
 
-/// Returns the next answer of a zip's left side.
-// Not inlined: `ask_node` is, and so must not call itself.
+/// Returns the next answer of a zip: asks its left side, and then its right one.
+// Not inlined: each ask of any node would save more registers, for zips alone.
 #[cycle(asking)]
 #[inline(never)]
-fn ask_left(left: &mut Node) -> Answer
-    ensures whole { node_whole left.new ≡ node_whole left.old }
-    ensures gives { AskGives (node_rest left.old) (asked_of result) (node_rest left.new) }
-    ensures depth { node_depth left.new ≡ node_depth left.old }
-    ensures size { size-Node left.new ≤ size-Node left.old }
+fn ask_pair(left: &mut Node, right: &mut Node, pairing: &mut Pairing) -> Answer
+    ensures left { node_whole left.new ≡ node_whole left.old }
+    ensures right { node_whole right.new ≡ node_whole right.old }
+    ensures by { pairing.new.by ≡ pairing.old.by }
+    ensures gives { AskGives (pairing_rest pairing.old (node_rest left.old) (node_rest right.old))
+        (asked_of result) (pairing_rest pairing.new (node_rest left.new) (node_rest right.new)) }
+    ensures over { IsFinal (asked_of result) → pairing.new.ended ≡ true }
+    ensures behind_left { pairing.old.ended ≢ true
+        → AsksLeft pairing.old.kept (node_rest left.old) (asked_of result) (node_rest left.new) }
+    ensures behind_right { pairing.old.ended ≢ true
+        → AsksRight (with_kept pairing.old.kept (node_rest left.old)) (node_rest right.old) (asked_of result)
+        (node_rest right.new) }
+    ensures end { pairing.old.ended ≡ true
+        → (result ≡ Answer.End) × left.new ≡ left.old × right.new ≡ right.old × pairing.new ≡ pairing.old }
+    ensures left_depth { node_depth left.new ≡ node_depth left.old }
+    ensures right_depth { node_depth right.new ≡ node_depth right.old }
+    ensures left_size { size-Node left.new ≤ size-Node left.old }
+    ensures right_size { size-Node right.new ≤ size-Node right.old }
 {
-    ask_node(left)
+    if pairing.ended {
+        return Answer::End;
+    }
+    match pairing.kept {
+        Some(first) => ask_right(right, pairing, first),
+        None => match ask_node(left) {
+            Answer::Item(first) => ask_right(right, pairing, first),
+            answer => pairing.without_item(answer),
+        },
+    }
 }
 
 /// Returns the answer of a zip that has a left item: asks its right side.
-// Not inlined: each ask of any node would save two registers more, for this alone.
 #[cycle(asking)]
-#[inline(never)]
 fn ask_right(right: &mut Node, pairing: &mut Pairing, first: i64) -> Answer
     requires { pairing.old.ended ≡ false }
     ensures whole { node_whole right.new ≡ node_whole right.old }
@@ -149,9 +154,7 @@ pub fn rewind_node(node: &mut Node)
     ensures depth { node_depth node.new ≡ node_depth node.old }
 {
     match node {
-        Node::List(list) => list.rewind(),
-        Node::Range(range) => range.rewind(),
-        Node::Script(script) => script.rewind(),
+        Node::Source(source) => source.rewind(),
         Node::On(upstream, stage) => {
             stage.rewind();
             rewind_node(upstream);

@@ -2,6 +2,7 @@ use Rattle.std.proofs.Common.{refl, arith}
 use Rattle.std.proofs.lemmas.Grind.{common_steps}
 use Rattle.flow_operators.proofs.AskLemmas.{asks-item}
 use Rattle.flow_cold.specs.Answers.{asked_of}
+use Rattle.flow_cold.specs.ScriptChain.{node_rest}
 use Rattle.flow_cold.proofs.script_chain.node.+asking.Goals as goal
 
 pub ask_stage-loop-answer-smaller : goal.ask_stage-loop-answer-smaller
@@ -9,20 +10,22 @@ ask_stage-loop-answer-smaller t c =
     rw c.deref_mut.ensures.value at
     (asks-item _ _ (asked_of c.ask_node-asked.result) c.ask_node-asked.ensures.gives (c.in_default-on_answer.ensures.again refl))
 
-pub ask_node-returns-in-List-clause-whole : goal.ask_node-returns-in-List-clause-whole
-ask_node-returns-in-List-clause-whole t c = let whole = c.ask.ensures.whole tt in grind (arith, common_steps)
+pub ask_pair-returns-in-Item-clause-gives : goal.ask_pair-returns-in-Item-clause-gives
+ask_pair-returns-in-Item-clause-gives t c =
+    let gives = c.ask_right-in-Item.ensures.gives (node_rest c.ask_node.new.node) in
+    rw (c.if-pairing.false, c.in-None.is, c.in-Item.ensures.gives) (grind (arith, common_steps))
 
-pub ask_node-returns-in-List-clause-gives : goal.ask_node-returns-in-List-clause-gives
-ask_node-returns-in-List-clause-gives t c = let gives = c.ask.ensures.gives tt tt in grind (arith, common_steps)
+pub ask_pair-returns-in_default-clause-gives : goal.ask_pair-returns-in_default-clause-gives
+ask_pair-returns-in_default-clause-gives t c =
+    c.without_item.ensures.gives (node_rest c.args.left.now) (node_rest c.ask_node.new.node) (node_rest c.args.right.now)
+    c.ask_node.ensures.gives
 
-pub ask_node-returns-in-Range-clause-whole : goal.ask_node-returns-in-Range-clause-whole
-ask_node-returns-in-Range-clause-whole t c = let whole = c.ask-in-Range.ensures.whole tt in grind (arith, common_steps)
+pub ask_pair-returns-in_default-clause-behind_left : goal.ask_pair-returns-in_default-clause-behind_left
+ask_pair-returns-in_default-clause-behind_left t c =
+    λ runs. rw c.in-None.is (c.without_item.ensures.behind (node_rest c.args.left.now) (node_rest c.ask_node.new.node)
+    (node_rest c.args.right.now) c.ask_node.ensures.gives).0
 
-pub ask_node-returns-in-Range-clause-gives : goal.ask_node-returns-in-Range-clause-gives
-ask_node-returns-in-Range-clause-gives t c = let gives = c.ask-in-Range.ensures.gives tt tt in grind (arith, common_steps)
-
-pub ask_node-returns-in-Script-clause-whole : goal.ask_node-returns-in-Script-clause-whole
-ask_node-returns-in-Script-clause-whole t c = let whole = c.ask-in-Script.ensures.whole tt in grind (arith, common_steps)
-
-pub ask_node-returns-in-Script-clause-gives : goal.ask_node-returns-in-Script-clause-gives
-ask_node-returns-in-Script-clause-gives t c = let gives = c.ask-in-Script.ensures.gives tt tt in grind (arith, common_steps)
+pub ask_pair-returns-in_default-clause-behind_right : goal.ask_pair-returns-in_default-clause-behind_right
+ask_pair-returns-in_default-clause-behind_right t c =
+    λ runs. rw c.in-None.is (c.without_item.ensures.behind (node_rest c.args.left.now) (node_rest c.ask_node.new.node)
+    (node_rest c.args.right.now) c.ask_node.ensures.gives).1

@@ -1,4 +1,4 @@
-use Rattle.std.proofs.Common.{◌≡◌, ◌≤◌, ◌+◌, ◌*◌, ℤ}
+use Rattle.std.proofs.Common.{◌≡◌, ◌≤◌, ◌+◌, ◌*◌, max, ℤ}
 use Rattle.flow_law.specs.ChainRun.{ChainRun, asks}
 use Rattle.flow_cold.specs.declared.script_chain.node.Node.{size-Node}
 use Rattle.flow_cold.specs.OperatorAsks.{after_stage}
@@ -6,18 +6,18 @@ use Rattle.flow_cold.specs.Operators.{IsStageOver, operator_whole, stage_rest}
 use Rattle.flow_cold.specs.ScriptChain.{node_whole, node_rest, node_depth}
 use Rattle.flow_cold.proofs.script_chain.node.+asking.Given as goal
 
--- a stage is asked between its node and its upstream, and so are the sides of a zip
+-- a stage is asked between its node and its upstream, a pair between a zip and its sides, and its right side after it
 abbrev pub decreases-ask_node : goal.decreases-ask_node
-decreases-ask_node l = 2 * size-Node l.node.now
+decreases-ask_node l = 3 * size-Node l.node.now
 
 abbrev pub decreases-ask_stage : goal.decreases-ask_stage
-decreases-ask_stage l = 2 * size-Node l.upstream.now.value + 1
+decreases-ask_stage l = 3 * size-Node l.upstream.now.value + 1
 
-abbrev pub decreases-ask_left : goal.decreases-ask_left
-decreases-ask_left l = 2 * size-Node l.left.now + 1
+abbrev pub decreases-ask_pair : goal.decreases-ask_pair
+decreases-ask_pair l = 3 * max (size-Node l.left.now) (size-Node l.right.now) + 2
 
 abbrev pub decreases-ask_right : goal.decreases-ask_right
-decreases-ask_right l = 2 * size-Node l.right.now + 1
+decreases-ask_right l = 3 * size-Node l.right.now + 1
 
 abbrev pub invariant-ask_stage-loop-answer : goal.invariant-ask_stage-loop-answer
 invariant-ask_stage-loop-answer l = record {
