@@ -47,7 +47,7 @@ fn count_all<R: Threads + Wait + Sync>(rt: &R, callers: &mut [WordSetter<'_, i64
     );
 }
 
-/// Returns all callers make their updates, and then the value is read.
+/// Lets all callers make their updates, and then reads the value.
 fn count_and_read<R: Threads + Wait + Sync>(
     rt: &R,
     maker: &mut WordSetter<'_, i64>,

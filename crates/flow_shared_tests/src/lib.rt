@@ -2,8 +2,8 @@
 //! tests of worked examples by one caller and by several threads, of sharings, and of out of memory.
 //!
 //! Each call is proved, for every schedule. The tests with threads look at the rest: that calls succeed, that callers wait no
-//! longer than they have to, and what several threads come to that do more than `run_count` and `run_pair`, of which it is
-//! proved.
+//! longer than they have to, and what several threads come to that do more than `run_count`, `run_crowd` and `run_pair`, of
+//! which it is proved.
 //!
 //! A worked example is a list of steps, each with what it is to answer. Another module takes the steps. All of it is for tests,
 //! and so proved once, with them. Tests of what stands on flows for threads stand here, too: each crate of tests is linked, and
