@@ -1,6 +1,5 @@
--- The sizes that a count may have, and what one update does.
-use Rattle.std.specs.Prelude.{ℕ, ℤ, pos, leb, ◌&&◌, cond, Option, Some, None}
-use Rattle.std.specs.Int.{w64, int_wrapping_add}
+-- The sizes that a count may have.
+use Rattle.std.specs.Prelude.{ℕ, leb, ◌&&◌, cond, Option, Some, None}
 
 -- how many threads count, and how many updates each of them makes
 pub record Counting : Type 0 where
@@ -15,7 +14,3 @@ counting threads updates = record { threads = threads; updates = updates }
 abbrev pub count_size : ℕ → ℕ → Option Counting
 count_size threads updates =
     cond (leb 1 threads && leb threads 8 && leb updates 10000) (Some (counting threads updates)) None
-
--- one more, in 64 bits
-abbrev pub next_count : ℤ → ℤ
-next_count value = int_wrapping_add w64 value (pos 1)

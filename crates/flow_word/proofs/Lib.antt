@@ -1,4 +1,5 @@
 pub mod Keeps
 pub mod SeatSteps
 pub mod Subscribing
+pub mod UpdatingLemmas
 pub mod Waits
