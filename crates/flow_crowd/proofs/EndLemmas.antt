@@ -20,7 +20,7 @@ use Rattle.flow_crowd.specs.Crowds.{GotAll, IsMaker, IsSubscribed, HasEmitted, H
 use Rattle.flow_crowd.specs.Numbers.{numbers_from}
 use Rattle.flow_crowd.proofs.CrowdLemmas.{got_all_values}
 use Rattle.flow_crowd.proofs.PlaceLemmas.{one_of}
-use Rattle.flow_crowd.proofs.SubscribedLemmas.{has_emitted, has_read}
+use Rattle.flow_crowd.proofs.SubscribedLemmas.{has_read}
 
 abbrev pub Caller : Type 0
 Caller = CallerOf TableId (SharedFlowState ℕ) (Says ℕ)
@@ -34,14 +34,24 @@ Seat = Token TableId (Says ℕ)
 abbrev pub Subscription : Type 0
 Subscription = NumberedToken TableId (Says ℕ)
 
--- the seat of an emitter whose thread has kept its promise
+-- the seat of a thread that has kept its promise to emit
+pub sender_ended : (table : TableId) (start ended : Seat) (first count : ℕ) (p : EmitsAll) → WillEmit table start first count p
+    → (ended.table_id ≡ p.seat.value.table_id) × Emits (numbers_from p.first p.count) p.seat.value.knows ended.knows
+    → (ended.table_id ≡ table) × Emits (numbers_from first count) start.knows ended.knows
+sender_ended table start ended first count p will kept = (
+  kept.0 ∙ ap (λ (s : Seat). s.table_id) will.1 ∙ will.0,
+  subst (λ a. Emits (numbers_from a count) start.knows ended.knows) will.2
+      (subst (λ m. Emits (numbers_from p.first m) start.knows ended.knows) will.3
+      (subst (λ (s : Seat). Emits (numbers_from p.first p.count) s.knows ended.knows) will.1 kept.1)),
+)
+
+-- the same of the i-th emitter of a crowd
 pub emitter_ended : (n i : ℕ) (table : TableId) (start ended : Seat) (p : EmitsAll) → start.knows ≡ nth_child i first_knowledge → WillEmit table start (i * n) n p
     → (ended.table_id ≡ p.seat.value.table_id) × Emits (numbers_from p.first p.count) p.seat.value.knows ended.knows
     → (ended.table_id ≡ table) × HasEmitted n i ended.knows
-emitter_ended n i table start ended p begins will kept = (
-  kept.0 ∙ ap (λ (s : Seat). s.table_id) will.1 ∙ will.0,
-  has_emitted n i p.first p.count p.seat.value.knows ended.knows (ap (λ (s : Seat). s.knows) will.1 ∙ begins) will.2 will.3 kept.1,
-)
+emitter_ended n i table start ended p begins will kept =
+    let e = sender_ended table start ended (i * n) n p will kept in
+    (e.0, subst (λ (k : Knowledge (Says ℕ)). Emits (numbers_from (i * n) n) k ended.knows) begins e.1)
 
 -- the subscription of a subscriber whose thread has kept its promise
 pub reader_ended : (did : List (Says ℕ)) (n count : ℕ) (table : TableId) (start ended : Subscription) (got : List ℕ) (p : ReadsAll) → IsSubscribed did n start → WillRead table start count p

@@ -1,11 +1,11 @@
 -- The first seat of a crowd subscribes: what it has done then, and what is known of the subscriptions.
-use Rattle.std.proofs.Common.{inl, inr, ◌≡◌, ℕ, suc, ◌+◌, ◌*◌, List, [], ◌∷◌, ◌++◌, Ok, refl, sym, ap, ◌∙◌, subst, arith}
+use Rattle.std.proofs.Common.{inl, inr, ◌≡◌, ℕ, suc, ◌+◌, List, [], ◌∷◌, ◌++◌, Ok, refl, sym, ap, ◌∙◌, subst, arith}
 use Rattle.std.specs.List.{AllByRecursion}
 use Rattle.flow_law.specs.declared.history.Knowledge.{Knowledge}
 use Rattle.flow_law.specs.declared.call.SharedCall.TheVariants as call
 use Rattle.flow_law.specs.declared.call.SharedReply.TheVariants as reply
 use Rattle.flow_law.specs.declared.states.SharedFlowState.{SharedFlowState}
-use Rattle.flow_law.specs.Closed.{makes_many, nth_child}
+use Rattle.flow_law.specs.Closed.{makes_many}
 use Rattle.flow_law.specs.Done.{done_by}
 use Rattle.flow_law.specs.Growth.{child_name, first_knowledge, makes, child}
 use Rattle.flow_law.specs.History.{IsHistory}
@@ -13,9 +13,8 @@ use Rattle.flow_law.specs.OneHistory.{AddsOne, said}
 use Rattle.flow_law.specs.SharedHistory.{shared_flow}
 use Rattle.flow_law.specs.Tokens.{NumberedToken, SubscribesIn, Token, token, numbered}
 use Rattle.flow_law.proofs.DoneLemmas.{every_append, made_one}
-use Rattle.flow_crowd.specs.Callers.{Says, Emits, Reads, HasSubscribed, taken_by}
-use Rattle.flow_crowd.specs.Crowds.{IsMaker, IsSubscribing, IsSubscribed, HasEmitted, HasRead}
-use Rattle.flow_crowd.specs.Numbers.{numbers_from}
+use Rattle.flow_crowd.specs.Callers.{Says, Reads, HasSubscribed, taken_by}
+use Rattle.flow_crowd.specs.Crowds.{IsMaker, IsSubscribing, IsSubscribed, HasRead}
 use Rattle.flow_crowd.proofs.CallerLemmas.{made_silent}
 
 module _ {T : Type 0} where
@@ -94,9 +93,3 @@ module _ {T : Type 0} where
         only = subst (AllByRecursion (λ (e : Says T). e.call ≡ call.TakeNext s.number)) (sym done) read.2;
         taken = ap (taken_by s.number) done ∙ read.3;
       }
-
--- an emitter of the crowd that has kept its promise
-pub has_emitted : (n i first count : ℕ) (start k : Knowledge (Says ℕ)) → start ≡ nth_child i first_knowledge → first ≡ i * n → count ≡ n → Emits (numbers_from first count) start k → HasEmitted n i k
-has_emitted n i first count start k begins at so_many emits =
-    subst (λ (x : Knowledge (Says ℕ)). Emits (numbers_from (i * n) n) x k) begins
-    (subst (λ a. Emits (numbers_from a n) start k) at (subst (λ m. Emits (numbers_from first m) start k) so_many emits))

@@ -1,8 +1,11 @@
 -- A crowd: what each subscriber gets, and what each token of it did. Begin with `GotAll`.
-use Rattle.std.specs.Prelude.{◌≡◌, ℕ, suc, ◌+◌, ◌*◌, ◌<◌, leb, ltb, ◌&&◌, Bool, List, [], length, filter}
+use Rattle.std.specs.Prelude.{◌≡◌, ℕ, suc, ◌+◌, ◌*◌, ◌<◌, leb, ltb, ◌&&◌, All, Bool, List, [], Vec, length, filter, vec_len}
 use Rattle.std.specs.List.{AllByRecursion}
 use Rattle.atomic_table.specs.Seated.{TableId}
+use Rattle.flow_gate.specs.Tokens.{Origin}
+use Rattle.flow_law.specs.declared.config.Overflow.TheVariants.{Suspend}
 use Rattle.flow_law.specs.declared.history.Knowledge.{Knowledge}
+use Rattle.flow_law.specs.declared.states.SharedFlowState.{SharedFlowState}
 use Rattle.flow_law.specs.declared.call.SharedCall.{SharedCall}
 use Rattle.flow_law.specs.declared.call.SharedCall.TheVariants as call
 use Rattle.flow_law.specs.Growth.{child_name, first_knowledge}
@@ -27,6 +30,20 @@ pub record GotAll (size : CrowdSize) (got : List ℕ) : Type 0 where
   -- of the j-th emitter, from 0
   pub in_order : (j : ℕ) → j < size.emitters →
       filter (is_within (j * size.values) size.values) got ≡ numbers_from (j * size.values) size.values
+
+-- all of so many subscribers did
+pub record EachGotAll {Z : Type 0} (size : CrowdSize) (got : Vec (Vec ℕ Z) Z) : Type 0 where
+  pub count : vec_len got ≡ size.subscribers
+  pub each : All (λ (list : Vec ℕ Z). GotAll size list.items) got.items
+
+-- ---- where a crowd begins
+
+-- a flow that suspends emitters and has a buffer, and its first seat, through which nothing was done
+pub record IsNewFlow (flow : Origin (SharedFlowState ℕ)) (seat : Token TableId (Says ℕ)) : Type 0 where
+  pub suspends : flow.first.config.overflow ≡ Suspend
+  pub buffer : 0 < flow.first.config.replay + flow.first.config.extra
+  pub table : seat.table_id ≡ flow.table_id
+  pub first : seat.knows ≡ first_knowledge
 
 -- ---- what the tokens did
 

@@ -1,4 +1,5 @@
 pub mod Callers
 pub mod Crowds
 pub mod Numbers
+pub mod Pairs
 pub mod Sizes

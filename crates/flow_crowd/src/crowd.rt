@@ -1,12 +1,11 @@
 //! A crowd: its callers are made, then its threads, and in the end all callers meet.
-ghost use Rattle.std.specs.Prelude.{◌≡◌, ◌<◌, ◌+◌, All, IfErr, IfOk, IfSome, vec_len};
-ghost use Rattle.flow_law.specs.Growth.{first_knowledge};
-ghost use Rattle.flow_crowd.specs.Crowds.{GotAll};
+ghost use Rattle.std.specs.Prelude.{◌≡◌, All, IfErr, IfOk, IfSome, vec_len};
+ghost use Rattle.flow_crowd.specs.Crowds.{EachGotAll, GotAll, IsNewFlow};
 
 use crate::emitters::{emitters_of, start_emitters};
 use crate::size::CrowdSize;
 use crate::subscribers::{Ended, apart, start_subscribers, subscribe_all};
-use flow_law::{Config, FlowFault, Overflow};
+use flow_law::{Config, FlowFault};
 use flow_shared::{Seat, SharedFlow};
 use std::alloc::Global;
 use std::sync::Wait;
@@ -23,12 +22,8 @@ fn run_in<'s, E, R: Threads + Wait + Sync>(
     seat: Seat<u64>,
     size: CrowdSize,
 ) -> Option<Vec<Vec<u64>>>
-    requires suspends { flow.now.first.config.overflow ≡ Overflow.Suspend }
-    requires buffer { 0 < flow.now.first.config.replay + flow.now.first.config.extra }
-    requires table { seat.table_id ≡ flow.now.table_id }
-    requires first { seat.knows ≡ first_knowledge }
-    ensures count { IfSome result (λ got. vec_len got ≡ size.subscribers) }
-    ensures got { IfSome result (λ got. All (λ list. GotAll size list.items) got.items) }
+    requires { IsNewFlow flow.now seat }
+    ensures { IfSome result (EachGotAll size) }
 {
     let mut maker = flow.emitter(seat);
     let Ok(emitters) = maker.others(alloc, size.emitters) else {
@@ -57,23 +52,15 @@ fn run_at<R: Threads + Wait + Sync>(
     seat: Seat<u64>,
     size: CrowdSize,
 ) -> Option<Vec<Vec<u64>>>
-    requires suspends { flow.now.first.config.overflow ≡ Overflow.Suspend }
-    requires buffer { 0 < flow.now.first.config.replay + flow.now.first.config.extra }
-    requires table { seat.table_id ≡ flow.now.table_id }
-    requires first { seat.knows ≡ first_knowledge }
-    ensures count { IfSome result (λ got. vec_len got ≡ size.subscribers) }
-    ensures got { IfSome result (λ got. All (λ list. GotAll size list.items) got.items) }
+    requires { IsNewFlow flow.now seat }
+    ensures { IfSome result (EachGotAll size) }
 {
     thread::scope(
         thread::scope_env(),
         rt,
         move |scope| -> Option<Vec<Vec<u64>>>
-            requires suspends { flow.now.first.config.overflow ≡ Overflow.Suspend }
-            requires buffer { 0 < flow.now.first.config.replay + flow.now.first.config.extra }
-            requires table { seat.table_id ≡ flow.now.table_id }
-            requires first { seat.knows ≡ first_knowledge }
-            ensures count { IfSome result (λ got. vec_len got ≡ size.subscribers) }
-            ensures got { IfSome result (λ got. All (λ list. GotAll size list.items) got.items) }
+            requires { IsNewFlow flow.now seat }
+            ensures { IfSome result (EachGotAll size) }
         { run_in(rt, alloc, scope, flow, seat, size) },
     )
 }
@@ -84,8 +71,7 @@ fn at_new_flow<R: Threads + Wait + Sync>(
     alloc: Global,
     size: CrowdSize,
 ) -> Option<Vec<Vec<u64>>>
-    ensures count { IfSome result (λ got. vec_len got ≡ size.subscribers) }
-    ensures got { IfSome result (λ got. All (λ list. GotAll size list.items) got.items) }
+    ensures { IfSome result (EachGotAll size) }
 {
     let (flow, seat) = SharedFlow::new(alloc, Config::new().extra(16)).ok()?;
     run_at(rt, alloc, &flow, seat, size)

@@ -51,7 +51,7 @@ fn emit_all<R: Wait>(
 }
 
 /// Starts a thread that emits `count` numbers, from `first` on. `None` if no thread can be made.
-fn start_emitter<'s, E, R: Wait + Sync>(
+pub fn start_emitter<'s, E, R: Wait + Sync>(
     rt: &'s R,
     scope: &Scope<'s, E>,
     flow: &'s SharedFlow<u64>,

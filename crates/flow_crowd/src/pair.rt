@@ -1,53 +1,25 @@
 //! A pair of threads at a shared flow: one sends the numbers from 1 to n, the other receives them.
-ghost use Rattle.std.specs.Prelude.{◌≡◌, ◌∷◌, [], ◌+◌, ◌<◌, ◌≤◌, IfOk, IfErr, IfSome, length, vec_capacity};
-ghost use Rattle.flow_law.specs.Growth.{first_knowledge};
+ghost use Rattle.std.specs.Prelude.{◌≡◌, ◌∷◌, [], ◌≤◌, IfOk, IfErr, IfSome, vec_capacity};
 ghost use Rattle.flow_law.specs.Rounds.{HasClosedHistory};
 ghost use Rattle.flow_law.specs.SharedHistory.{shared_flow};
-ghost use Rattle.flow_crowd.specs.Callers.{Emits, Reads};
+ghost use Rattle.flow_crowd.specs.Crowds.{IsNewFlow};
 ghost use Rattle.flow_crowd.specs.Numbers.{numbers_from};
+ghost use Rattle.flow_crowd.specs.Pairs.{AreAt, HandsOver};
 
+use crate::emitters::start_emitter;
 use crate::receiving::receive_all;
-use crate::sending::send_all;
-use flow_law::{Config, FlowFault, Overflow};
+use flow_law::{Config, FlowFault};
 use flow_shared::{Seat, SharedFlow, Subscription};
 use std::alloc::Global;
-use std::snapshot::Snapshot;
 use std::sync::Wait;
 use std::thread;
-use std::thread::{Promise, Scope, Threads};
-
-/// Sends the numbers from 1 to `count`, and returns the seat.
-fn send_numbers<R: Wait>(rt: &R, flow: &SharedFlow<u64>, seat: Seat<u64>, count: u64) -> Seat<u64>
-    requires { seat.table_id ≡ flow.now.table_id }
-    ensures table { result.table_id ≡ flow.entry.now.table_id }
-    ensures sent { Emits (numbers_from 1 count) seat.knows result.knows }
-{
-    let mut emitter = flow.emitter(seat);
-    send_all(rt, &mut emitter, 1, count);
-    emitter.into_seat()
-}
-
-/// The thread that sends returns its seat, through which it has sent the numbers from 1 to `count`.
-#[derive(Drop)]
-struct SendsAll {
-    seat: Snapshot<Seat<u64>>,
-    count: u64,
-}
-
-impl Promise<Seat<u64>> for SendsAll {
-    ghost use Rattle.std.specs.Prelude.{◌≡◌};
-    ghost use Rattle.flow_crowd.specs.Callers.{Emits};
-    ghost use Rattle.flow_crowd.specs.Numbers.{numbers_from};
-
-    ghost kept_by = { λ p seat. (seat.table_id ≡ p.seat.value.table_id)
-        × Emits (numbers_from 1 p.count) p.seat.value.knows seat.knows };
-}
+use std::thread::{Scope, Threads};
 
 /// The tokens of the two threads.
 #[derive(Drop)]
-struct Tokens {
-    seat: Seat<u64>,
-    subscription: Subscription<u64>,
+pub struct Tokens {
+    pub seat: Seat<u64>,
+    pub subscription: Subscription<u64>,
 }
 
 /// Sends in a thread of its own, and receives in this one. Returns the tokens and what was received, or `None` if no
@@ -60,25 +32,13 @@ fn send_and_receive<'s, E, R: Threads + Wait + Sync>(
     list: Vec<u64>,
     count: u64,
 ) -> Option<(Tokens, Vec<u64>)>
-    requires seat { tokens.seat.table_id ≡ flow.now.table_id }
-    requires subscription { tokens.subscription.token.table_id ≡ flow.now.table_id }
+    requires tokens { AreAt flow.now.table_id tokens }
     requires empty { list.items ≡ [] }
     requires room { count ≤ vec_capacity list }
-    ensures sent { IfSome result (λ r. Emits (numbers_from 1 count) tokens.seat.knows r.0.seat.knows) }
-    ensures received { IfSome result (λ r. Reads tokens.subscription.number r.1.items
-        tokens.subscription.token.knows r.0.subscription.token.knows) }
-    ensures count { IfSome result (λ r. length r.1.items ≡ count) }
-    ensures seat { IfSome result (λ r. r.0.seat.table_id ≡ flow.entry.now.table_id) }
-    ensures subscription { IfSome result (λ r. r.0.subscription.token.table_id ≡ flow.entry.now.table_id) }
+    ensures { IfSome result (λ r. HandsOver flow.entry.now.table_id count tokens r.0 r.1.items) }
 {
     let Tokens { seat, subscription } = tokens;
-    let promise = SendsAll {
-        seat: Snapshot::of(&seat),
-        count,
-    };
-    let Ok(sender) = scope.spawn_with(promise, move || send_numbers(rt, flow, seat, count)) else {
-        return None;
-    };
+    let sender = start_emitter(rt, scope, flow, seat, 1, count)?;
     let mut reader = flow.reader(subscription);
     let got = receive_all(rt, &mut reader, count, list);
     let subscription = reader.into_subscription();
@@ -94,39 +54,26 @@ fn in_two_threads<R: Threads + Wait + Sync>(
     list: Vec<u64>,
     count: u64,
 ) -> Option<(Tokens, Vec<u64>)>
-    requires seat { tokens.seat.table_id ≡ flow.now.table_id }
-    requires subscription { tokens.subscription.token.table_id ≡ flow.now.table_id }
+    requires tokens { AreAt flow.now.table_id tokens }
     requires empty { list.items ≡ [] }
     requires room { count ≤ vec_capacity list }
-    ensures sent { IfSome result (λ r. Emits (numbers_from 1 count) tokens.seat.knows r.0.seat.knows) }
-    ensures received { IfSome result (λ r. Reads tokens.subscription.number r.1.items
-        tokens.subscription.token.knows r.0.subscription.token.knows) }
-    ensures count { IfSome result (λ r. length r.1.items ≡ count) }
-    ensures seat { IfSome result (λ r. r.0.seat.table_id ≡ flow.now.table_id) }
-    ensures subscription { IfSome result (λ r. r.0.subscription.token.table_id ≡ flow.now.table_id) }
+    ensures { IfSome result (λ r. HandsOver flow.now.table_id count tokens r.0 r.1.items) }
 {
     thread::scope(
         thread::scope_env(),
         rt,
         move |scope| -> Option<(Tokens, Vec<u64>)>
-            requires seat { tokens.seat.table_id ≡ flow.now.table_id }
-            requires subscription { tokens.subscription.token.table_id ≡ flow.now.table_id }
+            requires tokens { AreAt flow.now.table_id tokens }
             requires empty { list.items ≡ [] }
             requires room { count ≤ vec_capacity list }
-            ensures sent { IfSome result (λ r. Emits (numbers_from 1 count) tokens.seat.knows r.0.seat.knows) }
-            ensures received { IfSome result (λ r. Reads tokens.subscription.number r.1.items
-                tokens.subscription.token.knows r.0.subscription.token.knows) }
-            ensures count { IfSome result (λ r. length r.1.items ≡ count) }
-            ensures seat { IfSome result (λ r. r.0.seat.table_id ≡ flow.entry.now.table_id) }
-            ensures subscription { IfSome result (λ r. r.0.subscription.token.table_id ≡ flow.entry.now.table_id) }
+            ensures { IfSome result (λ r. HandsOver flow.entry.now.table_id count tokens r.0 r.1.items) }
         { send_and_receive(rt, scope, flow, tokens, list, count) },
     )
 }
 
 /// Lets the two callers meet, once their threads have ended: a history of the flow has all that they did, and nothing else.
 fn meet<R: Wait>(rt: &R, flow: &SharedFlow<u64>, tokens: Tokens)
-    requires seat { tokens.seat.table_id ≡ flow.now.table_id }
-    requires subscription { tokens.subscription.token.table_id ≡ flow.now.table_id }
+    requires { AreAt flow.now.table_id tokens }
     ensures closed { HasClosedHistory shared_flow flow.now.first
         (tokens.seat.knows ∷ tokens.subscription.token.knows ∷ []) }
 {
@@ -145,10 +92,7 @@ fn hand_over<R: Threads + Wait + Sync>(
     list: Vec<u64>,
     count: u64,
 ) -> Option<Vec<u64>>
-    requires suspends { flow.now.first.config.overflow ≡ Overflow.Suspend }
-    requires buffer { 0 < flow.now.first.config.replay + flow.now.first.config.extra }
-    requires table { seat.table_id ≡ flow.now.table_id }
-    requires first { seat.knows ≡ first_knowledge }
+    requires new { IsNewFlow flow.now seat }
     requires empty { list.items ≡ [] }
     requires room { count ≤ vec_capacity list }
     ensures { IfSome result (λ got. got.items ≡ numbers_from 1 count) }

@@ -56,8 +56,8 @@ meet_twice-requires-clause-readers g c = λ k d l.
     (ap (λ r. r.flow.table_id) (apart.reader k d any low)
     ∙ ap (λ f. f.table_id) (sym (c.in_ok-readers.ensures.flow ∙ c.others.ensures.flow ∙ ap (λ m. m.flow) c.emitter-maker.ensures)))
 
-pub returns-clause-got : goal.returns-clause-got
-returns-clause-got g c =
+pub returns : goal.returns
+returns g c =
     let size = c.args.size in let flow = c.args.flow.now in let now = c.subscribe_all.new.maker in let before = c.others.new.self in
     let made = c.in-Ok.ensures in let emitting = c.in_ok-emitting.ensures in let joined = c.in-Ok-join_promised.ensures in let n = c.from.result in let bound = c.in_ok-emitters.ensures in
     let subscribed = c.in_ok-readers.ensures in let reading = c.in_ok-reading.ensures in let joined_readers = c.in-Ok-join_promised-2.ensures in let apart = c.in_ok-readers-2.ensures in
@@ -83,10 +83,13 @@ returns-clause-got g c =
     (subst (λ t. WillRead flow.table_id start c.emitted.result t.promise) (sym h.handle_is) (reading.promised i h.handle d (let m = subscribed.count in omega (arith, m, l)))) h.kept in
     read_apart (λ v. v.items) (done_by now.token.knows) i before.token.knows.made size.emitters c.emitted.result (size.emitters * size.values) flow (get_or rs i d) (get_or gots i v) end
     (apart.reader i d (d.subscription, v) there) (apart.list i v (d.subscription, v) there) began c.emitted.ensures is.1 is.2 in
-    λ i v l. each_got_all (λ v. v.items) flow.first c.requires.suspends c.requires.buffer size now.token.knows subscribed.maker (subscribed.made ∙ ap (λ m. m + size.subscribers) began)
-    es rs gots le lr lg emitted read
-    (subst (λ f. HasClosedHistory shared_flow f.first (now.token.knows ∷ (map (λ w. w.token.knows) es ++ map (λ r. r.subscription.token.knows) rs))) (subscribed.flow ∙ made.flow ∙ ap (λ m. m.flow) is_maker)
-    (subst (λ xs. HasClosedHistory shared_flow now.flow.first (now.token.knows ∷ (map (λ w. w.token.knows) es ++ map (λ r. r.subscription.token.knows) xs))) c.deref_mut-2.ensures.value
-    (subst (λ xs. HasClosedHistory shared_flow now.flow.first (now.token.knows ∷ (map (λ w. w.token.knows) xs ++ map (λ r. r.subscription.token.knows) c.deref_mut-2.result.now))) c.deref_mut.ensures.value
-    c.meet_twice.ensures.closed)))
-    i v (omega (arith, lg, l))
+    record {
+      count = apart.got ∙ so_many;
+      each = λ i v l. each_got_all (λ v. v.items) flow.first c.requires.suspends c.requires.buffer size now.token.knows subscribed.maker (subscribed.made ∙ ap (λ m. m + size.subscribers) began)
+          es rs gots le lr lg emitted read
+          (subst (λ f. HasClosedHistory shared_flow f.first (now.token.knows ∷ (map (λ w. w.token.knows) es ++ map (λ r. r.subscription.token.knows) rs))) (subscribed.flow ∙ made.flow ∙ ap (λ m. m.flow) is_maker)
+          (subst (λ xs. HasClosedHistory shared_flow now.flow.first (now.token.knows ∷ (map (λ w. w.token.knows) es ++ map (λ r. r.subscription.token.knows) xs))) c.deref_mut-2.ensures.value
+          (subst (λ xs. HasClosedHistory shared_flow now.flow.first (now.token.knows ∷ (map (λ w. w.token.knows) xs ++ map (λ r. r.subscription.token.knows) c.deref_mut-2.result.now))) c.deref_mut.ensures.value
+          c.meet_twice.ensures.closed)))
+          i v (omega (arith, lg, l));
+    }
