@@ -19,7 +19,7 @@ pub fn crowd_text(alloc: Global, got: &[Vec<u64>], size: CrowdSize) -> Result<St
     Ok(text)
 }
 
-/// Adds the line of each subscriber. Each got all in order: else the list would not be what `run_crowd` returns.
+/// Adds a line for each subscriber, from number 1 on. Each line ends with `in order`: `run_crowd` returns no other lists.
 fn add_subscribers(text: &mut String, got: &[Vec<u64>], size: CrowdSize) -> Result<(), AllocError>
     requires { All (λ list. GotAll size list.items) got.now }
     ensures { OnOk result (string_bytes text.new
