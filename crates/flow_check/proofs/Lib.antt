@@ -11,9 +11,13 @@ pub mod StateJudging
 pub mod LagLemmas
 pub mod QueueLemmas
 pub mod SharedSeats
+pub mod SharedNewSeats
 pub mod SharedStanding
+pub mod SharedOffering
 pub mod SharedEmitting
 pub mod SharedCalls
+pub mod SharedSubscribing
+pub mod SharedCancelling
 pub mod SharedMoves
 pub mod SharedSteps
 pub mod SharedReplies

@@ -20,7 +20,8 @@ use Rattle.flow_check.specs.declared.shared_machine.Held.{Held}
 use Rattle.flow_check.specs.SharedMachine.{Kept, most_lag, raised, capacity, window, append, admit, settle}
 use Rattle.flow_check.proofs.LagLemmas.{most_raised}
 use Rattle.flow_check.proofs.SharedSeats.{SeatsAs, moves_none, moves_all, seats_moved}
-use Rattle.flow_check.proofs.SharedStanding.{IsEmitter, ValuesAs, Queued, OnceWaits, WaitsAs, SeatsOf, ValuesOf, StandsAs, blocked_same, free_below, or_right}
+use Rattle.flow_check.proofs.SharedStanding.{IsEmitter, ValuesAs, Queued, OnceWaits, WaitsAs, SeatsOf, ValuesOf, StandsAs, or_right}
+use Rattle.flow_check.proofs.SharedOffering.{blocked_same, free_below}
 
 -- ---- values
 

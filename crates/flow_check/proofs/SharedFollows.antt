@@ -29,11 +29,12 @@ use Rattle.flow_check.specs.SharedMachine.{Kept, done, done_if, cancel, settle, 
 use Rattle.flow_check.proofs.QueueLemmas.{eqb_same, values_same}
 use Rattle.flow_check.proofs.Bridging.{Follows}
 use Rattle.flow_check.proofs.SharedSeats.{its_seat}
-use Rattle.flow_check.proofs.SharedStanding.{StandsAs, free_mine}
+use Rattle.flow_check.proofs.SharedStanding.{StandsAs}
 use Rattle.flow_check.proofs.SharedCalls.{later, reset}
 use Rattle.flow_check.proofs.SharedSteps.{next_told, try_told, emit_told, free_seat, subscribe_told, next_told_of, next_gone, left_told, cancel_told, cache_same}
 use Rattle.flow_check.proofs.SharedReplies.{Reply, same_own, own_agrees, replied_own}
 use Rattle.flow_check.proofs.SharedEvents.{first_of, StandsIn, in_order, told, goes_on, stays_on}
+use Rattle.flow_check.proofs.SharedOffering.{free_mine}
 
 module _ (callers : Calls SharedEntry) (config : Config) (limit : ℕ) where
   abbrev first : SharedFlowState ℕ

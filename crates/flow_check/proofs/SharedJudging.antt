@@ -20,7 +20,7 @@ use Rattle.flow_check.specs.Remaining.{none_placed, GoesThroughAll}
 use Rattle.flow_check.specs.Verdicts.{Judges}
 use Rattle.flow_check.specs.SharedRecords.{AddsEntry, ExplainsShared}
 use Rattle.flow_check.specs.Subscribed.{none_subscribed}
-use Rattle.flow_check.specs.SharedMachine.{Kept, cached, cache, most_lag, own_left, no_values, stepped, may_skip}
+use Rattle.flow_check.specs.SharedMachine.{Kept, most_lag, own_left, no_values, stepped, may_skip}
 use Rattle.flow_check.proofs.KeptLemmas.{present-none, kept-none}
 use Rattle.flow_check.proofs.Places.{counts_none}
 use Rattle.flow_check.proofs.Ordering.{goes_explains, explains_goes}

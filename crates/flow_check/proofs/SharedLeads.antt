@@ -29,11 +29,12 @@ use Rattle.flow_check.specs.SharedMachine.{Kept, OwnAnswer, done, done_if, cance
 use Rattle.flow_check.proofs.QueueLemmas.{eqb_is, values_are}
 use Rattle.flow_check.proofs.Bridging.{Leads}
 use Rattle.flow_check.proofs.SharedSeats.{Seat}
-use Rattle.flow_check.proofs.SharedStanding.{StandsAs, free_theirs, waits_theirs}
+use Rattle.flow_check.proofs.SharedStanding.{StandsAs}
 use Rattle.flow_check.proofs.SharedCalls.{later, reset}
 use Rattle.flow_check.proofs.SharedSteps.{next_told, try_told, emit_told, no_seat, subscribe_told, next_told_of, left_told, cancel_told, cache_same}
 use Rattle.flow_check.proofs.SharedReplies.{Reply, Recorded, recorded_own, done_is, tested_is, counted_is, replies_of, fresh_try, fresh_emit, fresh_subscribe, limit_keeps}
 use Rattle.flow_check.proofs.SharedEvents.{first_of, StandsIn, in_order, told, goes_on, stays_on}
+use Rattle.flow_check.proofs.SharedOffering.{free_theirs, waits_theirs}
 
 module _ (callers : Calls SharedEntry) (config : Config) (limit : ℕ) where
   abbrev first : SharedFlowState ℕ

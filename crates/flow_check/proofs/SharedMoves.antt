@@ -23,9 +23,10 @@ use Rattle.flow_check.specs.SharedRecords.{HasNoEmission}
 use Rattle.flow_check.specs.Subscribed.{present}
 use Rattle.flow_check.specs.SharedMachine.{Kept, most_lag, raised, capacity, window, is_blocked, when_blocked, emit_case, append, hold}
 use Rattle.flow_check.proofs.LagLemmas.{most_absent, present-map}
-use Rattle.flow_check.proofs.SharedSeats.{seats_emitter}
-use Rattle.flow_check.proofs.SharedStanding.{IsEmitter, OnceWaits, SeatsOf, ValuesOf, StandsAs, emitter_same, queue_snoc, queue_older, or_right, blocked_same, offers_some}
+use Rattle.flow_check.proofs.SharedStanding.{IsEmitter, OnceWaits, SeatsOf, ValuesOf, StandsAs, emitter_same, queue_snoc, queue_older, or_right}
 use Rattle.flow_check.proofs.SharedEmitting.{seats_appended, seats_dropped, values_appended, waits_appended, once_fewer, newest_is}
+use Rattle.flow_check.proofs.SharedNewSeats.{seats_emitter}
+use Rattle.flow_check.proofs.SharedOffering.{blocked_same, offers_some}
 
 -- the checker's case of an emission
 abbrev pub as_own : rule.EmitCase → EmitCase

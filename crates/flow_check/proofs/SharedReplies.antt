@@ -13,7 +13,7 @@ use Rattle.flow_law.specs.SharedFlow.{Answer, is_exhausted, is_offered_as, issui
 use Rattle.flow_law.specs.SharedFlow as law
 use Rattle.flow_law.specs.EmitRule as rule
 use Rattle.flow_law.specs.SharedStep as flow
-use Rattle.flow_law.specs.SharedHistory.{after, answer_to, reply_by, is_refused, Replies}
+use Rattle.flow_law.specs.SharedHistory.{answer_to, reply_by, is_refused, Replies}
 use Rattle.flow_law.proofs.Boxes.{admit_subscribers}
 use Rattle.flow_law.proofs.Moves.{Keeps}
 use Rattle.flow_check.specs.declared.shared_calls.SharedAnswer.{SharedAnswer}

@@ -36,8 +36,10 @@ use Rattle.flow_check.proofs.LagLemmas.{lag_upto}
 use Rattle.flow_check.proofs.SharedSeats.{IsSeated, Seat}
 use Rattle.flow_check.proofs.SharedStanding.{IsEmitter, StandsAs}
 use Rattle.flow_check.proofs.SharedEmitting.{settled}
-use Rattle.flow_check.proofs.SharedCalls.{later, unsettled, received, took, left, subscribed, cancelled}
+use Rattle.flow_check.proofs.SharedCalls.{later, unsettled, received, took, left}
 use Rattle.flow_check.proofs.SharedMoves.{as_own, case_same, Facts, facts, appended, dropped, offered, held}
+use Rattle.flow_check.proofs.SharedSubscribing.{subscribed}
+use Rattle.flow_check.proofs.SharedCancelling.{cancelled}
 
 abbrev Reply : Type 0
 Reply = SharedReply ℕ
