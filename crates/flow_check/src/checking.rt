@@ -35,8 +35,8 @@ pub fn check<C: Copy, M: Machine<C>>(
             }
             Ok(Verdict::GaveUp)
         }
-        Found::Table(nodes) => {
-            let yes = refutes(alloc, first, callers, nodes.as_slice())?;
+        Found::Table(nodes, places) => {
+            let yes = refutes(alloc, first, callers, nodes.as_slice(), &places)?;
             if yes {
                 return Ok(Verdict::Illegal);
             }

@@ -16,6 +16,7 @@
 
 mod checking;
 mod machine;
+mod marks;
 mod node;
 mod record;
 mod refuting;

@@ -27,6 +27,6 @@ pub trait Machine<C>: Drop {
     fn same(&self, other: &Self) -> bool
         ensures { IsTrue result → self.now ≡ other.now };
 
-    /// Writes numbers by which a search finds the state again.
-    fn write_key(&self, key: &mut Vec<u64>) -> Result<(), AllocError>;
+    /// Mixes the state into a number by which a search finds it again.
+    fn mixed_into(&self, mark: u64) -> u64;
 }

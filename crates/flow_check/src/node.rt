@@ -1,15 +1,16 @@
 //! The nodes of a search.
 ghost use Rattle.std.specs.Prelude.{◌≡◌};
 
-/// A state, how many calls of each caller have happened in it, and for each caller the places in the
-/// table of the nodes that the caller's next call leads to: where it is made, and where it is
-/// skipped.
+use crate::machine::Machine;
+use crate::marks::{FIRST_MARK, mix};
+use std::alloc::{AllocError, Global};
+use std::collections::HashMap;
+
+/// A state, and how many calls of each caller have happened in it.
 #[derive(Drop)]
 pub struct Node<S> {
     pub state: S,
-    pub placed: Vec<usize>,
-    pub edges: Vec<usize>,
-    pub skips: Vec<usize>,
+    pub placed: Vec<u32>,
 }
 
 /// A turn of an order: a caller's next call is made, or is skipped since it may have done nothing.
@@ -17,4 +18,43 @@ pub struct Node<S> {
 pub struct Move {
     pub caller: usize,
     pub skips: bool,
+}
+
+/// Where the nodes of a table are, by a number of each. If two nodes have the same number only the place of one is known.
+#[derive(Drop)]
+pub struct Places {
+    by_mark: HashMap<u64, usize>,
+}
+
+fn mark_of<C, M: Machine<C>>(state: &M, placed: &Vec<u32>) -> u64 {
+    let mut mark = FIRST_MARK;
+    for count in placed.as_slice() {
+        mark = mix(mark, *count as u64);
+    }
+    state.mixed_into(mark)
+}
+
+impl Places {
+    pub fn new(alloc: Global) -> Places {
+        Places {
+            by_mark: HashMap::new(alloc),
+        }
+    }
+
+    /// Returns where a state with these counts of calls may be.
+    pub fn find<C, M: Machine<C>>(&self, state: &M, placed: &Vec<u32>) -> Option<usize> {
+        let mark = mark_of(state, placed);
+        self.by_mark.get(&mark).copied()
+    }
+
+    /// Keeps the place of a node.
+    pub fn add<C, M: Machine<C>>(
+        &mut self,
+        node: &Node<M>,
+        place: usize,
+    ) -> Result<(), AllocError> {
+        let mark = mark_of(&node.state, &node.placed);
+        let _ = self.by_mark.insert(mark, place)?;
+        Ok(())
+    }
 }

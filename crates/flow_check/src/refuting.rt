@@ -4,18 +4,13 @@ ghost use Rattle.flow_check.specs.Remaining.{GoesThroughAll, none_placed, placin
 ghost use Rattle.flow_check.specs.Tables.{IsInTable, IsFollowedAt, IsFollowed, IsClosed};
 
 use crate::machine::Machine;
-use crate::node::Node;
+use crate::node::{Node, Places};
 use crate::remaining::{may_come_next, next_call, none_placed, owes_nothing, place};
 use crate::timed::Timed;
 use std::alloc::{AllocError, Global};
 
 /// Returns whether the node at this place has this state, in which so many calls have happened.
-fn is_node<C, M: Machine<C>>(
-    nodes: &[Node<M>],
-    place: usize,
-    state: &M,
-    placed: &Vec<usize>,
-) -> bool
+fn is_node<C, M: Machine<C>>(nodes: &[Node<M>], place: usize, state: &M, placed: &Vec<u32>) -> bool
     ensures { IsTrue result → IsInTable nodes.now state.now placed.now.items }
 {
     if place >= nodes.len() {
@@ -28,12 +23,12 @@ fn is_node<C, M: Machine<C>>(
     node.placed.as_slice() == placed.as_slice()
 }
 
-/// Returns whether the table has this state after one more call of the caller, at this place.
+/// Returns whether the table has this state after one more call of the caller.
 fn is_placed<C, M: Machine<C>>(
     alloc: Global,
     nodes: &[Node<M>],
+    places: &Places,
     node: &Node<M>,
-    at: usize,
     caller: usize,
     after: &M,
 ) -> Result<bool, AllocError>
@@ -44,6 +39,9 @@ fn is_placed<C, M: Machine<C>>(
     if !place(&mut placed, caller) {
         return Ok(false);
     }
+    let Some(at) = places.find(after, &placed) else {
+        return Ok(false);
+    };
     let yes = is_node(nodes, at, after, &placed);
     Ok(yes)
 }
@@ -52,6 +50,7 @@ fn is_placed<C, M: Machine<C>>(
 fn is_made_followed<C, M: Machine<C>>(
     alloc: Global,
     nodes: &[Node<M>],
+    places: &Places,
     node: &Node<M>,
     caller: usize,
     call: &C,
@@ -64,10 +63,7 @@ fn is_made_followed<C, M: Machine<C>>(
     let Some(after) = stepped else {
         return Ok(true);
     };
-    let Some(at) = node.edges.as_slice().get(caller) else {
-        return Ok(false);
-    };
-    let yes = is_placed(alloc, nodes, node, *at, caller, &after)?;
+    let yes = is_placed(alloc, nodes, places, node, caller, &after)?;
     Ok(yes)
 }
 
@@ -75,6 +71,7 @@ fn is_made_followed<C, M: Machine<C>>(
 fn is_skip_followed<C, M: Machine<C>>(
     alloc: Global,
     nodes: &[Node<M>],
+    places: &Places,
     node: &Node<M>,
     caller: usize,
     call: &C,
@@ -85,19 +82,16 @@ fn is_skip_followed<C, M: Machine<C>>(
     if !node.state.may_skip(call) {
         return Ok(true);
     }
-    let Some(at) = node.skips.as_slice().get(caller) else {
-        return Ok(false);
-    };
-    let yes = is_placed(alloc, nodes, node, *at, caller, &node.state)?;
+    let yes = is_placed(alloc, nodes, places, node, caller, &node.state)?;
     Ok(yes)
 }
 
-/// Returns whether the table has what follows if this caller's next call happens, at the places
-/// that the node names.
+/// Returns whether the table has what follows if this caller's next call happens.
 fn is_followed_at<C: Copy, M: Machine<C>>(
     alloc: Global,
     callers: &[Vec<Timed<C>>],
     nodes: &[Node<M>],
+    places: &Places,
     node: &Node<M>,
     caller: usize,
 ) -> Result<bool, AllocError>
@@ -110,11 +104,11 @@ fn is_followed_at<C: Copy, M: Machine<C>>(
     if !may_come_next(callers, &node.placed, call.begin) {
         return Ok(true);
     }
-    let made = is_made_followed(alloc, nodes, node, caller, &call.call)?;
+    let made = is_made_followed(alloc, nodes, places, node, caller, &call.call)?;
     if !made {
         return Ok(false);
     }
-    let skipped = is_skip_followed(alloc, nodes, node, caller, &call.call)?;
+    let skipped = is_skip_followed(alloc, nodes, places, node, caller, &call.call)?;
     Ok(skipped)
 }
 
@@ -123,6 +117,7 @@ fn is_followed<C: Copy, M: Machine<C>>(
     alloc: Global,
     callers: &[Vec<Timed<C>>],
     nodes: &[Node<M>],
+    places: &Places,
     node: &Node<M>,
 ) -> Result<bool, AllocError>
     ensures { IfOk result (λ yes. IsTrue yes →
@@ -130,7 +125,7 @@ fn is_followed<C: Copy, M: Machine<C>>(
         × (OwesNothing callers.now node.now.placed.items → ⊥)) }
 {
     for caller in 0..callers.len() {
-        let yes = is_followed_at(alloc, callers, nodes, node, caller)?;
+        let yes = is_followed_at(alloc, callers, nodes, places, node, caller)?;
         if !yes {
             return Ok(false);
         }
@@ -143,11 +138,12 @@ fn is_closed<C: Copy, M: Machine<C>>(
     alloc: Global,
     callers: &[Vec<Timed<C>>],
     nodes: &[Node<M>],
+    places: &Places,
 ) -> Result<bool, AllocError>
     ensures { IfOk result (λ yes. IsTrue yes → IsClosed M.stepped M.may_skip callers.now nodes.now) }
 {
     for node in nodes {
-        let yes = is_followed(alloc, callers, nodes, node)?;
+        let yes = is_followed(alloc, callers, nodes, places, node)?;
         if !yes {
             return Ok(false);
         }
@@ -170,12 +166,13 @@ fn begins<C, M: Machine<C>>(
     Ok(yes)
 }
 
-/// Returns whether the table shows that no order goes through the calls. The table is not trusted.
+/// Returns whether the table shows that no order goes through the calls. Neither the table nor the places are trusted.
 pub fn refutes<C: Copy, M: Machine<C>>(
     alloc: Global,
     first: &M,
     callers: &[Vec<Timed<C>>],
     nodes: &[Node<M>],
+    places: &Places,
 ) -> Result<bool, AllocError>
     ensures { IfOk result (λ yes. IsTrue yes →
         (order : List ℕ) → GoesThroughAll M.stepped M.may_skip callers.now first.now order → ⊥) }
@@ -184,6 +181,6 @@ pub fn refutes<C: Copy, M: Machine<C>>(
     if !yes {
         return Ok(false);
     }
-    let closed = is_closed(alloc, callers, nodes)?;
+    let closed = is_closed(alloc, callers, nodes, places)?;
     Ok(closed)
 }

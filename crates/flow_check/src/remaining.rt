@@ -18,13 +18,13 @@ pub fn recorded<C: Copy>(callers: &[Vec<Timed<C>>], caller: usize, index: usize)
 /// Returns a caller's first call that has not happened.
 pub fn next_call<C: Copy>(
     callers: &[Vec<Timed<C>>],
-    placed: &Vec<usize>,
+    placed: &Vec<u32>,
     caller: usize,
 ) -> Option<Timed<C>>
     ensures { result ≡ next_of callers.now placed.now.items caller }
 {
     let index = placed.as_slice().get(caller)?;
-    let call = recorded(callers, caller, *index)?;
+    let call = recorded(callers, caller, *index as usize)?;
     Some(call)
 }
 
@@ -39,7 +39,7 @@ pub fn is_over_before(end: Option<u64>, moment: u64) -> bool
 }
 
 /// Returns whether no caller's next call was over before this moment.
-pub fn may_come_next<C: Copy>(callers: &[Vec<Timed<C>>], placed: &Vec<usize>, begin: u64) -> bool
+pub fn may_come_next<C: Copy>(callers: &[Vec<Timed<C>>], placed: &Vec<u32>, begin: u64) -> bool
     ensures yes { IsTrue result → NoneOverBefore callers.now begin placed.now.items }
     ensures no { NoneOverBefore callers.now begin placed.now.items → IsTrue result }
 {
@@ -54,7 +54,7 @@ pub fn may_come_next<C: Copy>(callers: &[Vec<Timed<C>>], placed: &Vec<usize>, be
 }
 
 /// Returns whether every caller's next call is pending.
-pub fn owes_nothing<C: Copy>(callers: &[Vec<Timed<C>>], placed: &Vec<usize>) -> bool
+pub fn owes_nothing<C: Copy>(callers: &[Vec<Timed<C>>], placed: &Vec<u32>) -> bool
     ensures yes { IsTrue result → OwesNothing callers.now placed.now.items }
     ensures no { OwesNothing callers.now placed.now.items → IsTrue result }
 {
@@ -69,10 +69,10 @@ pub fn owes_nothing<C: Copy>(callers: &[Vec<Timed<C>>], placed: &Vec<usize>) -> 
 }
 
 /// Counts one more call of this caller if it returns true.
-pub fn place(placed: &mut Vec<usize>, caller: usize) -> bool
+pub fn place(placed: &mut Vec<u32>, caller: usize) -> bool
     ensures { IsTrue result → placed.new.items ≡ placing caller placed.old.items }
 {
-    if caller < placed.len() && placed[caller] < usize::MAX {
+    if caller < placed.len() && placed[caller] < u32::MAX {
         placed[caller] += 1;
         true
     } else {
@@ -81,7 +81,7 @@ pub fn place(placed: &mut Vec<usize>, caller: usize) -> bool
 }
 
 /// Returns how many calls of each caller have happened before any call: none.
-pub fn none_placed<C>(alloc: Global, callers: &[Vec<Timed<C>>]) -> Result<Vec<usize>, AllocError>
+pub fn none_placed<C>(alloc: Global, callers: &[Vec<Timed<C>>]) -> Result<Vec<u32>, AllocError>
     ensures { IfOk result (λ placed. placed.items ≡ none_placed callers.now) }
 {
     let mut placed = Vec::new(alloc);

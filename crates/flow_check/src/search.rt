@@ -1,44 +1,55 @@
 //! Searches for an order. Nothing is promised of what it finds, so its caller checks that.
-ghost use Rattle.std.specs.Prelude.{◌≡◌, ◌≤◌, length};
+ghost use Rattle.std.specs.Prelude.{◌≡◌};
 
 use crate::machine::Machine;
-use crate::node::{Move, Node};
+use crate::node::{Move, Node, Places};
 use crate::remaining::{next_call, none_placed, owes_nothing, place};
 use crate::timed::Timed;
 use std::alloc::{AllocError, Global};
-use std::collections::HashMap;
-
-/// An odd number whose bits have no pattern.
-const FACTOR: u64 = 0x9e37_79b9_7f4a_7c15;
 
 /// What the search found.
 #[derive(Drop)]
 pub enum Found<M> {
     Order(Vec<Move>),
     /// It found no order, and went through all of these nodes.
-    Table(Vec<Node<M>>),
+    Table(Vec<Node<M>>, Places),
     GaveUp,
 }
 
-/// A caller whose next call may come next, and the end of that call.
+/// A turn that may come next, and the end of its call.
 #[derive(Clone, Copy)]
-struct Waiting {
+struct Candidate {
     turn: Move,
     end: u64,
 }
 
-/// A node of the path, and the callers that were not tried there. The last one is tried first.
-#[derive(Drop)]
-struct Frame {
-    node: usize,
-    todo: Vec<Waiting>,
+impl Candidate {
+    /// Returns whether this turn is tried before another one: calls that end first are, and a call that may be skipped is made
+    /// first.
+    fn is_before(self, other: Candidate) -> bool {
+        if self.end != other.end {
+            return self.end < other.end;
+        }
+        if self.turn.caller != other.turn.caller {
+            return self.turn.caller < other.turn.caller;
+        }
+        !self.turn.skips && other.turn.skips
+    }
+
+    /// Returns whether this turn is tried after another one, if there was one.
+    fn is_after(self, last: Option<Candidate>) -> bool {
+        match last {
+            None => true,
+            Some(last) => last.is_before(self),
+        }
+    }
 }
 
-/// What follows if a caller's next call happens.
-#[derive(Drop)]
-struct Following<M> {
-    state: M,
-    placed: Vec<usize>,
+/// A node of the path, and the turn that was tried last there.
+#[derive(Clone, Copy)]
+struct Frame {
+    node: usize,
+    tried: Option<Candidate>,
 }
 
 enum Turn {
@@ -56,86 +67,82 @@ fn end_of<C: Copy>(call: &Timed<C>) -> u64 {
     }
 }
 
-/// Returns the place of a caller with this end among those that end later.
-fn place_of(todo: &[Waiting], end: u64) -> usize
-    ensures { result ≤ length todo.now }
-{
-    for (index, waiting) in todo.iter().enumerate() {
-        if waiting.end <= end {
-            return index;
-        }
-    }
-    todo.len()
-}
-
-/// Returns the turns of callers whose next call may come next, the latest end first. A call that may
-/// be skipped is made first.
-fn candidates<C: Copy, M: Machine<C>>(
-    alloc: Global,
-    callers: &[Vec<Timed<C>>],
-    state: &M,
-    placed: &Vec<usize>,
-) -> Result<Vec<Waiting>, AllocError> {
+/// Returns the first end of the callers' next calls. No call that begins later may come next.
+pub fn deadline_of<C: Copy>(callers: &[Vec<Timed<C>>], placed: &Vec<u32>) -> u64 {
     let mut deadline = u64::MAX;
     for caller in 0..callers.len() {
         if let Some(call) = next_call(callers, placed, caller) {
-            let end = end_of(&call);
-            if end < deadline {
-                deadline = end;
-            }
+            deadline = deadline.min(end_of(&call));
         }
     }
-    let mut todo = Vec::new(alloc);
+    deadline
+}
+
+/// Returns the first turn of a caller that is tried after the last one, if its next call may come next.
+fn turn_of<C: Copy, M: Machine<C>>(
+    callers: &[Vec<Timed<C>>],
+    node: &Node<M>,
+    caller: usize,
+    deadline: u64,
+    last: Option<Candidate>,
+) -> Option<Candidate> {
+    let call = next_call(callers, &node.placed, caller)?;
+    if call.begin > deadline {
+        return None;
+    }
+    let turn = Move {
+        caller,
+        skips: false,
+    };
+    let end = end_of(&call);
+    let made = Candidate { turn, end };
+    if made.is_after(last) {
+        return Some(made);
+    }
+    let turn = Move {
+        caller,
+        skips: true,
+    };
+    let skipped = Candidate { turn, end };
+    (node.state.may_skip(&call.call) && skipped.is_after(last)).then_some(skipped)
+}
+
+/// Returns the turn that is tried after the last one at a node.
+fn turn_after<C: Copy, M: Machine<C>>(
+    callers: &[Vec<Timed<C>>],
+    node: &Node<M>,
+    last: Option<Candidate>,
+) -> Option<Candidate> {
+    let deadline = deadline_of(callers, &node.placed);
+    let mut first: Option<Candidate> = None;
     for caller in 0..callers.len() {
-        if let Some(call) = next_call(callers, placed, caller) {
-            if call.begin <= deadline {
-                let end = end_of(&call);
-                let at = place_of(todo.as_slice(), end);
-                let turn = Move {
-                    caller,
-                    skips: false,
-                };
-                todo.insert(at, Waiting { turn, end })?;
-                if state.may_skip(&call.call) {
-                    let turn = Move {
-                        caller,
-                        skips: true,
-                    };
-                    todo.insert(at, Waiting { turn, end })?;
-                }
+        if let Some(candidate) = turn_of(callers, node, caller, deadline, last) {
+            if first.is_none_or(|other| candidate.is_before(other)) {
+                first = Some(candidate);
             }
         }
     }
-    Ok(todo)
+    first
 }
 
-/// Returns a number by which a state with its counts of calls is found again. Should two have the same number, the table is
-/// not closed, and its caller sees that.
-fn mark_of<C, M: Machine<C>>(
-    state: &M,
-    placed: &Vec<usize>,
-    key: &mut Vec<u64>,
-) -> Result<u64, AllocError> {
-    key.clear();
-    for count in placed.as_slice() {
-        key.push(*count as u64)?;
-    }
-    state.write_key(key)?;
-    let mut mark = FACTOR;
-    for word in key.as_slice() {
-        mark = (mark ^ *word).wrapping_mul(FACTOR);
-        mark ^= mark >> 32;
-    }
-    Ok(mark)
-}
-
-fn take_turn(stack: &mut Vec<Frame>) -> Turn {
-    match stack.last_mut() {
-        None => Turn::End,
-        Some(frame) => match frame.todo.pop() {
-            None => Turn::Back,
-            Some(waiting) => Turn::Try(frame.node, waiting.turn),
-        },
+/// Takes the next turn of the last node of the path.
+fn take_turn<C: Copy, M: Machine<C>>(
+    callers: &[Vec<Timed<C>>],
+    nodes: &[Node<M>],
+    path: &mut Vec<Frame>,
+) -> Turn {
+    let Some(frame) = path.last_mut() else {
+        return Turn::End;
+    };
+    let Some(node) = nodes.get(frame.node) else {
+        return Turn::Back;
+    };
+    match turn_after(callers, node, frame.tried) {
+        None => Turn::Back,
+        Some(candidate) => {
+            frame.tried = Some(candidate);
+            Turn::Try(frame.node, candidate.turn)
+        }
     }
 }
 
@@ -146,7 +153,7 @@ fn advance<C: Copy, M: Machine<C>>(
     nodes: &[Node<M>],
     at: usize,
     turn: Move,
-) -> Result<Option<Following<M>>, AllocError> {
+) -> Result<Option<Node<M>>, AllocError> {
     let Some(node) = nodes.get(at) else {
         return Ok(None);
     };
@@ -165,49 +172,35 @@ fn advance<C: Copy, M: Machine<C>>(
     if !place(&mut placed, turn.caller) {
         return Ok(None);
     }
-    Ok(Some(Following { state, placed }))
+    Ok(Some(Node { state, placed }))
 }
 
-/// Writes down the node to which a turn leads. A node has room for skipped calls once one is.
-fn set_edge<M>(
-    callers: usize,
+/// Returns the turns that were tried last.
+fn turns_of(alloc: Global, path: &[Frame]) -> Result<Vec<Move>, AllocError> {
+    let mut turns = Vec::new(alloc);
+    for frame in path {
+        if let Some(candidate) = frame.tried {
+            turns.push(candidate.turn)?;
+        }
+    }
+    Ok(turns)
+}
+
+/// Adds a node to the table and to the path.
+fn go_to<C, M: Machine<C>>(
     nodes: &mut Vec<Node<M>>,
-    at: usize,
-    turn: Move,
-    next: usize,
+    places: &mut Places,
+    path: &mut Vec<Frame>,
+    node: Node<M>,
 ) -> Result<(), AllocError> {
-    if let Some(node) = nodes.get_mut(at) {
-        if turn.skips && node.skips.is_empty() {
-            node.skips.resize(callers, usize::MAX)?;
-        }
-        let edges = if turn.skips {
-            &mut node.skips
-        } else {
-            &mut node.edges
-        };
-        if let Some(edge) = edges.get_mut(turn.caller) {
-            *edge = next;
-        }
-    }
+    let place = nodes.len();
+    places.add(&node, place)?;
+    nodes.push(node)?;
+    path.push(Frame {
+        node: place,
+        tried: None,
+    })?;
     Ok(())
-}
-
-fn new_node<C, M: Machine<C>>(
-    alloc: Global,
-    callers: &[Vec<Timed<C>>],
-    state: M,
-    placed: Vec<usize>,
-) -> Result<Node<M>, AllocError> {
-    let mut edges = Vec::new(alloc);
-    for _caller in callers {
-        edges.push(usize::MAX)?;
-    }
-    Ok(Node {
-        state,
-        placed,
-        edges,
-        skips: Vec::new(alloc),
-    })
 }
 
 /// Goes through states and counts of calls that have happened, each once, until an order is found
@@ -218,48 +211,32 @@ pub fn search<C: Copy, M: Machine<C>>(
     callers: &[Vec<Timed<C>>],
     budget: u64,
 ) -> Result<Found<M>, AllocError> {
-    let mut path = Vec::new(alloc);
     let placed = none_placed(alloc, callers)?;
     if owes_nothing(callers, &placed) {
-        return Ok(Found::Order(path));
+        return Ok(Found::Order(Vec::new(alloc)));
     }
     let state = first.try_copy(alloc)?;
-    let mut known = HashMap::new(alloc);
-    let mut key = Vec::new(alloc);
-    let _ = known.insert(mark_of(&state, &placed, &mut key)?, 0)?;
     let mut nodes = Vec::new(alloc);
-    let mut stack = Vec::new(alloc);
-    let todo = candidates(alloc, callers, &state, &placed)?;
-    stack.push(Frame { node: 0, todo })?;
-    nodes.push(new_node(alloc, callers, state, placed)?)?;
+    let mut places = Places::new(alloc);
+    let mut path = Vec::new(alloc);
+    go_to(&mut nodes, &mut places, &mut path, Node { state, placed })?;
     for _ in 0..budget {
-        match take_turn(&mut stack) {
-            Turn::End => return Ok(Found::Table(nodes)),
+        match take_turn(callers, nodes.as_slice(), &mut path) {
+            Turn::End => return Ok(Found::Table(nodes, places)),
             Turn::Back => {
-                let _ = stack.pop();
                 let _ = path.pop();
             }
             Turn::Try(at, turn) => {
                 let Some(next) = advance(alloc, callers, nodes.as_slice(), at, turn)? else {
                     continue;
                 };
-                let mark = mark_of(&next.state, &next.placed, &mut key)?;
-                let seen = known.get(&mark).copied();
-                if let Some(index) = seen {
-                    set_edge(callers.len(), &mut nodes, at, turn, index)?;
+                if places.find(&next.state, &next.placed).is_some() {
                     continue;
                 }
-                let index = nodes.len();
-                let _ = known.insert(mark, index)?;
-                set_edge(callers.len(), &mut nodes, at, turn, index)?;
-                path.push(turn)?;
                 if owes_nothing(callers, &next.placed) {
-                    return Ok(Found::Order(path));
+                    return Ok(Found::Order(turns_of(alloc, path.as_slice())?));
                 }
-                let todo = candidates(alloc, callers, &next.state, &next.placed)?;
-                stack.push(Frame { node: index, todo })?;
-                let Following { state, placed } = next;
-                nodes.push(new_node(alloc, callers, state, placed)?)?;
+                go_to(&mut nodes, &mut places, &mut path, next)?;
             }
         }
     }

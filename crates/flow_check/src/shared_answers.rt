@@ -7,8 +7,9 @@ ghost use Rattle.flow_check.specs.SharedMachine.{own_left};
 ghost use Rattle.flow_check.specs.Subscribed.{kept_of};
 
 use crate::machine::Machine;
+use crate::marks::{mix, mix_all};
 use crate::shared_calls::{SharedAnswer, SharedEntry, SharedOperation};
-use crate::shared_machine::{EmitCase, SharedMachine, last_values};
+use crate::shared_machine::{EmitCase, Held, SharedMachine, last_values};
 use crate::shared_same::{
     are_same_lags, are_same_owns, are_same_values, is_same_config, is_same_lag, is_same_queue,
     same_values,
@@ -134,6 +135,34 @@ impl<'a> SharedMachine<'a> {
     }
 }
 
+/// Mixes what each caller has still to receive into a number.
+fn mix_lags(mark: u64, lags: &[Option<usize>]) -> u64 {
+    let mut mixed = mark;
+    for lag in lags {
+        mixed = match lag {
+            None => mix(mixed, 0),
+            Some(lag) => mix(mixed, (*lag as u64).wrapping_add(1)),
+        };
+    }
+    mixed
+}
+
+fn mix_owns(mark: u64, owns: &[&[u64]]) -> u64 {
+    let mut mixed = mark;
+    for own in owns {
+        mixed = mix_all(mixed, own);
+    }
+    mixed
+}
+
+fn mix_queue(mark: u64, queue: &[Held]) -> u64 {
+    let mut mixed = mark;
+    for held in queue {
+        mixed = mix(mix(mixed, held.caller as u64), held.value);
+    }
+    mixed
+}
+
 impl<'a> Machine<SharedEntry<'a>> for SharedMachine<'a> {
     ghost use Rattle.flow_check.specs.SharedMachine.{stepped, may_skip};
 
@@ -174,28 +203,12 @@ impl<'a> Machine<SharedEntry<'a>> for SharedMachine<'a> {
             && is_same_lag(self.offered, other.offered)
     }
 
-    fn write_key(&self, key: &mut Vec<u64>) -> Result<(), AllocError> {
-        key.push(self.cached as u64)?;
-        key.push(self.values.len() as u64)?;
-        key.extend_from_slice(self.values.as_slice())?;
-        for lag in self.lags.as_slice() {
-            key.push(match lag {
-                None => u64::MAX,
-                Some(lag) => *lag as u64,
-            })?;
-        }
-        for own in self.owns.as_slice() {
-            key.push(own.len() as u64)?;
-            key.extend_from_slice(own)?;
-        }
-        for held in self.queue.as_slice() {
-            key.push(held.caller as u64)?;
-            key.push(held.value)?;
-        }
-        key.push(match self.offered {
-            None => u64::MAX,
-            Some(caller) => caller as u64,
-        })?;
-        Ok(())
+    fn mixed_into(&self, mark: u64) -> u64 {
+        let mixed = mix_all(mix(mark, self.cached as u64), self.values.as_slice());
+        let offered = self
+            .offered
+            .map_or(0, |caller| (caller as u64).wrapping_add(1));
+        let mixed = mix_lags(mix(mixed, offered), self.lags.as_slice());
+        mix_queue(mix_owns(mixed, self.owns.as_slice()), self.queue.as_slice())
     }
 }

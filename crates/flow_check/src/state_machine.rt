@@ -6,6 +6,7 @@ ghost use Rattle.flow_check.specs.StateMachine.{subscribe_answer, next_answer, u
 ghost use Rattle.flow_check.specs.StateMachine.{own_answer, moved, same_answer, agrees};
 
 use crate::machine::Machine;
+use crate::marks::mix;
 use crate::state_calls::{StateAnswer, StateEntry, StateOperation};
 use crate::subscribed::present;
 use std::alloc::{AllocError, Global};
@@ -240,19 +241,16 @@ impl Machine<StateEntry> for StateMachine {
         self.value == other.value && is_same_list(self.readers.as_slice(), other.readers.as_slice())
     }
 
-    fn write_key(&self, key: &mut Vec<u64>) -> Result<(), AllocError> {
-        key.push(self.value)?;
+    fn mixed_into(&self, mark: u64) -> u64 {
+        let mut mixed = mix(mark, self.value);
         for reader in self.readers.as_slice() {
-            match reader {
-                None => key.push(0)?,
-                Some(None) => key.push(1)?,
-                Some(Some(last)) => {
-                    key.push(2)?;
-                    key.push(*last)?;
-                }
-            }
+            mixed = match reader {
+                None => mix(mixed, 0),
+                Some(None) => mix(mixed, 1),
+                Some(Some(last)) => mix(mix(mixed, 2), *last),
+            };
         }
-        Ok(())
+        mixed
     }
 }
 
