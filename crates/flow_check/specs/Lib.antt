@@ -3,6 +3,7 @@ pub mod Orders
 pub mod Remaining
 pub mod Tables
 pub mod Verdicts
+pub mod Moments
 pub mod Subscribed
 pub mod StateRecords
 pub mod StateMachine

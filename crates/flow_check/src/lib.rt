@@ -17,6 +17,7 @@
 mod checking;
 mod machine;
 mod marks;
+mod moments;
 mod node;
 mod record;
 mod refuting;
@@ -35,11 +36,13 @@ mod state_machine;
 mod subscribed;
 mod timed;
 mod verdict;
+mod wrong_moment;
 
+pub use moments::{Cut, known_record};
 pub use record::{Fault, FaultKind, Record};
 pub use shared_calls::{SharedAnswer, SharedEntry, SharedOperation};
-pub use shared_checking::check_shared;
+pub use shared_checking::{check_shared, shared_goes_wrong};
 pub use state_calls::{StateAnswer, StateEntry, StateOperation};
-pub use state_checking::check_state;
+pub use state_checking::{check_state, state_goes_wrong};
 pub use timed::Timed;
 pub use verdict::Verdict;

@@ -1,14 +1,17 @@
 //! The checker of shared flows.
-ghost use Rattle.std.specs.Prelude.{◌≡◌, IfOk, is_some};
+ghost use Rattle.std.specs.Prelude.{◌≡◌, IfOk, IfSome, is_some};
 ghost use Rattle.flow_law.specs.SharedFlow.{config_fault};
 ghost use Rattle.flow_check.specs.SharedRecords.{ExplainsShared};
 ghost use Rattle.flow_check.specs.Verdicts.{Judges};
+ghost use Rattle.flow_check.specs.declared.moments.Cut.TheVariants.{Before, By};
+ghost use Rattle.flow_check.specs.Moments.{HasOrder, HasNoOrder};
 
 use crate::checking::check;
 use crate::record::Record;
 use crate::shared_calls::SharedEntry;
 use crate::shared_machine::SharedMachine;
 use crate::verdict::Verdict;
+use crate::wrong_moment::{Checker, guess_moment, wrong_moment};
 use flow_law::{Config, Overflow};
 use std::alloc::{AllocError, Global};
 
@@ -37,4 +40,49 @@ pub fn check_shared<'a>(
     let machine = SharedMachine::new(alloc, config, callers)?;
     let verdict = check(alloc, &machine, callers, budget)?;
     Ok(verdict)
+}
+
+/// Judges records of calls of a shared flow of this configuration.
+#[derive(Clone, Copy)]
+struct SharedChecker {
+    config: Config,
+    budget: u64,
+}
+
+impl<'a> Checker<SharedEntry<'a>> for SharedChecker {
+    ghost use Rattle.flow_check.specs.SharedRecords.{ExplainsShared};
+
+    ghost explains = { λ checker calls. ExplainsShared calls checker.config };
+
+    fn check(&self, alloc: Global, calls: &Record<SharedEntry<'a>>) -> Result<Verdict, AllocError> {
+        check_shared(alloc, self.config, calls, self.budget)
+    }
+
+    fn guess(
+        &self,
+        alloc: Global,
+        calls: &Record<SharedEntry<'a>>,
+    ) -> Result<Option<u64>, AllocError> {
+        let callers = calls.callers();
+        let machine = SharedMachine::new(alloc, self.config, callers)?;
+        guess_moment(alloc, &machine, callers, self.budget)
+    }
+}
+
+/// Returns the first moment by which no order explains the calls of a record that `check_shared` calls illegal, as
+/// `state_goes_wrong` does those of a state flow.
+pub fn shared_goes_wrong<'a>(
+    alloc: Global,
+    config: Config,
+    calls: &Record<SharedEntry<'a>>,
+    budget: u64,
+) -> Result<Option<u64>, AllocError>
+    ensures legal_before { IfOk result (λ found. IfSome found (λ moment.
+        HasOrder (λ known. ExplainsShared known config) (Before moment) calls.now)) }
+    ensures illegal_by { IfOk result (λ found. IfSome found (λ moment.
+        HasNoOrder (λ known. ExplainsShared known config) (By moment) calls.now)) }
+{
+    let checker = SharedChecker { config, budget };
+    let moment = wrong_moment(alloc, &checker, calls)?;
+    Ok(moment)
 }

@@ -1,13 +1,16 @@
 //! The checker of state flows.
-ghost use Rattle.std.specs.Prelude.{IfOk};
+ghost use Rattle.std.specs.Prelude.{IfOk, IfSome};
 ghost use Rattle.flow_check.specs.StateRecords.{ExplainsState};
 ghost use Rattle.flow_check.specs.Verdicts.{Judges};
+ghost use Rattle.flow_check.specs.declared.moments.Cut.TheVariants.{Before, By};
+ghost use Rattle.flow_check.specs.Moments.{HasOrder, HasNoOrder};
 
 use crate::checking::check;
 use crate::record::Record;
 use crate::state_calls::StateEntry;
 use crate::state_machine::StateMachine;
 use crate::verdict::Verdict;
+use crate::wrong_moment::{Checker, guess_moment, wrong_moment};
 use std::alloc::{AllocError, Global};
 
 /// Judges recorded calls of a state flow with this initial value: whether a legal history of the
@@ -25,4 +28,45 @@ pub fn check_state(
     let machine = StateMachine::new(alloc, initial, callers)?;
     let verdict = check(alloc, &machine, callers, budget)?;
     Ok(verdict)
+}
+
+/// Judges records of calls of a state flow with this initial value.
+#[derive(Clone, Copy)]
+struct StateChecker {
+    initial: u64,
+    budget: u64,
+}
+
+impl Checker<StateEntry> for StateChecker {
+    ghost use Rattle.flow_check.specs.StateRecords.{ExplainsState};
+
+    ghost explains = { λ checker calls. ExplainsState calls checker.initial };
+
+    fn check(&self, alloc: Global, calls: &Record<StateEntry>) -> Result<Verdict, AllocError> {
+        check_state(alloc, self.initial, calls, self.budget)
+    }
+
+    fn guess(&self, alloc: Global, calls: &Record<StateEntry>) -> Result<Option<u64>, AllocError> {
+        let callers = calls.callers();
+        let machine = StateMachine::new(alloc, self.initial, callers)?;
+        guess_moment(alloc, &machine, callers, self.budget)
+    }
+}
+
+/// Returns the first moment by which no order explains the calls of a record that `check_state` calls illegal: before it some
+/// order explains what was known of them. Returns None if a search gave up.
+pub fn state_goes_wrong(
+    alloc: Global,
+    initial: u64,
+    calls: &Record<StateEntry>,
+    budget: u64,
+) -> Result<Option<u64>, AllocError>
+    ensures legal_before { IfOk result (λ found. IfSome found (λ moment.
+        HasOrder (λ known. ExplainsState known initial) (Before moment) calls.now)) }
+    ensures illegal_by { IfOk result (λ found. IfSome found (λ moment.
+        HasNoOrder (λ known. ExplainsState known initial) (By moment) calls.now)) }
+{
+    let checker = StateChecker { initial, budget };
+    let moment = wrong_moment(alloc, &checker, calls)?;
+    Ok(moment)
 }

@@ -1,0 +1,39 @@
+-- What was known of a record at a moment, and when a record goes wrong. Begin with `HasNoOrder` and `HasOrder`.
+use Rattle.std.specs.Prelude.{◌≡◌, ℕ, Bool, nat_lt, nat_le, if◌then◌else◌, List, map, filter, Option, Some, None}
+use Rattle.flow_check.specs.declared.timed.Timed.{Timed}
+use Rattle.flow_check.specs.declared.moments.Cut.{Cut}
+use Rattle.flow_check.specs.declared.moments.Cut.TheVariants.{Before, By}
+use Rattle.flow_check.specs.Records.{Calls}
+
+-- a moment is before that one, or it is not after it
+abbrev pub is_past : Cut → ℕ → Bool
+is_past (Before last) moment = nat_lt moment last
+is_past (By last) moment = nat_le moment last
+
+-- the end of a call, if it is past
+abbrev pub past_end : Cut → Option ℕ → Option ℕ
+past_end cut None = None
+past_end cut (Some end) = if is_past cut end then Some end else None
+
+module _ {C : Type 0} where
+  -- A call as it was known then: if it was not over it was pending. If it happens it is answered as it was later.
+  abbrev pub known_call : Cut → Timed C → Timed C
+  known_call cut c = record c { end = past_end cut c.end }
+
+  -- the calls of a caller that had begun
+  abbrev pub known_row : Cut → List (Timed C) → List (Timed C)
+  known_row cut calls = map (known_call cut) (filter (λ c. is_past cut c.begin) calls)
+
+  -- `known` has what was known of the calls of each caller
+  abbrev pub IsKnown : Cut → Calls C → Calls C → Type 0
+  IsKnown cut callers known = map (λ row. row.items) known ≡ map (λ row. known_row cut row.items) callers
+
+  -- `explains calls order` says that the order explains the calls
+  module _ (explains : Calls C → List ℕ → Type 0) (cut : Cut) (callers : Calls C) where
+    -- some order explains what was known
+    abbrev pub HasOrder : Type 0
+    HasOrder = (known : Calls C) × IsKnown cut callers known × ((order : List ℕ) × explains known order)
+
+    -- no order explains what was known
+    abbrev pub HasNoOrder : Type 0
+    HasNoOrder = (known : Calls C) × IsKnown cut callers known × ((order : List ℕ) → explains known order → ⊥)
