@@ -1,6 +1,5 @@
 //! Draws calls over time: as text a line for each call, those of one caller below each other.
 use crate::conflict::Conflict;
-use crate::moments::ends_of;
 use crate::order::write_line;
 use crate::svg::write_svg;
 use crate::written::{Sheet, WrittenCall};
@@ -18,7 +17,7 @@ pub enum Form {
 const MOST_CALLS: usize = 1000;
 
 /// A record without a conflict is drawn until so many calls were over.
-const MOST_OVER: usize = 100;
+const MOST_OVER: usize = 30;
 
 /// A call in a picture, and the columns in which it begins and ends.
 #[derive(Clone, Copy)]
@@ -78,7 +77,7 @@ impl Picture {
             return Ok(conflict.moment);
         }
         let ends = ends_of(alloc, sheet)?;
-        Ok(ends.get(MOST_OVER).copied().unwrap_or(u64::MAX))
+        Ok(ends.get(MOST_OVER - 1).copied().unwrap_or(u64::MAX))
     }
 
     /// Returns how many callers are drawn.
@@ -133,6 +132,20 @@ impl Picture {
             };
         }
     }
+}
+
+/// Returns the ends of all calls in order.
+fn ends_of(alloc: Global, sheet: &Sheet) -> Result<Vec<u64>, AllocError> {
+    let mut ends = Vec::new(alloc);
+    for calls in sheet.rows.as_slice() {
+        for call in calls {
+            if let Some(end) = call.end {
+                ends.push(end)?;
+            }
+        }
+    }
+    ends.sort()?;
+    Ok(ends)
 }
 
 /// Returns the column of a moment, or the number of columns if it has none.

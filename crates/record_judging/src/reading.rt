@@ -1,72 +1,17 @@
 //! Reads records.
 use crate::fields::{Fields, WHOLE};
+use crate::reading_flow::flow_of;
 use crate::refusal::{Part, Unread, unfit};
 use crate::words::{
-    AnswerForm, CallRow, CallWord, HEAD_KEYS, KINDS, LINE_KEYS, OVERFLOWS, SHARED_CALLS,
-    SHARED_KEYS, STATE_CALLS, STATE_KEYS, row_of,
+    AnswerForm, CallRow, CallWord, HEAD_KEYS, LINE_KEYS, SHARED_CALLS, STATE_CALLS, row_of,
 };
 use crate::written::{Range, Sheet, WrittenAnswer, WrittenCall, WrittenFlow};
-use flow_law::Overflow;
 use serde_json::Value;
 use std::alloc::{AllocError, Global};
-
-const A_KIND: &str = "\"state\" or \"shared\"";
-
-const AN_OVERFLOW: &str = "\"suspend\", \"drop_oldest\" or \"drop_latest\"";
-
-/// The most that `replay` and `extra` may come to.
-const MOST_CAPACITY: u64 = 65_536;
-
-const A_CAPACITY: &str = "at most 65536 together with \"replay\"";
-
-const NO_BUFFER: &str = "\"suspend\" where \"replay\" and \"extra\" are 0";
 
 const A_CALL: &str = "a call of this kind of flow";
 
 const A_LIST: &str = "a list of values";
-
-fn overflow_of(flow: Fields<'_>) -> Result<Overflow, Unread> {
-    match flow.word("overflow", OVERFLOWS)? {
-        "suspend" => Ok(Overflow::Suspend),
-        "drop_oldest" => Ok(Overflow::DropOldest),
-        "drop_latest" => Ok(Overflow::DropLatest),
-        _ => unfit(Part::Flow, "overflow", AN_OVERFLOW, OVERFLOWS),
-    }
-}
-
-/// Reads the value of `flow`.
-fn flow_of(value: &Value) -> Result<WrittenFlow, Unread> {
-    let flow = Fields {
-        value,
-        part: Part::Flow,
-    };
-    match flow.word("kind", KINDS)? {
-        "state" => {
-            flow.has_only(STATE_KEYS)?;
-            let initial = flow.whole("initial")?;
-            Ok(WrittenFlow::State { initial })
-        }
-        "shared" => {
-            flow.has_only(SHARED_KEYS)?;
-            let replay = flow.small("replay")?;
-            let extra = flow.small("extra")?;
-            let overflow = overflow_of(flow)?;
-            let capacity = replay as u64 + extra as u64;
-            if capacity > MOST_CAPACITY {
-                return unfit(Part::Flow, "extra", A_CAPACITY, &[]);
-            }
-            if capacity == 0 && overflow != Overflow::Suspend {
-                return unfit(Part::Flow, "overflow", NO_BUFFER, &[]);
-            }
-            Ok(WrittenFlow::Shared {
-                replay,
-                extra,
-                overflow,
-            })
-        }
-        _ => unfit(Part::Flow, "kind", A_KIND, KINDS),
-    }
-}
 
 /// Adds values, or returns false if one of them is none.
 fn push_values(lists: &mut Vec<u64>, items: &[Value]) -> Result<bool, AllocError> {

@@ -1,6 +1,6 @@
 //! A record as it is written, before it is judged.
 use crate::words::CallWord;
-use flow_law::Overflow;
+use flow_law::Config;
 use std::alloc::{AllocError, Global};
 use std::collections::HashMap;
 
@@ -49,14 +49,8 @@ pub struct WrittenCall {
 /// The flow of a record.
 #[derive(Clone, Copy, Debug)]
 pub enum WrittenFlow {
-    State {
-        initial: u64,
-    },
-    Shared {
-        replay: u32,
-        extra: u32,
-        overflow: Overflow,
-    },
+    State { initial: u64 },
+    Shared(Config),
 }
 
 impl WrittenFlow {

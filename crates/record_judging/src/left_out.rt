@@ -1,0 +1,267 @@
+//! Finds the calls of an illegal record that are not needed to say why it is illegal.
+//!
+//! A *look* is a call that by its answer changed nothing. An order that explains calls also explains them without a look. So if
+//! the calls are illegal without some looks, these are not needed.
+//!
+//! A *change* may have been seen by others. But an order that explains calls also explains them if a change may have happened
+//! at any moment after it began, or not at all. So if the calls are illegal with that, it is not needed.
+use crate::judging::{Outcome, judge};
+use crate::words::CallWord;
+use crate::written::{Sheet, WrittenAnswer, WrittenCall};
+use flow_check::Verdict;
+use std::alloc::{AllocError, Global};
+
+/// After so many looks that are needed, all later ones are taken to be needed, except the last ones.
+const MOST_NEEDED: usize = 8;
+
+/// So many of the last looks are tried one by one.
+const LAST_LOOKS: usize = 8;
+
+/// So many changes are tried.
+const MOST_CHANGES: usize = 8;
+
+/// What is asked of a call.
+#[derive(Clone, Copy, Debug, PartialEq, Eq)]
+enum Role {
+    Needed,
+    /// It is left out.
+    Out,
+    /// It may have happened at any moment after it began, or not at all.
+    Free,
+}
+
+/// Returns whether a call changed nothing.
+pub fn is_look(call: WrittenCall) -> bool {
+    match (call.call, call.answer) {
+        (CallWord::Value | CallWord::SubscriptionCount | CallWord::ReplayCache, _) => true,
+        (CallWord::CompareAndSet, Some(WrittenAnswer::Truth(false))) => true,
+        (CallWord::Next, Some(WrittenAnswer::Empty)) => true,
+        _ => false,
+    }
+}
+
+/// Returns whether a call is a change that does not depend on its caller.
+fn is_change_of_any(call: WrittenCall) -> bool {
+    match call.call {
+        CallWord::Set
+        | CallWord::CompareAndSet
+        | CallWord::Update
+        | CallWord::TryEmit
+        | CallWord::Emit
+        | CallWord::ResetReplayCache => !is_look(call),
+        _ => false,
+    }
+}
+
+/// The calls of a record by a moment, each with its role.
+#[derive(Drop)]
+pub struct Roles {
+    moment: u64,
+    /// By the numbers of the calls.
+    roles: Vec<Role>,
+}
+
+impl Roles {
+    /// Needs all calls.
+    pub fn new(alloc: Global, sheet: &Sheet, moment: u64) -> Result<Roles, AllocError> {
+        let mut roles = Vec::new(alloc);
+        for _ in 0..sheet.count.saturating_add(1) {
+            roles.push(Role::Needed)?;
+        }
+        Ok(Roles { moment, roles })
+    }
+
+    fn role(&self, number: usize) -> Role {
+        match self.roles.get(number) {
+            None => Role::Needed,
+            Some(role) => *role,
+        }
+    }
+
+    /// Returns whether a call of this number is needed.
+    pub fn needs(&self, number: usize) -> bool {
+        self.role(number) == Role::Needed
+    }
+
+    fn set(&mut self, numbers: &[usize], role: Role) {
+        for number in numbers {
+            if let Some(place) = self.roles.get_mut(*number) {
+                *place = role;
+            }
+        }
+    }
+
+    /// Returns what of a caller's calls is needed, as it was known at the moment. Calls that were not over are pending; if they
+    /// happen they are answered as they were later.
+    fn needed_row(
+        &self,
+        alloc: Global,
+        calls: &[WrittenCall],
+    ) -> Result<Vec<WrittenCall>, AllocError> {
+        let mut row = Vec::new(alloc);
+        for call in calls {
+            if call.begin <= self.moment && self.needs(call.number) {
+                let end = call.end.filter(|end| *end <= self.moment);
+                row.push(WrittenCall { end, ..*call })?;
+            }
+        }
+        Ok(row)
+    }
+
+    /// Adds each free call of a caller as that of a caller of its own.
+    fn add_free(
+        &self,
+        alloc: Global,
+        rows: &mut Vec<Vec<WrittenCall>>,
+        calls: &[WrittenCall],
+    ) -> Result<(), AllocError> {
+        for call in calls {
+            if self.role(call.number) == Role::Free {
+                let mut row = Vec::new(alloc);
+                row.push(WrittenCall { end: None, ..*call })?;
+                rows.push(row)?;
+            }
+        }
+        Ok(())
+    }
+
+    /// Returns whether it is sure that no order explains the calls.
+    fn are_illegal(&self, alloc: Global, sheet: &Sheet) -> Result<bool, AllocError> {
+        let mut rows = Vec::new(alloc);
+        for calls in sheet.rows.as_slice() {
+            rows.push(self.needed_row(alloc, calls.as_slice())?)?;
+            self.add_free(alloc, &mut rows, calls.as_slice())?;
+        }
+        match judge(alloc, sheet, rows.as_slice())? {
+            Outcome::Judged(Verdict::Illegal) => Ok(true),
+            Outcome::Judged(_) | Outcome::Faulty(_, _) => Ok(false),
+        }
+    }
+
+    /// Gives these calls a role, if the calls are illegal with it. Returns whether they are.
+    fn try_role(
+        &mut self,
+        alloc: Global,
+        sheet: &Sheet,
+        numbers: &[usize],
+        role: Role,
+    ) -> Result<bool, AllocError> {
+        self.set(numbers, role);
+        let are_illegal = self.are_illegal(alloc, sheet)?;
+        if !are_illegal {
+            self.set(numbers, Role::Needed);
+        }
+        Ok(are_illegal)
+    }
+
+    /// Gives each of these calls a role, if the calls are illegal with it.
+    fn try_each(
+        &mut self,
+        alloc: Global,
+        sheet: &Sheet,
+        numbers: &[usize],
+        role: Role,
+    ) -> Result<(), AllocError> {
+        for number in numbers {
+            let _ = self.try_role(alloc, sheet, &[*number], role)?;
+        }
+        Ok(())
+    }
+
+    /// Leaves out as many of these looks as can be, the first ones first, up to one that is needed. Returns how many.
+    fn leave_out(
+        &mut self,
+        alloc: Global,
+        sheet: &Sheet,
+        looks: &[usize],
+    ) -> Result<usize, AllocError> {
+        let mut low = 0;
+        let mut high = looks.len();
+        for _ in 0..64 {
+            if low < high {
+                let middle = high.saturating_sub((high - low) / 2);
+                let tried = looks.get(low..middle).unwrap_or(&[]);
+                if self.try_role(alloc, sheet, tried, Role::Out)? {
+                    low = middle;
+                } else {
+                    high = middle.saturating_sub(1);
+                }
+            }
+        }
+        Ok(low)
+    }
+
+    /// Leaves out the early looks that are not needed. Mostly none is.
+    fn leave_out_early(
+        &mut self,
+        alloc: Global,
+        sheet: &Sheet,
+        looks: &[usize],
+    ) -> Result<(), AllocError> {
+        if self.try_role(alloc, sheet, looks, Role::Out)? {
+            return Ok(());
+        }
+        let mut rest = looks;
+        for _ in 0..MOST_NEEDED {
+            let count = self.leave_out(alloc, sheet, rest)?;
+            rest = rest.get(count.saturating_add(1)..).unwrap_or(&[]);
+        }
+        Ok(())
+    }
+
+    /// Leaves out the looks that are not needed.
+    pub fn leave_out_looks(&mut self, alloc: Global, sheet: &Sheet) -> Result<(), AllocError> {
+        let looks = looks_by(alloc, sheet, self.moment)?;
+        let (early, last) = looks
+            .as_slice()
+            .split_at(looks.len().saturating_sub(LAST_LOOKS));
+        self.leave_out_early(alloc, sheet, early)?;
+        self.try_each(alloc, sheet, last, Role::Out)
+    }
+
+    /// Leaves out the changes that are not needed among those that were over between two moments.
+    pub fn leave_out_changes(
+        &mut self,
+        alloc: Global,
+        sheet: &Sheet,
+        from: u64,
+    ) -> Result<(), AllocError> {
+        let changes = changes_within(alloc, sheet, from, self.moment)?;
+        let tried = changes.get(..MOST_CHANGES).unwrap_or(changes.as_slice());
+        self.try_each(alloc, sheet, tried, Role::Free)
+    }
+}
+
+/// Returns the numbers of the looks that began by a moment, in order.
+fn looks_by(alloc: Global, sheet: &Sheet, moment: u64) -> Result<Vec<usize>, AllocError> {
+    let mut looks = Vec::new(alloc);
+    for calls in sheet.rows.as_slice() {
+        for call in calls {
+            if call.begin <= moment && is_look(*call) {
+                looks.push(call.number)?;
+            }
+        }
+    }
+    looks.sort()?;
+    Ok(looks)
+}
+
+/// Returns the numbers of the changes of any caller that were over after a moment and by another one, in order.
+fn changes_within(
+    alloc: Global,
+    sheet: &Sheet,
+    from: u64,
+    moment: u64,
+) -> Result<Vec<usize>, AllocError> {
+    let mut changes = Vec::new(alloc);
+    for calls in sheet.rows.as_slice() {
+        for call in calls {
+            let is_within = call.end.is_some_and(|end| from < end && end <= moment);
+            if is_within && is_change_of_any(*call) {
+                changes.push(call.number)?;
+            }
+        }
+    }
+    changes.sort()?;
+    Ok(changes)
+}

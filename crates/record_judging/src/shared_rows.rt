@@ -1,0 +1,111 @@
+//! The calls of a record of a shared flow, as they are judged.
+use crate::words::CallWord;
+use crate::written::{WrittenAnswer, WrittenCall};
+use flow_check::{SharedAnswer, SharedEntry, SharedOperation, Timed};
+use std::alloc::{AllocError, Global};
+
+fn shared_answer(answer: WrittenAnswer, lists: &[u64]) -> SharedAnswer<'_> {
+    match answer {
+        WrittenAnswer::Empty => SharedAnswer::Empty,
+        WrittenAnswer::Value(value) => SharedAnswer::Value(value),
+        WrittenAnswer::Truth(truth) => SharedAnswer::Truth(truth),
+        WrittenAnswer::Number(number) => SharedAnswer::Number(number),
+        WrittenAnswer::Values(range) => SharedAnswer::Values(range.of(lists)),
+        WrittenAnswer::Done | WrittenAnswer::Cancelled | WrittenAnswer::Exchange(_, _) => {
+            SharedAnswer::Done
+        }
+    }
+}
+
+fn shared_operation(call: WrittenCall, lists: &[u64]) -> SharedOperation<'_> {
+    match call.call {
+        CallWord::TryEmit => SharedOperation::TryEmit(call.value),
+        CallWord::Emit => match call.answer {
+            Some(WrittenAnswer::Cancelled) => SharedOperation::EmitOrNot(call.value),
+            _ => SharedOperation::Emit(call.value),
+        },
+        CallWord::Subscribe => SharedOperation::Subscribe(call.first.of(lists)),
+        CallWord::Next | CallWord::First => SharedOperation::Next,
+        CallWord::Unsubscribe => SharedOperation::Unsubscribe,
+        CallWord::SubscriptionCount => SharedOperation::SubscriptionCount,
+        CallWord::ResetReplayCache => SharedOperation::ResetReplayCache,
+        CallWord::ReplayCache
+        | CallWord::Value
+        | CallWord::Set
+        | CallWord::CompareAndSet
+        | CallWord::Update => SharedOperation::ReplayCache,
+    }
+}
+
+fn push_shared<'a>(
+    row: &mut Vec<Timed<SharedEntry<'a>>>,
+    call: WrittenCall,
+    operation: SharedOperation<'a>,
+    answer: Option<SharedAnswer<'a>>,
+) -> Result<(), AllocError> {
+    row.push(Timed {
+        call: SharedEntry { operation, answer },
+        begin: call.begin,
+        end: call.end,
+    })?;
+    Ok(())
+}
+
+/// Adds a part of a call that is answered `Done`, if an answer is known.
+fn push_part(
+    row: &mut Vec<Timed<SharedEntry<'_>>>,
+    call: WrittenCall,
+    operation: SharedOperation<'static>,
+) -> Result<(), AllocError> {
+    let answer = if call.answer.is_some() {
+        Some(SharedAnswer::Done)
+    } else {
+        None
+    };
+    push_shared(row, call, operation, answer)
+}
+
+fn shared_row<'a>(
+    alloc: Global,
+    calls: &[WrittenCall],
+    lists: &'a [u64],
+) -> Result<Vec<Timed<SharedEntry<'a>>>, AllocError> {
+    let mut row = Vec::new(alloc);
+    for call in calls {
+        let is_first = call.call == CallWord::First;
+        if is_first {
+            push_part(&mut row, *call, SharedOperation::Subscribe(&[]))?;
+        }
+        let answer = match call.answer {
+            Some(answer) => Some(shared_answer(answer, lists)),
+            None => None,
+        };
+        push_shared(&mut row, *call, shared_operation(*call, lists), answer)?;
+        if is_first {
+            push_part(&mut row, *call, SharedOperation::Unsubscribe)?;
+        }
+        if call.call == CallWord::Emit {
+            match call.answer {
+                Some(WrittenAnswer::Cancelled) => {
+                    push_part(&mut row, *call, SharedOperation::EmitCancelled)?
+                }
+                Some(_) => push_part(&mut row, *call, SharedOperation::EmitReturned)?,
+                None => {}
+            }
+        }
+    }
+    Ok(row)
+}
+
+/// Returns the calls of each caller.
+pub fn shared_callers<'a>(
+    alloc: Global,
+    rows: &[Vec<WrittenCall>],
+    lists: &'a [u64],
+) -> Result<Vec<Vec<Timed<SharedEntry<'a>>>>, AllocError> {
+    let mut callers = Vec::new(alloc);
+    for calls in rows {
+        callers.push(shared_row(alloc, calls.as_slice(), lists)?)?;
+    }
+    Ok(callers)
+}
