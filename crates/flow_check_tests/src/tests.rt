@@ -10,3 +10,4 @@ mod shared_random;
 mod shared_records;
 mod shared_search;
 mod state;
+mod wrong;

@@ -1,6 +1,7 @@
 //! Records in few words, and what comes of one.
 use flow_check::{
     FaultKind, Record, StateAnswer, StateEntry, StateOperation, Timed, Verdict, check_state,
+    state_goes_wrong,
 };
 use std::alloc::{AllocError, Global};
 
@@ -77,6 +78,17 @@ pub fn order_of(
         Verdict::Legal(order) => Some(order),
         Verdict::Illegal | Verdict::GaveUp => None,
     })
+}
+
+/// Returns the first moment at which these calls go wrong, if they do.
+pub fn wrong_moment(
+    alloc: Global,
+    rows: &[&[Timed<StateEntry>]],
+) -> Result<Option<u64>, AllocError> {
+    match Record::new(callers_of(alloc, rows)?) {
+        Ok(record) => state_goes_wrong(alloc, 0, &record, 1_000),
+        Err(_) => Ok(None),
+    }
 }
 
 /// Judges the calls of these callers.

@@ -3,6 +3,7 @@ use crate::tests::records::Outcome;
 use crate::tests::shared_search::Rows;
 use flow_check::{
     FaultKind, Record, SharedAnswer, SharedEntry, SharedOperation, Timed, Verdict, check_shared,
+    shared_goes_wrong,
 };
 use flow_law::Config;
 use std::alloc::{AllocError, Global};
@@ -38,13 +39,30 @@ pub fn pending(operation: SharedOperation<'static>, begin: u64) -> Recorded {
     }
 }
 
-/// Judges these calls of a shared flow of this configuration.
-pub fn judge(alloc: Global, config: Config, rows: &[&[Recorded]]) -> Result<Outcome, AllocError> {
+/// Makes a list of the calls of each caller.
+fn callers_of(alloc: Global, rows: &[&[Recorded]]) -> Result<Rows, AllocError> {
     let mut callers = Vec::new(alloc);
     for row in rows {
         callers.push(Vec::from_slice(alloc, *row)?)?;
     }
-    judge_rows(alloc, config, 10_000, callers)
+    Ok(callers)
+}
+
+/// Judges these calls of a shared flow of this configuration.
+pub fn judge(alloc: Global, config: Config, rows: &[&[Recorded]]) -> Result<Outcome, AllocError> {
+    judge_rows(alloc, config, 10_000, callers_of(alloc, rows)?)
+}
+
+/// Returns the first moment at which these calls go wrong, if they do.
+pub fn wrong_moment(
+    alloc: Global,
+    config: Config,
+    rows: &[&[Recorded]],
+) -> Result<Option<u64>, AllocError> {
+    match Record::new(callers_of(alloc, rows)?) {
+        Ok(record) => shared_goes_wrong(alloc, config, &record, 1_000),
+        Err(_) => Ok(None),
+    }
 }
 
 /// Judges the calls of these callers.
