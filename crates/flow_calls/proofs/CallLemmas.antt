@@ -4,7 +4,7 @@ use Rattle.script_chain_format.specs.declared.reading.fault.ScriptFault.{ScriptF
 use Rattle.script_chain_format.specs.declared.reading.fault.ScriptFault.TheVariants.{OutOfMemory, ReadFailed, WriteFailed, NotJson, BadVersion, BadShape, UnknownName, DuplicateName, TooLarge}
 use Rattle.script_chain_format.specs.Results.{Gives}
 use Rattle.flow_script.specs.Telling.{IsRefusal, fault_line, fault_status}
-use Rattle.flow_calls.specs.Calls.{Answers, Fills, IsScriptFault, too_long}
+use Rattle.flow_calls.specs.Calls.{Answers, Fills, IsScriptFault}
 
 -- a script is refused by a fault of its own
 pub script-fault : {A : Type 0} (meant : Result A ScriptFault) (fault : ScriptFault) → Gives meant (Err fault) → IsScriptFault fault
@@ -41,7 +41,3 @@ tells-refusal fault text old new status needed answered is line two fills = (
   subst (λ t. Fills t (fault_status fault) old new needed answered) line
       (subst (λ s. Fills text s old new needed answered) (two ∙ sym (refusal-status fault is)) fills),
 )
-
--- the status of a call that is out of memory is not that of a short buffer
-pub memory-not-too_long : 4 ≢ too_long
-memory-not-too_long is = absurd (let wrong : 4 ≡ 1 = is in cc)

@@ -1,11 +1,12 @@
 -- What a call gives its caller. Begin with `Fills` and `Answers`; `PlaysInto` is the whole of `wumsnair_play`.
-use Rattle.std.specs.Prelude.{◌≡◌, ◌≢◌, ◌⊎◌, ◌≤◌, ◌<◌, ◌++◌, ℕ, List, [], length, drop, Result, Ok, Err, String}
+use Rattle.std.specs.Prelude.{◌≡◌, ◌⊎◌, ◌≤◌, ◌<◌, ◌==◌, ◌++◌, if◌then◌else◌, not, ℕ, List, [], length, drop, Result, Ok, Err, String}
 use Rattle.std.specs.declared.alloc.Global.{Global}
 use Rattle.script_chain_format.specs.declared.reading.fault.ScriptFault.{ScriptFault}
 use Rattle.script_chain_format.specs.declared.reading.fault.ScriptFault.TheVariants.{OutOfMemory, ReadFailed, WriteFailed}
 use Rattle.script_chain_format.specs.Results.{Gives}
 use Rattle.flow_script.specs.Playing.{text_result}
-use Rattle.flow_script.specs.Telling.{IsRefusal, fault_line, fault_status}
+use Rattle.flow_script.specs.Telling.{IsRefusal, fault_line, fault_status, memory_line}
+use Rattle.record_judging.specs.Verdicts.{TellsVerdict, illegal}
 use Rattle.script_drawing.specs.Drawing.{Pictures}
 
 -- ---- buffers
@@ -66,7 +67,15 @@ abbrev pub ExplainsInto : Result (List ℕ) ScriptFault → List ℕ → List �
 ExplainsInto meant old new needed answered =
     (given : Result (List ℕ) ScriptFault) × Gives meant given × Explains given old new needed answered
 
--- Some words are given with some status. Only a buffer that is too short has `too_long`.
-abbrev pub Says : List ℕ → List ℕ → ℕ → ℕ → Type 0
-Says old new needed answered =
-    (words : List ℕ) × (status : ℕ) × (status ≢ too_long) × Fills words status old new needed answered
+-- ---- records
+
+-- the status of a call by that of `flow_judge`: 5 for an illegal record, since 1 is `too_long`
+abbrev pub verdict_status : ℕ → ℕ
+verdict_status judged = if judged == illegal then 5 else judged
+
+-- The words of the judge are given with the status of their verdict, with the order of the calls if `with_order` is not 0. A call
+-- that is out of memory gives its line.
+abbrev pub JudgesInto : ℕ → List ℕ → List ℕ → ℕ → ℕ → Type 0
+JudgesInto with_order old new needed answered =
+    ((judged : ℕ) × (words : List ℕ) × TellsVerdict (not (with_order == 0)) judged words × Fills words (verdict_status judged) old new needed answered)
+    ⊎ Fills memory_line 4 old new needed answered

@@ -8,7 +8,7 @@
 
 ghost use Rattle.std.specs.Prelude.{Err};
 ghost use Rattle.flow_script.specs.ScriptMeaning.{meaning};
-ghost use Rattle.flow_calls.specs.Calls.{DrawsInto, Explains, ExplainsInto, IsScriptFault, PlaysInto, Says};
+ghost use Rattle.flow_calls.specs.Calls.{DrawsInto, Explains, ExplainsInto, IsScriptFault, JudgesInto, PlaysInto};
 
 mod giving;
 mod verdict;
@@ -121,7 +121,7 @@ pub extern "C" fn wumsnair_check(
     out: &mut [u8],
     needed: &mut usize,
 ) -> u32
-    ensures { Says out.old out.new needed.new result }
+    ensures { JudgesInto with_order out.old out.new needed.new result }
 {
     let mut words = Vec::new(alloc);
     match judge_record(alloc, &mut words, record, with_order != 0) {

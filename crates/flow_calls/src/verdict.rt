@@ -1,6 +1,6 @@
 //! The statuses of verdicts.
-ghost use Rattle.std.specs.Prelude.{◌≢◌};
-ghost use Rattle.flow_calls.specs.Calls.{too_long};
+ghost use Rattle.std.specs.Prelude.{◌≡◌};
+ghost use Rattle.flow_calls.specs.Calls.{verdict_status};
 
 use crate::giving::TOO_LONG;
 
@@ -9,7 +9,7 @@ const ILLEGAL: u32 = 5;
 
 /// Returns the status of a call by that of `flow_judge`, in which 1 is an illegal record.
 pub fn status_of(judged: u8) -> u32
-    ensures { result ≢ too_long }
+    ensures { result ≡ verdict_status judged }
 {
     let status = u32::from(judged);
     if status == TOO_LONG {

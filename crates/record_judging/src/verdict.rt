@@ -1,4 +1,8 @@
 //! The verdict on a record, in words and as a status.
+ghost use Rattle.std.specs.Prelude.{◌≡◌, ◌++◌, IfOk, List, ℕ};
+ghost use Rattle.std.specs.Io.KnownBytes.{Appends};
+ghost use Rattle.record_judging.specs.Verdicts.{TellsVerdict};
+
 use crate::conflict::Conflict;
 use crate::drawing::{Form, Picture, write_picture};
 use crate::explaining::explain;
@@ -8,7 +12,7 @@ use crate::reading::read_sheet;
 use crate::refusal::{Part, Refusal, Unread, Wrong};
 use crate::written::Sheet;
 use flow_check::{Fault, FaultKind, Verdict};
-use std::alloc::Global;
+use std::alloc::{AllocError, Global};
 use std::io::{self, Write};
 
 /// A legal history explains the calls.
@@ -23,15 +27,36 @@ pub const REFUSED: u8 = 2;
 /// The search took too long.
 const GAVE_UP: u8 = 3;
 
-fn write_refusal<W: Write>(
+/// The words on a record, and the status of a program that writes them.
+#[derive(Drop)]
+struct Told {
+    words: Vec<u8>,
+    status: u8,
+}
+
+impl Told {
+    /// Joins two parts of the words.
+    fn new(alloc: Global, front: &str, rest: &[u8], status: u8) -> Result<Told, AllocError>
+        ensures { IfOk result (λ told. (told.words.items ≡ front.now ++ rest.now) × (told.status ≡ status)) }
+    {
+        let mut words = Vec::new(alloc);
+        words.extend_from_slice(front.as_bytes())?;
+        words.extend_from_slice(rest)?;
+        Ok(Told { words, status })
+    }
+}
+
+/// Tells why these bytes are no record.
+fn tell_refusal(
     alloc: Global,
-    out: &mut W,
     bytes: &[u8],
     unread: Unread,
-) -> io::Result<u8> {
+    with_order: bool,
+) -> Result<Told, AllocError>
+    ensures { IfOk result (λ told. TellsVerdict with_order told.status told.words.items) }
+{
     let words = explain(alloc, bytes, unread)?;
-    write!(out, "refused: {words}")?;
-    Ok(REFUSED)
+    Told::new(alloc, "refused: ", words.as_bytes(), REFUSED)
 }
 
 /// Refuses a record of which a call of this number ends or begins too early.
@@ -51,31 +76,51 @@ fn faulty(fault: Fault, number: usize) -> Unread {
     })
 }
 
-fn write_verdict<W: Write>(
+/// Tells that a record is legal, and in which order of its calls, if that is wanted.
+fn tell_legal(alloc: Global, sheet: &Sheet, order: &[usize], with_order: bool) -> io::Result<Told>
+    ensures { IfOk result (λ told. TellsVerdict with_order told.status told.words.items) }
+{
+    if !with_order {
+        return Ok(Told::new(alloc, "legal\n", &[], LEGAL)?);
+    }
+    let mut lines = Vec::new(alloc);
+    write_order(alloc, &mut lines, sheet, order)?;
+    Ok(Told::new(alloc, "legal\n", lines.as_slice(), LEGAL)?)
+}
+
+fn tell_verdict(
     alloc: Global,
-    out: &mut W,
     sheet: &Sheet,
     verdict: Verdict,
     with_order: bool,
-) -> io::Result<u8> {
+) -> io::Result<Told>
+    ensures { IfOk result (λ told. TellsVerdict with_order told.status told.words.items) }
+{
     match verdict {
-        Verdict::Legal(order) => {
-            writeln!(out, "legal")?;
-            if with_order {
-                write_order(alloc, out, sheet, order.as_slice())?;
-            }
-            Ok(LEGAL)
-        }
+        Verdict::Legal(order) => tell_legal(alloc, sheet, order.as_slice(), with_order),
         Verdict::Illegal => {
-            writeln!(out, "illegal")?;
+            let mut lines = Vec::new(alloc);
             if let Some(conflict) = Conflict::find(alloc, sheet)? {
-                conflict.write(out, sheet)?;
+                conflict.write(&mut lines, sheet)?;
             }
-            Ok(ILLEGAL)
+            Ok(Told::new(alloc, "illegal\n", lines.as_slice(), ILLEGAL)?)
         }
-        Verdict::GaveUp => {
-            writeln!(out, "gave up")?;
-            Ok(GAVE_UP)
+        Verdict::GaveUp => Ok(Told::new(alloc, "gave up\n", &[], GAVE_UP)?),
+    }
+}
+
+/// Tells what comes of the record of these bytes.
+fn tell_record(alloc: Global, bytes: &[u8], with_order: bool) -> io::Result<Told>
+    ensures { IfOk result (λ told. TellsVerdict with_order told.status told.words.items) }
+{
+    let sheet = match read_sheet(alloc, bytes) {
+        Ok(sheet) => sheet,
+        Err(unread) => return Ok(tell_refusal(alloc, bytes, unread, with_order)?),
+    };
+    match judge(alloc, &sheet, sheet.rows.as_slice())? {
+        Outcome::Judged(verdict) => tell_verdict(alloc, &sheet, verdict, with_order),
+        Outcome::Faulty(fault, number) => {
+            Ok(tell_refusal(alloc, bytes, faulty(fault, number), with_order)?)
         }
     }
 }
@@ -84,23 +129,31 @@ fn write_verdict<W: Write>(
 /// order of the calls is written too, if that is wanted.
 ///
 /// # Errors
-/// Fails if memory is refused, or a write fails: then a first part may be written.
+/// Fails if memory is refused, and then writes nothing, or if a write fails, and then a first part may be written.
 pub fn judge_record<W: Write>(
     alloc: Global,
     out: &mut W,
     bytes: &[u8],
     with_order: bool,
+) -> io::Result<u8>
+    ensures tells { IfOk result (λ status. (words : List ℕ) × TellsVerdict with_order status words
+        × Appends (W.contents out.old) (W.contents out.new) words) }
+{
+    let told = tell_record(alloc, bytes, with_order)?;
+    out.write_all(told.words.as_slice())?;
+    Ok(told.status)
+}
+
+/// Writes why these bytes are no record.
+fn write_refusal<W: Write>(
+    alloc: Global,
+    out: &mut W,
+    bytes: &[u8],
+    unread: Unread,
 ) -> io::Result<u8> {
-    let sheet = match read_sheet(alloc, bytes) {
-        Ok(sheet) => sheet,
-        Err(unread) => return write_refusal(alloc, out, bytes, unread),
-    };
-    match judge(alloc, &sheet, sheet.rows.as_slice())? {
-        Outcome::Judged(verdict) => write_verdict(alloc, out, &sheet, verdict, with_order),
-        Outcome::Faulty(fault, number) => {
-            write_refusal(alloc, out, bytes, faulty(fault, number))
-        }
-    }
+    let told = tell_refusal(alloc, bytes, unread, false)?;
+    out.write_all(told.words.as_slice())?;
+    Ok(REFUSED)
 }
 
 /// Draws the calls of a record of this verdict.
@@ -138,8 +191,6 @@ pub fn draw_record<W: Write>(
     };
     match judge(alloc, &sheet, sheet.rows.as_slice())? {
         Outcome::Judged(verdict) => draw_verdict(alloc, out, &sheet, verdict, form),
-        Outcome::Faulty(fault, number) => {
-            write_refusal(alloc, out, bytes, faulty(fault, number))
-        }
+        Outcome::Faulty(fault, number) => write_refusal(alloc, out, bytes, faulty(fault, number)),
     }
 }
