@@ -4,13 +4,12 @@ use Rattle.std.proofs.Common.{ℕ, ◌+◌, ◌<◌, ◌≤◌, Bool, List, [], 
 use Rattle.flow_law.specs.declared.history.HistoryEvent.{HistoryEvent}
 use Rattle.flow_law.specs.declared.history.Said.{Said}
 use Rattle.flow_law.specs.History.{Kind, IsHistory}
-use Rattle.flow_law.proofs.Owners.{history_left}
 use Rattle.flow_check.specs.Records.{Calls}
 use Rattle.flow_check.specs.Orders.{turns_of}
 use Rattle.flow_check.specs.Remaining.{placing, IsStep, GoesThrough}
 use Rattle.flow_check.proofs.Parts.{recorded_within, next_within}
 use Rattle.flow_check.proofs.Places.{Counts, counts_more, next_same}
-use Rattle.flow_check.proofs.Ordering.{Goes}
+use Rattle.flow_check.proofs.Ordering.{Goes, goes_history}
 
 -- `Stands m k h` says that the state m stands for what the history h led to in k turns
 module _ {M T S X R C : Type 0} (stepped : M → ℕ → C → Option M) (may_skip : C → Bool) (kind : Kind T S X R) (Adds : List (HistoryEvent (Said X R)) → ℕ → C → List (HistoryEvent (Said X R)) → Type 0)
@@ -43,10 +42,6 @@ module _ {M T S X R C : Type 0} (stepped : M → ℕ → C → Option M) (may_sk
         (one.0, one.1, steps_go bound leads order (p ++ caller ∷ []) (placing caller placed) (k + 1) x.3.0 (h ++ one.0) (counts_more callers placed p caller counts near) rest one.3 one.2 x.3.2),
       )
 
-  goes_history : (order p : List ℕ) (h : Log) → Goes kind Adds callers first p h order → IsHistory kind first h
-  goes_history [] p h x = x.1
-  goes_history (caller ∷ order) p h x = history_left kind first h x.3.0 (goes_history order (p ++ caller ∷ []) (h ++ x.3.0) x.3.2)
-
   pub goes_steps : Follows → (order p placed : List ℕ) (k : ℕ) (m : M) (h : Log) → Counts callers placed p → Stands m k h
       → Goes kind Adds callers first p h order → GoesThrough stepped may_skip callers m placed order
   goes_steps follows [] p placed k m h counts st x = λ other d e. x.0 other d (sym (next_same callers placed p other counts) ∙ e)
@@ -54,7 +49,7 @@ module _ {M T S X R C : Type 0} (stepped : M → ℕ → C → Option M) (may_sk
       let c = x.0 in
       let part = x.3.0 in
       let near = recorded_within callers caller (turns_of caller p) c x.1 in
-      let one = follows m k h caller c.call part st near x.3.1 (goes_history order (p ++ caller ∷ []) (h ++ part) x.3.2) in (
+      let one = follows m k h caller c.call part st near x.3.1 (goes_history kind Adds callers first order (p ++ caller ∷ []) (h ++ part) x.3.2) in (
         c,
         next_same callers placed p caller counts ∙ x.1,
         (λ other d e. x.2 other d (sym (next_same callers placed p other counts) ∙ e)),

@@ -2,6 +2,9 @@ pub mod Parts
 pub mod Turns
 pub mod Timing
 pub mod Ordering
+pub mod Ends
+pub mod KnownRows
+pub mod KnownOrders
 pub mod Places
 pub mod Bridging
 pub mod KeptLemmas

@@ -8,6 +8,7 @@ use Rattle.std.proofs.lemmas.Bool.Decides.{leb_tells}
 use Rattle.flow_law.specs.declared.history.HistoryEvent.{HistoryEvent}
 use Rattle.flow_law.specs.declared.history.Said.{Said}
 use Rattle.flow_law.specs.History.{Kind, IsHistory}
+use Rattle.flow_law.proofs.Owners.{history_left}
 use Rattle.flow_law.proofs.Rows.{split}
 use Rattle.flow_check.specs.declared.timed.Timed.{Timed}
 use Rattle.flow_check.specs.Records.{Calls, recorded, is_over_before, IsWellTimed}
@@ -37,6 +38,11 @@ module _ {T S X R C : Type 0} (kind : Kind T S X R) (Adds : List (HistoryEvent (
   Goes p h (caller ∷ order) =
       (c : Timed C) × IsNext p caller c × NoneLate p c.begin
       × ((part : Log) × Adds h caller c.call part × Goes (p ++ caller ∷ []) (h ++ part) order)
+
+  -- the history to go on from is legal
+  pub goes_history : (order p : List ℕ) (h : Log) → Goes p h order → IsHistory kind first h
+  goes_history [] p h x = x.1
+  goes_history (caller ∷ order) p h x = history_left kind first h x.3.0 (goes_history order (p ++ caller ∷ []) (h ++ x.3.0) x.3.2)
 
   -- what is said of one turn, which adds this part
   abbrev IsTurn : List ℕ → Log → ℕ → Option Log → Type 0

@@ -24,6 +24,7 @@ use Rattle.flow_check.specs.SharedMachine.{Kept, most_lag, own_left, no_values, 
 use Rattle.flow_check.proofs.KeptLemmas.{present-none, kept-none}
 use Rattle.flow_check.proofs.Places.{counts_none}
 use Rattle.flow_check.proofs.Ordering.{goes_explains, explains_goes}
+use Rattle.flow_check.proofs.KnownOrders.{known_explains, IsCutOff}
 use Rattle.flow_check.proofs.Bridging.{steps_go, goes_steps}
 use Rattle.flow_check.proofs.SharedSeats.{Seat}
 use Rattle.flow_check.proofs.SharedEvents.{first_of, StandsIn}
@@ -115,3 +116,10 @@ judged callers config Illegal whole well refuted = λ order x.
     refuted order (goes_steps stepped may_skip shared_flow (AddsEntry start) callers start (StandsIn callers config x.0) (follows_history callers config x.0) order [] (none_placed callers) 0
     (begun callers config) [] (counts_none callers) (stands_first callers config x.0 whole) (explains_goes shared_flow (AddsEntry start) callers start well order x.1))
 judged callers config GaveUp whole well given_up = tt
+
+-- what explains calls explains in part what was known of them
+pub cut_off : (config : Config) → IsCutOff (λ known. ExplainsShared known config)
+cut_off config cut callers known well is order x =
+    let start = first_state (record config { limit = x.0 }) in
+    let part = known_explains shared_flow (AddsEntry start) start cut callers known well is order x.1 in
+    (part.0, (x.0, part.1))

@@ -30,6 +30,7 @@ use Rattle.flow_check.specs.StateMachine.{Kept, own_answer, moved, same_answer, 
 use Rattle.flow_check.proofs.KeptLemmas.{present-none, kept-none}
 use Rattle.flow_check.proofs.Places.{counts_none}
 use Rattle.flow_check.proofs.Ordering.{goes_explains, explains_goes}
+use Rattle.flow_check.proofs.KnownOrders.{known_explains, IsCutOff}
 use Rattle.flow_check.proofs.Bridging.{Leads, Follows, steps_go, goes_steps}
 use Rattle.flow_check.proofs.StateSeats.{Seat, StandsAs, IsSound}
 use Rattle.flow_check.proofs.StateSteps.{moves, leads, only}
@@ -162,3 +163,10 @@ judged callers initial Illegal well refuted = λ order x.
     refuted order (goes_steps stepped may_skip state_flow (AddsEntry start) callers start (Stands callers initial x.0) (follows_history callers initial x.0) order [] (none_placed callers) 0
     (begun callers initial x.0) [] (counts_none callers) (stands_first callers initial x.0) (explains_goes state_flow (AddsEntry start) callers start well order x.1))
 judged callers initial GaveUp well given_up = tt
+
+-- what explains calls explains in part what was known of them
+pub cut_off : (initial : ℕ) → IsCutOff (λ known. ExplainsState known initial)
+cut_off initial cut callers known well is order x =
+    let start = first_state_flow x.0 initial in
+    let part = known_explains state_flow (AddsEntry start) start cut callers known well is order x.1 in
+    (part.0, (x.0, part.1))

@@ -1,5 +1,5 @@
 -- What was known of a record at a moment, and when a record goes wrong. Begin with `HasNoOrder` and `HasOrder`.
-use Rattle.std.specs.Prelude.{◌≡◌, ℕ, Bool, nat_lt, nat_le, if◌then◌else◌, List, map, filter, Option, Some, None}
+use Rattle.std.specs.Prelude.{◌≡◌, ℕ, ◌<◌, ◌≤◌, Bool, nat_lt, nat_le, if◌then◌else◌, List, map, filter, Option, Some, None}
 use Rattle.flow_check.specs.declared.timed.Timed.{Timed}
 use Rattle.flow_check.specs.declared.moments.Cut.{Cut}
 use Rattle.flow_check.specs.declared.moments.Cut.TheVariants.{Before, By}
@@ -37,3 +37,12 @@ module _ {C : Type 0} where
     -- no order explains what was known
     abbrev pub HasNoOrder : Type 0
     HasNoOrder = (known : Calls C) × IsKnown cut callers known × ((order : List ℕ) → explains known order → ⊥)
+
+  module _ (explains : Calls C → List ℕ → Type 0) (moment : ℕ) (callers : Calls C) where
+    -- at each earlier moment some order explains what was known by it
+    abbrev pub HasOrdersUntil : Type 0
+    HasOrdersUntil = (earlier : ℕ) → earlier < moment → HasOrder explains (By earlier) callers
+
+    -- at this moment and at each later one no order explains what was known by it
+    abbrev pub HasNoOrderFrom : Type 0
+    HasNoOrderFrom = (later : ℕ) → moment ≤ later → HasNoOrder explains (By later) callers

@@ -4,12 +4,13 @@ ghost use Rattle.flow_law.specs.SharedFlow.{config_fault};
 ghost use Rattle.flow_check.specs.SharedRecords.{ExplainsShared};
 ghost use Rattle.flow_check.specs.Verdicts.{Judges};
 ghost use Rattle.flow_check.specs.declared.moments.Cut.TheVariants.{Before, By};
-ghost use Rattle.flow_check.specs.Moments.{HasOrder, HasNoOrder};
+ghost use Rattle.flow_check.specs.Moments.{HasOrder, HasNoOrder, HasOrdersUntil, HasNoOrderFrom};
 
 use crate::checking::check;
 use crate::record::Record;
 use crate::shared_calls::SharedEntry;
 use crate::shared_machine::SharedMachine;
+use crate::timed::Timed;
 use crate::verdict::Verdict;
 use crate::wrong_moment::{Checker, guess_moment, wrong_moment};
 use flow_law::{Config, Overflow};
@@ -61,9 +62,8 @@ impl<'a> Checker<SharedEntry<'a>> for SharedChecker {
     fn guess(
         &self,
         alloc: Global,
-        calls: &Record<SharedEntry<'a>>,
+        callers: &[Vec<Timed<SharedEntry<'a>>>],
     ) -> Result<Option<u64>, AllocError> {
-        let callers = calls.callers();
         let machine = SharedMachine::new(alloc, self.config, callers)?;
         guess_moment(alloc, &machine, callers, self.budget)
     }
@@ -81,6 +81,10 @@ pub fn shared_goes_wrong<'a>(
         HasOrder (λ known. ExplainsShared known config) (Before moment) calls.now)) }
     ensures illegal_by { IfOk result (λ found. IfSome found (λ moment.
         HasNoOrder (λ known. ExplainsShared known config) (By moment) calls.now)) }
+    ensures legal_until { IfOk result (λ found. IfSome found (λ moment.
+        HasOrdersUntil (λ known. ExplainsShared known config) moment calls.now)) }
+    ensures illegal_from { IfOk result (λ found. IfSome found (λ moment.
+        HasNoOrderFrom (λ known. ExplainsShared known config) moment calls.now)) }
 {
     let checker = SharedChecker { config, budget };
     let moment = wrong_moment(alloc, &checker, calls)?;

@@ -3,12 +3,13 @@ ghost use Rattle.std.specs.Prelude.{IfOk, IfSome};
 ghost use Rattle.flow_check.specs.StateRecords.{ExplainsState};
 ghost use Rattle.flow_check.specs.Verdicts.{Judges};
 ghost use Rattle.flow_check.specs.declared.moments.Cut.TheVariants.{Before, By};
-ghost use Rattle.flow_check.specs.Moments.{HasOrder, HasNoOrder};
+ghost use Rattle.flow_check.specs.Moments.{HasOrder, HasNoOrder, HasOrdersUntil, HasNoOrderFrom};
 
 use crate::checking::check;
 use crate::record::Record;
 use crate::state_calls::StateEntry;
 use crate::state_machine::StateMachine;
+use crate::timed::Timed;
 use crate::verdict::Verdict;
 use crate::wrong_moment::{Checker, guess_moment, wrong_moment};
 use std::alloc::{AllocError, Global};
@@ -46,15 +47,18 @@ impl Checker<StateEntry> for StateChecker {
         check_state(alloc, self.initial, calls, self.budget)
     }
 
-    fn guess(&self, alloc: Global, calls: &Record<StateEntry>) -> Result<Option<u64>, AllocError> {
-        let callers = calls.callers();
+    fn guess(
+        &self,
+        alloc: Global,
+        callers: &[Vec<Timed<StateEntry>>],
+    ) -> Result<Option<u64>, AllocError> {
         let machine = StateMachine::new(alloc, self.initial, callers)?;
         guess_moment(alloc, &machine, callers, self.budget)
     }
 }
 
-/// Returns the first moment by which no order explains the calls of a record that `check_state` calls illegal: before it some
-/// order explains what was known of them. Returns None if a search gave up.
+/// Returns the first moment by which no order explains the calls of a record that `check_state` calls illegal: at each earlier
+/// moment some order explains what was known of them, and at no later one. Returns None if a search gave up.
 pub fn state_goes_wrong(
     alloc: Global,
     initial: u64,
@@ -65,6 +69,10 @@ pub fn state_goes_wrong(
         HasOrder (λ known. ExplainsState known initial) (Before moment) calls.now)) }
     ensures illegal_by { IfOk result (λ found. IfSome found (λ moment.
         HasNoOrder (λ known. ExplainsState known initial) (By moment) calls.now)) }
+    ensures legal_until { IfOk result (λ found. IfSome found (λ moment.
+        HasOrdersUntil (λ known. ExplainsState known initial) moment calls.now)) }
+    ensures illegal_from { IfOk result (λ found. IfSome found (λ moment.
+        HasNoOrderFrom (λ known. ExplainsState known initial) moment calls.now)) }
 {
     let checker = StateChecker { initial, budget };
     let moment = wrong_moment(alloc, &checker, calls)?;

@@ -1,6 +1,6 @@
 //! The first moment at which a record goes wrong.
 ghost use Rattle.std.specs.Prelude.{ℕ, List, IfOk, IfSome, IsTrue};
-ghost use Rattle.flow_check.specs.Records.{Calls};
+ghost use Rattle.flow_check.specs.Records.{Calls, IsWellTimed};
 ghost use Rattle.flow_check.specs.Verdicts.{Judges};
 ghost use Rattle.flow_check.specs.declared.moments.Cut.TheVariants.{Before, By};
 ghost use Rattle.flow_check.specs.Moments.{HasOrder, HasNoOrder};
@@ -23,7 +23,7 @@ pub trait Checker<C: Copy> {
         ensures { IfOk result (λ verdict. Judges (explains self.now calls.now) verdict) };
 
     /// Returns the moment at which calls that no order explains go wrong first. Nothing is promised of it.
-    fn guess(&self, alloc: Global, calls: &Record<C>) -> Result<Option<u64>, AllocError>;
+    fn guess(&self, alloc: Global, callers: &[Vec<Timed<C>>]) -> Result<Option<u64>, AllocError>;
 }
 
 /// Returns the latest of the deadlines of these nodes. In each node some call that ended by then has not happened.
@@ -98,8 +98,10 @@ pub fn wrong_moment<C: Copy, K: Checker<C>>(
         HasOrder (K.explains checker.now) (Before moment) calls.now)) }
     ensures by { IfOk result (λ found. IfSome found (λ moment.
         HasNoOrder (K.explains checker.now) (By moment) calls.now)) }
+    ensures well { IfOk result (λ _. IsWellTimed calls.now) }
 {
-    let guessed = checker.guess(alloc, calls)?;
+    let callers = calls.callers();
+    let guessed = checker.guess(alloc, callers)?;
     let Some(moment) = guessed else {
         return Ok(None);
     };
