@@ -57,6 +57,15 @@ fn is_end<E>(rows: &[Vec<Timed<E>>], done: &Done) -> bool {
     true
 }
 
+/// Returns the flow after a caller's call is made, or skipped, if it is answered as recorded, or may be skipped.
+fn flow_after<F: Plain>(flow: F, caller: usize, entry: F::Entry, skips: bool) -> Option<F> {
+    if skips {
+        let may_skip = F::may_skip(entry);
+        return may_skip.then_some(flow);
+    }
+    flow.after(caller, entry)
+}
+
 /// Returns the place after what is tried, if that may happen and is answered as recorded.
 fn after<F: Plain>(rows: &[Vec<Timed<F::Entry>>], place: &Place<F>) -> Option<Place<F>> {
     let caller = place.choice / 2;
@@ -65,18 +74,10 @@ fn after<F: Plain>(rows: &[Vec<Timed<F::Entry>>], place: &Place<F>) -> Option<Pl
     }
     let index = place.done[caller];
     let call = rows.get(caller)?.as_slice().get(index).copied()?;
-    let skips = place.choice % 2 == 1;
-    if skips && !F::may_skip(call.call) {
-        return None;
-    }
     if is_late(rows, &place.done, call.begin) {
         return None;
     }
-    let flow = if skips {
-        place.flow
-    } else {
-        place.flow.after(caller, call.call)?
-    };
+    let flow = flow_after(place.flow, caller, call.call, place.choice % 2 == 1)?;
     let mut done = place.done;
     done[caller] = index.wrapping_add(1);
     Some(Place {
