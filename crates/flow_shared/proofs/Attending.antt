@@ -1,5 +1,5 @@
 -- Who sleeps has nothing to receive: that stays so after a call, and when one more sleeps.
-use Rattle.std.proofs.Common.{inl, inr, ◌≡◌, ◌≢◌, ℕ, ◌≤◌, ◌==◌, Bool, true, false, not, List, [], ◌∷◌, take, drop, Option, Some, None, Result, Ok, Err, sym, ◌∙◌, subst, arith}
+use Rattle.std.proofs.Common.{inl, inr, ◌≡◌, ◌≢◌, ◌⊎◌, ℕ, ◌≤◌, ◌==◌, Bool, true, false, not, List, [], ◌∷◌, take, drop, Option, Some, None, Result, Ok, Err, ap, sym, ◌∙◌, subst, arith}
 use Rattle.std.specs.Prelude.{All, filter, nat_le, IsSomeAnd}
 use Rattle.std.proofs.lemmas.Bool.Decides.{Decides-eqb, nat_tests}
 use Rattle.std.proofs.lemmas.Bool.{not-true}
@@ -20,7 +20,7 @@ use Rattle.flow_shared.specs.declared.answers.Emitted.TheVariants as emitted
 use Rattle.flow_shared.specs.NextFutures.{given_by}
 use Rattle.flow_shared.specs.SharedReplies.{emitted_reply, EmitIsWait}
 use Rattle.flow_shared.specs.declared.attended.Attended.{Attended}
-use Rattle.flow_shared.specs.Attended.{AttendedAs, attended_stands, Rests, Lasts, AddsWaiting, without, IsWait, IsUndone}
+use Rattle.flow_shared.specs.Attended.{AttendedAs, attended_stands, Rests, Lasts, Watches, HasSubscribers, AddsWaiting, without, IsWait, IsUndone}
 
 -- nobody sleeps
 pub nobody : (P : ℕ → Type 0) (sleepers : List ℕ) → sleepers ≡ [] → All P sleepers
@@ -32,6 +32,11 @@ joins P u old new adds here all = elim adds as (λ _. All P new) [
   | inl same ↦ subst (All P) (sym same) all
   | inr at ↦ subst (All P) (sym at.1) (All-append P (take at.0 old) (u ∷ drop at.0 old) (All-take P at.0 old all) (All-cons P u (drop at.0 old) here (All-drop P at.0 old all)))
 ]
+
+-- a list without one number: what holds if it is not empty
+pub one_less : (number : ℕ) (old new : List ℕ) (P : Type 0) → new ≡ filter (λ k. not (k == number)) old → (old ≡ []) ⊎ P → (new ≡ []) ⊎ P
+one_less number old new P less (inl none) = inl (less ∙ ap (filter (λ k. not (k == number))) none)
+one_less number old new P less (inr holds) = inr holds
 
 -- both hold of each
 both : (P Q : ℕ → Type 0) (xs : List ℕ) → All P xs → All Q xs → All (λ u. P u × Q u) xs
@@ -100,6 +105,11 @@ module _ {K T S C R : Type 0} {kind : Kind T S C R} (sleeping : Sleeping kind) (
       now : kind.Replies s c r × StandsAs y (kind.after s c r)
       now = documents s stands
 
+  pub watchers_last : (core : K) (watchers : List ℕ) (watched : ℕ) (s : S) → Watches sleeping StandsAs core watchers watched → StandsAs core s
+      → (watchers ≡ []) ⊎ HasSubscribers kind watched s
+  watchers_last core watchers watched s (inl none) stands = inl none
+  watchers_last core watchers watched s (inr seen) stands = inr (seen s stands)
+
   pub emitter_joins : (core : K) (e : ℕ) (old new : List ℕ) (s : S) → AddsWaiting sleeping StandsAs core e old new → StandsAs core s
       → All (λ n. sleeping.waits n s ≡ true) old → All (λ n. sleeping.waits n s ≡ true) new
   emitter_joins core e old new s adds stands all = elim adds as (λ _. All (λ n. sleeping.waits n s ≡ true) new) [
@@ -108,18 +118,20 @@ module _ {K T S C R : Type 0} {kind : Kind T S C R} (sleeping : Sleeping kind) (
   ]
 
   -- one more emitter sleeps
-  pub sleeps_on : {A : Type 0} (mid new : Attended K A T S C R) (e : ℕ) → new.core ≡ mid.core → new.readers ≡ mid.readers → AddsWaiting sleeping StandsAs mid.core e mid.emitters new.emitters
+  pub sleeps_on : {A : Type 0} (mid new : Attended K A T S C R) (e : ℕ) → new.core ≡ mid.core → new.readers ≡ mid.readers → new.watchers ≡ mid.watchers → new.watched ≡ mid.watched
+      → AddsWaiting sleeping StandsAs mid.core e mid.emitters new.emitters
       → (s : S) → AttendedAs sleeping StandsAs mid s → AttendedAs sleeping StandsAs new s
-  sleeps_on mid new e core readers adds s at = record {
+  sleeps_on mid new e core readers watchers watched adds s at = record {
     core = subst (λ k. StandsAs k s) (sym core) at.core;
     sound = at.sound;
     readers = subst (All (λ u. FindsNothing kind u s)) (sym readers) at.readers;
     emitters = emitter_joins mid.core e mid.emitters new.emitters s adds at.core at.emitters;
+    watchers = subst (λ n. (new.watchers ≡ []) ⊎ HasSubscribers kind n s) (sym watched) (subst (λ l. (l ≡ []) ⊎ HasSubscribers kind mid.watched s) (sym watchers) at.watchers);
   }
 
 module _ {K A T S C R : Type 0} {kind : Kind T S C R} (sleeping : Sleeping kind) (start : K → S) (StandsAs : K → S → Type 0) where
   -- a core of which nobody has called anything yet
-  pub begins : (w : Attended K A T S C R) → kind.MayBegin (start w.core) → StandsAs w.core (start w.core) → (w.readers ≡ []) × (w.emitters ≡ []) → attended_stands sleeping start StandsAs w w []
+  pub begins : (w : Attended K A T S C R) → kind.MayBegin (start w.core) → StandsAs w.core (start w.core) → (w.readers ≡ []) × (w.emitters ≡ []) × (w.watchers ≡ []) → attended_stands sleeping start StandsAs w w []
   begins w may stands alone = (
     record { begins = may; legal = tt; owned = tt },
     record {
@@ -127,6 +139,7 @@ module _ {K A T S C R : Type 0} {kind : Kind T S C R} (sleeping : Sleeping kind)
       sound = sleeping.begins (start w.core) may;
       readers = subst (All (λ u. FindsNothing kind u (start w.core))) (sym alone.0) (All-nil (λ u. FindsNothing kind u (start w.core)));
       emitters = subst (All (λ e. sleeping.waits e (start w.core) ≡ true)) (sym alone.1) (All-nil (λ e. sleeping.waits e (start w.core) ≡ true));
+      watchers = inl alone.2;
     },
   )
 

@@ -14,14 +14,19 @@ use Rattle.flow_law.specs.Standing.{StandsForHistory}
 use Rattle.flow_sleepers.specs.Sleepers.{Adds}
 use Rattle.flow_shared.specs.declared.attended.Attended.{Attended}
 
+-- there are so many subscribers
+abbrev pub HasSubscribers : {T S C R : Type 0} (kind : Kind T S C R) → ℕ → S → Type 0
+HasSubscribers kind count s = kind.Replies s kind.count (kind.counted count)
+
 module _ {K A T S C R : Type 0} {kind : Kind T S C R} (sleeping : Sleeping kind) where
-  -- The core stands for the state, and no sleeper is forgotten: a subscriber that sleeps has nothing to receive, and an
-  -- emission whose owner sleeps still waits.
+  -- The core stands for the state, and no sleeper is forgotten: a subscriber that sleeps has nothing to receive, an
+  -- emission whose owner sleeps still waits, and watchers that sleep have seen how many subscribers there are.
   pub record AttendedAs (StandsAs : K → S → Type 0) (w : Attended K A T S C R) (s : S) : Type 0 where
     pub core : StandsAs w.core s
     pub sound : sleeping.IsSound s
     pub readers : All (λ u. FindsNothing kind u s) w.readers
     pub emitters : All (λ e. sleeping.waits e s ≡ true) w.emitters
+    pub watchers : (w.watchers ≡ []) ⊎ HasSubscribers kind w.watched s
 
   -- from the state that a gate began with: a state, and a history that it stands for
   abbrev pub attended_stands : (K → S) → (K → S → Type 0) → Attended K A T S C R → Attended K A T S C R → List (HistoryEvent (Said C R)) → Type 0
@@ -46,6 +51,10 @@ module _ {K T S C R : Type 0} {kind : Kind T S C R} (sleeping : Sleeping kind) (
       (new ≡ [])
       ⊎ (((new ≡ old) × ((s : S) → StandsAs core s → first ≡ sleeping.first_waiting s))
       ⊎ ((number : ℕ) × (new ≡ filter (λ k. nat_le number k) old) × ((s : S) → StandsAs core s → Some number ≡ sleeping.first_waiting s)))
+
+  -- The watchers that sleep after a call: none, or some that have seen how many subscribers there are.
+  abbrev pub Watches : K → List ℕ → ℕ → Type 0
+  Watches core watchers watched = (watchers ≡ []) ⊎ ((s : S) → StandsAs core s → HasSubscribers kind watched s)
 
   -- one more sleeps, if its emission waits
   abbrev pub AddsWaiting : K → ℕ → List ℕ → List ℕ → Type 0

@@ -8,25 +8,32 @@ ghost use Rattle.flow_law.specs.History.{replied};
 ghost use Rattle.flow_law.specs.Standing.{Documents};
 ghost use Rattle.flow_core.specs.SubId.{number_of};
 ghost use Rattle.flow_shared.specs.Drains.{CoreNexts};
-ghost use Rattle.flow_shared.specs.Attended.{AttendedAs, attended_stands, Rests, Lasts, without, IsWait};
+ghost use Rattle.flow_shared.specs.Attended.{AttendedAs, attended_stands, Rests, Lasts, Watches, without, IsWait};
 
 use crate::core_call::CoreCall;
 use crate::subscriber::TakeNext;
+use crate::watcher::{Count, Watching};
 use flow_core::{FlowCore, SubId};
 use flow_law::{FlowFault, Guarded, Next, Said};
 use flow_sleepers::{Sleepers, Waiter, Woken};
 use futures::task::Poll;
 use std::alloc::{Allocator, Global};
 
-/// A core, and the callers that sleep: readers, under their subscribers' numbers, and emitters, under the numbers of
-/// their emissions. A caller that sleeps has nothing yet: a call that gives it something, or ends its emission, removes
-/// and wakes it.
+/// A core, and the callers that sleep: readers, under their subscribers' numbers, emitters, under the numbers of their
+/// emissions, and watchers of the number of subscribers, under numbers of their own. A caller that sleeps has nothing
+/// yet: a call that gives it something, ends its emission, or adds or ends a subscriber, removes and wakes it.
 pub struct Attended<S: FlowCore, A: Allocator + Copy = Global> {
     pub(crate) core: S,
     readers: Sleepers<A>,
     pub(crate) emitters: Sleepers<A>,
+    watchers: Sleepers<A>,
+    /// The number of subscribers that the watchers have seen.
+    watched: u64,
     woken: Woken<A>,
     done: Woken<A>,
+    counted: Woken<A>,
+    /// Whether a caller is to be woken.
+    wakes: bool,
 }
 
 // Not derived, for the reason given at `Flow`.
@@ -36,8 +43,12 @@ impl<S: FlowCore + Drop, A: Allocator + Copy> Drop for Attended<S, A> {
             core: _,
             readers: _,
             emitters: _,
+            watchers: _,
+            watched: _,
             woken: _,
             done: _,
+            counted: _,
+            wakes: _,
         } = self;
     }
 }
@@ -71,14 +82,18 @@ impl<S: FlowCore, A: Allocator + Copy> Attended<S, A> {
     /// Returns the core with no sleepers.
     pub(crate) fn new(alloc: A, core: S) -> Self
         ensures core { result.core ≡ core }
-        ensures alone { (result.readers ≡ []) × (result.emitters ≡ []) }
+        ensures alone { (result.readers ≡ []) × (result.emitters ≡ []) × (result.watchers ≡ []) }
     {
         Attended {
             core,
             readers: Sleepers::new(alloc),
             emitters: Sleepers::new(alloc),
+            watchers: Sleepers::new(alloc),
+            watched: 0,
             woken: Woken::new(alloc),
             done: Woken::new(alloc),
+            counted: Woken::new(alloc),
+            wakes: false,
         }
     }
 
@@ -90,8 +105,12 @@ impl<S: FlowCore, A: Allocator + Copy> Attended<S, A> {
             core,
             readers: _,
             emitters: _,
+            watchers: _,
+            watched: _,
             woken: _,
             done: _,
+            counted: _,
+            wakes: _,
         } = self;
         core
     }
@@ -114,6 +133,7 @@ impl<S: FlowCore, A: Allocator + Copy> Attended<S, A> {
     {
         if !self.readers.is_empty() {
             self.woken = self.readers.take_all();
+            self.wakes = true;
         }
     }
 
@@ -143,15 +163,45 @@ impl<S: FlowCore, A: Allocator + Copy> Attended<S, A> {
         }
         match now {
             Some(number) => self.emitters.wake_below(number),
-            None => self.done = self.emitters.take_all(),
+            None => {
+                self.done = self.emitters.take_all();
+                self.wakes = true;
+            }
         }
+    }
+
+    /// Removes all watchers; they are woken later.
+    fn wake_watchers(&mut self)
+        ensures core { self.new.core ≡ self.old.core }
+        ensures readers { self.new.readers ≡ self.old.readers }
+        ensures emitters { self.new.emitters ≡ self.old.emitters }
+        ensures watchers { self.new.watchers ≡ [] }
+    {
+        self.counted = self.watchers.take_all();
+        self.wakes = true;
+    }
+
+    /// Removes all watchers if the number of subscribers is another one than they have seen.
+    fn wake_watchers_if_due(&mut self)
+        ensures core { self.new.core ≡ self.old.core }
+        ensures readers { self.new.readers ≡ self.old.readers }
+        ensures emitters { self.new.emitters ≡ self.old.emitters }
+        ensures watchers { Watches S.sleeping S.stands_as self.old.core self.new.watchers self.new.watched }
+    {
+        if self.watchers.is_empty() {
+            return;
+        }
+        if self.core.subscription_count() == self.watched {
+            return;
+        }
+        self.wake_watchers();
     }
 
     /// Returns whether no caller sleeps.
     fn is_alone(&self) -> bool
-        ensures { OnTrue result ((self.now.readers ≡ []) × (self.now.emitters ≡ [])) }
+        ensures { OnTrue result ((self.now.readers ≡ []) × (self.now.emitters ≡ []) × (self.now.watchers ≡ [])) }
     {
-        self.readers.is_empty() && self.emitters.is_empty()
+        self.readers.is_empty() && self.emitters.is_empty() && self.watchers.is_empty()
     }
 
     /// Makes a call of the core, and removes the sleepers that have something after it.
@@ -182,6 +232,7 @@ impl<S: FlowCore, A: Allocator + Copy> Attended<S, A> {
         let answer = call.run(&mut self.core);
         self.wake_readers_if_due(C::is_set(&answer), mark);
         self.wake_emitters_if_due(first);
+        self.wake_watchers_if_due();
         answer
     }
 
@@ -217,6 +268,47 @@ impl<S: FlowCore, A: Allocator + Copy> Attended<S, A> {
         }
     }
 
+    /// Counts the subscribers.
+    pub(crate) fn count(&mut self) -> u64
+        ensures { Documents S.kind (AttendedAs S.sleeping S.stands_as)
+            self.old S.kind.count (S.kind.counted result) self.new }
+    {
+        self.call(Count::new())
+    }
+
+    /// Counts the subscribers. The caller sleeps under this number until there are more or fewer.
+    pub(crate) fn count_and_watch<W: Waiter<A>>(&mut self, waiter: &mut W, number: u64) -> u64
+        ensures documented { Documents S.kind (AttendedAs S.sleeping S.stands_as)
+            self.old S.kind.count (S.kind.counted result) self.new }
+        ensures armed { W.is_armed waiter.new }
+        ensures kept { W.keeps waiter.old waiter.new }
+    {
+        let count = self.count();
+        self.watched = self.core.subscription_count();
+        let _asleep: Poll<()> = self.watchers.sleep(waiter, number);
+        count
+    }
+
+    /// Counts the subscribers, and removes the watcher of this number.
+    pub(crate) fn count_and_unwatch(&mut self, number: u64) -> u64
+        ensures { Documents S.kind (AttendedAs S.sleeping S.stands_as)
+            self.old S.kind.count (S.kind.counted result) self.new }
+    {
+        let count = self.count();
+        self.watchers.wake(number);
+        count
+    }
+
+    /// Counts the subscribers, and removes all watchers; they are woken later.
+    pub(crate) fn count_and_wake(&mut self) -> u64
+        ensures { Documents S.kind (AttendedAs S.sleeping S.stands_as)
+            self.old S.kind.count (S.kind.counted result) self.new }
+    {
+        let count = self.count();
+        self.wake_watchers();
+        count
+    }
+
     /// Takes values of the core that a subscriber can receive, at most so many, with nobody asleep. Returns how many.
     pub(crate) fn take_held<B: Allocator>(
         &mut self,
@@ -237,15 +329,18 @@ impl<S: FlowCore, A: Allocator + Copy> Attended<S, A> {
 
     /// Returns whether a caller is to be woken.
     pub(crate) fn wakes_any(&self) -> bool {
-        !self.woken.is_empty() || !self.done.is_empty()
+        self.wakes
     }
 
     /// Takes those out who are to be woken.
-    pub(crate) fn take_woken(&mut self) -> (Woken<A>, Woken<A>)
+    pub(crate) fn take_woken(&mut self) -> (Woken<A>, Woken<A>, Woken<A>)
         ensures core { self.new.core ≡ self.old.core }
         ensures readers { self.new.readers ≡ self.old.readers }
         ensures emitters { self.new.emitters ≡ self.old.emitters }
+        ensures watchers { self.new.watchers ≡ self.old.watchers }
+        ensures watched { self.new.watched ≡ self.old.watched }
     {
-        (self.woken.take(), self.done.take())
+        self.wakes = false;
+        (self.woken.take(), self.done.take(), self.counted.take())
     }
 }

@@ -1,6 +1,5 @@
 //! A flow of any kind for several threads.
 ghost use Rattle.std.specs.Prelude.{◌≡◌, IfOk, IfErr, IfSome, MatchResult};
-ghost use Rattle.futures.specs.Task.{IsArmed, Keeps};
 ghost use Rattle.flow_law.specs.History.{MayCall, IsHistory};
 ghost use Rattle.flow_law.specs.Growth.{makes, child};
 ghost use Rattle.flow_law.specs.Tokens.{subscription_name, knowing, IsBusy};
@@ -12,20 +11,25 @@ use crate::token::{FlowSeat, FlowSubscription};
 use flow_core::FlowCore;
 use flow_gate::Gate;
 use flow_sleepers::Waiter;
-use futures::task::{Context, Poll};
 use std::alloc::{Allocator, Global};
 use std::marker::Model;
 use std::sync::Wait;
+use std::sync::atomic::AtomicU64;
 
 /// A flow for callers on several threads.
 pub struct Flow<S: FlowCore, A: Allocator + Copy = Global> {
     pub(crate) gate: Gate<Attended<S, A>, A>,
+    /// How many watchers were made.
+    pub(crate) watchers: AtomicU64,
 }
 
 // Not derived: each crate that drops a flow would prove again how its gate is dropped.
 impl<S: FlowCore + Drop, A: Allocator + Copy> Drop for Flow<S, A> {
     fn drop(self) {
-        let Self { gate: _ } = self;
+        let Self {
+            gate: _,
+            watchers: _,
+        } = self;
     }
 }
 
@@ -78,13 +82,13 @@ impl<S: FlowCore + Drop, A: Allocator + Copy> Flow<S, A> {
         }
     }
 
-    /// Does the same as `call_by_now`. If the reply is a wait, the caller sleeps. If another caller is inside, the task
-    /// asks to be polled again.
-    pub(crate) fn call_by_or_sleep<C: SleepingCall<S, A>>(
+    /// Does the same as `call_by_now`. If the reply is a wait, the caller sleeps. If another caller is inside, it asks
+    /// again.
+    pub(crate) fn call_by_or_sleep<C: SleepingCall<S, A>, W: Waiter<A>>(
         &self,
         seat: flow_gate::Seat<Attended<S, A>, A>,
         call: C,
-        cx: &mut Context<'_>,
+        waiter: &mut W,
     ) -> Result<
         (flow_gate::Seat<Attended<S, A>, A>, C::Answer),
         (flow_gate::Seat<Attended<S, A>, A>, C),
@@ -95,13 +99,13 @@ impl<S: FlowCore + Drop, A: Allocator + Copy> Flow<S, A> {
         ensures called { IfOk result (λ done. CallsAtOnce S.kind self.now seat
             (C.call call (subscription_name seat.knows)) (C.reply done.1) done.0 × C.also call done.1) }
         ensures busy { IfErr result (λ back. IsBusy seat back.0 × (back.1 ≡ call)) }
-        ensures armed { MatchResult result (λ done. C.is_wait done.1 → IsArmed cx.new) (λ back. IsArmed cx.new) }
-        ensures kept { Keeps cx.old cx.new }
+        ensures armed { MatchResult result (λ done. C.is_wait done.1 → W.is_armed waiter.new) (λ back. W.is_armed waiter.new) }
+        ensures kept { W.keeps waiter.old waiter.new }
     {
         match self.gate.try_enter(seat) {
-            Ok(held) => Ok(call_core_or_sleep(held, call, cx)),
+            Ok(held) => Ok(call_core_or_sleep(held, call, waiter)),
             Err(back) => {
-                let _again: Poll<()> = cx.yield_now();
+                waiter.ask_again();
                 Err((back, call))
             }
         }
@@ -192,13 +196,13 @@ impl<S: FlowCore + Drop, A: Allocator + Copy> Flow<S, A> {
         answer
     }
 
-    /// Does the same as `call_now`. If the reply is a wait, the caller sleeps; if another caller is inside, it asks to
-    /// be polled again.
-    pub(crate) fn call_or_sleep<C: SleepingCall<S, A>>(
+    /// Does the same as `call_now`. If the reply is a wait, the caller sleeps; if another caller is inside, it asks
+    /// again.
+    pub(crate) fn call_or_sleep<C: SleepingCall<S, A>, W: Waiter<A>>(
         &self,
         seat: &mut FlowSeat<S, A>,
         call: C,
-        cx: &mut Context<'_>,
+        waiter: &mut W,
     ) -> Result<C::Answer, C>
         requires flow { seat.old.table_id ≡ self.now.table_id }
         requires may { MayCall S.kind (C.call call (subscription_name seat.old.knows))
@@ -206,11 +210,11 @@ impl<S: FlowCore + Drop, A: Allocator + Copy> Flow<S, A> {
         ensures called { IfOk result (λ answer. CallsAtOnce S.kind self.now seat.old
             (C.call call (subscription_name seat.old.knows)) (C.reply answer) seat.new × C.also call answer) }
         ensures busy { IfErr result (λ back. IsBusy seat.old seat.new × (back ≡ call)) }
-        ensures armed { MatchResult result (λ answer. C.is_wait answer → IsArmed cx.new) (λ back. IsArmed cx.new) }
-        ensures kept { Keeps cx.old cx.new }
+        ensures armed { MatchResult result (λ answer. C.is_wait answer → W.is_armed waiter.new) (λ back. W.is_armed waiter.new) }
+        ensures kept { W.keeps waiter.old waiter.new }
     {
         let own = seat.seat.take().unwrap();
-        let (own, answer) = match self.call_by_or_sleep(own, call, cx) {
+        let (own, answer) = match self.call_by_or_sleep(own, call, waiter) {
             Ok((own, answer)) => (own, Ok(answer)),
             Err((own, call)) => (own, Err(call)),
         };
@@ -254,7 +258,7 @@ impl<S: FlowCore + Drop, A: Allocator + Copy> Flow<S, A> {
         ensures { IfSome result (ClosesAs S.kind self S.stands_as seat) }
     {
         let own = seat.seat.unwrap();
-        let Self { gate } = self;
+        let Self { gate, watchers: _ } = self;
         match gate.close_with(own) {
             Some(state) => Some(state.into_core()),
             None => None,

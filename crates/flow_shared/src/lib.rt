@@ -20,7 +20,7 @@
 //! A call that takes `rt` waits while another caller is inside the flow. A call whose name ends in `_now`, or of a
 //! handle begins with `try_`, does not: it answers `Busy`, and has done nothing. Neither waits for room or for a value:
 //! `emit` answers `Queued`, and `next` answers `Empty`. `send`, `receive`, `changed` and `wait_for` of handles wait for
-//! these: the thread sleeps meanwhile.
+//! these: the thread sleeps meanwhile. A `Watcher` sleeps until the number of subscribers changes.
 //!
 //! # Dropping
 //! A seat that is dropped is lost. A subscription that is dropped stays, and may block emitters for good. An emission
@@ -42,6 +42,7 @@ mod shared;
 mod state;
 mod subscriber;
 mod token;
+mod watcher;
 
 pub use answers::{Emission, Emitted, Polled, PolledNow, SendEnd};
 pub use emit_future::{EmitFuture, EmitStage, Sent};
@@ -56,3 +57,4 @@ pub use send_future::SendFuture;
 pub use shared::{Seat, SharedFlow, Subscription};
 pub use state::{StateFlow, StateSeat, StateSubscription};
 pub use token::{FlowSeat, FlowSubscription};
+pub use watcher::Watcher;

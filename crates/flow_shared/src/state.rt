@@ -15,6 +15,7 @@ use flow_gate::Gate;
 use flow_law::{FlowFault, FlowValue};
 use std::alloc::{Allocator, Global};
 use std::sync::Wait;
+use std::sync::atomic::AtomicU64;
 
 mod calls;
 mod seen;
@@ -50,7 +51,10 @@ impl<T: FlowValue, A: Allocator + Copy> Flow<StateCore<T, A>, A> {
     {
         let core = StateCore::new(alloc, initial, limit);
         match Gate::new(alloc, Attended::new(alloc, core)) {
-            Ok((gate, seat)) => Ok((Flow { gate }, FlowSeat { seat: Some(seat) })),
+            Ok((gate, seat)) => {
+                let watchers = AtomicU64::new(0);
+                Ok((Flow { gate, watchers }, FlowSeat { seat: Some(seat) }))
+            }
             Err(_failed) => Err(FlowFault::OutOfMemory),
         }
     }

@@ -12,6 +12,7 @@ use crate::attended::Attended;
 use crate::core_call::{CoreCall, SleepingCall};
 use crate::flow::Flow;
 use crate::token::{FlowSeat, FlowSubscription};
+use crate::watcher::Count;
 use flow_core::{FlowCore, SubId};
 use flow_law::{FlowFault, Next};
 use flow_sleepers::Waiter;
@@ -118,35 +119,6 @@ impl<S: FlowCore> CoreCall<S> for Unsubscribe {
     }
 
     fn is_set(_answer: &bool) -> bool {
-        false
-    }
-}
-
-#[derive(Drop)]
-struct Count;
-
-impl<S: FlowCore> CoreCall<S> for Count {
-    type Answer = u64;
-
-    ghost call = { λ c name. S.kind.count };
-
-    ghost reply = { λ count. S.kind.counted count };
-
-    ghost also = { λ c count. ⊤ };
-
-    fn run(self, core: &mut S) -> u64 {
-        core.subscription_count()
-    }
-
-    fn ends(&self) -> Option<u64> {
-        None
-    }
-
-    fn cancels(&self) -> Option<u64> {
-        None
-    }
-
-    fn is_set(_answer: &u64) -> bool {
         false
     }
 }
@@ -268,7 +240,7 @@ impl<S: FlowCore + Drop, A: Allocator + Copy> Flow<S, A> {
         requires { seat.old.table_id ≡ self.now.table_id }
         ensures { Counts S.kind self.now seat.old result seat.new }
     {
-        self.call(rt, seat, Count)
+        self.call(rt, seat, Count::new())
     }
 
     /// Counts the subscribers if no other caller is inside; otherwise returns `Busy`.
@@ -276,9 +248,9 @@ impl<S: FlowCore + Drop, A: Allocator + Copy> Flow<S, A> {
         requires { seat.old.table_id ≡ self.now.table_id }
         ensures { CountsNow S.kind self.now seat.old result seat.new }
     {
-        match self.call_now(seat, Count) {
+        match self.call_now(seat, Count::new()) {
             Ok(count) => Ok(count),
-            Err(Count) => Err(FlowFault::Busy),
+            Err(_count) => Err(FlowFault::Busy),
         }
     }
 

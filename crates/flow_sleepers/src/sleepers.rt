@@ -76,11 +76,6 @@ impl<A: Allocator + Copy> Woken<A> {
         }
     }
 
-    /// Returns whether no caller is to be woken.
-    pub fn is_empty(&self) -> bool {
-        self.list.is_empty()
-    }
-
     /// Returns all of them, and leaves an empty list.
     pub fn take(&mut self) -> Self {
         let alloc = *self.list.allocator();

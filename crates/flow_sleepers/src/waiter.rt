@@ -8,7 +8,7 @@ use futures::task::{Context, Poll, Source, Waker};
 use std::alloc::{AllocError, Allocator, Global};
 use std::sync::{Arc, Wait};
 use std::thread::Parker;
-use std::time::Clock;
+use std::time::{Clock, Duration};
 use std::{mem, thread};
 
 /// The wakers of a sleeper: that of its task, or of its thread. Dropping them wakes it.
@@ -89,7 +89,7 @@ enum Rest {
     Again,
 }
 
-/// The calling thread, which sleeps until a waker of it is dropped. A waiter serves one wait, under one number.
+/// The calling thread, which sleeps until a waker of it is dropped. No other caller leaves a waker under its numbers.
 #[derive(Drop)]
 pub struct ThreadWaiter<A: Allocator = Global> {
     /// Made when the thread first leaves a waker.
@@ -122,14 +122,29 @@ impl<A: Allocator + Copy> ThreadWaiter<A> {
         Ok(waker)
     }
 
+    /// Forgets how an earlier wait ended: the next sleep is ended only by wakers that are left from now on.
+    pub fn begin<R: Wait>(&mut self, rt: &R) {
+        self.rest = Rest::None;
+        if let Some(parker) = &self.parker {
+            parker.park_timeout(rt, Duration::ZERO);
+        }
+    }
+
+    /// Sleeps until a waker that was left is dropped, or for `most`, if that is given; it may return early. If none was
+    /// left, or the thread has to ask again, it lets other threads go first.
+    pub fn sleep<R: Wait>(&mut self, rt: &R, most: Option<Duration>) {
+        match (mem::replace(&mut self.rest, Rest::None), &self.parker, most) {
+            (Rest::Asleep, Some(parker), Some(most)) => parker.park_timeout(rt, most),
+            (Rest::Asleep, Some(parker), None) => parker.park(rt),
+            _ => thread::yield_now(),
+        }
+    }
+
     /// Sleeps until the waker that was left is dropped, or lets other threads go first if the thread has to ask again.
     pub fn wait<R: Wait>(&mut self, rt: &R)
         requires { IsToldToWait self.old }
     {
-        match (mem::replace(&mut self.rest, Rest::None), &self.parker) {
-            (Rest::Asleep, Some(parker)) => parker.park(rt),
-            _ => thread::yield_now(),
-        }
+        self.sleep(rt, None);
     }
 
     /// Sleeps as `wait` does, but no longer than the limit allows; it may return early. Returns `false` at once if no time is
@@ -140,10 +155,7 @@ impl<A: Allocator + Copy> ThreadWaiter<A> {
         let Some(left) = limit.left(rt) else {
             return false;
         };
-        match (mem::replace(&mut self.rest, Rest::None), &self.parker) {
-            (Rest::Asleep, Some(parker)) => parker.park_timeout(rt, left),
-            _ => thread::yield_now(),
-        }
+        self.sleep(rt, Some(left));
         true
     }
 }
@@ -161,6 +173,9 @@ impl<A: Allocator + Copy> Waiter<A> for ThreadWaiter<A> {
         ensures armed { IsToldToWait self.new }
         ensures kept { ⊤ }
     {
+        if let Rest::Again = self.rest {
+            return;
+        }
         // Replacing its own waker would wake the thread at once.
         if self.parker.is_some() && wakers.thread.is_some() {
             self.rest = Rest::Asleep;

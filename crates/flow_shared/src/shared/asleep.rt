@@ -29,6 +29,8 @@ impl<T: FlowValue, A: Allocator + Copy> Attended<SharedCore<T, A>, A> {
     fn sleep_while_waiting<W: Waiter<A>>(&mut self, waiter: &mut W, number: u64)
         ensures core { self.new.core ≡ self.old.core }
         ensures readers { self.new.readers ≡ self.old.readers }
+        ensures watchers { self.new.watchers ≡ self.old.watchers }
+        ensures watched { self.new.watched ≡ self.old.watched }
         ensures emitters { AddsWaiting shared_sleeping StandsFor self.old.core number self.old.emitters self.new.emitters }
         ensures armed { W.is_armed waiter.new }
         ensures kept { W.keeps waiter.old waiter.new }
@@ -137,20 +139,20 @@ impl<T: FlowValue, A: Allocator + Copy> Flow<SharedCore<T, A>, A> {
         }
     }
 
-    /// Does the same as `poll_now`. If the emission waits, the caller sleeps. If another caller is inside, the task
-    /// asks to be polled again.
-    pub(crate) fn poll_or_sleep(
+    /// Does the same as `poll_now`. If the emission waits, the caller sleeps. If another caller is inside, it asks
+    /// again.
+    pub(crate) fn poll_or_sleep<W: Waiter<A>>(
         &self,
         emission: Emission<T, A>,
-        cx: &mut Context<'_>,
+        waiter: &mut W,
     ) -> PolledNow<T, A>
         requires { emission.token.table_id ≡ self.now.table_id }
         ensures polls { PollsNow self.now emission result }
-        ensures armed { PollIsWait result → IsArmed cx.new }
-        ensures kept { Keeps cx.old cx.new }
+        ensures armed { PollIsWait result → W.is_armed waiter.new }
+        ensures kept { W.keeps waiter.old waiter.new }
     {
         let Emission { seat, number } = emission;
-        match self.call_by_or_sleep(seat, PollCall { number }, cx) {
+        match self.call_by_or_sleep(seat, PollCall { number }, waiter) {
             Ok((seat, waits)) => {
                 if waits {
                     PolledNow::Waiting(Emission { seat, number })

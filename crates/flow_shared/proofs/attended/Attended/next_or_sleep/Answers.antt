@@ -28,6 +28,7 @@ returns-in-Empty-clause-documented g c = λ s at.
         core = told.1.core;
         sound = told.1.sound;
         emitters = told.1.emitters;
+        watchers = told.1.watchers;
         readers = joins (λ n. FindsNothing kind n (kind.after s (kind.take_next u) (kind.received Empty))) u c.call.new.self.readers c.sleep-asleep.new.self adds (g.S.FlowCore.sleeping.found u s told.0) told.1.readers;
       },
     )

@@ -1,4 +1,4 @@
-use Rattle.std.proofs.Common.{◌≡◌, true}
+use Rattle.std.proofs.Common.{inl, ◌≡◌, true}
 use Rattle.flow_core.specs.SubId.{number_of}
 use Rattle.flow_core.proofs.TakingLemmas.{drains_none, drains_lifted}
 use Rattle.flow_law.specs.History.{replied}
@@ -29,6 +29,7 @@ returns-then-is_alone-clause-taken g c =
         sound = sleeping.keeps s said reply at.sound;
         readers = nobody (λ u. FindsNothing kind u (kind.after s said reply)) c.args.self.now.readers c.if-is_alone.ensures.0;
         emitters = nobody (λ e. sleeping.waits e (kind.after s said reply) ≡ true) c.args.self.now.emitters c.if-is_alone.ensures.1;
+        watchers = inl c.if-is_alone.ensures.2;
       },
     ))
     c.take_held.result c.args.self.now.core c.take_held.new.self c.args.values.now.items c.take_held.new.values.items c.take_held.ensures.taken

@@ -19,4 +19,4 @@ pub returns-in-Queued-clause-documented : goal.returns-in-Queued-clause-document
 returns-in-Queued-clause-documented g c = λ s at.
     let said = subst (λ emission. Documents shared_flow (AttendedAs shared_sleeping StandsFor) c.args.self.now (call.Emit c.args.value) (emit_reply (Ok emission)) c.call.new.self) c.in-Queued.is (c.in-Ok.ensures.documented []) s at in
     let asleep = c.sleep_while_waiting.ensures in
-    (said.0, sleeps_on shared_sleeping StandsFor c.call.new.self c.sleep_while_waiting.new.self c.in-Queued.number asleep.core asleep.readers asleep.emitters _ said.1)
+    (said.0, sleeps_on shared_sleeping StandsFor c.call.new.self c.sleep_while_waiting.new.self c.in-Queued.number asleep.core asleep.readers asleep.watchers asleep.watched asleep.emitters _ said.1)

@@ -8,7 +8,7 @@ pub returns-then-call-clause-documented : goal.returns-then-call-clause-document
 returns-then-call-clause-documented g c = λ s at.
     let said = c.if-call.ensures.documented [] s at in
     let asleep = c.sleep_while_waiting.ensures in
-    (said.0, sleeps_on shared_sleeping StandsFor c.call.new.self c.sleep_while_waiting.new.self c.args.number asleep.core asleep.readers asleep.emitters _ said.1)
+    (said.0, sleeps_on shared_sleeping StandsFor c.call.new.self c.sleep_while_waiting.new.self c.args.number asleep.core asleep.readers asleep.watchers asleep.watched asleep.emitters _ said.1)
 
 pub returns-else-call-clause-documented : goal.returns-else-call-clause-documented
 returns-else-call-clause-documented g c = c.if-call.ensures.documented []
