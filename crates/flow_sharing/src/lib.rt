@@ -14,6 +14,10 @@
 //! another caller is inside the flow, the turn reports `Busy`, and the next turn goes on there. Over a `WordHub` no
 //! turn is busy.
 //!
+//! # A run
+//! `sharing.run(rt, &stop)` takes the turns on the calling thread. It sleeps while there is nothing to do, and ends when a
+//! `FlowStop` or a `WordStop` asks it to. `run_to_end` ends with the chain.
+//!
 //! # What a hub promises
 //! Contracts see a hub as its flow, its two seats, the number of its emission, and what a reset sets (`SeatedHub`).
 //! Each call is one event under one of the two seats, or `Busy` and one lost exchange (`SharedFlowHubDoes`,
@@ -25,6 +29,7 @@
 //! that, take a turn that stops the sharing first, or call `cancel` through `hub_mut`.
 #![tactic(auto)]
 
+mod flow_stop;
 mod laws;
 mod sender;
 mod shared_flow_hub;
@@ -32,13 +37,14 @@ mod state_flow_hub;
 mod word_hub;
 mod word_stop;
 
+pub use flow_stop::FlowStop;
 pub use flow_turns::{
-    Asked, Backwards, ChainFault, Cold, Command, CoreHub, End, Event, Hub, HubWatch, NEVER, Policy,
-    Report, ShareFault, Sharing, SharingObservation, Started, StateHub, StopSignal, WatchedHub,
+    Asked, Backwards, ChainFault, Cold, Command, CoreHub, End, Event, Hub, NEVER, Policy, Report,
+    ShareFault, Sharing, SharingObservation, Started, StateHub, StopSignal, WatchedHub,
     law_turn_over_core, law_turn_over_state_core, share_in, state_in,
 };
 pub use laws::{law_turn_over_shared_flow, law_turn_over_state_flow, law_turn_over_word_state};
 pub use shared_flow_hub::SharedFlowHub;
 pub use state_flow_hub::StateFlowHub;
 pub use word_hub::WordHub;
-pub use word_stop::{WordStop, WordWatch};
+pub use word_stop::WordStop;

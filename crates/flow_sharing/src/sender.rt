@@ -7,7 +7,7 @@ ghost use Rattle.flow_sharing.specs.Sender.{token_of, emission_of};
 ghost use Rattle.flow_sharing.specs.SharedFlowHub.{PutBy, PollBy, CancelBy, ResetBy};
 
 use flow_law::{FlowFault, FlowValue, Refused};
-use flow_shared::{Emission, Emitted, PolledNow, Seat, SharedFlow};
+use flow_shared::{Emission, Emitted, PolledNow, Seat, SharedFlow, Watcher};
 use std::alloc::Allocator;
 
 /// A seat, or an emission that waits and holds the seat.
@@ -44,18 +44,22 @@ impl<T: FlowValue, A: Allocator + Copy> Sender<T, A> {
     }
 
     /// Returns whether the emission, if there is one, still waits.
-    pub(crate) fn poll(self, flow: &SharedFlow<T, A>) -> (Self, Result<bool, FlowFault>)
-        requires { (token_of self).table_id ≡ flow.now.table_id }
-        ensures polls { PollBy flow.now.first (emission_of self) (token_of self) result.1
+    pub(crate) fn poll(
+        self,
+        call: (&SharedFlow<T, A>, &mut Watcher<A>),
+    ) -> (Self, Result<bool, FlowFault>)
+        requires { (token_of self).table_id ≡ call.0.now.table_id }
+        ensures polls { PollBy call.entry.0.now.first (emission_of self) (token_of self) result.1
             (token_of result.0) (emission_of result.0) }
         ensures waits { is_some (emission_of result.0)
             ≡ waits_after {T = T} calls.polls result.1 (is_some (emission_of self)) }
         ensures busy { IfErr result.1 (λ fault. fault ≡ FlowFault.Busy) }
         ensures flow { (token_of result.0).table_id ≡ (token_of self).table_id }
     {
+        let (flow, watcher) = call;
         match self {
             Sender::Idle(seat) => (Sender::Idle(seat), Ok(false)),
-            Sender::Waiting(emission) => match flow.poll_now(emission) {
+            Sender::Waiting(emission) => match flow.poll_watched(emission, watcher) {
                 PolledNow::Done(seat) => (Sender::Idle(seat), Ok(false)),
                 PolledNow::Waiting(emission) => (Sender::Waiting(emission), Ok(true)),
                 PolledNow::Busy(emission) => (Sender::Waiting(emission), Err(FlowFault::Busy)),

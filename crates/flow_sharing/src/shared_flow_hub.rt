@@ -7,10 +7,12 @@ ghost use Rattle.flow_sharing.specs.SeatedHub.{seated};
 use crate::sender::Sender;
 use core::mem::replace_with;
 use flow_law::{FlowFault, FlowValue, Refused};
-use flow_shared::{Seat, SharedFlow};
-use flow_turns::Hub;
+use flow_shared::{Seat, SharedFlow, Watcher};
+use flow_turns::{Hub, WatchedHub};
 use std::alloc::{Allocator, Global};
 use std::marker::Model;
+use std::sync::Wait;
+use std::time::Duration;
 
 /// A lent `SharedFlow` into which a sharing emits beside other callers. Subscribers use the flow itself.
 ///
@@ -25,6 +27,7 @@ pub struct SharedFlowHub<'a, T: FlowValue, A: Allocator + Copy = Global> {
     flow: &'a SharedFlow<T, A>,
     watching: Seat<T, A>,
     sending: Sender<T, A>,
+    driver: Watcher<A>,
 }
 
 impl<'a, T: FlowValue, A: Allocator + Copy> Model for SharedFlowHub<'a, T, A> {
@@ -61,6 +64,7 @@ impl<'a, T: FlowValue, A: Allocator + Copy> SharedFlowHub<'a, T, A> {
             flow,
             watching,
             sending: Sender::Idle(sending),
+            driver: flow.watcher(),
         }
     }
 }
@@ -76,7 +80,8 @@ impl<'a, T: FlowValue, A: Allocator + Copy> Hub for SharedFlowHub<'a, T, A> {
     ghost does = { SharedFlowHubDoes };
 
     fn count(&mut self) -> Result<u64, FlowFault> {
-        self.flow.count_now(&mut self.watching)
+        self.flow
+            .count_watched(&mut self.watching, &mut self.driver)
     }
 
     fn put(&mut self, value: T) -> Result<bool, Refused<T>> {
@@ -84,7 +89,8 @@ impl<'a, T: FlowValue, A: Allocator + Copy> Hub for SharedFlowHub<'a, T, A> {
     }
 
     fn poll(&mut self) -> Result<bool, FlowFault> {
-        replace_with(&mut self.sending, self.flow, Sender::poll)
+        let call = (self.flow, &mut self.driver);
+        replace_with(&mut self.sending, call, Sender::poll)
     }
 
     fn cancel(&mut self) -> Result<bool, FlowFault> {
@@ -93,5 +99,20 @@ impl<'a, T: FlowValue, A: Allocator + Copy> Hub for SharedFlowHub<'a, T, A> {
 
     fn reset(&mut self) -> Result<(), FlowFault> {
         replace_with(&mut self.sending, self.flow, Sender::reset)
+    }
+}
+
+/// A change of the number of subscribers wakes the driver, and so do the end of its emission and `ask` of a `FlowStop`.
+impl<'a, T: FlowValue, A: Allocator + Copy> WatchedHub for SharedFlowHub<'a, T, A> {
+    fn watch<R: Wait>(&mut self, rt: &R) {
+        self.driver.watch(rt);
+    }
+
+    fn sleep<R: Wait>(&mut self, rt: &R, most: Option<Duration>) {
+        self.driver.sleep(rt, most);
+    }
+
+    fn unwatch(&mut self) {
+        self.driver.unwatch();
     }
 }

@@ -5,10 +5,12 @@ ghost use Rattle.flow_law.specs.Tokens.{knowing};
 ghost use Rattle.flow_sharing.specs.SeatedHub.{seated};
 
 use flow_law::{FlowFault, FlowValue, Refused};
-use flow_shared::{StateFlow, StateSeat};
-use flow_turns::Hub;
+use flow_shared::{StateFlow, StateSeat, Watcher};
+use flow_turns::{Hub, WatchedHub};
 use std::alloc::{Allocator, Global};
 use std::marker::Model;
+use std::sync::Wait;
+use std::time::Duration;
 
 /// A lent `StateFlow` whose value a sharing sets beside other callers. Subscribers use the flow itself.
 ///
@@ -21,6 +23,7 @@ pub struct StateFlowHub<'a, T: FlowValue, A: Allocator + Copy = Global> {
     sending: StateSeat<T, A>,
     /// The value that a reset sets.
     initial: T,
+    driver: Watcher<A>,
 }
 
 impl<'a, T: FlowValue, A: Allocator + Copy> Model for StateFlowHub<'a, T, A> {
@@ -63,6 +66,7 @@ impl<'a, T: FlowValue, A: Allocator + Copy> StateFlowHub<'a, T, A> {
             watching,
             sending,
             initial,
+            driver: flow.watcher(),
         }
     }
 }
@@ -77,7 +81,8 @@ impl<'a, T: FlowValue, A: Allocator + Copy> Hub for StateFlowHub<'a, T, A> {
     ghost does = { StateFlowHubDoes };
 
     fn count(&mut self) -> Result<u64, FlowFault> {
-        self.flow.count_now(&mut self.watching)
+        self.flow
+            .count_watched(&mut self.watching, &mut self.driver)
     }
 
     fn put(&mut self, value: T) -> Result<bool, Refused<T>> {
@@ -102,5 +107,20 @@ impl<'a, T: FlowValue, A: Allocator + Copy> Hub for StateFlowHub<'a, T, A> {
             Ok(()) => Ok(()),
             Err(refused) => Err(refused.fault),
         }
+    }
+}
+
+/// A change of the number of subscribers wakes the driver, and so does `ask` of a `FlowStop`. No item of it ever waits.
+impl<'a, T: FlowValue, A: Allocator + Copy> WatchedHub for StateFlowHub<'a, T, A> {
+    fn watch<R: Wait>(&mut self, rt: &R) {
+        self.driver.watch(rt);
+    }
+
+    fn sleep<R: Wait>(&mut self, rt: &R, most: Option<Duration>) {
+        self.driver.sleep(rt, most);
+    }
+
+    fn unwatch(&mut self) {
+        self.driver.unwatch();
     }
 }

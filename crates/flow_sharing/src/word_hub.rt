@@ -6,7 +6,7 @@ ghost use Rattle.flow_sharing.specs.SeatedHub.{seated};
 
 use flow_law::{FlowFault, Packed, Refused};
 use flow_turns::Hub;
-use flow_word::{WordSeat, WordState};
+use flow_word::{CountWatch, WordSeat, WordState};
 use std::marker::Model;
 
 /// A lent `WordState` whose value a sharing sets beside other callers. Subscribers use the flow itself.
@@ -15,11 +15,13 @@ use std::marker::Model;
 /// two seats.
 #[derive(Drop)]
 pub struct WordHub<'a, T: Packed> {
-    flow: &'a WordState<T>,
+    pub(crate) flow: &'a WordState<T>,
     watching: WordSeat<T>,
     sending: WordSeat<T>,
     /// The pack of the value that a reset sets.
     initial: u64,
+    /// The driver, if it watches: a change of the number of subscribers after this was made wakes it.
+    pub(crate) watch: Option<CountWatch<'a>>,
 }
 
 impl<'a, T: Packed> Model for WordHub<'a, T> {
@@ -58,11 +60,8 @@ impl<'a, T: Packed> WordHub<'a, T> {
             watching,
             sending,
             initial: initial.pack(),
+            watch: None,
         }
-    }
-
-    pub(crate) fn flow(&self) -> &'a WordState<T> {
-        self.flow
     }
 }
 

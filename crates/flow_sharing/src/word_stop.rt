@@ -1,33 +1,26 @@
 //! How the driver of a sharing over a word state sleeps, and how its run is asked to stop.
 use crate::word_hub::WordHub;
 use flow_law::Packed;
-use flow_turns::{HubWatch, StopSignal, WatchedHub};
-use flow_word::{CountWatch, WordState};
+use flow_turns::{StopSignal, WatchedHub};
+use flow_word::WordState;
 use std::sync::Wait;
 use std::sync::atomic::{AtomicBool, Ordering};
 use std::time::Duration;
 
-/// The driver of a sharing over a word state, registered to be woken.
-#[derive(Drop)]
-pub struct WordWatch<'a> {
-    watch: CountWatch<'a>,
-}
-
-impl HubWatch for WordWatch<'_> {
-    fn sleep<R: Wait>(self, rt: &R, most: Option<Duration>) {
-        let Self { watch } = self;
-        watch.sleep(rt, most);
-    }
-}
-
 /// `subscribe` and `unsubscribe` wake the driver, and so does `ask` of a `WordStop`. No item of it ever waits.
 impl<'a, T: Packed> WatchedHub for WordHub<'a, T> {
-    type Watch = WordWatch<'a>;
+    fn watch<R: Wait>(&mut self, _rt: &R) {
+        self.watch = Some(self.flow.watch_count());
+    }
 
-    fn watch(&self) -> WordWatch<'a> {
-        WordWatch {
-            watch: self.flow().watch_count(),
+    fn sleep<R: Wait>(&mut self, rt: &R, most: Option<Duration>) {
+        if let Some(watch) = self.watch.take() {
+            watch.sleep(rt, most);
         }
+    }
+
+    fn unwatch(&mut self) {
+        self.watch = None;
     }
 }
 

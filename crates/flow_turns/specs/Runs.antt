@@ -1,5 +1,6 @@
 -- What a run of a sharing does: turns, one after the other. Begin with `RunsTo`.
-use Rattle.std.specs.Prelude.{ℕ, Bool, Result, Ok, Err}
+use Rattle.std.specs.Prelude.{◌≡◌, ℕ, Bool, Result, Ok, Err}
+use Rattle.flow_law.specs.declared.report.Event.TheVariants.{Completed}
 use Rattle.flow_law.specs.declared.report.Report.{Report}
 use Rattle.flow_law.specs.declared.report.ShareFault.{ShareFault}
 use Rattle.flow_law.specs.ChainRun.{ChainRun}
@@ -25,3 +26,17 @@ module _ {C H T : Type 0} (whole rest : C → ChainRun T) (does : (c : HubCall T
   abbrev pub RunsTo : Sharing C H T → Result (Unit {0}) ShareFault → Sharing C H T → Type 0
   RunsTo old (Ok none) new = TakesTurns old new
   RunsTo old (Err fault) new = IsRefusedAt fault old new
+
+  -- turns, and then one more, which found that the chain has ended
+  pub record IsCompletedAt (old new : Sharing C H T) : Type 0 where
+    pub between : Sharing C H T
+    pub turns : TakesTurns old between
+    pub now : ℕ
+    pub report : Report
+    pub last : TakesTurn whole rest does waits now between (Ok report) new
+    pub completed : report.event ≡ Completed
+
+  -- a run up to the end of the chain, or one whose last turn was refused
+  abbrev pub RunsToEnd : Sharing C H T → Result (Unit {0}) ShareFault → Sharing C H T → Type 0
+  RunsToEnd old (Ok none) new = IsCompletedAt old new
+  RunsToEnd old (Err fault) new = IsRefusedAt fault old new

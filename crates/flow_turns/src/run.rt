@@ -1,37 +1,47 @@
 //! Running a sharing by one call, which sleeps while there is nothing to do.
-ghost use Rattle.std.specs.Prelude.{◌≡◌, ◌≤◌, Err, IfErr};
+ghost use Rattle.std.specs.Prelude.{◌≡◌, ℕ};
 ghost use Rattle.flow_law.specs.declared.chain.End.{End};
 ghost use Rattle.flow_turns.specs.SharingViews.{chain_of, CanRun, KeepsReadings};
-ghost use Rattle.flow_turns.specs.Runs.{RunsTo};
+ghost use Rattle.flow_turns.specs.Runs.{RunsTo, RunsToEnd};
+ghost use Rattle.flow_turns.specs.TurnClauses.{TakesTurn};
 
 use crate::hub::Hub;
 use crate::sharing::Sharing;
 use flow_cold::Cold;
-use flow_law::{Event, ShareFault};
+use flow_law::{Event, Report, ShareFault};
 use std::sync::Wait;
 use std::thread::yield_now;
 use std::time::{Clock, Duration};
 
-/// A hub whose driver can sleep until the flow's subscribers come or go.
+/// A hub whose driver can sleep until there is something to do.
 pub trait WatchedHub: Hub {
-    type Watch: HubWatch;
+    /// Begins a watch: whatever changes after the calls of the next turn wakes the driver.
+    fn watch<R: Wait>(&mut self, rt: &R)
+        ensures { self.new ≡ self.old };
 
-    /// Registers the driver to be woken by a change. The driver takes one more turn after that, and then sleeps or
-    /// drops the result.
-    fn watch(&self) -> Self::Watch;
-}
+    /// Ends the watch, and sleeps until a subscriber has come or gone, or the hub's emission has ended, since the calls
+    /// of that turn, until the run was asked to stop, or for `most`, if that is given. It may return early.
+    fn sleep<R: Wait>(&mut self, rt: &R, most: Option<Duration>)
+        ensures { self.new ≡ self.old };
 
-/// A driver that is registered to be woken.
-pub trait HubWatch: Drop {
-    /// Sleeps until a subscriber has come or gone since the driver was registered, until the run was asked to stop, or
-    /// for `most`, if that is given. It may return early.
-    fn sleep<R: Wait>(self, rt: &R, most: Option<Duration>);
+    /// Ends the watch without sleeping.
+    fn unwatch(&mut self)
+        ensures { self.new ≡ self.old };
 }
 
 /// How a run is asked to stop.
 pub trait StopSignal {
     /// Returns whether the run was asked to stop.
     fn is_asked(&self) -> bool;
+}
+
+/// A stop that is never asked for.
+struct NoStop;
+
+impl StopSignal for NoStop {
+    fn is_asked(&self) -> bool {
+        false
+    }
 }
 
 /// Returns the moment of the clock in milliseconds, which is at least `last`. If the clock cannot be read it is `last`.
@@ -54,27 +64,66 @@ impl<C: Cold, H: WatchedHub<Item = C::Item>> Sharing<C, H> {
         Some(Duration::from_millis(next.saturating_sub(now)))
     }
 
-    /// Rests after a turn with this event. If there is nothing to do, the first such turn registers the driver, and the
-    /// next one sends it to sleep.
-    fn rest<R: Wait + Clock>(
-        &self,
+    /// Ends the watch of the hub.
+    fn unwatch(&mut self)
+        ensures { self.new ≡ self.old }
+    {
+        self.hub.unwatch();
+    }
+
+    /// Sends the driver to sleep, unless the run was asked to stop since the last turn began.
+    fn sleep<R: Wait + Clock, S: StopSignal>(&mut self, rt: &R, stop: &S)
+        ensures { self.new ≡ self.old }
+    {
+        if stop.is_asked() {
+            return;
+        }
+        let most = self.most_to_sleep(rt);
+        self.hub.sleep(rt, most);
+    }
+
+    /// Rests after a turn with this event. If there is nothing to do, the first such turn begins a watch, and the next
+    /// one sends the driver to sleep. Returns whether the hub watches the next turn.
+    fn rest<R: Wait + Clock, S: StopSignal>(
+        &mut self,
         rt: &R,
+        stop: &S,
         event: Event,
-        watch: Option<H::Watch>,
-    ) -> Option<H::Watch> {
+        watches: bool,
+    ) -> bool
+        ensures { self.new ≡ self.old }
+    {
         match event {
-            Event::Put => None,
+            Event::Put => self.unwatch(),
             Event::Pending | Event::Busy => {
+                self.unwatch();
                 yield_now();
-                None
             }
-            Event::Idle | Event::Queued | Event::Waiting | Event::Completed => match watch {
-                Some(watch) => {
-                    watch.sleep(rt, self.most_to_sleep(rt));
-                    None
-                }
-                None => Some(self.hub.watch()),
-            },
+            Event::Idle | Event::Waiting | Event::Completed if watches => self.sleep(rt, stop),
+            // The emission of a turn that came to `Queued` has not been polled.
+            Event::Idle | Event::Waiting | Event::Completed | Event::Queued => {
+                self.hub.watch(rt);
+                return true;
+            }
+        }
+        false
+    }
+
+    /// Takes a turn at the moment of the clock. If the turn is refused, it ends the watch of the hub.
+    fn turn_by_clock<R: Clock>(&mut self, rt: &R) -> Result<Report, ShareFault>
+        requires { CanRun C.CanAsk self.old }
+        ensures callable { CanRun C.CanAsk self.new }
+        ensures reads { KeepsReadings C.Reads (chain_of self.old) (chain_of self.new) }
+        ensures turn { (m : C.Reading) → C.Reads (chain_of self.old) m → (now : ℕ)
+            × TakesTurn (λ c. C.whole c m) (λ c. C.rest c m) H.does H.waits now self.old result self.new }
+    {
+        let now = moment_of(rt, self.policy.last());
+        match self.turn(now) {
+            Ok(report) => Ok(report),
+            Err(fault) => {
+                self.unwatch();
+                Err(fault)
+            }
         }
     }
 
@@ -82,7 +131,7 @@ impl<C: Cold, H: WatchedHub<Item = C::Item>> Sharing<C, H> {
     ///
     /// The moments are those of the clock, in milliseconds, and none is before the last moment of an earlier turn. The
     /// driver sleeps while the sharing does not run, while its emission waits, and when the chain has ended. It is
-    /// woken when a subscriber comes or goes, and at the moment of the stop or of the expiry.
+    /// woken when a subscriber comes or goes, when its emission ends, and at the moment of the stop or of the expiry.
     ///
     /// # Errors
     /// The fault of the last turn: the sharing has ended (`Chain`, `Ended`), or the flow refused a call (`Flow`). After
@@ -101,15 +150,47 @@ impl<C: Cold, H: WatchedHub<Item = C::Item>> Sharing<C, H> {
         ensures turns { (m : C.Reading) → C.Reads (chain_of self.old) m
             → RunsTo (λ c. C.whole c m) (λ c. C.rest c m) H.does H.waits self.old result self.new }
     {
-        let mut watch: Option<H::Watch> = None;
+        let mut watches = false;
         for _ in rt.forever() {
             if stop.is_asked() {
+                self.unwatch();
                 return Ok(());
             }
-            let now = moment_of(rt, self.policy.last());
-            match self.turn(now) {
-                Ok(report) => watch = self.rest(rt, report.event, watch.take()),
+            match self.turn_by_clock(rt) {
+                Ok(report) => watches = self.rest(rt, stop, report.event, watches),
                 Err(fault) => return Err(fault),
+            }
+        }
+        unreachable!()
+    }
+
+    /// Takes turns until the chain has ended, as `run` does. The flow has then accepted each item since the last start,
+    /// and none waits.
+    ///
+    /// # Errors
+    /// The fault of the last turn, as that of `run`.
+    ///
+    /// # Source
+    /// A `collect` of the chain that emits each item into the flow.
+    pub fn run_to_end<R: Wait + Clock>(&mut self, rt: &R) -> Result<(), ShareFault>
+        requires { CanRun C.CanAsk self.old }
+        ensures callable { CanRun C.CanAsk self.new }
+        ensures reads { KeepsReadings C.Reads (chain_of self.old) (chain_of self.new) }
+        ensures turns { (m : C.Reading) → C.Reads (chain_of self.old) m
+            → RunsToEnd (λ c. C.whole c m) (λ c. C.rest c m) H.does H.waits self.old result self.new }
+    {
+        let mut watches = false;
+        for _ in rt.forever() {
+            let event = match self.turn_by_clock(rt) {
+                Ok(report) => report.event,
+                Err(refused) => return Err(refused),
+            };
+            match event {
+                Event::Completed => {
+                    self.unwatch();
+                    return Ok(());
+                }
+                _ => watches = self.rest(rt, &NoStop, event, watches),
             }
         }
         unreachable!()
