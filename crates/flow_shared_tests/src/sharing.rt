@@ -4,6 +4,7 @@
 //! A worked example is a list of steps, each with what it is to answer. Another module takes the steps.
 
 mod expiry;
+mod flow_runs;
 mod hubs;
 mod on_cores;
 mod playing;
