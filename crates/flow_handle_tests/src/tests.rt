@@ -4,6 +4,7 @@ mod crowds;
 mod dropping;
 mod emissions;
 mod errors;
+mod first;
 mod many_threads;
 mod shared;
 mod state;

@@ -12,3 +12,4 @@ pub mod Attending
 pub mod Waits
 pub mod Tries
 pub mod PollRuns
+pub mod Values

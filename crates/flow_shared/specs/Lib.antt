@@ -9,6 +9,7 @@ pub mod Futures
 pub mod EmitFutures
 pub mod NextFutures
 pub mod Receiving
+pub mod WaitingFor
 pub mod Polling
 pub mod Sending
 pub mod BoundEmissions

@@ -3,8 +3,7 @@ ghost use Rattle.std.specs.Prelude.{◌≡◌, true, false, IsOk};
 ghost use Rattle.std.specs.Fn.{FnReturnsAt};
 ghost use Rattle.flow_law.specs.HandleFaults.{answer_by, memory_fault};
 ghost use Rattle.flow_law.specs.Handles.{next_in};
-ghost use Rattle.flow_law.specs.StateFlow.{state_flow};
-ghost use Rattle.flow_shared.specs.Receiving.{NextsIf, ReceivesIf};
+ghost use Rattle.flow_shared.specs.WaitingFor.{Looks, NextsIf, ReceivesIf};
 
 use super::reader::FlowReader;
 use flow_core::StateCore;
@@ -15,14 +14,32 @@ use std::sync::Wait;
 use std::time::{Clock, Duration};
 
 impl<'a, T: FlowValue, A: Allocator + Copy> FlowReader<'a, StateCore<T, A>, A> {
-    /// Waits for the first value that passes a test, and returns it. The subscriber gets the values up to that one,
-    /// each as `changed` gives it; a value that it got before is not tested again.
+    /// Returns the current value, and takes it if the subscriber has not got it.
+    fn current<R: Wait>(&mut self, rt: &R) -> Result<T, OutOfMemory>
+        ensures flow { self.new.flow ≡ self.old.flow }
+        ensures looked { Looks self.old.flow self.old.subscription
+            (answer_by memory_fault result) self.new.subscription }
+        ensures given { T.IsAlwaysCopied → IsOk result }
+    {
+        let value = match self.flow.value_by(rt, &mut self.subscription) {
+            Ok(value) => value,
+            Err(_fault) => return Err(OutOfMemory),
+        };
+        match self.next(rt) {
+            Ok(Some(newer)) => Ok(newer),
+            Ok(None) => Ok(value),
+            Err(refused) => Err(refused),
+        }
+    }
+
+    /// Waits until the current value passes a test, and returns it. It is tested at once, also if the subscriber got it
+    /// before. The subscriber gets the values up to the one that passed, each as `changed` gives it.
     ///
     /// # Errors
     /// `OutOfMemory` if a value could not be copied: a later call tests it, or a newer one.
     ///
     /// # Source
-    /// `StateFlow.first { }`, for a new subscriber.
+    /// `StateFlow.first { }`.
     pub fn wait_for<R: Wait, F: Fn(&T) -> bool>(
         &mut self,
         rt: &R,
@@ -30,25 +47,29 @@ impl<'a, T: FlowValue, A: Allocator + Copy> FlowReader<'a, StateCore<T, A>, A> {
     ) -> Result<T, OutOfMemory>
         requires callable { F.IsAlwaysCallable test }
         ensures flow { self.new.flow ≡ self.old.flow }
-        ensures received { ReceivesIf state_flow self.old.flow
+        ensures received { ReceivesIf self.old.flow
             (λ value. FnReturnsAt F.Fn test value true) (λ value. FnReturnsAt F.Fn test value false)
             self.old.subscription (answer_by memory_fault result) self.new.subscription }
         ensures given { T.IsAlwaysCopied → IsOk result }
     {
+        let mut value = match self.current(rt) {
+            Ok(value) => value,
+            Err(refused) => return Err(refused),
+        };
         for _ in rt.forever() {
-            let value = match self.changed(rt) {
-                Ok(value) => value,
-                Err(refused) => return Err(refused),
-            };
             if test(&value) {
                 return Ok(value);
             }
+            value = match self.changed(rt) {
+                Ok(newer) => newer,
+                Err(refused) => return Err(refused),
+            };
         }
         unreachable!()
     }
 
     /// Waits as `wait_for` does, for no longer than `limit`, and returns `None` if no value has passed the test by
-    /// then.
+    /// then. The current value is tested in any case.
     ///
     /// # Errors
     /// `OutOfMemory` if a value could not be copied: a later call tests it, or a newer one.
@@ -63,21 +84,25 @@ impl<'a, T: FlowValue, A: Allocator + Copy> FlowReader<'a, StateCore<T, A>, A> {
     ) -> Result<Option<T>, OutOfMemory>
         requires callable { F.IsAlwaysCallable test }
         ensures flow { self.new.flow ≡ self.old.flow }
-        ensures received { NextsIf state_flow self.old.flow
+        ensures received { NextsIf self.old.flow
             (λ value. FnReturnsAt F.Fn test value true) (λ value. FnReturnsAt F.Fn test value false)
             self.old.subscription (next_in (answer_by memory_fault result)) self.new.subscription }
         ensures given { T.IsAlwaysCopied → IsOk result }
     {
         let limit = Limit::new(rt, limit);
+        let mut newest = match self.current(rt) {
+            Ok(value) => value,
+            Err(refused) => return Err(refused),
+        };
         for _ in rt.forever() {
-            let value = match self.await_next_within(rt, &limit) {
-                Ok(Some(value)) => value,
+            if test(&newest) {
+                return Ok(Some(newest));
+            }
+            newest = match self.await_next_within(rt, &limit) {
+                Ok(Some(newer)) => newer,
                 Ok(None) => return Ok(None),
                 Err(refused) => return Err(refused),
             };
-            if test(&value) {
-                return Ok(Some(value));
-            }
         }
         unreachable!()
     }

@@ -6,8 +6,8 @@ ghost use Rattle.flow_law.specs.declared.call.StateReply.TheVariants as reply;
 ghost use Rattle.flow_core.specs.StateCore.{value_reply};
 ghost use Rattle.flow_shared.specs.StateReplies.{StateCalls, SetsNow};
 
-use super::StateSeat;
 use super::calls::{CompareAndSet, GetValue, Set, TryEmit};
+use super::{StateSeat, StateSubscription};
 use crate::flow::Flow;
 use flow_core::StateCore;
 use flow_law::{FlowFault, FlowValue, Refused};
@@ -26,6 +26,22 @@ impl<T: FlowValue, A: Allocator + Copy> Flow<StateCore<T, A>, A> {
         ensures given { T.IsAlwaysCopied → IsOk result }
     {
         self.call(rt, seat, GetValue)
+    }
+
+    /// Does the same as `value`, through the seat of a subscription. The subscriber does not receive the value by it.
+    pub(crate) fn value_by<R: Wait>(
+        &self,
+        rt: &R,
+        subscription: &mut StateSubscription<T, A>,
+    ) -> Result<T, FlowFault>
+        requires { subscription.old.token.table_id ≡ self.now.table_id }
+        ensures called { StateCalls self.now subscription.old.token call.GetValue
+            (value_reply result) subscription.new.token }
+        ensures number { subscription.new.number ≡ subscription.old.number }
+        ensures refused { IfErr result (λ fault. fault ≡ OutOfMemory) }
+        ensures given { T.IsAlwaysCopied → IsOk result }
+    {
+        self.value(rt, &mut subscription.seat)
     }
 
     /// Sets the current value. Setting a value that is equal to the current one does nothing: no subscriber gets it
