@@ -1,7 +1,6 @@
 -- From one poll of a reader to what a whole run of polls gives.
-use Rattle.std.proofs.Common.{◌≡◌, ◌⊎◌, inl, inr, List, [], ◌∷◌, Option, Some, None, Result, Ok, Err, refl, ◌∙◌, subst}
+use Rattle.std.proofs.Common.{◌≡◌, inl, inr, List, [], ◌∷◌, Option, Some, None, Result, Ok, Err, refl, ◌∙◌, subst}
 use Rattle.atomic_table.specs.Seated.{TableId}
-use Rattle.futures.specs.declared.task.Poll.{Poll as Polled}
 use Rattle.futures.specs.declared.task.Poll.TheVariants.{Ready, Pending}
 use Rattle.futures.specs.Poll.{OnPending}
 use Rattle.flow_law.specs.declared.errors.OutOfMemory.{OutOfMemory as MemoryError}
@@ -19,7 +18,7 @@ use Rattle.flow_law.proofs.TokenLemmas.{next_fault}
 use Rattle.flow_gate.specs.Tokens.{Origin}
 use Rattle.flow_shared.specs.Calls.{NumberedToken, NextsOf, NextsNow}
 use Rattle.flow_shared.specs.Receiving.{NextsAfter, Receives, taken}
-use Rattle.flow_shared.specs.Polling.{PollsNext, Yields, polled_by}
+use Rattle.flow_shared.specs.Polling.{PollsNext, Yields, GivesChanged, polled_by}
 use Rattle.flow_shared.specs.Attended.{IsWait}
 use Rattle.flow_shared.proofs.Waits.{called_later}
 
@@ -89,3 +88,13 @@ module _ {T S C R : Type 0} (kind : Kind T S C R) where
   pub yields_later : (r w : Bound) → w.flow ≡ r.flow → PollsNext kind r.flow r.subscription Pending w.subscription
       → (xs : List (Result T MemoryError)) (next : Option (Result T MemoryError)) → Yields kind w.flow w.subscription xs next → Yields kind r.flow r.subscription xs next
   yields_later r w is p xs next h = yields_on kind r.flow r.subscription w.subscription p xs next (subst (λ f. Yields kind f w.subscription xs next) is h)
+
+  pub changed_first : (r w : Bound) (given : Result T MemoryError) → w.flow ≡ r.flow → PollsNext kind r.flow r.subscription (Ready given) w.subscription → GivesChanged kind (Some r) (w, given)
+  changed_first r w given is p = (is, receives_at_once kind r.flow r.subscription w.subscription given p)
+
+  pub changed_later : (r w : Bound) → w.flow ≡ r.flow → PollsNext kind r.flow r.subscription Pending w.subscription
+      → (given : Bound × Result T MemoryError) → GivesChanged kind (Some w) given → GivesChanged kind (Some r) given
+  changed_later r w is p given h =
+      let result = answer_by memory_fault given.1 in
+      let now = subst (λ f. Receives kind f w.subscription result given.0.subscription) is h.1 in
+      (h.0 ∙ is, receives_on kind r.flow r.subscription w.subscription given.0.subscription result p now)

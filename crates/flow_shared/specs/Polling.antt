@@ -1,6 +1,7 @@
 -- What the polls of a reader do, one by one and as a whole run. Begin with `PollsNext`. `flow` is the flow: which one, and the
 -- state that it began with.
 use Rattle.std.specs.Prelude.{◌≡◌, ◌⊎◌, List, [], ◌∷◌, Option, Some, None, Result, Ok, Err}
+use Rattle.atomic_table.specs.Seated.{TableId}
 use Rattle.futures.specs.declared.task.Poll.{Poll as Polled}
 use Rattle.futures.specs.declared.task.Poll.TheVariants.{Ready, Pending}
 use Rattle.flow_law.specs.declared.errors.OutOfMemory.{OutOfMemory as MemoryError}
@@ -10,6 +11,7 @@ use Rattle.flow_law.specs.declared.history.Said.{Said}
 use Rattle.flow_law.specs.declared.outcome.Next.{Next}
 use Rattle.flow_law.specs.declared.outcome.Next.TheVariants.{Value, Empty}
 use Rattle.flow_law.specs.HandleFaults.{answer_by, memory_fault}
+use Rattle.flow_law.specs.Handles.{ReaderOf}
 use Rattle.flow_law.specs.History.{Kind}
 use Rattle.flow_law.specs.Tokens.{IsBusy}
 use Rattle.flow_gate.specs.Tokens.{Origin}
@@ -34,3 +36,8 @@ module _ {T S C R : Type 0} (kind : Kind T S C R) (flow : Origin S) where
   Yields old [] (Some x) = (u : NumberedToken (Said C R)) × Receives kind flow old (answer_by memory_fault x) u
   Yields old [] None = ⊥
   Yields old (x ∷ xs) next = (u : NumberedToken (Said C R)) × Receives kind flow old (answer_by memory_fault x) u × Yields u xs next
+
+-- what a future of a reader may give: the reader, which has received this value or was refused it. None is left once it was ready
+abbrev pub GivesChanged : {T S C R : Type 0} → Kind T S C R → Option (ReaderOf TableId S (Said C R)) → ReaderOf TableId S (Said C R) × Result T MemoryError → Type 0
+GivesChanged kind (Some reader) given = (given.0.flow ≡ reader.flow) × Receives kind reader.flow reader.subscription (answer_by memory_fault given.1) given.0.subscription
+GivesChanged kind None given = ⊥

@@ -9,6 +9,7 @@
 //! `receive`, `changed` and `send` wait for a value and for room: the thread sleeps until another call wakes it.
 mod awaiting;
 mod caller;
+mod changing;
 mod emission;
 mod emitter;
 mod errors;
@@ -24,6 +25,7 @@ mod values;
 mod wait_for;
 
 pub use caller::FlowCaller;
+pub use changing::StateChangedFuture;
 pub use emission::{BoundEmission, EmitAnswer, PollAnswer};
 pub use emitter::Emitter;
 pub use reader::{DrainEnd, FlowReader, Reader, StateReader};

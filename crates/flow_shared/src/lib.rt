@@ -49,7 +49,7 @@ pub use emit_future::{EmitFuture, EmitStage, Sent};
 pub use flow::Flow;
 pub use handles::{
     BoundEmission, DrainEnd, EmitAnswer, Emitter, FlowCaller, FlowReader, FlowValues, PollAnswer,
-    Reader, Setter, StateReader,
+    Reader, Setter, StateChangedFuture, StateReader,
 };
 pub use next_future::{NextFuture, Received};
 pub use receive_future::ReceiveFuture;

@@ -1,7 +1,7 @@
 //! Readers as streams, and handles as futures: their tasks sleep in an executor until the flow wakes them.
 use crate::tests::compare::compare;
 use flow_law::{Config, OutOfMemory};
-use flow_shared::{Emitter, Reader, SharedFlow, StateFlow};
+use flow_shared::{Emitter, Reader, Setter, SharedFlow, StateFlow};
 use futures::StreamExt;
 use futures::executor::block_on;
 use std::alloc::AllocGlobal;
@@ -70,4 +70,36 @@ fn a_value_goes_from_future_to_future(rt: HostRuntime) {
     let _sent = block_on(&rt, emitter.into_send(7)).expect(&rt, "an executor");
     let given = block_on(&rt, reader.into_receive()).expect(&rt, "an executor");
     compare(&rt, 0, given.1, Ok(7));
+}
+
+fn set_late<R: Wait + Clock>(rt: &R, setter: &mut Setter<'_, i64>) {
+    sleep(rt, Duration::from_millis(2));
+    setter.set(rt, 1);
+}
+
+/// The reader has got 0. Its task sleeps until 1 is set.
+#[test]
+fn a_future_of_a_state_waits_for_a_change(rt: HostRuntime) {
+    let (flow, seat) = StateFlow::new(rt.alloc(), 0, 1).expect(&rt, "a flow");
+    let mut setter = flow.setter(seat);
+    let mut reader = setter.subscribe(&rt).expect(&rt, "a reader");
+    compare(&rt, 0, reader.next(&rt), Ok(Some(0)));
+    let (given, _set) = join(
+        &rt,
+        || block_on(&rt, reader.into_changed()),
+        || set_late(&rt, &mut setter),
+    );
+    let (mut reader, value) = given.expect(&rt, "an executor");
+    compare(&rt, 1, value, Ok(1));
+    compare(&rt, 2, reader.next(&rt), Ok(None));
+}
+
+/// A future that is not polled has received nothing, and gives its reader back.
+#[test]
+fn a_future_of_a_state_gives_its_reader_back(rt: HostRuntime) {
+    let (flow, seat) = StateFlow::new(rt.alloc(), 7, 1).expect(&rt, "a flow");
+    let mut setter = flow.setter(seat);
+    let reader = setter.subscribe(&rt).expect(&rt, "a reader");
+    let mut reader = reader.into_changed().into_reader().expect(&rt, "a reader");
+    compare(&rt, 0, reader.next(&rt), Ok(Some(7)));
 }

@@ -25,7 +25,10 @@ fn polled<T>(answer: Result<Next<T>, FlowFault>) -> Poll<Result<T, OutOfMemory>>
 
 impl<'a, S: FlowCore + Drop, A: Allocator + Copy> FlowReader<'a, S, A> {
     /// Takes the next value if no other caller holds the flow. If there is none, the task that is polled sleeps.
-    fn poll_next_value(&mut self, cx: &mut Context<'_>) -> Poll<Result<S::Item, OutOfMemory>>
+    pub(super) fn poll_next_value(
+        &mut self,
+        cx: &mut Context<'_>,
+    ) -> Poll<Result<S::Item, OutOfMemory>>
         ensures flow { self.new.flow ≡ self.old.flow }
         ensures polls { PollsNext S.kind self.old.flow self.old.subscription result self.new.subscription }
         ensures armed { OnPending result (IsArmed cx.new) }
