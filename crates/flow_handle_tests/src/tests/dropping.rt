@@ -4,6 +4,7 @@ use flow_law::Config;
 use flow_shared::{
     EmitAnswer, Emitter, Reader, ReceiveFuture, SharedFlow, StateFlow, Subscription,
 };
+use flow_word::WordState;
 use futures::Future;
 use futures::executor::block_on;
 use futures::future::{Either, select};
@@ -49,6 +50,20 @@ fn a_dropped_stream_ends_its_subscription(rt: HostRuntime) {
     compare(&rt, 1, setter.subscription_count(&rt), 1);
     drop(reader);
     compare(&rt, 2, setter.subscription_count(&rt), 0);
+}
+
+/// A reader of a word state and a stream of one are dropped.
+#[test]
+fn a_dropped_word_reader_is_counted_no_more(rt: HostRuntime) {
+    let (flow, seat) = WordState::new(rt.alloc(), 7i64, 2).expect(&rt, "a flow");
+    let mut setter = flow.setter(seat);
+    let reader = setter.subscribe(&rt).expect(&rt, "a reader");
+    let stream = setter.subscribe(&rt).expect(&rt, "a reader").into_stream();
+    compare(&rt, 0, setter.subscription_count(), 2);
+    drop(stream);
+    compare(&rt, 1, setter.subscription_count(), 1);
+    drop(reader);
+    compare(&rt, 2, setter.subscription_count(), 0);
 }
 
 /// Emits a value that has to wait, and drops the emission. Returns whether it waited.

@@ -1,0 +1,90 @@
+//! Waits whose requests for memory are refused, each in turn. A thread without memory for its waker lets other threads go
+//! first and asks again, so the answer is the one that it has with memory.
+use crate::tests::compare::compare;
+use flow_law::{Config, Rejected};
+use flow_shared::{Emitter, Reader, SendEnd, Setter, SharedFlow, StateFlow, StateReader};
+use flow_testing::Refusing;
+use std::alloc::{Allocator, Global};
+use std::process::Abort;
+use std::sync::Wait;
+use std::time::{Clock, Duration};
+
+/// More requests than one wait makes.
+const REQUESTS: u64 = 6;
+
+fn a_millisecond() -> Duration {
+    Duration::from_millis(1)
+}
+
+/// Sends a value, and again if it is refused. Returns whether it was taken.
+fn send_again<R: Wait + Clock, A: Allocator + Copy>(
+    rt: &R,
+    emitter: &mut Emitter<'_, i64, A>,
+    limit: Duration,
+) -> Option<SendEnd> {
+    match emitter.send_timeout(rt, 7, limit) {
+        Ok(end) => Some(end),
+        Err(Rejected { value, error: _ }) => emitter.send_timeout(rt, value, limit).ok(),
+    }
+}
+
+/// Nothing comes in time, whatever is refused. Then a value comes, and the next one finds no room in time.
+fn waits_in_vain<R: Wait + Clock + Abort, A: Allocator + Copy>(
+    rt: &R,
+    emitter: &mut Emitter<'_, i64, A>,
+    reader: &mut Reader<'_, i64, A>,
+    refusing: &Refusing<Global>,
+    number: u64,
+) {
+    let limit = a_millisecond();
+    refusing.refuse(number);
+    compare(rt, 0, reader.receive_timeout(rt, limit), Ok(None));
+    refusing.refuse(number);
+    let sent = send_again(rt, emitter, limit);
+    compare(rt, 1, sent, Some(SendEnd::Cancelled));
+}
+
+#[test]
+fn refused_waits_end_in_time(rt: HostRuntime) {
+    let memory = Refusing::new(rt.alloc());
+    for number in 1..=REQUESTS {
+        memory.refuse(0);
+        let made = SharedFlow::<i64, _>::new(&memory, Config::new());
+        let (flow, seat) = made.expect(&rt, "a flow");
+        let mut emitter = flow.emitter(seat);
+        let mut reader = emitter.subscribe(&rt).expect(&rt, "a reader");
+        waits_in_vain(&rt, &mut emitter, &mut reader, &memory, number);
+    }
+    compare(&rt, 2, memory.is_waiting(), true);
+}
+
+/// The state does not change in time, whatever is refused.
+fn changes_in_vain<R: Wait + Clock + Abort, A: Allocator + Copy>(
+    rt: &R,
+    setter: &mut Setter<'_, i64, A>,
+    reader: &mut StateReader<'_, i64, A>,
+    refusing: &Refusing<Global>,
+    number: u64,
+) {
+    let limit = a_millisecond();
+    setter.set(rt, 7);
+    compare(rt, 0, reader.next(rt), Ok(Some(7)));
+    refusing.refuse(number);
+    compare(rt, 1, reader.changed_timeout(rt, limit), Ok(None));
+    refusing.refuse(number);
+    let found = reader.wait_for_timeout(rt, limit, |v| *v > 7);
+    compare(rt, 2, found, Ok(None));
+}
+
+#[test]
+fn refused_waits_for_a_state_end_in_time(rt: HostRuntime) {
+    let memory = Refusing::new(rt.alloc());
+    for number in 1..=REQUESTS {
+        memory.refuse(0);
+        let (flow, seat) = StateFlow::<i64, _>::new(&memory, 0, 1).expect(&rt, "a flow");
+        let mut setter = flow.setter(seat);
+        let mut reader = setter.subscribe(&rt).expect(&rt, "a reader");
+        changes_in_vain(&rt, &mut setter, &mut reader, &memory, number);
+    }
+    compare(&rt, 3, memory.is_waiting(), true);
+}
