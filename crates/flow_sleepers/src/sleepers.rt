@@ -102,13 +102,18 @@ impl<A: Allocator + Copy> Sleepers<A> {
         self.list.is_empty()
     }
 
-    /// Keeps the waker of a caller under this number. If memory is refused, the caller asks again.
+    /// Keeps the waker of a caller under this number, unless the caller asks again first. It asks again if memory is refused,
+    /// too.
     pub fn sleep<W: Waiter<A>, T>(&mut self, waiter: &mut W, number: u64) -> Poll<T>
         ensures pending { result ≡ Poll.Pending }
         ensures armed { W.is_armed waiter.new }
         ensures kept { W.keeps waiter.old waiter.new }
         ensures adds { Adds number self.old self.new }
     {
+        if waiter.asks_first() {
+            waiter.ask_again();
+            return Poll::Pending;
+        }
         let alloc = *self.list.allocator();
         let Some(place) = place_in(&mut self.list, number) else {
             waiter.ask_again();

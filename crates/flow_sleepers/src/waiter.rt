@@ -11,6 +11,10 @@ use std::thread::Parker;
 use std::time::{Clock, Duration};
 use std::{mem, thread};
 
+/// How often a thread asks before it leaves its waker. What it waits for often comes soon, and a sleep costs as much as many
+/// looks.
+const LOOKS: u32 = 64;
+
 /// The wakers of a sleeper: that of its task, or of its thread. Dropping them wakes it.
 #[derive(Drop)]
 pub struct Wakers<A: Allocator = Global> {
@@ -45,6 +49,9 @@ pub trait Waiter<A: Allocator> {
         ensures armed { is_armed self.new }
         ensures kept { keeps self.old self.new };
 
+    /// Returns whether the caller asks again, and leaves no waker yet. Nothing is promised of it.
+    fn asks_first(&self) -> bool;
+
     /// A caller that was not touched is kept.
     ghost keeps_same: { (w : Self) → keeps w w };
 }
@@ -63,6 +70,10 @@ impl<'a, A: Allocator> Waiter<A> for Context<'a> {
 
     fn ask_again(&mut self) {
         let _again: Poll<()> = self.yield_now();
+    }
+
+    fn asks_first(&self) -> bool {
+        false
     }
 }
 
@@ -89,12 +100,15 @@ enum Rest {
     Again,
 }
 
-/// The calling thread, which sleeps until a waker of it is dropped. No other caller leaves a waker under its numbers.
+/// The calling thread, which first asks some times, and then sleeps until a waker of it is dropped. No other caller leaves a
+/// waker under its numbers.
 #[derive(Drop)]
 pub struct ThreadWaiter<A: Allocator = Global> {
     /// Made when the thread first leaves a waker.
     parker: Option<Arc<Parker, A>>,
     rest: Rest,
+    /// How often it asked without leaving a waker.
+    looks: u32,
 }
 
 impl<A: Allocator + Copy> ThreadWaiter<A> {
@@ -103,6 +117,7 @@ impl<A: Allocator + Copy> ThreadWaiter<A> {
         ThreadWaiter {
             parker: None,
             rest: Rest::None,
+            looks: 0,
         }
     }
 
@@ -122,9 +137,11 @@ impl<A: Allocator + Copy> ThreadWaiter<A> {
         Ok(waker)
     }
 
-    /// Forgets how an earlier wait ended: the next sleep is ended only by wakers that are left from now on.
+    /// Forgets how an earlier wait ended: the next sleep is ended only by wakers that are left from now on. The thread leaves
+    /// one at the first call that finds nothing.
     pub fn begin<R: Wait>(&mut self, rt: &R) {
         self.rest = Rest::None;
+        self.looks = LOOKS;
         if let Some(parker) = &self.parker {
             parker.park_timeout(rt, Duration::ZERO);
         }
@@ -191,5 +208,10 @@ impl<A: Allocator + Copy> Waiter<A> for ThreadWaiter<A> {
 
     fn ask_again(&mut self) {
         self.rest = Rest::Again;
+        self.looks = self.looks.saturating_add(1);
+    }
+
+    fn asks_first(&self) -> bool {
+        self.looks < LOOKS
     }
 }
