@@ -65,7 +65,8 @@ impl<'a, T: FlowValue, A: Allocator + Copy> SendFuture<'a, T, A> {
     /// Ends the future, and returns its seat and whether the value was still on its way. It was, too, if no poll came
     /// before, or only busy ones. Returns `None` after `Ready`, when the answer had the seat.
     ///
-    /// A queued value is never emitted. An offered one is withdrawn from the subscribers that have not received it.
+    /// A value that was not emitted, or is queued, is dropped. An offered one is withdrawn from the subscribers that have
+    /// not received it.
     pub fn cancel<R: Wait>(self, rt: &R) -> Option<(Seat<T, A>, bool)>
         ensures { Cancels self.entry result }
     {

@@ -21,7 +21,7 @@ impl<T: Packed> WordState<T> {
     /// dropped, no call can be made any more.
     ///
     /// # Errors
-    /// `OutOfMemory`. No other call takes memory.
+    /// `OutOfMemory`. No other call of the flow takes memory; a task that waits takes some for its waker.
     pub fn new(
         alloc: Global,
         initial: T,
@@ -118,8 +118,8 @@ impl<T: Packed> WordState<T> {
 
     /// Sets the value to `update` if it is equal to `expect`, and returns whether it was. Both happen in one event.
     ///
-    /// If both are equal to the current value, returns `true`, and subscribers get nothing new. At `false` another
-    /// caller was faster: read the value and try again, as `update` does.
+    /// If both are equal to the current value, returns `true`, and subscribers get nothing new. At `false` the
+    /// value was another one: read it and try again, as `update` does.
     pub fn compare_and_set(&self, seat: &mut WordSeat<T>, expect: T, update: T) -> bool
         requires { seat.old.table_id ≡ self.now.table_id }
         ensures { CallsAtOnceIn state_flow self.now.first seat.old (call.CompareAndSet expect update)

@@ -14,8 +14,8 @@ use futures::task::Context;
 use std::alloc::Global;
 use std::marker::Model;
 
-/// A state flow (`MutableStateFlow`) of a value that fits a word, for callers on several threads. No caller waits for
-/// another.
+/// A state flow (`MutableStateFlow`) of a value that fits a word, for callers on several threads. Its calls wait
+/// for no other caller, except `subscribe` and the updates, which try again.
 #[derive(Drop)]
 pub struct WordState<T: Packed> {
     /// Word 0 is the pack of the current value. Word 1 is the number of issued numbers, times 2^32, plus the number of

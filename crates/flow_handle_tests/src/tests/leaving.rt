@@ -1,5 +1,5 @@
 //! Callers that leave while others sleep: a cancel, an unsubscribe or a drop wakes the emitter that waited for it, and no reader
-//! misses a value by it. A sleeper that is not woken is told so by its limit, an hour, which no test has.
+//! misses a value by it. A sleeper that is not woken wakes at its limit, an hour, which no test has.
 use crate::tests::compare::compare;
 use flow_law::Config;
 use flow_shared::{BoundEmission, EmitAnswer, Emitter, Reader, SendEnd, SharedFlow};

@@ -74,7 +74,7 @@ impl<'a, S: FlowCore + Drop, A: Allocator + Copy> FlowCaller<'a, S, A> {
     }
 
     /// Counts the subscribers. A subscription whose token was dropped is counted; one whose handle was dropped has
-    /// ended.
+    /// ended, unless the drop found the flow taken at each of its many tries.
     pub fn subscription_count<R: Wait>(&mut self, rt: &R) -> u64
         ensures flow { self.new.flow ≡ self.old.flow }
         ensures counted { Counts S.kind self.old.flow self.old.token result self.new.token }

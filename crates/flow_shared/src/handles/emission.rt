@@ -84,8 +84,8 @@ impl<'a, T: FlowValue, A: Allocator + Copy> BoundEmission<'a, T, A> {
         BoundEmission { flow, emission }
     }
 
-    /// Returns whether the emission still waits. If it does not, its value was emitted and received, and the answer has
-    /// its emitter.
+    /// Returns whether the emission still waits. If it does not, the flow has taken its value, and the answer has its
+    /// emitter. Without a buffer every subscriber has then received it.
     pub fn poll<R: Wait>(self, rt: &R) -> PollAnswer<'a, T, A>
         ensures flow { polled_flow result ≡ self.entry.flow }
         ensures polls { Polls self.entry.flow self.entry.emission (polled_by result) }

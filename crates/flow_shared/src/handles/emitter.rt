@@ -47,6 +47,9 @@ impl<'a, T: FlowValue, A: Allocator + Copy> FlowCaller<'a, SharedCore<T, A>, A> 
     ///
     /// It waits while another caller holds the flow.
     ///
+    /// # Errors
+    /// `Exhausted` if the flow has issued as many numbers as its limit allows. The error has the value.
+    ///
     /// # Source
     /// `MutableSharedFlow.tryEmit`.
     pub fn try_emit<R: Wait>(&mut self, rt: &R, value: T) -> Result<bool, Rejected<T, Exhausted>>
@@ -64,7 +67,12 @@ impl<'a, T: FlowValue, A: Allocator + Copy> FlowCaller<'a, SharedCore<T, A>, A> 
         }
     }
 
-    /// Emits a value, or queues it. A queued emission is polled until it is done, or cancelled.
+    /// Emits a value, or queues it. A queued emission is polled until it is done, or cancelled; if it is dropped, it is
+    /// cancelled.
+    ///
+    /// # Errors
+    /// `Refused`, with the emitter and the value: `Exhausted`, or `OutOfMemory` if the value would have to wait and there is
+    /// no memory for it.
     pub fn emit<R: Wait>(self, rt: &R, value: T) -> EmitAnswer<'a, T, NumberError, A>
         ensures flow { emitted_flow result ≡ self.entry.flow }
         ensures emits { Emits self.entry.flow self.entry.token value (emitted_by number_fault result) }
@@ -123,6 +131,9 @@ impl<'a, T: FlowValue, A: Allocator + Copy> FlowCaller<'a, SharedCore<T, A>, A> 
     }
 
     /// Returns the replay cache: copies of at most `replay` values.
+    ///
+    /// # Errors
+    /// `OutOfMemory` if there is no memory for the list or for a copy. The flow is not changed.
     pub fn replay_cache<R: Wait>(&mut self, rt: &R) -> Result<Vec<T, A>, OutOfMemory>
         ensures flow { self.new.flow ≡ self.old.flow }
         ensures called { Calls self.old.flow self.old.token call.ReplayCache

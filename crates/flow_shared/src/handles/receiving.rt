@@ -54,8 +54,9 @@ impl<'a, S: FlowCore + Drop, A: Allocator + Copy> FlowReader<'a, S, A> {
 }
 
 impl<'a, T: FlowValue, A: Allocator + Copy> FlowReader<'a, SharedCore<T, A>, A> {
-    /// Takes the next value, and waits until there is one: the thread sleeps, and the call that gives the subscriber
-    /// something wakes it. If there is no memory for its waker, it lets other threads go first and asks again.
+    /// Takes the next value, and waits until there is one. The thread asks some times, and lets other threads go first
+    /// between; then it sleeps, and the call that gives the subscriber something wakes it. If there is no memory for its
+    /// waker, it asks again.
     ///
     /// # Errors
     /// `OutOfMemory` if the value could not be copied: a later call returns it.
@@ -73,8 +74,8 @@ impl<'a, T: FlowValue, A: Allocator + Copy> FlowReader<'a, SharedCore<T, A>, A> 
 }
 
 impl<'a, T: FlowValue, A: Allocator + Copy> FlowReader<'a, StateCore<T, A>, A> {
-    /// Takes the current value if the subscriber has not got it, and waits until there is such a value. The thread
-    /// sleeps as in `receive` of a shared flow's reader.
+    /// Takes the current value if the subscriber has not got it, and waits until there is such a value: a new subscriber
+    /// gets the current value at once. The thread waits as in `receive` of a shared flow's reader.
     ///
     /// # Errors
     /// `OutOfMemory` if the value could not be copied: a later call returns it, or a newer one.

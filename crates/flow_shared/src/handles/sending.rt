@@ -14,8 +14,9 @@ use std::sync::Wait;
 use std::time::{Clock, Duration};
 
 impl<'a, T: FlowValue, A: Allocator + Copy> FlowCaller<'a, SharedCore<T, A>, A> {
-    /// Emits a value, and waits until the emission is done: the thread sleeps, and the call that ends the emission
-    /// wakes it. If there is no memory for its waker, it lets other threads go first and asks again.
+    /// Emits a value, and waits until the emission is done. The thread asks some times, and lets other threads go first
+    /// between; then it sleeps, and the call that ends the emission wakes it. If there is no memory for its waker, it asks
+    /// again.
     ///
     /// # Errors
     /// `Exhausted` if the flow has issued as many numbers as its limit allows, `OutOfMemory` if the value would have to

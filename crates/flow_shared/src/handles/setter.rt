@@ -36,6 +36,9 @@ impl<'a, T: FlowValue, A: Allocator + Copy> FlowCaller<'a, StateCore<T, A>, A> {
     ///
     /// Another caller may set the value right after. Call `update` or `compare_and_set` to set a value that depends on
     /// the current one.
+    ///
+    /// # Errors
+    /// `OutOfMemory` if the value could not be copied.
     pub fn value<R: Wait>(&mut self, rt: &R) -> Result<T, OutOfMemory>
         ensures flow { self.new.flow ≡ self.old.flow }
         ensures called { StateCalls self.old.flow self.old.token call.GetValue
@@ -80,7 +83,8 @@ impl<'a, T: FlowValue, A: Allocator + Copy> FlowCaller<'a, StateCore<T, A>, A> {
     /// Sets the value to `update` if it is equal to `expect`, and returns whether it was. Both happen in one event.
     ///
     /// If both `expect` and `update` are equal to the current value, the result is `true`, and subscribers get nothing
-    /// new. At `false` another caller was faster, so read the value and try again, which is what `update` does.
+    /// new. At `false` the value was another one, and `update` is dropped: read the value and try again, as `update`
+    /// of the setter does.
     pub fn compare_and_set<R: Wait>(&mut self, rt: &R, expect: &T, update: T) -> bool
         ensures flow { self.new.flow ≡ self.old.flow }
         ensures called { StateCalls self.old.flow self.old.token (call.CompareAndSet expect.now update)

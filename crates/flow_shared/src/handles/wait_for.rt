@@ -33,7 +33,8 @@ impl<'a, T: FlowValue, A: Allocator + Copy> FlowReader<'a, StateCore<T, A>, A> {
     }
 
     /// Waits until the current value passes a test, and returns it. It is tested at once, also if the subscriber got it
-    /// before. The subscriber gets the values up to the one that passed, each as `changed` gives it.
+    /// before. The subscriber gets the values up to the one that passed, each as `changed` gives it, and `changed` does not
+    /// give them again.
     ///
     /// # Errors
     /// `OutOfMemory` if a value could not be copied: a later call tests it, or a newer one.
@@ -69,7 +70,8 @@ impl<'a, T: FlowValue, A: Allocator + Copy> FlowReader<'a, StateCore<T, A>, A> {
     }
 
     /// Waits as `wait_for` does, for no longer than `limit`, and returns `None` if no value has passed the test by
-    /// then. The current value is tested in any case.
+    /// then. The current value is tested in any case; if the clock cannot be read, it alone is. Values that failed count as
+    /// received.
     ///
     /// # Errors
     /// `OutOfMemory` if a value could not be copied: a later call tests it, or a newer one.

@@ -69,8 +69,8 @@ impl<T: FlowValue, A: Allocator + Copy> Flow<SharedCore<T, A>, A> {
         answered(own, answer)
     }
 
-    /// Returns whether the emission still waits. If it does not, it was emitted and received, and the answer has its
-    /// seat.
+    /// Returns whether the emission still waits. If it does not, the flow has taken its value, and the answer has its
+    /// seat. Without a buffer every subscriber has then received it.
     pub fn poll_emit<R: Wait>(&self, rt: &R, emission: Emission<T, A>) -> Polled<T, A>
         requires { emission.token.table_id ≡ self.now.table_id }
         ensures { Polls self.now emission result }

@@ -83,7 +83,7 @@ impl<T: FlowValue, A: Allocator + Copy> Flow<StateCore<T, A>, A> {
     /// `false` it drops `update`.
     ///
     /// If both `expect` and `update` are equal to the current value, the result is `true`, and subscribers get nothing
-    /// new. At `false` another caller was faster: read the value and try again.
+    /// new. At `false` the value was another one: read it and try again.
     pub fn compare_and_set<R: Wait>(
         &self,
         rt: &R,

@@ -32,7 +32,7 @@ impl CountedStop {
         }
     }
 
-    /// Returns whether the run takes only a few turns meanwhile. Nobody calls the flow, so no turn is busy.
+    /// Returns whether the run takes only a few turns meanwhile. No other caller calls the flow, so no turn is busy.
     fn sleeps<R: Clock>(&self, rt: &R) -> bool {
         let before = self.looks.load(Ordering::SeqCst);
         sleep(rt, Duration::from_millis(30));

@@ -103,7 +103,7 @@ impl<'a, T: Packed> WordSetter<'a, T> {
 
     /// Sets the value to `update` if it is equal to `expect`, and returns whether it was. Both happen in one event.
     ///
-    /// At `false` another caller was faster, so read the value and try again, which is what `update` does.
+    /// At `false` the value was another one: read it and try again, as `update` does.
     pub fn compare_and_set(&mut self, expect: T, update: T) -> bool
         ensures flow { self.new.flow ≡ self.old.flow }
         ensures called { CallsAtOnceIn state_flow self.old.flow.first self.old.token

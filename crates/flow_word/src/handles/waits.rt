@@ -129,7 +129,8 @@ impl<'a, T: Packed + Drop> WordReader<'a, T> {
     }
 
     /// Waits until the current value passes a test, and returns it. It is tested at once, also if the subscriber got it
-    /// before. The subscriber gets the values up to the one that passed, each as `changed` gives it.
+    /// before. The subscriber gets the values up to the one that passed, each as `changed` gives it, and `changed` does not
+    /// give them again.
     ///
     /// # Source
     /// `StateFlow.first { }`.
@@ -151,7 +152,7 @@ impl<'a, T: Packed + Drop> WordReader<'a, T> {
     }
 
     /// Waits as `wait_for` does, for no longer than `limit`, and returns `None` if no value has passed the test by then. The
-    /// current value is tested in any case.
+    /// current value is tested in any case; if the clock cannot be read, it alone is. Values that failed count as received.
     ///
     /// # Source
     /// `withTimeoutOrNull` around `StateFlow.first { }`.
