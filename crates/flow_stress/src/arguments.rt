@@ -10,7 +10,23 @@ pub struct Size {
     pub rounds: u32,
 }
 
+/// The threads of a crowd, and how much they send.
+#[derive(Clone, Copy)]
+pub struct CrowdSize {
+    /// By which the threads yield, and choose their calls.
+    pub seed: u64,
+    pub emitters: u32,
+    pub readers: u32,
+    /// For how many values the flow has room.
+    pub capacity: u32,
+    /// Of all emitters together.
+    pub values: u32,
+}
+
 pub const MOST_THREADS: u32 = 64;
+
+/// A shared flow has room for no more values.
+const MOST_ROOM: u32 = 65_536;
 
 /// Which flow is recorded.
 #[derive(Clone, Copy)]
@@ -31,7 +47,18 @@ pub enum Kind {
 #[derive(Clone, Copy)]
 pub enum Task {
     Stress(Size),
+    Crowd(CrowdSize),
     Record(Kind, Size),
+}
+
+/// Reads a number between two others, or equal to one. Returns None if the word is no such.
+fn number_in(word: &str, least: u32, most: u32) -> Option<u32> {
+    let number = word.parse::<u32>().ok()?;
+    if least <= number && number <= most {
+        Some(number)
+    } else {
+        None
+    }
 }
 
 /// Reads the seed, the number of threads, from 4 on, and that of their rounds. Returns None if the words are no such.
@@ -39,16 +66,24 @@ fn size_of(words: &[String]) -> Option<Size> {
     let [seed, threads, rounds] = words else {
         return None;
     };
-    let seed = seed.parse::<u64>().ok()?;
-    let threads = threads.parse::<u32>().ok()?;
-    let rounds = rounds.parse::<u32>().ok()?;
-    if threads < 4 || threads > MOST_THREADS {
-        return None;
-    }
     Some(Size {
-        seed,
-        threads,
-        rounds,
+        seed: seed.parse::<u64>().ok()?,
+        threads: number_in(threads.as_str(), 4, MOST_THREADS)?,
+        rounds: rounds.parse::<u32>().ok()?,
+    })
+}
+
+/// Reads the size of a crowd. Returns None if the words are no such.
+fn crowd_size_of(words: &[String]) -> Option<CrowdSize> {
+    let [seed, emitters, readers, capacity, values] = words else {
+        return None;
+    };
+    Some(CrowdSize {
+        seed: seed.parse::<u64>().ok()?,
+        emitters: number_in(emitters.as_str(), 1, MOST_THREADS)?,
+        readers: number_in(readers.as_str(), 1, MOST_THREADS)?,
+        capacity: number_in(capacity.as_str(), 0, MOST_ROOM)?,
+        values: values.parse::<u32>().ok()?,
     })
 }
 
@@ -63,15 +98,19 @@ fn kind_of(word: &str) -> Option<Kind> {
     }
 }
 
+/// Reads which flow is to be recorded, and the size. Returns None if the words are no such.
+fn record_of(words: &[String]) -> Option<Task> {
+    let kind = kind_of(words.first()?.as_str())?;
+    let size = size_of(words.get(1..)?)?;
+    Some(Task::Record(kind, size))
+}
+
 /// Reads what the program is to do. Returns None if the words say no such.
 pub fn task_of(words: &[String]) -> Option<Task> {
-    let is_record = words
-        .first()
-        .is_some_and(|word| word.as_str() == "--record");
-    if !is_record {
-        return Some(Task::Stress(size_of(words)?));
+    let rest = words.get(1..)?;
+    match words.first()?.as_str() {
+        "--record" => record_of(rest),
+        "--crowd" => Some(Task::Crowd(crowd_size_of(rest)?)),
+        _ => Some(Task::Stress(size_of(words)?)),
     }
-    let kind = kind_of(words.get(1)?.as_str())?;
-    let size = size_of(words.get(2..)?)?;
-    Some(Task::Record(kind, size))
 }

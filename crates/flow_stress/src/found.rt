@@ -37,3 +37,12 @@ impl Found {
         }
     }
 }
+
+/// Returns what all threads found.
+pub fn sum(each: &[Found]) -> Found {
+    let mut all = NOTHING;
+    for found in each {
+        all = all.plus(*found);
+    }
+    all
+}

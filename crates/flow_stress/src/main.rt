@@ -1,44 +1,61 @@
-//! Puts flows under the calls of many threads, and tells whether all that must hold of every run held:
-//! `flow_stress SEED THREADS ROUNDS`. `flow_stress --record KIND SEED THREADS ROUNDS`, with a kind of `arguments.rt`, prints a record
-//! of calls of threads to a flow instead, which `flow_judge` reads.
+//! Puts flows under the calls of many threads, and tells whether all that must hold of every run held.
 //!
+//! ```text
+//! flow_stress SEED THREADS ROUNDS
+//! flow_stress --crowd SEED EMITTERS READERS CAPACITY VALUES
+//! flow_stress --record KIND SEED THREADS ROUNDS
+//! ```
+//!
+//! The last prints a record of calls of threads to a flow, of a kind of `arguments.rt`, which `flow_judge` reads. All
+//! threads begin once all of them are made.
+//!
+//! # Calls of every kind
 //! Each thread makes its rounds of calls, as the seed says. A quarter of the threads does each of these:
 //! - emits, polls and cancels at a shared flow that suspends (replay 2, room for 4 more);
-//! - subscribes to that flow, reads by `next` and `next_now`, and leaves. It must receive of each emitter every value after
-//!   the first that came, in order, none twice, and never `Gone`;
-//! - emits by an `EmitFuture`, and then receives by a `NextFuture`, at a second flow, which drops the oldest. It must receive
+//! - subscribes to that flow, reads by `next` and `try_next`, and leaves. It must receive of each emitter every value
+//!   after the first that came, in order, none twice;
+//! - emits by a `SendFuture`, and then receives from a stream, at a second flow, which drops the oldest. It must receive
 //!   of each emitter rising values, none twice, and a value each time;
-//! - adds 1 to a state flow without a lock, by an update or by a `compare_and_set` from what it read, subscribes, reads twice
-//!   and leaves: the value must never fall, and must rise where the thread added. Then the same by `compare_and_set` at a
-//!   state flow behind a gate, whose value must never fall.
+//! - adds 1 to a state flow without a lock, by an update or by a `compare_and_set` from what it read, subscribes, reads
+//!   twice and leaves: the value must never fall, and must rise where the thread added. Then the same by
+//!   `compare_and_set` at a state flow behind a gate, whose value must never fall.
 //!
-//! All threads begin at the same time. At the end no subscriber is left, each reader has read something, and both state flows
-//! have as much as all threads added.
+//! At the end no subscriber is left, each reader has read something, and both state flows have as much as all threads
+//! added.
+//!
+//! # A crowd
+//! Threads send so many values in all through one shared flow that suspends, and others receive them. They sleep while
+//! there is no room, or nothing to receive, and yield now and then, as the seed says; a few calls have a time limit, and
+//! are made again when it is up. Each reader must receive all values, each emitter's in its order, none twice, and
+//! nothing after them; then it leaves. If a sleeper is not woken, the program does not end.
 //!
 //! # What is proved
 //! Two parts, for every schedule. If callers only update a state flow without a lock, no update is lost (`run_count` of
-//! flow_count). If threads only emit into a flow that suspends, and others receive as many values as all of these emit, each
-//! of them receives all values, each emitter's in its order (`run_crowd` of flow_crowd). Here each thread does other things,
-//! too, and all is tested.
+//! flow_count). If threads only emit into a flow that suspends, and others receive as many values as all of these emit,
+//! each of them receives all values, each emitter's in its order (`run_crowd` of flow_crowd). Here each thread does
+//! other things, too, and all is tested; so is that a sleeper is woken.
 #![tactic(auto)]
 
+mod adding;
+mod adding_word;
 mod arguments;
 mod caller;
+mod crew;
+mod crowd;
 mod emitting;
 mod exchanging;
 mod found;
+mod member;
 mod order;
 mod reading;
 mod recorded;
 mod recorded_shared;
 mod recorder;
 mod recording;
-mod shared_caller;
-mod state_caller;
 mod stress;
-mod word_caller;
 
-use arguments::{Size, Task, task_of};
+use arguments::{CrowdSize, Size, Task, task_of};
+use crowd::crowd;
 use found::Found;
 use recorder::record;
 use std::alloc::AllocGlobal;
@@ -57,6 +74,10 @@ const REFUSED: u8 = 2;
 
 const OUT_OF_MEMORY: u8 = 4;
 
+fn status_of(found: Found) -> u8 {
+    if found.wrong == 0 { 0 } else { WRONG }
+}
+
 /// Prints what was found, and answers the status.
 fn tell(rt: &HostRuntime, size: Size, found: Option<Found>) -> io::Result<u8> {
     let Size {
@@ -64,11 +85,31 @@ fn tell(rt: &HostRuntime, size: Size, found: Option<Found>) -> io::Result<u8> {
         threads,
         rounds,
     } = size;
-    let Some(Found { wrong, .. }) = found else {
+    let Some(found) = found else {
         return tell_memory(rt);
     };
+    let wrong = found.wrong;
     println!(rt; "seed {seed}, {threads} threads, {rounds} rounds each: {wrong} wrong")?;
-    Ok(if wrong == 0 { 0 } else { WRONG })
+    Ok(status_of(found))
+}
+
+/// Prints what was found of a crowd, and answers the status.
+fn tell_crowd(rt: &HostRuntime, size: CrowdSize, found: Option<Found>) -> io::Result<u8> {
+    let CrowdSize {
+        seed,
+        emitters,
+        readers,
+        capacity,
+        values,
+    } = size;
+    let Some(found) = found else {
+        return tell_memory(rt);
+    };
+    let wrong = found.wrong;
+    println!(rt;
+        "seed {seed}, {emitters} emitters, {readers} readers, room for {capacity}, {values} values: {wrong} wrong"
+    )?;
+    Ok(status_of(found))
 }
 
 fn tell_memory(rt: &HostRuntime) -> io::Result<u8> {
@@ -82,8 +123,10 @@ fn read_task(rt: &HostRuntime) -> io::Result<Option<Task>> {
 }
 
 fn tell_usage(rt: &HostRuntime) -> io::Result<u8> {
+    println!(rt; "usage: flow_stress SEED THREADS ROUNDS")?;
+    println!(rt; "       flow_stress --crowd SEED EMITTERS READERS CAPACITY VALUES")?;
     println!(rt;
-        "usage: flow_stress [--record word|state|shared|dropping|rendezvous] SEED THREADS ROUNDS"
+        "       flow_stress --record word|state|shared|dropping|rendezvous SEED THREADS ROUNDS"
     )?;
     Ok(REFUSED)
 }
@@ -96,6 +139,7 @@ fn do_task<R: Threads + Wait + Clock + RandomSource + AllocGlobal + Sync>(
 ) -> io::Result<u8> {
     match task {
         Task::Stress(size) => tell(rt, size, stress(threads, rt.alloc(), size)),
+        Task::Crowd(size) => tell_crowd(rt, size, crowd(threads, rt.alloc(), size)),
         Task::Record(kind, size) => {
             record(threads, rt.alloc(), &mut rt.stdout(), kind, size)?;
             Ok(0)

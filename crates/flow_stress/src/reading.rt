@@ -1,11 +1,8 @@
 //! A thread that reads from a shared flow, leaves, and subscribes again, again and again.
-ghost use Rattle.std.specs.Prelude.{◌≡◌};
-
 use crate::found::{Found, NOTHING};
-use crate::order::{Order, Value};
-use crate::shared_caller::SharedCaller;
-use flow_law::{FlowFault, Next};
-use flow_shared::{SharedFlow, Subscription};
+use crate::order::{Gets, Order, Value};
+use flow_law::{OutOfMemory, TryNextError};
+use flow_shared::{Emitter, Reader};
 use rand_core::utils::NextWord;
 use rand_pcg::Pcg32;
 use std::sync::Wait;
@@ -17,50 +14,54 @@ const CALLS: u32 = 64;
 /// How many further subscriptions a reader without a value makes at most.
 const LATE: u32 = 20_000;
 
-/// Calls `next` in either way, as the dice say, and leaves. A live subscription is never gone. `None` if memory is
-/// refused.
-fn read<R: Wait>(
+/// Takes the next value, in either way. Returns None if there is none, or if another caller is inside the flow.
+fn next<R: Wait>(
     rt: &R,
-    flow: &SharedFlow<Value>,
-    subscription: Subscription<Value>,
-    dice: &mut Pcg32,
-) -> Option<Found>
-    requires { subscription.token.table_id ≡ flow.now.table_id }
-{
-    let mut subscription = subscription;
-    let mut order = Order::new(true);
+    reader: &mut Reader<'_, Value>,
+    waits: bool,
+) -> Result<Option<Value>, OutOfMemory> {
+    if waits {
+        return reader.next(rt);
+    }
+    match reader.try_next() {
+        Ok(next) => Ok(next),
+        Err(TryNextError::Busy) => Ok(None),
+        Err(TryNextError::OutOfMemory) => Err(OutOfMemory),
+    }
+}
+
+/// Reads, as the dice say, and leaves. Returns None if memory is refused.
+fn read<R: Wait>(rt: &R, reader: Reader<'_, Value>, dice: &mut Pcg32) -> Option<Found> {
+    let mut reader = reader;
+    let mut order = Order::new(Gets::Following);
     for _ in 0..CALLS {
-        let next = if dice.next_word() % 2 == 0 {
-            flow.next(rt, &mut subscription)
-        } else {
-            flow.next_now(&mut subscription)
-        };
-        match next {
-            Ok(Next::Value(value)) => order.add(value),
-            Ok(Next::Empty) | Err(FlowFault::Busy) => yield_now(),
-            Ok(Next::Gone) => order.found.check(false),
-            Err(_fault) => return None,
+        match next(rt, &mut reader, dice.next_word() % 2 == 0).ok()? {
+            Some(value) => order.add(value),
+            None => yield_now(),
         }
     }
-    let _seat = flow.unsubscribe(rt, subscription);
+    let _emitter = reader.unsubscribe(rt);
     Some(order.found)
 }
 
-impl SharedCaller<'_> {
-    /// Makes so many calls, by one subscription after another, and further ones until it has read a value: the flow
-    /// replays what was emitted. `None` if it is out of memory.
-    pub fn read_all<R: Wait>(&mut self, rt: &R, dice: &mut Pcg32, rounds: u32) -> Option<Found> {
-        let mut found = NOTHING;
-        let usual = rounds / CALLS;
-        for number in 0..usual.saturating_add(LATE) {
-            if number >= usual && found.read > 0 {
-                break;
-            }
-            let subscription = self.flow.subscribe(rt, &mut self.seat).ok()?;
-            found = found.plus(read(rt, self.flow, subscription, dice)?);
+/// Makes so many calls, by one subscription after another, and further ones until it has read a value: the flow replays
+/// what was emitted. Returns None if memory is refused.
+pub fn read_all<R: Wait>(
+    rt: &R,
+    emitter: &mut Emitter<'_, Value>,
+    dice: &mut Pcg32,
+    rounds: u32,
+) -> Option<Found> {
+    let mut found = NOTHING;
+    let usual = rounds / CALLS;
+    for number in 0..usual.saturating_add(LATE) {
+        if number >= usual && found.read > 0 {
+            break;
         }
-        let has_read = found.read > 0;
-        found.check(has_read);
-        Some(found)
+        let reader = emitter.subscribe(rt).ok()?;
+        found = found.plus(read(rt, reader, dice)?);
     }
+    let has_read = found.read > 0;
+    found.check(has_read);
+    Some(found)
 }

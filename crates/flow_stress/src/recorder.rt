@@ -1,19 +1,20 @@
 //! Records what threads call of a flow.
 use crate::arguments::{Kind, Size};
+use crate::crew::{Worker, run_all};
 use crate::recorded::{Recorded, RecordedState, RecordedWord};
 use crate::recorded_shared::RecordedShared;
 use crate::recording::{Call, Entry, VALUES};
 use flow_law::{Config, Overflow};
 use flow_shared::{SharedFlow, StateFlow};
-use flow_testing::Start;
 use flow_word::WordState;
 use rand_core::utils::NextWord;
 use rand_pcg::Pcg32;
-use std::alloc::Global;
+use std::alloc::{AllocGlobal, Global};
 use std::io::{self, ErrorKind, Write};
+use std::random::RandomSource;
 use std::sync::Wait;
 use std::sync::atomic::{AtomicU64, Ordering};
-use std::thread::{Threads, for_each_mut};
+use std::thread::Threads;
 use std::time::Clock;
 
 /// The calls of one thread. All threads raise one clock, once before a call and once after it.
@@ -22,10 +23,9 @@ struct Recorder<'a, 'c> {
     flow: Recorded<'a>,
     clock: &'c AtomicU64,
     number: u32,
+    rounds: u32,
     dice: Pcg32,
     entries: Vec<Entry>,
-    /// A call was refused, or memory ran out.
-    is_stopped: bool,
 }
 
 impl<'a, 'c> Recorder<'a, 'c> {
@@ -93,12 +93,25 @@ impl<'a, 'c> Recorder<'a, 'c> {
             .ok()
     }
 
-    fn record_all<R: Wait + Clock>(&mut self, rt: &R, rounds: u32) {
-        for _ in 0..rounds {
-            if !self.is_stopped {
-                self.is_stopped = self.record(rt).is_none();
-            }
+    /// Makes its calls. Returns None if one was refused, or if memory ran out.
+    fn record_all<R: Wait + Clock>(&mut self, rt: &R) -> Option<()> {
+        for _ in 0..self.rounds {
+            self.record(rt)?;
         }
+        Some(())
+    }
+}
+
+impl<'a, 'c> Worker for Recorder<'a, 'c> {
+    type Done = Recorder<'a, 'c>;
+
+    fn work<R: Wait + Clock + RandomSource + AllocGlobal>(
+        self,
+        rt: &R,
+    ) -> Option<Recorder<'a, 'c>> {
+        let mut recorder = self;
+        recorder.record_all(rt)?;
+        Some(recorder)
     }
 }
 
@@ -115,9 +128,9 @@ fn recorders<'a, 'c>(
             flow: flow.another(),
             clock,
             number,
+            rounds: size.rounds,
             dice: Pcg32::new(size.seed, u64::from(number)),
             entries: Vec::new(alloc),
-            is_stopped: false,
         })?;
     }
     Ok(recorders)
@@ -152,9 +165,6 @@ fn config_of(kind: Kind) -> Config {
 fn write_all<W: Write>(out: &mut W, kind: Kind, recorders: &[Recorder<'_, '_>]) -> io::Result<()> {
     writeln!(out, "{{\"flow\": {{{}}}}}", flow_words(kind))?;
     for recorder in recorders {
-        if recorder.is_stopped {
-            return Err(io::Error::from(ErrorKind::OutOfMemory));
-        }
         for entry in &recorder.entries {
             entry.write(out, recorder.number)?;
         }
@@ -162,8 +172,8 @@ fn write_all<W: Write>(out: &mut W, kind: Kind, recorders: &[Recorder<'_, '_>]) 
     Ok(())
 }
 
-/// Makes the calls of all threads, which begin at the same time, and writes their record.
-fn record_by<R: Threads + Wait + Clock + Sync, W: Write>(
+/// Makes the calls of all threads, and writes their record.
+fn record_by<R: Threads + Wait + Clock + RandomSource + AllocGlobal + Sync, W: Write>(
     rt: &R,
     alloc: Global,
     out: &mut W,
@@ -172,26 +182,15 @@ fn record_by<R: Threads + Wait + Clock + Sync, W: Write>(
     size: Size,
 ) -> io::Result<()> {
     let clock = AtomicU64::new(0);
-    let mut recorders = recorders(alloc, &mut flow, &clock, size)?;
-    let threads = recorders.len().max(1);
-    let start = Start::new(u64::from(size.threads));
-    for_each_mut(
-        rt,
-        &mut recorders,
-        threads,
-        &|_, recorder| {
-            start.wait();
-            recorder.record_all(rt, size.rounds)
-        },
-    );
-    if !start.is_kept() {
+    let recorders = recorders(alloc, &mut flow, &clock, size)?;
+    let Some(done) = run_all(rt, alloc, recorders) else {
         return Err(io::Error::from(ErrorKind::OutOfMemory));
-    }
-    write_all(out, kind, recorders.as_slice())
+    };
+    write_all(out, kind, &done)
 }
 
 /// Records the calls of a new flow of this kind.
-pub fn record<R: Threads + Wait + Clock + Sync, W: Write>(
+pub fn record<R: Threads + Wait + Clock + RandomSource + AllocGlobal + Sync, W: Write>(
     rt: &R,
     alloc: Global,
     out: &mut W,
