@@ -62,7 +62,7 @@ most-set_none (Some l ∷ lags) zero = omega arith
 most-set_none (None ∷ lags) (suc i) = most-set_none lags i
 most-set_none (Some l ∷ lags) (suc i) = let rest = most-set_none lags i in omega arith
 
--- nobody has anything to receive if nobody is subscribed
+-- no caller has anything to receive if none is subscribed
 pub most_absent : (lags : List (Option ℕ)) → present lags ≡ 0 → most_lag lags ≡ 0
 most_absent [] none = refl
 most_absent (None ∷ lags) none = most_absent lags none

@@ -1,6 +1,9 @@
+pub mod Packing
 pub mod Parts
 pub mod Turns
 pub mod Timing
+pub mod Leaving
+pub mod Closing
 pub mod Ordering
 pub mod Ends
 pub mod KnownRows
@@ -11,6 +14,7 @@ pub mod KeptLemmas
 pub mod StateSeats
 pub mod StateSteps
 pub mod StateJudging
+pub mod StateLooking
 pub mod LagLemmas
 pub mod QueueLemmas
 pub mod SharedSeats
@@ -28,3 +32,4 @@ pub mod SharedEvents
 pub mod SharedLeads
 pub mod SharedFollows
 pub mod SharedJudging
+pub mod SharedLooking

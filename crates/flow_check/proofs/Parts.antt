@@ -1,14 +1,14 @@
 -- What loops over callers and over nodes keep.
-use Rattle.std.specs.Prelude.{◌≡◌, ℕ, ◌+◌, ◌<◌, ◌≤◌, Bool, true, false, List, [], ◌∷◌, length, map, slice_get, Option, Some, None, IfSome, ⊤, Vec}
+use Rattle.std.specs.Prelude.{◌≡◌, ℕ, ◌+◌, ◌<◌, ◌≤◌, Bool, true, false, not, is_some, IsSome, List, [], ◌∷◌, length, map, slice_get, Option, Some, None, IfSome, ⊤, Vec}
 use Rattle.std.specs.declared.alloc.Global.{Global}
 use Rattle.std.proofs.Common.{refl, sym, ap, ◌∙◌, subst, inl, inr, drop, get_or, drop-cons, add-one, below_more, arith}
+use Rattle.std.proofs.lemmas.Bool.{false≢true}
 use Rattle.std.proofs.lemmas.Option.{slice_get_within, same_Some, MatchOption-at_some}
 use Rattle.flow_check.specs.declared.timed.Timed.{Timed}
-use Rattle.flow_check.specs.declared.node.Node.{Node}
 use Rattle.flow_check.specs.declared.node.Move.{Move}
 use Rattle.flow_check.specs.Remaining.{next_at, next_of, MayComeNext, OwesNothing, placing, IsStep, GoesThrough}
 use Rattle.flow_check.specs.Records.{Calls, recorded, call_in, count_in, is_over_before}
-use Rattle.flow_check.specs.Tables.{IsInTable, IsFollowedAt, IsFollowed, IsClosed}
+use Rattle.flow_check.specs.Tables.{Reached, IsInTable, IsFollowedAt, IsFollowed, IsClosed}
 
 called_in : {C : Type 0} (o : Option (Vec (Timed C) Global)) (k : ℕ) (d : Timed C) → call_in o k ≡ Some d → (calls : Vec (Timed C) Global) × (o ≡ Some calls) × (slice_get calls.items k ≡ Some d)
 called_in (Some calls) k d h = (calls, refl, h)
@@ -24,7 +24,7 @@ module _ {C : Type 0} (callers : Calls C) where
   recorded_within caller k d h =
       let found = called_in (slice_get callers caller) k d h in slice_get_within callers caller found.0 found.1
 
-  placed_at : (caller : ℕ) (o : Option ℕ) (d : Timed C) → next_at callers caller o ≡ Some d → (k : ℕ) × (o ≡ Some k) × (recorded callers caller k ≡ Some d)
+  pub placed_at : (caller : ℕ) (o : Option ℕ) (d : Timed C) → next_at callers caller o ≡ Some d → (k : ℕ) × (o ≡ Some k) × (recorded callers caller k ≡ Some d)
   placed_at caller (Some k) d h = (k, refl, h)
   placed_at caller None d h = absurd (cc)
 
@@ -37,51 +37,36 @@ module _ {C : Type 0} (callers : Calls C) where
   abbrev pub OwesNothingBelow : ℕ → List ℕ → Type 0
   OwesNothingBelow bound placed = (caller : ℕ) (d : Timed C) → caller < bound → next_of callers placed caller ≡ Some d → d.end ≡ None
 
-module _ {S C : Type 0} (stepped : S → ℕ → C → Option S) (may_skip : C → Bool) (callers : Calls C) (nodes : List (Node S)) where
-  abbrev pub IsFollowedBelow : ℕ → Node S → Type 0
-  IsFollowedBelow bound n = (caller : ℕ) → caller < bound → IsFollowedAt stepped may_skip callers nodes n caller
+module _ {S C : Type 0} (stepped : S → ℕ → C → Option S) (may_skip is_look : C → Bool) (callers : Calls C) (nodes : List (Reached S)) where
+  abbrev pub IsFollowedBelow : ℕ → Reached S → Type 0
+  IsFollowedBelow bound n = (caller : ℕ) → caller < bound → IsFollowedAt stepped may_skip is_look callers nodes n caller
 
   abbrev pub IsClosedBelow : ℕ → Type 0
-  IsClosedBelow bound = (k : ℕ) → k < bound → (n : Node S) → slice_get nodes k ≡ Some n → IsFollowed stepped may_skip callers nodes n × (OwesNothing callers n.placed.items → ⊥)
-
-  -- from no node of a closed table does an order explain the rest
-  pub none_explains : IsClosed stepped may_skip callers nodes → (order : List ℕ) (s : S) (placed : List ℕ) → IsInTable nodes s placed → GoesThrough stepped may_skip callers s placed order → ⊥
-  none_explains closed [] s placed found h =
-      let n = found.1.0 in
-      (closed found.0 n found.1.1).1 (subst (λ (p : List ℕ). OwesNothing callers p) (sym found.1.3) h)
-  none_explains closed (caller ∷ order) s placed found h =
-      let n = found.1.0 in
-      let follows = (closed found.0 n found.1.1).0 caller in
-      none_explains closed order h.3.0 (placing caller placed) (
-      subst (λ (p : List ℕ). IsInTable nodes h.3.0 (placing caller p)) found.1.3 (
-      follows h.0 h.3.0
-      (subst (λ (p : List ℕ). next_of callers p caller ≡ Some h.0) (sym found.1.3) h.1)
-      (subst (λ (p : List ℕ). MayComeNext callers p h.0) (sym found.1.3) h.2)
-      (subst (λ (t : S). IsStep stepped may_skip t caller h.0.call h.3.0) (sym found.1.2) h.3.1))) h.3.2
+  IsClosedBelow bound = (k : ℕ) → k < bound → (n : Reached S) → slice_get nodes k ≡ Some n → IsFollowed stepped may_skip is_look callers nodes n × (OwesNothing callers n.placed → ⊥)
 
   -- the table has what follows if the caller's next call is made, and if it is skipped
-  pub followed_at : (n : Node S) (caller : ℕ) (c : Timed C) → next_of callers n.placed.items caller ≡ Some c
-      → ((after : S) → stepped n.state caller c.call ≡ Some after → IsInTable nodes after (placing caller n.placed.items))
-      → (may_skip c.call ≡ true → IsInTable nodes n.state (placing caller n.placed.items)) → IsFollowedAt stepped may_skip callers nodes n caller
+  pub followed_at : (n : Reached S) (caller : ℕ) (c : Timed C) → next_of callers n.placed caller ≡ Some c
+      → ((after : S) → stepped n.state caller c.call ≡ Some after → IsInTable nodes after (placing caller n.placed))
+      → (may_skip c.call ≡ true → IsInTable nodes n.state (placing caller n.placed)) → IsFollowedAt stepped may_skip is_look callers nodes n caller
   followed_at n caller c e made skipped = λ d t e' m step.
       let is = same_Some c d (sym e ∙ e') in elim step [
         | inl f ↦ made t (ap (λ (x : Timed C). stepped n.state caller x.call) is ∙ f)
-        | inr f ↦ subst (λ (x : S). IsInTable nodes x (placing caller n.placed.items)) (sym f.1) (skipped (ap (λ (x : Timed C). may_skip x.call) is ∙ f.0))
+        | inr f ↦ subst (λ (x : S). IsInTable nodes x (placing caller n.placed)) (sym f.1) (skipped (ap (λ (x : Timed C). may_skip x.call) is ∙ f.0))
       ]
 
-  pub all_followed : (n : Node S) (bound : ℕ) → length callers ≤ bound → IsFollowedBelow bound n → IsFollowed stepped may_skip callers nodes n
+  pub all_followed : (n : Reached S) (bound : ℕ) → length callers ≤ bound → IsFollowedBelow bound n → (caller : ℕ) → IsFollowedAt stepped may_skip is_look callers nodes n caller
   all_followed n bound upto below = λ caller c after e m f.
-      let near = next_within callers n.placed.items caller c e in
+      let near = next_within callers n.placed caller c e in
       let low : caller < bound = omega arith in below caller low c after e m f
 
-  pub all_closed : (bound : ℕ) → length nodes ≤ bound → IsClosedBelow bound → IsClosed stepped may_skip callers nodes
+  pub all_closed : (bound : ℕ) → length nodes ≤ bound → IsClosedBelow bound → IsClosed stepped may_skip is_look callers nodes
   all_closed bound upto below = λ k n e.
       let near = slice_get_within nodes k n e in
       let low : k < bound = omega arith in below k low n e
 
-  pub closed_more : (k : ℕ) (n : Node S) → IsClosedBelow k → slice_get nodes k ≡ Some n → IsFollowed stepped may_skip callers nodes n × (OwesNothing callers n.placed.items → ⊥) → IsClosedBelow (k + 1)
+  pub closed_more : (k : ℕ) (n : Reached S) → IsClosedBelow k → slice_get nodes k ≡ Some n → IsFollowed stepped may_skip is_look callers nodes n × (OwesNothing callers n.placed → ⊥) → IsClosedBelow (k + 1)
   closed_more k n below e here = below_more _ _ below (λ m e'.
-      subst (λ (x : Node S). IsFollowed stepped may_skip callers nodes x × (OwesNothing callers x.placed.items → ⊥)) (same_Some n m (sym e ∙ e')) here)
+      subst (λ (x : Reached S). IsFollowed stepped may_skip is_look callers nodes x × (OwesNothing callers x.placed → ⊥)) (same_Some n m (sym e ∙ e')) here)
 
 module _ {S C : Type 0} (stepped : S → ℕ → C → Option S) (may_skip : C → Bool) (callers : Calls C) where
   pub explain_more : (s after : S) (placed later order rest : List ℕ) (caller : ℕ) (c : Timed C) → order ≡ caller ∷ rest
@@ -105,3 +90,8 @@ caller_of turn = turn.caller
 
 pub map_here : (order : List Move) (i : ℕ) (turn : Move) → i < length order → map caller_of (drop i order) ≡ (get_or order i turn).caller ∷ map caller_of (drop (i + 1) order)
 map_here order i turn h = ap (map caller_of) (move_here order i turn h)
+
+-- what is not missing is there
+pub not_none : (o : Option ℕ) (none : Bool) → is_some o ≡ not none → none ≡ false → IsSome o
+not_none (Some x) none e f = refl
+not_none None none e f = absurd (false≢true (e ∙ ap not f))

@@ -1,10 +1,8 @@
 -- What a checker of shared flows does with its queue, and with lists of own first values.
-use Rattle.std.proofs.Common.{◌≡◌, ℕ, suc, ◌<◌, true, false, cond, List, [], ◌∷◌, length, map, set, refl, sym, ap, ◌∙◌, inl, inr, ◌==◌, arith}
-use Rattle.std.specs.Borrow.{Bor}
+use Rattle.std.proofs.Common.{◌≡◌, ℕ, suc, ◌<◌, true, false, cond, List, [], ◌∷◌, length, refl, sym, ap, ◌∙◌, inl, inr, ◌==◌, arith}
 use Rattle.std.specs.Cmp.Derive.{both_true}
 use Rattle.std.proofs.lemmas.Bool.{false≢true, cond-true, cond-false, and_parts}
 use Rattle.std.proofs.lemmas.Bool.Decides.{eqb_tells}
-use Rattle.std.proofs.lemmas.List.{map-set}
 use Rattle.flow_check.specs.declared.shared_machine.Held.{Held}
 use Rattle.flow_check.specs.SharedMachine.{Kept, is_blocked, append, admit, settle, same_values, own_left}
 
@@ -48,9 +46,6 @@ values_are (v ∷ vs) (w ∷ ws) h =
     ap (λ (x : ℕ). x ∷ vs) (eqb_is v w both.0) ∙ ap (λ (xs : List ℕ). w ∷ xs) (values_are vs ws both.1)
 values_are [] (w ∷ ws) h = absurd (false≢true h)
 values_are (v ∷ vs) [] h = absurd (false≢true h)
-
-pub set_now : (owns : List (Bor (List ℕ))) (i : ℕ) (own : Bor (List ℕ)) → map (λ o. o.now) (set owns i own) ≡ set (map (λ o. o.now) owns) i own.now
-set_now owns i own = map-set (λ (o : Bor (List ℕ)). o.now) owns i own
 
 -- lists of the same length are the same if each of their lists is
 pub owns_same : (xs ys : List (List ℕ)) → length xs ≡ length ys → ((k : ℕ) → k < length xs → own_left k xs ≡ own_left k ys) → xs ≡ ys

@@ -71,7 +71,7 @@ module _ (size k : ℕ) (owners : List Owner) where
 
   -- ---- fewer values to receive
 
-  -- Subscribers change, and there is something to receive only if there was: who waits waited before.
+  -- Subscribers change, and there is something to receive only if there was: an emitter that waits waited before.
   pub still_waits : (m n : Kept) (s t : SharedFlowState ℕ) (others : List Owner) → SeatsOf size m s owners → ValuesOf m s → InOrder s → SeatsOf size n t others → ValuesOf n t → InOrder t → n.config ≡ m.config → t.queue ≡ s.queue → t.emitted ≡ s.emitted
       → (capacity m ≡ 0 → 0 < most_lag n.lags → 0 < most_lag m.lags) → (e : ℕ) → flow.is_waiting e t ≡ true → flow.is_waiting e s ≡ true
   still_waits m n s t others seats values rises after more ordered config queue emitted some e w = elim (or_cases (law.is_queued e t) (law.is_offered_as e t) w) [

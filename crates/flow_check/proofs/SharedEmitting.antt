@@ -113,7 +113,7 @@ waits_appended m caller v t e hs owners newest queue once emitter = record {
   once = once;
 }
 
--- who waits waited before
+-- an emitter that waits waited before
 pub once_fewer : (owners : List Owner) (s t : SharedFlowState ℕ) → ((e : ℕ) → flow.is_waiting e t ≡ true → flow.is_waiting e s ≡ true) → OnceWaits owners s → OnceWaits owners t
 once_fewer owners s t fewer once = λ caller e f a b x y. once caller e f a b (fewer e x) (fewer f y)
 

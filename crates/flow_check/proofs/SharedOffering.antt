@@ -86,7 +86,7 @@ module _ (size : ℕ) (m : Kept) (s : SharedFlowState ℕ) (owners : List Owner)
       both_true (eq-eqb (law.capacity s) 0 here)
       (any_at (λ u. law.lag s u == 1) s.subscribers seat.number seat.position seat.stands (λ u at. let is : law.lag s u ≡ 1 = omega arith in eq-eqb (law.lag s u) 1 is))
 
-  -- ---- who waits
+  -- ---- emitters that wait
 
   module _ (waits : WaitsAs m s owners) where
     offered_by : (caller : ℕ) → 0 < most_lag m.lags → m.offered ≡ Some caller → is_offered_by caller (offering m) ≡ true

@@ -1,11 +1,15 @@
 pub mod Records
 pub mod Orders
 pub mod Remaining
+pub mod Looks
 pub mod Tables
+pub mod Words
 pub mod Verdicts
 pub mod Moments
 pub mod Subscribed
 pub mod StateRecords
 pub mod StateMachine
+pub mod StateLooks
 pub mod SharedRecords
 pub mod SharedMachine
+pub mod SharedLooks

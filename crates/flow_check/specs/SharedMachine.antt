@@ -1,6 +1,6 @@
 -- A shared flow as a checker keeps it: lags in place of positions, callers in place of numbers. Begin with `stepped`.
 -- No public clause cites this module.
-use Rattle.std.specs.Prelude.{ℕ, ◌+◌, ◌-◌, max, min, Bool, true, false, not, ◌&&◌, ◌||◌, ◌==◌, nat_lt, nat_le, if◌then◌else◌, List, [], ◌∷◌, ◌++◌, length, drop, map, filter, slice_get, slice_set, Option, Some, None, is_some}
+use Rattle.std.specs.Prelude.{ℕ, ◌+◌, ◌-◌, ◌*◌, max, min, Bool, true, false, not, ◌&&◌, ◌||◌, ◌==◌, nat_lt, nat_le, if◌then◌else◌, List, [], ◌∷◌, ◌++◌, length, take, drop, map, filter, slice_get, slice_index, slice_set, Option, Some, None, is_some}
 use Rattle.std.specs.List.{list_any}
 use Rattle.flow_law.specs.declared.config.Config.{Config}
 use Rattle.flow_law.specs.declared.config.Overflow.{Overflow}
@@ -14,6 +14,7 @@ use Rattle.flow_check.specs.declared.shared_machine.EmitCase.{EmitCase}
 use Rattle.flow_check.specs.declared.shared_machine.EmitCase.TheVariants as emits
 use Rattle.flow_check.specs.declared.shared_machine.Held.{Held}
 use Rattle.flow_check.specs.Subscribed.{kept_of, present}
+use Rattle.flow_check.specs.Words.{number_of, maybe_of, parts_of}
 
 -- The last emitted values, and how many of them the replay cache has. Of each caller, how many emitted values it has still to
 -- receive, None if it is not subscribed, and what is left of its own first values. The values whose emitters wait, and the caller
@@ -295,3 +296,38 @@ may_skip_operation _ = false
 -- the call may have done nothing
 abbrev pub may_skip : SharedEntry → Bool
 may_skip entry = may_skip_operation entry.operation
+
+-- ---- words
+
+-- the lag that words say
+abbrev pub lag_in : List ℕ → Option ℕ
+lag_in words = maybe_of (slice_index words 0)
+
+-- the value that waits, and its emitter
+abbrev pub held_in : List ℕ → Held
+held_in words = record { caller = slice_index words 0; value = number_of (drop 1 words) }
+
+-- own first values, behind how many there are
+abbrev pub own_values_in : List ℕ → List ℕ
+own_values_in words = parts_of number_of (drop 2) (slice_index words 0) (drop 1 words)
+
+-- the words behind them
+abbrev pub own_others : List ℕ → List ℕ
+own_others words = drop (1 + 2 * slice_index words 0) words
+
+-- The state that words say: how many values the cache has, the caller whose value is offered, how many values there are and how
+-- many wait, and then the lags, the values, those that wait and the own first values.
+abbrev pub read : Kept → List ℕ → Kept
+read s words =
+    let callers = length s.lags in
+    let values = drop (4 + callers) words in
+    let queue = drop (2 * slice_index words 2) values in
+    record {
+      config = s.config;
+      values = parts_of number_of (drop 2) (slice_index words 2) values;
+      cached = slice_index words 0;
+      lags = parts_of lag_in (drop 1) callers (drop 4 words);
+      owns = parts_of own_values_in own_others callers (drop (3 * slice_index words 3) queue);
+      queue = parts_of held_in (drop 3) (slice_index words 3) queue;
+      offered = maybe_of (slice_index words 1);
+    }

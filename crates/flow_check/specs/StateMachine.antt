@@ -1,11 +1,12 @@
 -- A state flow as a checker keeps it. Begin with `stepped`. No public clause cites this module.
-use Rattle.std.specs.Prelude.{ℕ, Bool, true, false, not, ◌==◌, if◌then◌else◌, List, slice_set, Option, Some, None}
+use Rattle.std.specs.Prelude.{ℕ, Bool, true, false, not, ◌==◌, if◌then◌else◌, List, length, drop, slice_index, slice_set, Option, Some, None}
 use Rattle.flow_check.specs.declared.state_calls.StateOperation.{StateOperation}
 use Rattle.flow_check.specs.declared.state_calls.StateOperation.TheVariants as operation
 use Rattle.flow_check.specs.declared.state_calls.StateAnswer.{StateAnswer}
 use Rattle.flow_check.specs.declared.state_calls.StateAnswer.TheVariants as answer
 use Rattle.flow_check.specs.declared.state_calls.StateEntry.{StateEntry}
 use Rattle.flow_check.specs.Subscribed.{kept_of, present}
+use Rattle.flow_check.specs.Words.{number_of, parts_of}
 
 -- The value, and what each caller has received: None if it is not subscribed, and else the last value that it received.
 pub record Kept : Type 0 where
@@ -89,3 +90,15 @@ stepped s caller entry =
 -- no call of a state flow is skipped
 abbrev pub may_skip : StateEntry → Bool
 may_skip entry = false
+
+-- ---- words
+
+-- what words say that a caller has received
+abbrev pub reader_in : List ℕ → Option (Option ℕ)
+reader_in words =
+    if slice_index words 0 == 0 then None
+    else (if slice_index words 0 == 1 then Some None else Some (Some (number_of (drop 1 words))))
+
+-- the state that words say: the value, and what each caller has received
+abbrev pub read : Kept → List ℕ → Kept
+read s words = record { value = number_of words; readers = parts_of reader_in (drop 3) (length s.readers) (drop 2 words) }

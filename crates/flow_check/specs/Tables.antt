@@ -1,25 +1,56 @@
 -- When a table of nodes shows that no order of steps goes through a record. Begin with `IsClosed`.
 -- No public clause cites this module.
-use Rattle.std.specs.Prelude.{◌≡◌, ℕ, Bool, List, slice_get, Option, Some}
+use Rattle.std.specs.Prelude.{◌≡◌, ◌⊎◌, ℕ, Bool, true, List, take, drop, map, slice_get, Option, Some, IsSome}
 use Rattle.flow_check.specs.declared.timed.Timed.{Timed}
 use Rattle.flow_check.specs.declared.node.Node.{Node}
 use Rattle.flow_check.specs.Records.{Calls}
 use Rattle.flow_check.specs.Remaining.{placing, next_of, MayComeNext, OwesNothing, IsStep}
 
+-- a state, and how many calls of each caller have happened in it
+pub record Reached (S : Type 0) : Type 0 where
+  pub state : S
+  pub placed : List ℕ
+
+-- what a node says
+abbrev pub reached : {S : Type 0} → Node S → Reached S
+reached n = record { state = n.state; placed = n.placed.items }
+
+-- The nodes of a table as words, and a state of the flow by which others are read. The words of a node begin with the
+-- counts of calls, and other words may stand behind them.
+pub record Packed (S : Type 0) : Type 0 where
+  pub first : S
+  pub callers : ℕ
+  pub rows : List (List ℕ)
+
+-- `read first words` is the state that words say
+module _ {S : Type 0} (read : S → List ℕ → S) where
+  -- the node that words say
+  abbrev pub node_of : S → ℕ → List ℕ → Reached S
+  node_of first callers words = record { state = read first (drop callers words); placed = take callers words }
+
+  -- the nodes of a table
+  abbrev pub nodes_of : Packed S → List (Reached S)
+  nodes_of table = map (node_of table.first table.callers) table.rows
+
 -- some node has this state, with so many calls that have happened
-abbrev pub IsInTable : {S : Type 0} → List (Node S) → S → List ℕ → Type 0
-IsInTable {S} nodes s placed = (k : ℕ) × ((n : Node S) × (slice_get nodes k ≡ Some n) × (n.state ≡ s) × (n.placed.items ≡ placed))
+abbrev pub IsInTable : {S : Type 0} → List (Reached S) → S → List ℕ → Type 0
+IsInTable {S} nodes s placed = (k : ℕ) × ((n : Reached S) × (slice_get nodes k ≡ Some n) × (n.state ≡ s) × (n.placed ≡ placed))
 
-module _ {S C : Type 0} (stepped : S → ℕ → C → Option S) (may_skip : C → Bool) (callers : Calls C) (nodes : List (Node S)) where
+module _ {S C : Type 0} (stepped : S → ℕ → C → Option S) (may_skip is_look : C → Bool) (callers : Calls C) (nodes : List (Reached S)) where
   -- if this caller's next call may happen, the table has what follows
-  abbrev pub IsFollowedAt : Node S → ℕ → Type 0
-  IsFollowedAt n caller = (c : Timed C) (after : S) → next_of callers n.placed.items caller ≡ Some c → MayComeNext callers n.placed.items c
-      → IsStep stepped may_skip n.state caller c.call after → IsInTable nodes after (placing caller n.placed.items)
+  abbrev pub IsFollowedAt : Reached S → ℕ → Type 0
+  IsFollowedAt n caller = (c : Timed C) (after : S) → next_of callers n.placed caller ≡ Some c → MayComeNext callers n.placed c
+      → IsStep stepped may_skip n.state caller c.call after → IsInTable nodes after (placing caller n.placed)
 
-  -- each step that may come next leads to a node of the table
-  abbrev pub IsFollowed : Node S → Type 0
-  IsFollowed n = (caller : ℕ) → IsFollowedAt n caller
+  -- this caller's next call is a look that ended, and the table has what follows
+  abbrev pub IsLookFollowed : Reached S → ℕ → Type 0
+  IsLookFollowed n caller = (c : Timed C) × (next_of callers n.placed caller ≡ Some c) × IsSome c.end × (is_look c.call ≡ true)
+      × IsInTable nodes n.state (placing caller n.placed)
+
+  -- each step that may come next leads to a node of the table, or some look does
+  abbrev pub IsFollowed : Reached S → Type 0
+  IsFollowed n = ((caller : ℕ) × IsLookFollowed n caller) ⊎ ((caller : ℕ) → IsFollowedAt n caller)
 
   -- the table has what follows each of its nodes, and none of them is an end
   abbrev pub IsClosed : Type 0
-  IsClosed = (k : ℕ) (n : Node S) → slice_get nodes k ≡ Some n → IsFollowed n × (OwesNothing callers n.placed.items → ⊥)
+  IsClosed = (k : ℕ) (n : Reached S) → slice_get nodes k ≡ Some n → IsFollowed n × (OwesNothing callers n.placed → ⊥)

@@ -1,5 +1,7 @@
 //! Checks records of any flow.
 ghost use Rattle.std.specs.Prelude.{◌≡◌, ℕ, List, IfOk};
+ghost use Rattle.flow_check.specs.Records.{IsWellTimed};
+ghost use Rattle.flow_check.specs.Looks.{MayTakeLooks};
 ghost use Rattle.flow_check.specs.Remaining.{GoesThroughAll};
 ghost use Rattle.flow_check.specs.Verdicts.{Judges};
 
@@ -20,6 +22,8 @@ pub fn check<C: Copy, M: Machine<C>>(
     callers: &[Vec<Timed<C>>],
     budget: u64,
 ) -> Result<Verdict, AllocError>
+    requires well { IsWellTimed callers.now }
+    requires looks { MayTakeLooks M.stepped M.IsSound M.is_look first.now }
     ensures { IfOk result (λ verdict.
         Judges (GoesThroughAll M.stepped M.may_skip callers.now first.now) verdict) }
 {
@@ -35,8 +39,8 @@ pub fn check<C: Copy, M: Machine<C>>(
             }
             Ok(Verdict::GaveUp)
         }
-        Found::Table(nodes, places) => {
-            let yes = refutes(alloc, first, callers, nodes.as_slice(), &places)?;
+        Found::Table(table) => {
+            let yes = refutes(alloc, first, callers, &table)?;
             if yes {
                 return Ok(Verdict::Illegal);
             }

@@ -30,12 +30,16 @@ mod shared_checking;
 mod shared_machine;
 mod shared_moves;
 mod shared_same;
+mod shared_steps;
+mod shared_words;
 mod state_calls;
 mod state_checking;
 mod state_machine;
 mod subscribed;
+mod table;
 mod timed;
 mod verdict;
+mod words;
 mod wrong_moment;
 
 pub use moments::{Cut, known_record};

@@ -1,5 +1,5 @@
 //! What the checker knows of a flow.
-ghost use Rattle.std.specs.Prelude.{◌≡◌, ℕ, Bool, Option, IfOk, IsTrue};
+ghost use Rattle.std.specs.Prelude.{◌≡◌, ℕ, Bool, List, Option, IfOk, IsTrue};
 
 use std::alloc::{AllocError, Global};
 
@@ -11,6 +11,15 @@ pub trait Machine<C>: Drop {
     /// Whether a call may have done nothing, whatever was recorded of it.
     ghost may_skip: { C → Bool };
 
+    /// Whether a call changes nothing if it is answered as recorded.
+    ghost is_look: { C → Bool };
+
+    /// What holds of each state that the flow comes to.
+    ghost IsSound: { Self → Type 0 };
+
+    /// The state that words say, of a flow that may be in this state.
+    ghost read: { Self → List ℕ → Self };
+
     /// Makes the step, or returns None if the flow may not answer so.
     fn step(&self, alloc: Global, caller: usize, call: &C) -> Result<Option<Self>, AllocError>
         ensures { IfOk result (λ after. after ≡ stepped self.now caller call.now) };
@@ -19,6 +28,13 @@ pub trait Machine<C>: Drop {
     fn may_skip(&self, call: &C) -> bool
         ensures { result ≡ may_skip call.now };
 
+    /// Returns whether a call changes nothing if it is answered as recorded.
+    fn is_look(&self, call: &C) -> bool
+        ensures { result ≡ is_look call.now };
+
+    /// Returns whether the flow may answer so. Nothing is promised of it.
+    fn may_answer(&self, caller: usize, call: &C) -> bool;
+
     /// Copies the state.
     fn try_copy(&self, alloc: Global) -> Result<Self, AllocError>
         ensures { IfOk result (λ copy. copy ≡ self.now) };
@@ -26,6 +42,13 @@ pub trait Machine<C>: Drop {
     /// Returns true only if both are the same state.
     fn same(&self, other: &Self) -> bool
         ensures { IsTrue result → self.now ≡ other.now };
+
+    /// Writes the state as words. Nothing is promised of them.
+    fn write(&self, words: &mut Vec<u32>) -> Result<(), AllocError>;
+
+    /// Reads a state of this flow. Other words may stand behind it.
+    fn read(&self, alloc: Global, words: &[u32]) -> Result<Self, AllocError>
+        ensures { IfOk result (λ state. state ≡ read self.now words.now) };
 
     /// Mixes the state into a number by which a search finds it again.
     fn mixed_into(&self, mark: u64) -> u64;

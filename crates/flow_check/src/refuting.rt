@@ -1,88 +1,97 @@
 //! Checks whether a table shows that no order goes through a record.
 ghost use Rattle.std.specs.Prelude.{◌≡◌, ℕ, List, true, Some, IsTrue, IfOk};
+ghost use Rattle.flow_check.specs.Records.{IsWellTimed};
+ghost use Rattle.flow_check.specs.Looks.{MayTakeLooks};
 ghost use Rattle.flow_check.specs.Remaining.{GoesThroughAll, none_placed, placing, OwesNothing};
-ghost use Rattle.flow_check.specs.Tables.{IsInTable, IsFollowedAt, IsFollowed, IsClosed};
+ghost use Rattle.flow_check.specs.Tables.{nodes_of, reached, IsInTable};
+ghost use Rattle.flow_check.specs.Tables.{IsFollowedAt, IsLookFollowed, IsFollowed, IsClosed};
 
 use crate::machine::Machine;
-use crate::node::{Node, Places};
+use crate::node::Node;
 use crate::remaining::{may_come_next, next_call, none_placed, owes_nothing, place};
+use crate::table::Table;
 use crate::timed::Timed;
 use std::alloc::{AllocError, Global};
 
 /// Returns whether the node at this place has this state, in which so many calls have happened.
-fn is_node<C, M: Machine<C>>(nodes: &[Node<M>], place: usize, state: &M, placed: &Vec<u32>) -> bool
-    ensures { IsTrue result → IsInTable nodes.now state.now placed.now.items }
+fn is_node<C, M: Machine<C>>(
+    alloc: Global,
+    table: &Table<M>,
+    place: usize,
+    state: &M,
+    placed: &Vec<u32>,
+) -> Result<bool, AllocError>
+    ensures { IfOk result (λ yes. IsTrue yes →
+        IsInTable (nodes_of M.read table.now) state.now placed.now.items) }
 {
-    if place >= nodes.len() {
-        return false;
-    }
-    let node = &nodes[place];
+    let found = table.at(alloc, place)?;
+    let Some(node) = found else {
+        return Ok(false);
+    };
     if !node.state.same(state) {
-        return false;
+        return Ok(false);
     }
-    node.placed.as_slice() == placed.as_slice()
+    let yes = node.placed.as_slice() == placed.as_slice();
+    Ok(yes)
 }
 
 /// Returns whether the table has this state after one more call of the caller.
 fn is_placed<C, M: Machine<C>>(
     alloc: Global,
-    nodes: &[Node<M>],
-    places: &Places,
+    table: &Table<M>,
     node: &Node<M>,
     caller: usize,
     after: &M,
 ) -> Result<bool, AllocError>
     ensures { IfOk result (λ yes. IsTrue yes →
-        IsInTable nodes.now after.now (placing caller node.now.placed.items)) }
+        IsInTable (nodes_of M.read table.now) after.now (placing caller node.now.placed.items)) }
 {
     let mut placed = Vec::from_slice(alloc, node.placed.as_slice())?;
     if !place(&mut placed, caller) {
         return Ok(false);
     }
-    let Some(at) = places.find(after, &placed) else {
+    let Some(at) = table.find(after, &placed) else {
         return Ok(false);
     };
-    let yes = is_node(nodes, at, after, &placed);
+    let yes = is_node(alloc, table, at, after, &placed)?;
     Ok(yes)
 }
 
 /// Returns whether the table has what follows if this call is made, if it may be.
 fn is_made_followed<C, M: Machine<C>>(
     alloc: Global,
-    nodes: &[Node<M>],
-    places: &Places,
+    table: &Table<M>,
     node: &Node<M>,
     caller: usize,
     call: &C,
 ) -> Result<bool, AllocError>
     ensures { IfOk result (λ yes. IsTrue yes →
         (after : M) → M.stepped node.now.state caller call.now ≡ Some after →
-        IsInTable nodes.now after (placing caller node.now.placed.items)) }
+        IsInTable (nodes_of M.read table.now) after (placing caller node.now.placed.items)) }
 {
     let stepped = node.state.step(alloc, caller, call)?;
     let Some(after) = stepped else {
         return Ok(true);
     };
-    let yes = is_placed(alloc, nodes, places, node, caller, &after)?;
+    let yes = is_placed(alloc, table, node, caller, &after)?;
     Ok(yes)
 }
 
 /// Returns whether the table has what follows if this call is skipped, if it may be.
 fn is_skip_followed<C, M: Machine<C>>(
     alloc: Global,
-    nodes: &[Node<M>],
-    places: &Places,
+    table: &Table<M>,
     node: &Node<M>,
     caller: usize,
     call: &C,
 ) -> Result<bool, AllocError>
     ensures { IfOk result (λ yes. IsTrue yes → M.may_skip call.now ≡ true →
-        IsInTable nodes.now node.now.state (placing caller node.now.placed.items)) }
+        IsInTable (nodes_of M.read table.now) node.now.state (placing caller node.now.placed.items)) }
 {
     if !node.state.may_skip(call) {
         return Ok(true);
     }
-    let yes = is_placed(alloc, nodes, places, node, caller, &node.state)?;
+    let yes = is_placed(alloc, table, node, caller, &node.state)?;
     Ok(yes)
 }
 
@@ -90,13 +99,13 @@ fn is_skip_followed<C, M: Machine<C>>(
 fn is_followed_at<C: Copy, M: Machine<C>>(
     alloc: Global,
     callers: &[Vec<Timed<C>>],
-    nodes: &[Node<M>],
-    places: &Places,
+    table: &Table<M>,
     node: &Node<M>,
     caller: usize,
 ) -> Result<bool, AllocError>
     ensures { IfOk result (λ yes. IsTrue yes →
-        IsFollowedAt M.stepped M.may_skip callers.now nodes.now node.now caller) }
+        IsFollowedAt M.stepped M.may_skip M.is_look callers.now (nodes_of M.read table.now)
+        (reached node.now) caller) }
 {
     let Some(call) = next_call(callers, &node.placed, caller) else {
         return Ok(true);
@@ -104,46 +113,118 @@ fn is_followed_at<C: Copy, M: Machine<C>>(
     if !may_come_next(callers, &node.placed, call.begin) {
         return Ok(true);
     }
-    let made = is_made_followed(alloc, nodes, places, node, caller, &call.call)?;
+    let made = is_made_followed(alloc, table, node, caller, &call.call)?;
     if !made {
         return Ok(false);
     }
-    let skipped = is_skip_followed(alloc, nodes, places, node, caller, &call.call)?;
+    let skipped = is_skip_followed(alloc, table, node, caller, &call.call)?;
     Ok(skipped)
 }
 
-/// Returns whether the table has what follows a node, and the node is no end.
-fn is_followed<C: Copy, M: Machine<C>>(
+/// Returns whether the table has what follows if any caller's next call happens.
+fn is_each_followed<C: Copy, M: Machine<C>>(
     alloc: Global,
     callers: &[Vec<Timed<C>>],
-    nodes: &[Node<M>],
-    places: &Places,
+    table: &Table<M>,
     node: &Node<M>,
 ) -> Result<bool, AllocError>
-    ensures { IfOk result (λ yes. IsTrue yes →
-        IsFollowed M.stepped M.may_skip callers.now nodes.now node.now
-        × (OwesNothing callers.now node.now.placed.items → ⊥)) }
+    ensures { IfOk result (λ yes. IsTrue yes → (caller : ℕ) →
+        IsFollowedAt M.stepped M.may_skip M.is_look callers.now (nodes_of M.read table.now)
+        (reached node.now) caller) }
 {
     for caller in 0..callers.len() {
-        let yes = is_followed_at(alloc, callers, nodes, places, node, caller)?;
+        let yes = is_followed_at(alloc, callers, table, node, caller)?;
         if !yes {
             return Ok(false);
         }
     }
-    Ok(!owes_nothing(callers, &node.placed))
+    Ok(true)
+}
+
+/// Returns whether this caller's next call is a look that ended, and the table has what follows.
+fn is_look_followed<C: Copy, M: Machine<C>>(
+    alloc: Global,
+    callers: &[Vec<Timed<C>>],
+    table: &Table<M>,
+    node: &Node<M>,
+    caller: usize,
+) -> Result<bool, AllocError>
+    ensures { IfOk result (λ yes. IsTrue yes →
+        IsLookFollowed M.stepped M.may_skip M.is_look callers.now (nodes_of M.read table.now)
+        (reached node.now) caller) }
+{
+    let Some(call) = next_call(callers, &node.placed, caller) else {
+        return Ok(false);
+    };
+    if call.end.is_none() {
+        return Ok(false);
+    }
+    if !node.state.is_look(&call.call) {
+        return Ok(false);
+    }
+    let yes = is_placed(alloc, table, node, caller, &node.state)?;
+    Ok(yes)
+}
+
+/// Returns whether the table has what follows some look that ended.
+fn is_some_look_followed<C: Copy, M: Machine<C>>(
+    alloc: Global,
+    callers: &[Vec<Timed<C>>],
+    table: &Table<M>,
+    node: &Node<M>,
+) -> Result<bool, AllocError>
+    ensures { IfOk result (λ yes. IsTrue yes → (caller : ℕ) ×
+        IsLookFollowed M.stepped M.may_skip M.is_look callers.now (nodes_of M.read table.now)
+        (reached node.now) caller) }
+{
+    for caller in 0..callers.len() {
+        let yes = is_look_followed(alloc, callers, table, node, caller)?;
+        if yes {
+            return Ok(true);
+        }
+    }
+    Ok(false)
+}
+
+/// Returns whether the table has what follows a node, and the node is no end. A look changes nothing, so if an order goes through
+/// the rest, one that begins with it does.
+fn is_followed<C: Copy, M: Machine<C>>(
+    alloc: Global,
+    callers: &[Vec<Timed<C>>],
+    table: &Table<M>,
+    node: &Node<M>,
+) -> Result<bool, AllocError>
+    ensures { IfOk result (λ yes. IsTrue yes →
+        IsFollowed M.stepped M.may_skip M.is_look callers.now (nodes_of M.read table.now)
+        (reached node.now)
+        × (OwesNothing callers.now node.now.placed.items → ⊥)) }
+{
+    if owes_nothing(callers, &node.placed) {
+        return Ok(false);
+    }
+    let looks = is_some_look_followed(alloc, callers, table, node)?;
+    if looks {
+        return Ok(true);
+    }
+    let each = is_each_followed(alloc, callers, table, node)?;
+    Ok(each)
 }
 
 /// Returns whether the table is closed.
 fn is_closed<C: Copy, M: Machine<C>>(
     alloc: Global,
     callers: &[Vec<Timed<C>>],
-    nodes: &[Node<M>],
-    places: &Places,
+    table: &Table<M>,
 ) -> Result<bool, AllocError>
-    ensures { IfOk result (λ yes. IsTrue yes → IsClosed M.stepped M.may_skip callers.now nodes.now) }
+    ensures { IfOk result (λ yes. IsTrue yes →
+        IsClosed M.stepped M.may_skip M.is_look callers.now (nodes_of M.read table.now)) }
 {
-    for node in nodes {
-        let yes = is_followed(alloc, callers, nodes, places, node)?;
+    for place in 0..table.len() {
+        let found = table.at(alloc, place)?;
+        let Some(node) = found else {
+            return Ok(false);
+        };
+        let yes = is_followed(alloc, callers, table, &node)?;
         if !yes {
             return Ok(false);
         }
@@ -156,31 +237,32 @@ fn begins<C, M: Machine<C>>(
     alloc: Global,
     first: &M,
     callers: &[Vec<Timed<C>>],
-    nodes: &[Node<M>],
+    table: &Table<M>,
 ) -> Result<bool, AllocError>
     ensures { IfOk result (λ yes. IsTrue yes →
-        IsInTable nodes.now first.now (none_placed callers.now)) }
+        IsInTable (nodes_of M.read table.now) first.now (none_placed callers.now)) }
 {
     let placed = none_placed(alloc, callers)?;
-    let yes = is_node(nodes, 0, first, &placed);
+    let yes = is_node(alloc, table, 0, first, &placed)?;
     Ok(yes)
 }
 
-/// Returns whether the table shows that no order goes through the calls. Neither the table nor the places are trusted.
+/// Returns whether the table shows that no order goes through the calls. The table is not trusted.
 pub fn refutes<C: Copy, M: Machine<C>>(
     alloc: Global,
     first: &M,
     callers: &[Vec<Timed<C>>],
-    nodes: &[Node<M>],
-    places: &Places,
+    table: &Table<M>,
 ) -> Result<bool, AllocError>
+    requires well { IsWellTimed callers.now }
+    requires looks { MayTakeLooks M.stepped M.IsSound M.is_look first.now }
     ensures { IfOk result (λ yes. IsTrue yes →
         (order : List ℕ) → GoesThroughAll M.stepped M.may_skip callers.now first.now order → ⊥) }
 {
-    let yes = begins(alloc, first, callers, nodes)?;
+    let yes = begins(alloc, first, callers, table)?;
     if !yes {
         return Ok(false);
     }
-    let closed = is_closed(alloc, callers, nodes, places)?;
+    let closed = is_closed(alloc, callers, table)?;
     Ok(closed)
 }

@@ -2,8 +2,9 @@
 ghost use Rattle.std.specs.Prelude.{◌≡◌};
 
 use crate::machine::Machine;
-use crate::node::{Move, Node, Places};
+use crate::node::{Move, Node};
 use crate::remaining::{next_call, none_placed, owes_nothing, place};
+use crate::table::Table;
 use crate::timed::Timed;
 use std::alloc::{AllocError, Global};
 
@@ -12,7 +13,7 @@ use std::alloc::{AllocError, Global};
 pub enum Found<M> {
     Order(Vec<Move>),
     /// It found no order, and went through all of these nodes.
-    Table(Vec<Node<M>>, Places),
+    Table(Table<M>),
     GaveUp,
 }
 
@@ -50,13 +51,8 @@ impl Candidate {
 struct Frame {
     node: usize,
     tried: Option<Candidate>,
-}
-
-enum Turn {
-    Back,
-    /// From this node.
-    Try(usize, Move),
-    End,
+    /// The turn is a look, and no other one is tried.
+    looks: bool,
 }
 
 /// Returns the end of a call; a pending call ends last.
@@ -125,38 +121,68 @@ fn turn_after<C: Copy, M: Machine<C>>(
     first
 }
 
-/// Takes the next turn of the last node of the path.
-fn take_turn<C: Copy, M: Machine<C>>(
+/// Returns the turn of a caller whose next call is a look that ended and may come next, if the flow may answer so.
+fn look_of<C: Copy, M: Machine<C>>(
     callers: &[Vec<Timed<C>>],
-    nodes: &[Node<M>],
-    path: &mut Vec<Frame>,
-) -> Turn {
-    let Some(frame) = path.last_mut() else {
-        return Turn::End;
+    node: &Node<M>,
+    caller: usize,
+    deadline: u64,
+) -> Option<Candidate> {
+    let call = next_call(callers, &node.placed, caller)?;
+    let end = call.end?;
+    let may_come = call.begin <= deadline && node.state.is_look(&call.call);
+    let turn = Move {
+        caller,
+        skips: false,
     };
-    let Some(node) = nodes.get(frame.node) else {
-        return Turn::Back;
-    };
-    match turn_after(callers, node, frame.tried) {
-        None => Turn::Back,
-        Some(candidate) => {
-            frame.tried = Some(candidate);
-            Turn::Try(frame.node, candidate.turn)
+    (may_come && node.state.may_answer(caller, &call.call)).then_some(Candidate { turn, end })
+}
+
+/// Returns the first look at a node that may come next. If an order goes on from the node, one that begins with the look does, so no
+/// other turn has to be tried.
+fn first_look<C: Copy, M: Machine<C>>(
+    callers: &[Vec<Timed<C>>],
+    node: &Node<M>,
+) -> Option<Candidate> {
+    let deadline = deadline_of(callers, &node.placed);
+    for caller in 0..callers.len() {
+        let look = look_of(callers, node, caller, deadline);
+        if look.is_some() {
+            return look;
         }
     }
+    None
+}
+
+/// Takes the next turn of a node, the last one of the path.
+fn take_turn<C: Copy, M: Machine<C>>(
+    callers: &[Vec<Timed<C>>],
+    node: &Node<M>,
+    path: &mut Vec<Frame>,
+) -> Option<Move> {
+    let frame = path.last_mut()?;
+    if frame.looks {
+        return None;
+    }
+    if frame.tried.is_none() {
+        if let Some(look) = first_look(callers, node) {
+            frame.tried = Some(look);
+            frame.looks = true;
+            return Some(look.turn);
+        }
+    }
+    let candidate = turn_after(callers, node, frame.tried)?;
+    frame.tried = Some(candidate);
+    Some(candidate.turn)
 }
 
 /// Returns what follows a node at this turn, if the call may be answered so.
 fn advance<C: Copy, M: Machine<C>>(
     alloc: Global,
     callers: &[Vec<Timed<C>>],
-    nodes: &[Node<M>],
-    at: usize,
+    node: &Node<M>,
     turn: Move,
 ) -> Result<Option<Node<M>>, AllocError> {
-    let Some(node) = nodes.get(at) else {
-        return Ok(None);
-    };
     let Some(call) = next_call(callers, &node.placed, turn.caller) else {
         return Ok(None);
     };
@@ -188,19 +214,30 @@ fn turns_of(alloc: Global, path: &[Frame]) -> Result<Vec<Move>, AllocError> {
 
 /// Adds a node to the table and to the path.
 fn go_to<C, M: Machine<C>>(
-    nodes: &mut Vec<Node<M>>,
-    places: &mut Places,
+    table: &mut Table<M>,
     path: &mut Vec<Frame>,
-    node: Node<M>,
+    node: &Node<M>,
 ) -> Result<(), AllocError> {
-    let place = nodes.len();
-    places.add(&node, place)?;
-    nodes.push(node)?;
+    let place = table.add(node)?;
     path.push(Frame {
         node: place,
         tried: None,
+        looks: false,
     })?;
     Ok(())
+}
+
+/// Goes back to the node before the last one of the path, if there is one.
+fn go_back<C, M: Machine<C>>(
+    alloc: Global,
+    table: &Table<M>,
+    path: &mut Vec<Frame>,
+) -> Result<Option<Node<M>>, AllocError> {
+    let _ = path.pop();
+    match path.last() {
+        None => Ok(None),
+        Some(frame) => table.at(alloc, frame.node),
+    }
 }
 
 /// Goes through states and counts of calls that have happened, each once, until an order is found
@@ -216,29 +253,29 @@ pub fn search<C: Copy, M: Machine<C>>(
         return Ok(Found::Order(Vec::new(alloc)));
     }
     let state = first.try_copy(alloc)?;
-    let mut nodes = Vec::new(alloc);
-    let mut places = Places::new(alloc);
+    let mut node = Node { state, placed };
+    let mut table = Table::new(alloc, first.try_copy(alloc)?, callers.len());
     let mut path = Vec::new(alloc);
-    go_to(&mut nodes, &mut places, &mut path, Node { state, placed })?;
+    go_to(&mut table, &mut path, &node)?;
     for _ in 0..budget {
-        match take_turn(callers, nodes.as_slice(), &mut path) {
-            Turn::End => return Ok(Found::Table(nodes, places)),
-            Turn::Back => {
-                let _ = path.pop();
+        let Some(turn) = take_turn(callers, &node, &mut path) else {
+            match go_back(alloc, &table, &mut path)? {
+                None => return Ok(Found::Table(table)),
+                Some(last) => node = last,
             }
-            Turn::Try(at, turn) => {
-                let Some(next) = advance(alloc, callers, nodes.as_slice(), at, turn)? else {
-                    continue;
-                };
-                if places.find(&next.state, &next.placed).is_some() {
-                    continue;
-                }
-                if owes_nothing(callers, &next.placed) {
-                    return Ok(Found::Order(turns_of(alloc, path.as_slice())?));
-                }
-                go_to(&mut nodes, &mut places, &mut path, next)?;
-            }
+            continue;
+        };
+        let Some(next) = advance(alloc, callers, &node, turn)? else {
+            continue;
+        };
+        if table.find(&next.state, &next.placed).is_some() {
+            continue;
         }
+        if owes_nothing(callers, &next.placed) {
+            return Ok(Found::Order(turns_of(alloc, path.as_slice())?));
+        }
+        go_to(&mut table, &mut path, &next)?;
+        node = next;
     }
     Ok(Found::GaveUp)
 }

@@ -6,16 +6,10 @@ ghost use Rattle.flow_check.specs.SharedMachine.{emitted_answer, next_value, nex
 ghost use Rattle.flow_check.specs.SharedMachine.{own_left};
 ghost use Rattle.flow_check.specs.Subscribed.{kept_of};
 
-use crate::machine::Machine;
-use crate::marks::{mix, mix_all};
-use crate::shared_calls::{SharedAnswer, SharedEntry, SharedOperation};
-use crate::shared_machine::{EmitCase, Held, SharedMachine, last_values};
-use crate::shared_same::{
-    are_same_lags, are_same_owns, are_same_values, is_same_config, is_same_lag, is_same_queue,
-    same_values,
-};
+use crate::shared_calls::{SharedAnswer, SharedOperation};
+use crate::shared_machine::{EmitCase, SharedMachine, last_values};
+use crate::shared_same::same_values;
 use crate::subscribed::present;
-use std::alloc::{AllocError, Global};
 
 /// Returns whether `Done` is the answer that was recorded, or any may be.
 fn is_done(recorded: Option<SharedAnswer<'_>>) -> bool
@@ -84,7 +78,7 @@ fn try_emit_answer(case: EmitCase) -> bool
     }
 }
 
-impl<'a> SharedMachine<'a> {
+impl SharedMachine {
     /// Returns the value that a caller receives next: one of its own first ones, or an emitted one.
     fn next_value(&self, caller: usize, lag: usize) -> Option<u64>
         ensures { result ≡ next_value (own_left caller self.now.owns) lag self.now.values }
@@ -108,11 +102,11 @@ impl<'a> SharedMachine<'a> {
 
     /// Returns whether the flow may answer so, and the caller may make the call: it has to have a
     /// subscription for some, none for `subscribe`, and makes one `emit` at a time.
-    fn may_answer(
+    pub fn is_answer(
         &self,
         caller: usize,
-        operation: SharedOperation<'a>,
-        recorded: Option<SharedAnswer<'a>>,
+        operation: SharedOperation<'_>,
+        recorded: Option<SharedAnswer<'_>>,
     ) -> bool
         ensures { result ≡ agrees (own_answer caller operation.entry self.now) recorded.entry }
     {
@@ -132,83 +126,5 @@ impl<'a> SharedMachine<'a> {
                 is_number(present(self.lags.as_slice()) as u64, recorded)
             }
         }
-    }
-}
-
-/// Mixes what each caller has still to receive into a number.
-fn mix_lags(mark: u64, lags: &[Option<usize>]) -> u64 {
-    let mut mixed = mark;
-    for lag in lags {
-        mixed = match lag {
-            None => mix(mixed, 0),
-            Some(lag) => mix(mixed, (*lag as u64).wrapping_add(1)),
-        };
-    }
-    mixed
-}
-
-fn mix_owns(mark: u64, owns: &[&[u64]]) -> u64 {
-    let mut mixed = mark;
-    for own in owns {
-        mixed = mix_all(mixed, own);
-    }
-    mixed
-}
-
-fn mix_queue(mark: u64, queue: &[Held]) -> u64 {
-    let mut mixed = mark;
-    for held in queue {
-        mixed = mix(mix(mixed, held.caller as u64), held.value);
-    }
-    mixed
-}
-
-impl<'a> Machine<SharedEntry<'a>> for SharedMachine<'a> {
-    ghost use Rattle.flow_check.specs.SharedMachine.{stepped, may_skip};
-
-    ghost stepped = { stepped };
-
-    ghost may_skip = { may_skip };
-
-    fn step(
-        &self,
-        alloc: Global,
-        caller: usize,
-        call: &SharedEntry<'a>,
-    ) -> Result<Option<Self>, AllocError> {
-        if !self.may_answer(caller, call.operation, call.answer) {
-            return Ok(None);
-        }
-        let mut after = self.copied(alloc)?;
-        after.make(alloc, caller, call.operation)?;
-        Ok(Some(after))
-    }
-
-    fn may_skip(&self, call: &SharedEntry<'a>) -> bool {
-        matches!(call.operation, SharedOperation::EmitOrNot(_))
-    }
-
-    fn try_copy(&self, alloc: Global) -> Result<Self, AllocError> {
-        self.copied(alloc)
-    }
-
-    #[tactic(auto, using(crate::proofs::QueueLemmas::kept_same))]
-    fn same(&self, other: &Self) -> bool {
-        is_same_config(self.config, other.config)
-            && are_same_values(self.values.as_slice(), other.values.as_slice())
-            && self.cached == other.cached
-            && are_same_lags(self.lags.as_slice(), other.lags.as_slice())
-            && are_same_owns(self.owns.as_slice(), other.owns.as_slice())
-            && is_same_queue(self.queue.as_slice(), other.queue.as_slice())
-            && is_same_lag(self.offered, other.offered)
-    }
-
-    fn mixed_into(&self, mark: u64) -> u64 {
-        let mixed = mix_all(mix(mark, self.cached as u64), self.values.as_slice());
-        let offered = self
-            .offered
-            .map_or(0, |caller| (caller as u64).wrapping_add(1));
-        let mixed = mix_lags(mix(mixed, offered), self.lags.as_slice());
-        mix_queue(mix_owns(mixed, self.owns.as_slice()), self.queue.as_slice())
     }
 }

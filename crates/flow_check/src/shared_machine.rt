@@ -1,5 +1,5 @@
 //! A shared flow as the checker keeps it.
-ghost use Rattle.std.specs.Prelude.{◌≡◌, [], None, map, IfOk};
+ghost use Rattle.std.specs.Prelude.{◌≡◌, [], None, IfOk};
 ghost use Rattle.flow_check.specs.Subscribed.{kept_of, none_subscribed};
 ghost use Rattle.flow_check.specs.SharedMachine.{own_left, no_values, capacity, window, most_lag};
 ghost use Rattle.flow_check.specs.SharedMachine.{is_blocked};
@@ -17,6 +17,29 @@ use std::marker::Model;
 pub struct Held {
     pub caller: usize,
     pub value: u64,
+}
+
+/// What is left of a caller's own first values.
+#[derive(Drop)]
+pub struct Own {
+    pub values: Vec<u64>,
+}
+
+impl Model for Own {
+    ghost use Rattle.std.specs.Prelude.{ℕ, List};
+
+    ghost Value = { List ℕ };
+
+    ghost view = { λ own. own.values.items };
+}
+
+impl Own {
+    pub fn new(alloc: Global, values: &[u64]) -> Result<Own, AllocError>
+        ensures { IfOk result (λ own. own ≡ values.now) }
+    {
+        let values = Vec::from_slice(alloc, values)?;
+        Ok(Own { values })
+    }
 }
 
 /// What becomes of an emission.
@@ -37,18 +60,17 @@ pub enum EmitCase {
 ///
 /// It has neither positions nor numbers, so that equal states are the same.
 #[derive(Drop)]
-pub struct SharedMachine<'a> {
+pub struct SharedMachine {
     pub config: Config,
     pub values: Vec<u64>,
     pub cached: usize,
     pub lags: Vec<Option<usize>>,
-    pub owns: Vec<&'a [u64]>,
+    pub owns: Vec<Own>,
     pub queue: Vec<Held>,
     pub offered: Option<usize>,
 }
 
-impl<'a> Model for SharedMachine<'a> {
-    ghost use Rattle.std.specs.Prelude.{map};
+impl Model for SharedMachine {
     ghost use Rattle.flow_check.specs.SharedMachine.{Kept};
 
     ghost Value = { Kept };
@@ -58,7 +80,7 @@ impl<'a> Model for SharedMachine<'a> {
       values = m.values.items;
       cached = m.cached;
       lags = m.lags.items;
-      owns = map (λ own. own.now) m.owns.items;
+      owns = m.owns.items;
       queue = m.queue.items;
       offered = m.offered;
     } };
@@ -89,13 +111,23 @@ pub fn last_values(values: &[u64], count: usize) -> &[u64]
 }
 
 /// Returns the list of this index, which is empty if there is none.
-pub fn own_at<'a>(owns: &[&'a [u64]], index: usize) -> &'a [u64]
-    ensures { result.now ≡ own_left index (map (λ own. own.now) owns.now) }
+pub fn own_at(owns: &[Own], index: usize) -> &[u64]
+    ensures { result.now ≡ own_left index owns.now }
 {
     match owns.get(index) {
         None => &[],
-        Some(own) => *own,
+        Some(own) => own.values.as_slice(),
     }
+}
+
+fn copied_owns(alloc: Global, owns: &[Own]) -> Result<Vec<Own>, AllocError>
+    ensures { IfOk result (λ copy. copy.items ≡ owns.now) }
+{
+    let mut copy = Vec::new(alloc);
+    for own in owns {
+        copy.push(Own::new(alloc, own.values.as_slice())?)?;
+    }
+    Ok(copy)
 }
 
 /// Returns whether an `emit` of the caller is queued.
@@ -122,7 +154,7 @@ fn when_blocked(overflow: Overflow) -> EmitCase
     }
 }
 
-impl<'a> SharedMachine<'a> {
+impl SharedMachine {
     /// Makes a shared flow of this configuration, to which none of these callers is subscribed.
     pub fn new<C>(alloc: Global, config: Config, callers: &[C]) -> Result<Self, AllocError>
         ensures { IfOk result (λ made. made ≡ record {
@@ -136,10 +168,10 @@ impl<'a> SharedMachine<'a> {
         }) }
     {
         let mut lags = Vec::new(alloc);
-        let mut owns: Vec<&'a [u64]> = Vec::new(alloc);
+        let mut owns = Vec::new(alloc);
         for _caller in callers {
             lags.push(None)?;
-            owns.push(&[])?;
+            owns.push(Own::new(alloc, &[])?)?;
         }
         Ok(SharedMachine {
             config,
@@ -160,7 +192,7 @@ impl<'a> SharedMachine<'a> {
             values: Vec::from_slice(alloc, self.values.as_slice())?,
             cached: self.cached,
             lags: Vec::from_slice(alloc, self.lags.as_slice())?,
-            owns: Vec::from_slice(alloc, self.owns.as_slice())?,
+            owns: copied_owns(alloc, self.owns.as_slice())?,
             queue: Vec::from_slice(alloc, self.queue.as_slice())?,
             offered: self.offered,
         })
@@ -177,7 +209,7 @@ impl<'a> SharedMachine<'a> {
     }
 
     /// Returns what is left of the caller's own first values.
-    pub fn own(&self, caller: usize) -> &'a [u64]
+    pub fn own(&self, caller: usize) -> &[u64]
         ensures { result.now ≡ own_left caller self.now.owns }
     {
         own_at(self.owns.as_slice(), caller)

@@ -6,7 +6,7 @@ ghost use Rattle.flow_check.specs.SharedMachine.{settle, trim, emit_in, try_emit
 ghost use Rattle.flow_check.specs.SharedMachine.{withdraw, cancel, receive, made};
 
 use crate::shared_calls::SharedOperation;
-use crate::shared_machine::{EmitCase, Held, SharedMachine, last_values, most_lag};
+use crate::shared_machine::{EmitCase, Held, Own, SharedMachine, last_values, most_lag};
 use std::alloc::{AllocError, Global};
 
 /// Copies the lags after one more value was emitted; none becomes more than the window.
@@ -57,7 +57,7 @@ fn without(alloc: Global, queue: &[Held], caller: usize) -> Result<Vec<Held>, Al
     Ok(copy)
 }
 
-impl<'a> SharedMachine<'a> {
+impl SharedMachine {
     /// Emits a caller's value. Without a buffer it is offered to those who are subscribed.
     fn append(&mut self, alloc: Global, caller: usize, value: u64) -> Result<(), AllocError>
         ensures { OnOk result (self.new ≡ append caller value self.old) }
@@ -185,9 +185,8 @@ impl<'a> SharedMachine<'a> {
         }
     }
 
-    #[tactic(auto, using(crate::proofs::QueueLemmas::set_now))]
-    fn set_own(&mut self, caller: usize, own: &'a [u64])
-        ensures { self.new ≡ with_own caller own.now self.old }
+    fn set_own(&mut self, caller: usize, own: Own)
+        ensures { self.new ≡ with_own caller own self.old }
     {
         if caller < self.owns.len() {
             self.owns[caller] = own;
@@ -198,7 +197,8 @@ impl<'a> SharedMachine<'a> {
     fn receive(&mut self, alloc: Global, caller: usize) -> Result<(), AllocError>
         ensures { OnOk result (self.new ≡ receive caller self.old) }
     {
-        if let Some((_value, own)) = self.own(caller).split_first() {
+        if let Some((_value, rest)) = self.own(caller).split_first() {
+            let own = Own::new(alloc, rest)?;
             self.set_own(caller, own);
             return Ok(());
         }
@@ -217,7 +217,7 @@ impl<'a> SharedMachine<'a> {
         &mut self,
         alloc: Global,
         caller: usize,
-        operation: SharedOperation<'a>,
+        operation: SharedOperation<'_>,
     ) -> Result<(), AllocError>
         ensures { OnOk result (self.new ≡ made caller operation.entry self.old) }
     {
@@ -231,7 +231,8 @@ impl<'a> SharedMachine<'a> {
                 self.emit(alloc, caller, value, case)
             }
             SharedOperation::EmitCancelled => self.cancel(alloc, caller),
-            SharedOperation::Subscribe(own) => {
+            SharedOperation::Subscribe(values) => {
+                let own = Own::new(alloc, values)?;
                 let lag = self.first_lag();
                 self.set_lag(caller, Some(lag));
                 self.set_own(caller, own);
@@ -239,8 +240,9 @@ impl<'a> SharedMachine<'a> {
             }
             SharedOperation::Next => self.receive(alloc, caller),
             SharedOperation::Unsubscribe => {
+                let own = Own::new(alloc, &[])?;
                 self.set_lag(caller, None);
-                self.set_own(caller, &[]);
+                self.set_own(caller, own);
                 self.settle(alloc)
             }
             SharedOperation::ResetReplayCache => {
@@ -258,7 +260,7 @@ impl<'a> SharedMachine<'a> {
         &mut self,
         alloc: Global,
         caller: usize,
-        operation: SharedOperation<'a>,
+        operation: SharedOperation<'_>,
     ) -> Result<(), AllocError>
         ensures { OnOk result (self.new ≡ trim (made caller operation.entry self.old)) }
     {

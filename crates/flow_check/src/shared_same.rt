@@ -1,8 +1,8 @@
 //! Whether parts of two states of a shared flow are the same.
-ghost use Rattle.std.specs.Prelude.{◌≡◌, IsTrue, map};
+ghost use Rattle.std.specs.Prelude.{◌≡◌, IsTrue};
 ghost use Rattle.flow_check.specs.SharedMachine.{same_values};
 
-use crate::shared_machine::{Held, own_at};
+use crate::shared_machine::{Held, Own, own_at};
 use flow_law::{Config, Overflow};
 
 pub fn same_values(one: &[u64], other: &[u64]) -> bool
@@ -91,8 +91,8 @@ pub fn is_same_queue(one: &[Held], other: &[Held]) -> bool
     left.is_empty() && right.is_empty()
 }
 
-pub fn are_same_owns(one: &[&[u64]], other: &[&[u64]]) -> bool
-    ensures { IsTrue result → map (λ own. own.now) one.now ≡ map (λ own. own.now) other.now }
+pub fn are_same_owns(one: &[Own], other: &[Own]) -> bool
+    ensures { IsTrue result → one.now ≡ other.now }
 {
     let count = one.len();
     let others = other.len();

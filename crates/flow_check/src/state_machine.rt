@@ -4,11 +4,13 @@ ghost use Rattle.flow_check.specs.Subscribed.{none_subscribed};
 ghost use Rattle.flow_check.specs.StateMachine.{reader_of, with_reader};
 ghost use Rattle.flow_check.specs.StateMachine.{subscribe_answer, next_answer, unsubscribe_answer};
 ghost use Rattle.flow_check.specs.StateMachine.{own_answer, moved, same_answer, agrees};
+ghost use Rattle.flow_check.specs.StateMachine.{reader_in, read};
 
 use crate::machine::Machine;
 use crate::marks::mix;
 use crate::state_calls::{StateAnswer, StateEntry, StateOperation};
 use crate::subscribed::present;
+use crate::words::{Part, number_of, read_parts, word_at, words_from, write_number, write_parts};
 use std::alloc::{AllocError, Global};
 use std::marker::Model;
 
@@ -208,12 +210,57 @@ fn is_same_list(one: &[Option<Option<u64>>], other: &[Option<Option<u64>>]) -> b
     left.is_empty() && right.is_empty()
 }
 
+/// Returns what words say that a caller has received.
+fn reader_in(words: &[u32]) -> Option<Option<u64>>
+    ensures { result ≡ reader_in words.now }
+{
+    match word_at(words, 0) {
+        0 => None,
+        1 => Some(None),
+        _ => Some(Some(number_of(words_from(words, 1)))),
+    }
+}
+
+impl Part for Option<Option<u64>> {
+    ghost use Rattle.std.specs.Prelude.{drop};
+    ghost use Rattle.flow_check.specs.StateMachine.{reader_in};
+
+    ghost part = { reader_in };
+
+    ghost others = { drop 3 };
+
+    fn read(_alloc: Global, words: &[u32]) -> Result<Self, AllocError> {
+        Ok(reader_in(words))
+    }
+
+    fn others(words: &[u32]) -> &[u32] {
+        words_from(words, 3)
+    }
+
+    fn write(&self, words: &mut Vec<u32>) -> Result<(), AllocError> {
+        let (kind, last) = match self {
+            None => (0, 0),
+            Some(None) => (1, 0),
+            Some(Some(last)) => (2, *last),
+        };
+        words.push(kind)?;
+        write_number(words, last)
+    }
+}
+
 impl Machine<StateEntry> for StateMachine {
-    ghost use Rattle.flow_check.specs.StateMachine.{stepped, may_skip};
+    ghost use Rattle.flow_check.specs.StateMachine.{stepped, may_skip, read};
+    ghost use Rattle.flow_check.specs.StateLooks.{is_look, IsSound};
 
     ghost stepped = { stepped };
 
     ghost may_skip = { may_skip };
+
+    ghost is_look = { is_look };
+
+    ghost IsSound = { IsSound };
+
+    ghost read = { read };
 
     fn step(
         &self,
@@ -233,12 +280,41 @@ impl Machine<StateEntry> for StateMachine {
         false
     }
 
+    fn is_look(&self, call: &StateEntry) -> bool {
+        match (call.operation, call.answer) {
+            (StateOperation::Value, _)
+            | (StateOperation::SubscriptionCount, _)
+            | (StateOperation::ReplayCache, _) => true,
+            (StateOperation::CompareAndSet(_, _), Some(StateAnswer::Truth(succeeded))) =>
+                !succeeded,
+            (StateOperation::Next, Some(StateAnswer::Empty)) => true,
+            _ => false,
+        }
+    }
+
+    fn may_answer(&self, caller: usize, call: &StateEntry) -> bool {
+        agrees(self.own_answer(caller, call.operation), call.answer)
+    }
+
     fn try_copy(&self, alloc: Global) -> Result<Self, AllocError> {
         self.copied(alloc, self.value)
     }
 
     fn same(&self, other: &Self) -> bool {
         self.value == other.value && is_same_list(self.readers.as_slice(), other.readers.as_slice())
+    }
+
+    fn write(&self, words: &mut Vec<u32>) -> Result<(), AllocError> {
+        write_number(words, self.value)?;
+        write_parts(words, self.readers.as_slice())
+    }
+
+    fn read(&self, alloc: Global, words: &[u32]) -> Result<Self, AllocError> {
+        let readers = read_parts(alloc, words_from(words, 2), self.readers.len())?;
+        Ok(StateMachine {
+            value: number_of(words),
+            readers,
+        })
     }
 
     fn mixed_into(&self, mark: u64) -> u64 {

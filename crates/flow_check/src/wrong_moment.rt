@@ -7,9 +7,9 @@ ghost use Rattle.flow_check.specs.Moments.{HasOrder, HasNoOrder};
 
 use crate::machine::Machine;
 use crate::moments::{Cut, known_record};
-use crate::node::Node;
 use crate::record::Record;
 use crate::search::{Found, deadline_of, search};
+use crate::table::Table;
 use crate::timed::Timed;
 use crate::verdict::Verdict;
 use std::alloc::{AllocError, Global};
@@ -27,12 +27,18 @@ pub trait Checker<C: Copy> {
 }
 
 /// Returns the latest of the deadlines of these nodes. In each node some call that ended by then has not happened.
-fn latest_deadline<C: Copy, M>(callers: &[Vec<Timed<C>>], nodes: &[Node<M>]) -> u64 {
+fn latest_deadline<C: Copy, M: Machine<C>>(
+    alloc: Global,
+    callers: &[Vec<Timed<C>>],
+    table: &Table<M>,
+) -> Result<u64, AllocError> {
     let mut latest = 0;
-    for node in nodes {
-        latest = deadline_of(callers, &node.placed).max(latest);
+    for place in 0..table.len() {
+        if let Some(node) = table.at(alloc, place)? {
+            latest = deadline_of(callers, &node.placed).max(latest);
+        }
     }
-    latest
+    Ok(latest)
 }
 
 /// Returns the first moment by which no order goes through the calls, if a search finds it. Nothing is promised of it.
@@ -43,7 +49,7 @@ pub fn guess_moment<C: Copy, M: Machine<C>>(
     budget: u64,
 ) -> Result<Option<u64>, AllocError> {
     match search(alloc, first, callers, budget)? {
-        Found::Table(nodes, _) => Ok(Some(latest_deadline(callers, nodes.as_slice()))),
+        Found::Table(table) => Ok(Some(latest_deadline(alloc, callers, &table)?)),
         Found::Order(_) | Found::GaveUp => Ok(None),
     }
 }

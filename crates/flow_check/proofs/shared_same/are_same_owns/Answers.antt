@@ -1,5 +1,4 @@
-use Rattle.std.proofs.Common.{◌<◌, map, sym, ◌∙◌, below_more, arith}
-use Rattle.std.proofs.lemmas.List.{length-map}
+use Rattle.std.proofs.Common.{◌<◌, sym, ◌∙◌, below_more, arith}
 use Rattle.flow_check.proofs.QueueLemmas.{values_are, owns_same}
 use Rattle.flow_check.proofs.shared_same.are_same_owns.Goals as goal
 
@@ -9,8 +8,6 @@ loop-index-preserved c = below_more _ _ c.loop-index.invariant (
 
 pub returns : goal.returns
 returns c = λ yes.
-    let count = length-map c.args.one.now (λ own. own.now) in
-    let others = length-map c.args.other.now (λ own. own.now) in
     let same = c.if-count-others.false in
     let past = c.loop-index-test.false in
-    owns_same (map (λ own. own.now) c.args.one.now) (map (λ own. own.now) c.args.other.now) (omega arith) (λ k l. let low : k < c.loop-index.index = omega arith in c.loop-index.invariant k low)
+    owns_same c.args.one.now c.args.other.now (omega arith) (λ k l. let low : k < c.loop-index.index = omega arith in c.loop-index.invariant k low)

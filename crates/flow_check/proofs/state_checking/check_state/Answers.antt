@@ -1,12 +1,19 @@
-use Rattle.std.proofs.Common.{subst}
+use Rattle.std.proofs.Common.{sym, subst}
 use Rattle.flow_check.specs.declared.state_calls.StateEntry.{StateEntry}
-use Rattle.flow_check.specs.Records.{Calls}
+use Rattle.flow_check.specs.Records.{Calls, IsWellTimed}
 use Rattle.flow_check.specs.Remaining.{GoesThroughAll}
 use Rattle.flow_check.specs.Subscribed.{none_subscribed}
 use Rattle.flow_check.specs.StateMachine.{Kept, stepped, may_skip}
 use Rattle.flow_check.specs.Verdicts.{Judges}
 use Rattle.flow_check.proofs.StateJudging.{judged}
+use Rattle.flow_check.proofs.StateLooking.{kept, looks}
 use Rattle.flow_check.proofs.state_checking.check_state.Goals as goal
+
+pub check-requires-clause-well : goal.check-requires-clause-well
+check-requires-clause-well c = subst IsWellTimed (sym c.callers-callers.ensures.same) c.callers-callers.ensures.well
+
+pub check-requires-clause-looks : goal.check-requires-clause-looks
+check-requires-clause-looks c = (tt, kept, looks)
 
 pub returns : goal.returns
 returns c = judged c.args.calls.now c.args.initial c.in_ok-verdict.verdict c.callers-callers.ensures.well (

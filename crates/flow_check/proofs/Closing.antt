@@ -1,0 +1,43 @@
+-- From no node of a closed table does an order go through the rest. Begin with `none_goes`.
+use Rattle.std.proofs.Common.{◌≡◌, ℕ, suc, zero, ◌+◌, ◌≤◌, Bool, List, [], ◌∷◌, length, Option, Some, refl, sym, subst, inl, inr, arith}
+use Rattle.std.specs.Prelude.{slice_get}
+use Rattle.flow_check.specs.declared.timed.Timed.{Timed}
+use Rattle.flow_check.specs.Records.{Calls, IsWellTimed}
+use Rattle.flow_check.specs.Remaining.{placing, next_of, MayComeNext, OwesNothing, IsStep, GoesThrough}
+use Rattle.flow_check.specs.Looks.{IsKept, OnlyLooks}
+use Rattle.flow_check.specs.Tables.{Reached, IsInTable, IsFollowedAt, IsLookFollowed, IsClosed}
+use Rattle.flow_check.proofs.Leaving.{leave_out, sound_after}
+
+module _ {S C : Type 0} (stepped : S → ℕ → C → Option S) (may_skip is_look : C → Bool) (IsSound : S → Type 0) (kept : IsKept stepped IsSound) (looks : OnlyLooks stepped IsSound is_look)
+    (callers : Calls C) (well : IsWellTimed callers) (nodes : List (Reached S)) (closed : IsClosed stepped may_skip is_look callers nodes) where
+  abbrev Goes : S → List ℕ → List ℕ → Type 0
+  Goes = GoesThrough stepped may_skip callers
+
+  -- what follows a state of the table is in the table
+  stays_in : (s : S) (placed : List ℕ) (n : Reached S) (caller : ℕ) (order : List ℕ) → n.state ≡ s → n.placed ≡ placed → IsFollowedAt stepped may_skip is_look callers nodes n caller
+      → (h : Goes s placed (caller ∷ order)) → IsInTable nodes h.3.0 (placing caller placed)
+  stays_in s placed n caller order is at follows h =
+      subst (λ (p : List ℕ). IsInTable nodes h.3.0 (placing caller p)) at (
+      follows h.0 h.3.0
+      (subst (λ (p : List ℕ). next_of callers p caller ≡ Some h.0) (sym at) h.1)
+      (subst (λ (p : List ℕ). MayComeNext callers p h.0) (sym at) h.2)
+      (subst (λ (t : S). IsStep stepped may_skip t caller h.0.call h.3.0) (sym is) h.3.1))
+
+  -- of orders with so many turns at most
+  none_within : (most : ℕ) (order : List ℕ) (s : S) (placed : List ℕ) → length order ≤ most → IsSound s → IsInTable nodes s placed → Goes s placed order → ⊥
+  none_within most [] s placed fits sound found h = (closed found.0 found.1.0 found.1.1).1 (subst (λ (p : List ℕ). OwesNothing callers p) (sym found.1.3) h)
+  none_within zero (caller ∷ order) s placed fits sound found h = absurd (omega arith)
+  none_within (suc most) (caller ∷ order) s placed fits sound found h = elim (closed found.0 found.1.0 found.1.1).0 [
+    | inl look ↦
+        let next = subst (λ (p : List ℕ). next_of callers p look.0 ≡ Some look.1.0) found.1.3 look.1.1 in
+        let there = subst (λ (t : S). IsInTable nodes t (placing look.0 placed)) found.1.2 (subst (λ (p : List ℕ). IsInTable nodes found.1.0.state (placing look.0 p)) found.1.3 look.1.4) in
+        let less = leave_out stepped may_skip is_look IsSound kept looks callers well look.0 look.1.0 (caller ∷ order) placed s look.1.3 look.1.2 sound next h in
+        let count = less.1 in
+        none_within most less.0 s (placing look.0 placed) (omega arith) sound there less.2
+    | inr each ↦
+        none_within most order h.3.0 (placing caller placed) (omega arith) (sound_after stepped may_skip is_look IsSound kept looks s h.3.0 caller h.0.call sound h.3.1)
+        (stays_in s placed found.1.0 caller order found.1.2 found.1.3 (each caller) h) h.3.2
+  ]
+
+  pub none_goes : (order : List ℕ) (s : S) (placed : List ℕ) → IsSound s → IsInTable nodes s placed → Goes s placed order → ⊥
+  none_goes order s placed sound found h = none_within (length order) order s placed (omega arith) sound found h

@@ -1,0 +1,16 @@
+-- Calls that change nothing. No public clause cites this module.
+use Rattle.std.specs.Prelude.{◌≡◌, ℕ, Bool, true, Option, Some}
+
+-- `stepped s caller c` is the state after what was recorded of the caller's call c, if the flow may answer so in the state s.
+module _ {S C : Type 0} (stepped : S → ℕ → C → Option S) where
+  -- steps lead from such states to such states
+  abbrev pub IsKept : (S → Type 0) → Type 0
+  IsKept IsSound = (s after : S) (caller : ℕ) (c : C) → IsSound s → stepped s caller c ≡ Some after → IsSound after
+
+  -- a look that is answered as recorded changes nothing
+  abbrev pub OnlyLooks : (S → Type 0) → (C → Bool) → Type 0
+  OnlyLooks IsSound is_look = (s after : S) (caller : ℕ) (c : C) → IsSound s → is_look c ≡ true → stepped s caller c ≡ Some after → after ≡ s
+
+  -- a search that begins in this state may take looks first
+  abbrev pub MayTakeLooks : (S → Type 0) → (C → Bool) → S → Type 0
+  MayTakeLooks IsSound is_look first = IsSound first × IsKept IsSound × OnlyLooks IsSound is_look

@@ -1,0 +1,25 @@
+-- Which calls of a state flow change nothing. No public clause cites this module.
+use Rattle.std.specs.Prelude.{Bool, true, false, not, Option, Some}
+use Rattle.flow_check.specs.declared.state_calls.StateOperation.{StateOperation}
+use Rattle.flow_check.specs.declared.state_calls.StateOperation.TheVariants as operation
+use Rattle.flow_check.specs.declared.state_calls.StateAnswer.{StateAnswer}
+use Rattle.flow_check.specs.declared.state_calls.StateAnswer.TheVariants as answer
+use Rattle.flow_check.specs.declared.state_calls.StateEntry.{StateEntry}
+use Rattle.flow_check.specs.StateMachine.{Kept}
+
+-- the call changes nothing if it has this answer
+abbrev pub looks_by : StateOperation → Option StateAnswer → Bool
+looks_by operation.Value written = true
+looks_by operation.SubscriptionCount written = true
+looks_by operation.ReplayCache written = true
+looks_by (operation.CompareAndSet a b) (Some (answer.Truth c)) = not c
+looks_by operation.Next (Some answer.Empty) = true
+looks_by _ _ = false
+
+-- the call changes nothing if it is answered as recorded
+abbrev pub is_look : StateEntry → Bool
+is_look entry = looks_by entry.operation entry.answer
+
+-- nothing more is asked of a state
+abbrev pub IsSound : Kept → Type 0
+IsSound s = Unit {0}

@@ -1,0 +1,126 @@
+//! The checker's machine of a shared flow.
+ghost use Rattle.std.specs.Prelude.{◌≡◌, IfOk, IsTrue};
+ghost use Rattle.flow_check.specs.SharedMachine.{read};
+
+use crate::machine::Machine;
+use crate::marks::{mix, mix_all};
+use crate::shared_calls::{SharedAnswer, SharedEntry, SharedOperation};
+use crate::shared_machine::{Held, Own, SharedMachine};
+use crate::shared_same::{
+    are_same_lags, are_same_owns, are_same_values, is_same_config, is_same_lag, is_same_queue,
+};
+use std::alloc::{AllocError, Global};
+
+/// Mixes what each caller has still to receive into a number.
+fn mix_lags(mark: u64, lags: &[Option<usize>]) -> u64 {
+    let mut mixed = mark;
+    for lag in lags {
+        mixed = match lag {
+            None => mix(mixed, 0),
+            Some(lag) => mix(mixed, (*lag as u64).wrapping_add(1)),
+        };
+    }
+    mixed
+}
+
+fn mix_owns(mark: u64, owns: &[Own]) -> u64 {
+    let mut mixed = mark;
+    for own in owns {
+        mixed = mix_all(mixed, own.values.as_slice());
+    }
+    mixed
+}
+
+fn mix_queue(mark: u64, queue: &[Held]) -> u64 {
+    let mut mixed = mark;
+    for held in queue {
+        mixed = mix(mix(mixed, held.caller as u64), held.value);
+    }
+    mixed
+}
+
+impl<'a> Machine<SharedEntry<'a>> for SharedMachine {
+    ghost use Rattle.flow_check.specs.SharedMachine.{stepped, may_skip, read};
+    ghost use Rattle.flow_check.specs.SharedLooks.{is_look, IsSound};
+
+    ghost stepped = { stepped };
+
+    ghost may_skip = { may_skip };
+
+    ghost is_look = { is_look };
+
+    ghost IsSound = { IsSound };
+
+    ghost read = { read };
+
+    fn step(
+        &self,
+        alloc: Global,
+        caller: usize,
+        call: &SharedEntry<'a>,
+    ) -> Result<Option<Self>, AllocError> {
+        if !self.is_answer(caller, call.operation, call.answer) {
+            return Ok(None);
+        }
+        let mut after = self.copied(alloc)?;
+        after.make(alloc, caller, call.operation)?;
+        Ok(Some(after))
+    }
+
+    fn may_skip(&self, call: &SharedEntry<'a>) -> bool {
+        matches!(call.operation, SharedOperation::EmitOrNot(_))
+    }
+
+    fn is_look(&self, call: &SharedEntry<'a>) -> bool {
+        match (call.operation, call.answer) {
+            (SharedOperation::EmitReturned, _)
+            | (SharedOperation::ReplayCache, _)
+            | (SharedOperation::SubscriptionCount, _) => true,
+            (SharedOperation::TryEmit(_), Some(SharedAnswer::Truth(taken))) => !taken,
+            (SharedOperation::Next, Some(SharedAnswer::Empty)) => true,
+            _ => false,
+        }
+    }
+
+    fn may_answer(&self, caller: usize, call: &SharedEntry<'a>) -> bool {
+        self.is_answer(caller, call.operation, call.answer)
+    }
+
+    fn try_copy(&self, alloc: Global) -> Result<Self, AllocError>
+        ensures { IfOk result (λ copy. copy ≡ self.now) }
+    {
+        self.copied(alloc)
+    }
+
+    #[tactic(auto, using(crate::proofs::QueueLemmas::kept_same))]
+    fn same(&self, other: &Self) -> bool
+        ensures { IsTrue result → self.now ≡ other.now }
+    {
+        is_same_config(self.config, other.config)
+            && are_same_values(self.values.as_slice(), other.values.as_slice())
+            && self.cached == other.cached
+            && are_same_lags(self.lags.as_slice(), other.lags.as_slice())
+            && are_same_owns(self.owns.as_slice(), other.owns.as_slice())
+            && is_same_queue(self.queue.as_slice(), other.queue.as_slice())
+            && is_same_lag(self.offered, other.offered)
+    }
+
+    fn write(&self, words: &mut Vec<u32>) -> Result<(), AllocError> {
+        self.write_words(words)
+    }
+
+    fn read(&self, alloc: Global, words: &[u32]) -> Result<Self, AllocError>
+        ensures { IfOk result (λ state. state ≡ read self.now words.now) }
+    {
+        self.read_words(alloc, words)
+    }
+
+    fn mixed_into(&self, mark: u64) -> u64 {
+        let mixed = mix_all(mix(mark, self.cached as u64), self.values.as_slice());
+        let offered = self
+            .offered
+            .map_or(0, |caller| (caller as u64).wrapping_add(1));
+        let mixed = mix_lags(mix(mixed, offered), self.lags.as_slice());
+        mix_queue(mix_owns(mixed, self.owns.as_slice()), self.queue.as_slice())
+    }
+}
