@@ -104,7 +104,7 @@ def name_of(text):
 
 def signature(item):
     """The call as it is written, where a closure's type stands in the place of its parameter; and what it returns."""
-    text = re.sub(r"^(pub |final )*fn |;$", "", item.text)
+    text = re.sub(r"^(pub |final |const )*fn |;$", "", item.text)
     bounds = re.match(r"where (.*?)(?= (?:requires|ensures)\b|$)", item.clauses)
     parameters = split(bounds.group(1)) if bounds else []
     name = re.match(r"\w+", text).group()
