@@ -34,10 +34,18 @@ pub trait FlowCore: Guarded<Said = Said<Self::Call, Self::Reply>> {
     /// The states for which a core stands.
     ghost stands_as: { Self → Self.State → Type 0 };
 
+    /// Adds a subscriber, and returns its number.
+    ///
+    /// # Errors
+    /// `OutOfMemory`, or `Exhausted` if the flow has issued all its numbers.
     fn subscribe(&mut self) -> Result<SubId, FlowFault>
         ensures { (name : List ℕ) → Documents kind stands_as self.old (kind.subscribe name)
             (replied kind (λ id. kind.subscribed (number_of id)) result) self.new };
 
+    /// Returns the next value of a subscriber, `Empty` if it has none to receive, or `Gone` if there is no such subscriber.
+    ///
+    /// # Errors
+    /// `OutOfMemory` if the value cannot be copied. The subscriber has it still to receive.
     fn next(&mut self, id: SubId) -> Result<Next<Self::Item>, FlowFault>
         ensures documented { Documents kind stands_as self.old (kind.take_next (number_of id))
             (replied kind kind.received result) self.new }
@@ -58,10 +66,12 @@ pub trait FlowCore: Guarded<Said = Said<Self::Call, Self::Reply>> {
             result self.old values.old.items (Ok Most) values.new.items self.new }
         ensures room { (vec_len values.new ≡ vec_len values.old + result) × (vec_capacity values.old ≤ vec_capacity values.new) };
 
+    /// Removes a subscriber, and returns whether it was there.
     fn unsubscribe(&mut self, id: SubId) -> bool
         ensures { Documents kind stands_as self.old (kind.unsubscribe (number_of id))
             (kind.tested result) self.new };
 
+    /// Returns the number of subscribers.
     fn subscription_count(&self) -> u64
         ensures { Documents kind stands_as self.now kind.count (kind.counted result) self.now };
 

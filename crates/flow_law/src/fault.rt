@@ -4,7 +4,7 @@ ghost use Rattle.std.specs.Prelude.{◌≡◌};
 use std::fmt::Debug;
 use thiserror::Error;
 
-/// Why a call of a flow was refused. A refused call has changed nothing.
+/// Why a call of a flow was refused. A refused call of a flow has changed nothing, and gives back what it was given.
 #[derive(Clone, Copy, Debug, PartialEq, Eq, Error)]
 pub enum FlowFault {
     /// Memory was refused. The call can be made again.

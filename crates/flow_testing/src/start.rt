@@ -2,11 +2,8 @@
 use std::sync::atomic::{AtomicBool, AtomicU64, Ordering};
 use std::thread::yield_now;
 
-/// How often a waiting thread looks for the others.
+/// How often a waiting thread looks for the others. It yields after each look, so this takes some seconds at least.
 const LOOKS: u32 = 20_000_000;
-
-/// A waiting thread yields after so many looks.
-const LOOKS_A_YIELD: u32 = 256;
 
 /// A barrier for threads, with a bound on the wait.
 #[derive(Drop)]
@@ -29,14 +26,12 @@ impl Start {
     /// Waits until all threads have called this, for a bounded time. Once one thread has given up no other waits.
     pub fn wait(&self) {
         self.came.fetch_add(1, Ordering::SeqCst);
-        for look in 0..LOOKS {
+        for _ in 0..LOOKS {
             let is_late = self.is_late.load(Ordering::SeqCst);
             if is_late || self.came.load(Ordering::SeqCst) >= self.threads {
                 return;
             }
-            if look % LOOKS_A_YIELD == 0 {
-                yield_now();
-            }
+            yield_now();
         }
         self.is_late.store(true, Ordering::SeqCst);
     }

@@ -129,9 +129,12 @@ impl<C: Cold, H: WatchedHub<Item = C::Item>> Sharing<C, H> {
 
     /// Takes turns until the run is asked to stop.
     ///
-    /// The moments are those of the clock, in milliseconds, and none is before the last moment of an earlier turn. The
-    /// driver sleeps while the sharing does not run, while its emission waits, and when the chain has ended. It is
-    /// woken when a subscriber comes or goes, when its emission ends, and at the moment of the stop or of the expiry.
+    /// The moments are those of the monotonic clock, in milliseconds, and none is before the last moment of an earlier
+    /// turn. The driver sleeps while the sharing does not run, while its emission waits, and when the chain has ended. It
+    /// is woken when a subscriber comes or goes, when its emission ends, and at the moment of the stop or of the expiry.
+    ///
+    /// An emission that waits when the run is asked to stop stays in the flow, and the next run goes on with it. Kotlin
+    /// cancels it; so does `hub_mut().cancel()`.
     ///
     /// # Errors
     /// The fault of the last turn: the sharing has ended (`Chain`, `Ended`), or the flow refused a call (`Flow`). After
@@ -165,7 +168,7 @@ impl<C: Cold, H: WatchedHub<Item = C::Item>> Sharing<C, H> {
     }
 
     /// Takes turns until the chain has ended, as `run` does. The flow has then accepted each item since the last start,
-    /// and none waits.
+    /// and none waits. It cannot be asked to stop, and a sharing that starts with its first subscriber waits for that one.
     ///
     /// # Errors
     /// The fault of the last turn, as that of `run`.

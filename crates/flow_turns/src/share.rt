@@ -21,8 +21,9 @@ use std::alloc::Allocator;
 /// The least number of values that a shared chain keeps for slow subscribers.
 const LEAST_BUFFER: u32 = 64;
 
-/// Shares a chain by a shared flow of its own (`shareIn`). The flow keeps `replay` values for new subscribers, and at
-/// least 64 for slow ones; if a subscriber is further behind, the chain waits. The flow issues at most `limit` numbers.
+/// Shares a chain by a shared flow of its own (`shareIn`). The flow keeps `replay` values for new subscribers, and the
+/// greater of `replay` and 64 in all; if a subscriber is so many behind, the chain waits. The flow issues at most `limit`
+/// numbers.
 ///
 /// # Errors
 /// `Flow(TooLarge)` if `replay` is over 65,536, else `Flow(OutOfMemory)`. The chain is dropped.

@@ -3,6 +3,10 @@ use crate::policy::Policy;
 use flow_cold::Cold;
 
 /// A cold flow that is collected into a hot one, a turn at a time, while its policy says so.
+///
+/// # Dropping
+/// Dropping it drops the chain, the item that the flow has not accepted, and the hub. What a hub leaves in its flow is said
+/// at its type.
 #[derive(Drop)]
 pub struct Sharing<C: Cold, H> {
     pub(crate) chain: C,

@@ -81,6 +81,10 @@ impl<C: Cold, H: Hub<Item = C::Item>> Sharing<C, H> {
     ///
     /// An emission that waits is polled first; once it is done the next item follows, in the same turn. What a refusal
     /// leaves undone (a kept item, a cancel, a reset) is what the next turn begins with.
+    ///
+    /// # Errors
+    /// `Backwards` if `now` is before the last moment: nothing is observed. `Chain` if the chain fails, and `Ended` in each
+    /// later turn. `Flow` if the flow refuses a call; a flow that is busy is reported as an event.
     pub fn turn(&mut self, now: u64) -> Result<Report, ShareFault>
         requires { CanRun C.CanAsk self.old }
         ensures callable { CanRun C.CanAsk self.new }

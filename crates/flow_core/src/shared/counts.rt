@@ -43,7 +43,7 @@ impl<T: FlowValue, A: Allocator + Copy> SharedCore<T, A> {
     /// How many emitted values a subscriber has still to receive, and `None` where it is not there. Its own first values do
     /// not count.
     ///
-    /// It is at most `replay` and `extra`, or 1 where both are 0. A subscriber that is so far behind makes emitters wait,
+    /// It is at most `replay + extra`, or 1 where both are 0. A subscriber that is so far behind makes emitters wait,
     /// or loses values, or has new ones dropped: as `overflow` says.
     pub fn lag(&self, id: SubId) -> Option<u64>
         ensures lag { (s : SharedFlowState T) → StandsFor self.now s → result ≡ lag_of (number_of id) s }

@@ -187,7 +187,8 @@ impl<T: FlowValue, A: Allocator + Copy> SharedCore<T, A> {
 
     /// Returns whether the emission of this number still waits: its value is queued, or offered to a subscriber.
     ///
-    /// At `false` it was emitted and received, or cancelled, or there is no such emission.
+    /// At `false` its call is done, or it was cancelled, or there is no such emission. With a buffer, a call is done once the
+    /// flow has taken its value; without one, once each subscriber has received it.
     pub fn poll(&self, number: u64) -> bool
         ensures documented { Conforms self.now (call.Poll number) (reply.Tested result) self.now }
     {

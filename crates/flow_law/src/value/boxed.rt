@@ -22,18 +22,21 @@ impl<T: FlowValue, A: Allocator + Copy> Model for Boxed<T, A> {
 }
 
 impl<T: FlowValue, A: Allocator + Copy> Boxed<T, A> {
+    /// Makes a value of a box.
     pub fn new(boxed: Box<T, A>) -> Self
         ensures { result ≡ boxed.value }
     {
         Boxed { boxed }
     }
 
+    /// Returns the contents.
     pub fn value(&self) -> &T
         ensures { result.now ≡ self.now }
     {
         self.boxed.as_ref()
     }
 
+    /// Returns the box.
     pub fn into_inner(self) -> Box<T, A>
         ensures { result.value ≡ self }
     {

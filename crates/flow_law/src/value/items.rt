@@ -26,18 +26,21 @@ impl<T: FlowValue, A: Allocator + Copy> Model for Items<T, A> {
 }
 
 impl<T: FlowValue, A: Allocator + Copy> Items<T, A> {
+    /// Makes a value of a list.
     pub fn new(values: Vec<T, A>) -> Self
         ensures { result ≡ values.items }
     {
         Items { values }
     }
 
+    /// Returns the elements.
     pub fn as_slice(&self) -> &[T]
         ensures { result.now ≡ self.now }
     {
         self.values.as_slice()
     }
 
+    /// Returns the list.
     pub fn into_inner(self) -> Vec<T, A>
         ensures { result.items ≡ self }
     {

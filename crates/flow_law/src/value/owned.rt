@@ -27,6 +27,7 @@ impl<A: Allocator + Copy> Model for Text<A> {
 }
 
 impl<A: Allocator + Copy> Text<A> {
+    /// Makes a value of a text, which is not copied.
     pub fn new(text: String<A>) -> Self
         ensures { result ≡ string_bytes text }
     {
@@ -46,12 +47,14 @@ impl<A: Allocator + Copy> Text<A> {
         }
     }
 
+    /// Returns the text.
     pub fn as_str(&self) -> &str
         ensures { result.now ≡ self.now }
     {
         self.text.as_str()
     }
 
+    /// Returns the owned text.
     pub fn into_inner(self) -> String<A>
         ensures { string_bytes result ≡ self }
     {
