@@ -5,7 +5,8 @@ import bench_collections
 
 NEXT_LOCKS = ("ref_mutex", "ref_yielding", "ref_parking_lot")
 DRAIN_LOCKS = tuple(f"{lock}_drain" for lock in NEXT_LOCKS)
-WAITING = ("ref_yielding", "ref_condvar")
+# What a thread that sleeps is held against: threads that never sleep at the same flow, and those of plain Rust that sleep.
+WAITING = ("gated", "ref_condvar")
 
 
 @dataclasses.dataclass
@@ -93,6 +94,7 @@ def sleepers():
         title = f"asleep, {emitters} and {readers}, room {room}"
         yield Row(title, "crowd", sizes, "gated_asleep", WAITING, 1.1, counted=False)
         yield Row(f"{title}, processor", "crowd", sizes, "gated_asleep", WAITING, 1.0, counted=False, clock="processor")
+        yield Row(title, "crowd", sizes, "gated_asleep", ("ref_yielding",), counted=False)
         if room:
             yield Row(title, "crowd", sizes, "gated_asleep", ("async_broadcast",), counted=False)
     many = {"threads": 1, "subscribers": 1000, "count": 500, "repeats": 1}
