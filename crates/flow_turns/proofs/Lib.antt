@@ -1,2 +1,3 @@
 pub mod StepLemmas
 pub mod OverCoresLemmas
+pub mod RunLemmas

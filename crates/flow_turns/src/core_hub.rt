@@ -27,6 +27,13 @@ impl<T: FlowValue, A: Allocator + Copy> CoreHub<T, A> {
             emission: None,
         }
     }
+
+    /// Lends the core, to look at.
+    pub fn core(&self) -> &SharedCore<T, A>
+        ensures { result.now ≡ core_of self.now }
+    {
+        &self.core
+    }
 }
 
 impl<T: FlowValue, A: Allocator + Copy> Hub for CoreHub<T, A> {

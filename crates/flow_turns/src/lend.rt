@@ -1,12 +1,21 @@
-//! The hub of a sharing, lent to the caller.
+//! What is lent to the caller: the hub of a sharing, and the core of a hub for one thread.
 ghost use Rattle.std.specs.Prelude.{◌≡◌};
 ghost use Rattle.std.specs.Borrow.{sem};
+ghost use Rattle.flow_turns.specs.CoreHub.{core_of};
+ghost use Rattle.flow_turns.specs.CoreLending.{LendsCore};
 ghost use Rattle.flow_turns.specs.Lending.{LendsHub};
 ghost use Rattle.flow_turns.specs.SharingViews.{hub_of};
+ghost use Rattle.flow_turns.specs.StateHub.{state_core_of};
+ghost use Rattle.flow_turns.specs.StateLending.{LendsStateCore};
 
+use crate::core_hub::CoreHub;
 use crate::hub::Hub;
 use crate::sharing::Sharing;
+use crate::state_hub::StateHub;
 use flow_cold::Cold;
+use flow_core::{SharedCore, StateCore};
+use flow_law::FlowValue;
+use std::alloc::Allocator;
 
 impl<C: Cold, H: Hub<Item = C::Item>> Sharing<C, H> {
     /// Lends the hub, to look at.
@@ -26,5 +35,25 @@ impl<C: Cold, H: Hub<Item = C::Item>> Sharing<C, H> {
         ensures hub { result.now ≡ hub_of self.old }
     {
         &mut self.hub
+    }
+}
+
+impl<T: FlowValue, A: Allocator + Copy> CoreHub<T, A> {
+    /// Lends the core, to subscribe and to receive.
+    pub fn core_mut(&mut self) -> &mut SharedCore<T, A>
+        ensures* writes_back { sem 𝓛 (LendsCore T.row A.row T.FlowValue A.Allocator self.entry result) }
+        ensures core { result.now ≡ core_of self.old }
+    {
+        &mut self.core
+    }
+}
+
+impl<T: FlowValue, A: Allocator + Copy> StateHub<T, A> {
+    /// Lends the core, to subscribe and to receive.
+    pub fn core_mut(&mut self) -> &mut StateCore<T, A>
+        ensures* writes_back { sem 𝓛 (LendsStateCore T.row A.row T.FlowValue A.Allocator self.entry result) }
+        ensures core { result.now ≡ state_core_of self.old }
+    {
+        &mut self.core
     }
 }

@@ -40,7 +40,6 @@
 mod answers;
 mod collect;
 mod core_hub;
-mod core_lend;
 mod core_subscribers;
 mod due;
 mod hub;
@@ -51,7 +50,6 @@ mod run;
 mod share;
 mod sharing;
 mod state_hub;
-mod state_lend;
 mod state_subscribers;
 mod turn;
 

@@ -1,6 +1,6 @@
 //! A state flow for one thread as the hub of a sharing.
 ghost use Rattle.std.specs.Prelude.{◌≡◌, false};
-ghost use Rattle.flow_turns.specs.StateHub.{state_core_of, initial_of};
+ghost use Rattle.flow_turns.specs.StateHub.{state_core_of, initial_of, never_waits, StateHubDoes};
 
 use crate::hub::Hub;
 use flow_core::StateCore;
@@ -25,12 +25,17 @@ impl<T: FlowValue, A: Allocator + Copy> StateHub<T, A> {
     {
         StateHub { core, initial }
     }
+
+    /// Lends the core, to look at.
+    pub fn core(&self) -> &StateCore<T, A>
+        ensures { result.now ≡ state_core_of self.now }
+    {
+        &self.core
+    }
 }
 
 impl<T: FlowValue, A: Allocator + Copy> Hub for StateHub<T, A> {
     type Item = T;
-
-    ghost use Rattle.flow_turns.specs.StateHub.{never_waits, StateHubDoes};
 
     ghost waits = { never_waits };
 

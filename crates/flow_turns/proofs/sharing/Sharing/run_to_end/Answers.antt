@@ -1,36 +1,24 @@
 use Rattle.std.proofs.Common.{Ok, sym, subst}
-use Rattle.flow_turns.specs.SharingViews.{chain_of, CanRun}
-use Rattle.flow_turns.specs.Runs.{TakesTurns, no_turn, one_more}
 use Rattle.flow_turns.specs.TurnClauses.{TakesTurn}
+use Rattle.flow_turns.proofs.RunLemmas.{run-begins, run-goes_on, run-refused}
 use Rattle.flow_turns.proofs.sharing.Sharing.run_to_end.Goals as goal
 
 pub loop-init : goal.loop-init
-loop-init g c = (tt, tt, c.requires, (λ m r. r), (λ m r. no_turn))
+loop-init g c = (tt, tt, run-begins _ c.requires)
 
 pub loop-preserved : goal.loop-preserved
 loop-preserved g c =
-    let rested = sym c.rest-watches.ensures in (
-      tt,
-      tt,
-      subst (CanRun g.C.Cold.CanAsk) rested c.in-Ok.ensures.callable,
-      (λ m r. subst (λ s. g.C.Cold.Reads (chain_of s) m) rested (c.in-Ok.ensures.reads m (c.loop.invariant.3 m r))),
-      (λ m r.
-          let told = c.in-Ok.ensures.turn m (c.loop.invariant.3 m r) in
-          subst (TakesTurns (λ x. g.C.Cold.whole x m) (λ x. g.C.Cold.rest x m) g.H.Hub.does g.H.Hub.waits c.args.self.now) rested
-          (one_more told.0 c.in-Ok.report (c.loop.invariant.4 m r) told.1)),
-    )
+    (tt, tt, run-goes_on c.in-Ok.report c.loop.invariant.2 c.rest-watches.ensures c.in-Ok.ensures.callable c.in-Ok.ensures.reads c.in-Ok.ensures.turn)
 
 pub returns-in-Err-clause-turns : goal.returns-in-Err-clause-turns
-returns-in-Err-clause-turns g c = λ m r.
-    let told = c.in-Err.ensures.turn m (c.loop.invariant.3 m r) in
-    record { between = c.loop.self; turns = c.loop.invariant.4 m r; now = told.0; refused = told.1 }
+returns-in-Err-clause-turns g c = run-refused _ c.loop.invariant.2 c.in-Err.ensures.turn
 
 pub returns-in-Completed-clause-turns : goal.returns-in-Completed-clause-turns
 returns-in-Completed-clause-turns g c = λ m r.
-    let told = c.in-Ok.ensures.turn m (c.loop.invariant.3 m r) in
+    let told = c.in-Ok.ensures.turn m (c.loop.invariant.2.kept m r) in
     record {
       between = c.loop.self;
-      turns = c.loop.invariant.4 m r;
+      turns = c.loop.invariant.2.turns m r;
       now = told.0;
       report = c.in-Ok.report;
       last = subst (TakesTurn (λ x. g.C.Cold.whole x m) (λ x. g.C.Cold.rest x m) g.H.Hub.does g.H.Hub.waits told.0 c.loop.self (Ok c.in-Ok.report)) (sym c.unwatch.ensures) told.1;
