@@ -1,7 +1,7 @@
 //! async-broadcast, whose senders wait for the slowest receiver, or drop the oldest value.
 use crate::arguments::{Sizes, Taken};
 use crate::crowd::deliveries;
-use crate::delivery::{Admission, Delivery};
+use crate::delivery::{sum_received, Admission, Delivery, Received};
 use async_broadcast::{broadcast, Receiver, Sender};
 use std::future::Future;
 use std::pin::Pin;
@@ -50,17 +50,11 @@ impl Delivery for Broadcast {
     }
 
     fn read_all(&mut self) -> i64 {
-        let mut sum = 0i64;
-        for receiver in &mut self.receivers {
-            loop {
-                match receiver.try_recv() {
-                    Ok(value) => sum = sum.wrapping_add(value),
-                    Err(async_broadcast::TryRecvError::Overflowed(_)) => {}
-                    Err(_) => break,
-                }
-            }
-        }
-        sum
+        sum_received(&mut self.receivers, |receiver| match receiver.try_recv() {
+            Ok(value) => Received::Value(value),
+            Err(async_broadcast::TryRecvError::Overflowed(_)) => Received::Lost,
+            Err(_) => Received::Nothing,
+        })
     }
 }
 

@@ -25,6 +25,29 @@ pub trait Admission {
     fn admit(&mut self, value: i64) -> i64;
 }
 
+/// What a channel answers a receiver that asks for a value.
+pub enum Received {
+    Value(i64),
+    /// Values were dropped before this receiver had them.
+    Lost,
+    Nothing,
+}
+
+/// Each receiver takes all that there is. Returns the sum.
+pub fn sum_received<R>(receivers: &mut [R], next: impl Fn(&mut R) -> Received) -> i64 {
+    let mut sum = 0i64;
+    for receiver in receivers {
+        loop {
+            match next(receiver) {
+                Received::Value(value) => sum = sum.wrapping_add(value),
+                Received::Lost => {}
+                Received::Nothing => break,
+            }
+        }
+    }
+    sum
+}
+
 fn emit_batch(flow: &mut impl Delivery, batch: u64) {
     for place in 0..BATCH {
         flow.emit((batch * BATCH + place) as i64);

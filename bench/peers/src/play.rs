@@ -32,6 +32,15 @@ struct Names {
 }
 
 impl Names {
+    /// Keeps a new subscriber under its name.
+    fn subscribe<E>(&mut self, name: &str, subscribed: Result<Id, E>) -> String {
+        let Ok(id) = subscribed else {
+            return EXHAUSTED.to_string();
+        };
+        self.subscribers.insert(name.to_string(), id);
+        "subscribed".to_string()
+    }
+
     fn next(&self, name: &str, next_of: impl FnOnce(Id) -> Next<i64>) -> Next<i64> {
         self.subscribers
             .get(name)
@@ -126,13 +135,8 @@ fn call_shared(flow: &mut SharedFlow<i64>, names: &mut Names, words: &[&str]) ->
                 .to_string()
         }
         ["subscribe", name, own @ ..] => {
-            match flow.subscribe_with(own.iter().map(|value| number(value)).collect()) {
-                Ok(id) => {
-                    names.subscribers.insert(name.to_string(), id);
-                    "subscribed".to_string()
-                }
-                Err(_) => EXHAUSTED.to_string(),
-            }
+            let own = own.iter().map(|value| number(value)).collect();
+            names.subscribe(name, flow.subscribe_with(own))
         }
         ["next", name] => received(names.next(name, |id| flow.next(id))),
         ["unsubscribe", name] => names.unsubscribe(name, |id| flow.unsubscribe(id)),
@@ -160,13 +164,7 @@ fn call_state(flow: &mut StateFlow<i64>, names: &mut Names, words: &[&str]) -> S
         ["compare_and_set", expect, update] => flow
             .compare_and_set(&number(expect), number(update))
             .to_string(),
-        ["subscribe", name] => match flow.subscribe() {
-            Ok(id) => {
-                names.subscribers.insert(name.to_string(), id);
-                "subscribed".to_string()
-            }
-            Err(_) => EXHAUSTED.to_string(),
-        },
+        ["subscribe", name] => names.subscribe(name, flow.subscribe()),
         ["next", name] => received(names.next(name, |id| flow.next(id))),
         ["unsubscribe", name] => names.unsubscribe(name, |id| flow.unsubscribe(id)),
         ["cache"] => format!("[{}]", flow.value()),

@@ -1,5 +1,5 @@
 //! tokio's `broadcast`, which drops the oldest value, and its `watch`.
-use crate::delivery::{Delivery, ROOM};
+use crate::delivery::{sum_received, Delivery, Received, ROOM};
 use crate::states::Number;
 use tokio::sync::broadcast::{self, error::TryRecvError};
 use tokio::sync::watch;
@@ -28,17 +28,11 @@ impl Delivery for Broadcast {
     }
 
     fn read_all(&mut self) -> i64 {
-        let mut sum = 0i64;
-        for receiver in &mut self.receivers {
-            loop {
-                match receiver.try_recv() {
-                    Ok(value) => sum = sum.wrapping_add(value),
-                    Err(TryRecvError::Lagged(_)) => {}
-                    Err(_) => break,
-                }
-            }
-        }
-        sum
+        sum_received(&mut self.receivers, |receiver| match receiver.try_recv() {
+            Ok(value) => Received::Value(value),
+            Err(TryRecvError::Lagged(_)) => Received::Lost,
+            Err(_) => Received::Nothing,
+        })
     }
 }
 
