@@ -1,4 +1,5 @@
 pub mod AskLemmas
 pub mod BoundLemmas
+pub mod PassingLemmas
 pub mod StreamLemmas
 pub mod TerminalLemmas

@@ -9,7 +9,8 @@ use Rattle.flow_law.specs.declared.chain.End.{End}
 use Rattle.flow_law.specs.declared.chain.End.TheVariants.{Completed, Failed}
 use Rattle.flow_law.specs.ChainRun.{ChainRun, items, ending}
 use Rattle.flow_operators.specs.Collecting.{Reaches, StandsAfter, StandsAfterItem}
-use Rattle.flow_operators.specs.Terminal.{GivesItem, Visits, all_of, any_of, first_of}
+use Rattle.flow_operators.specs.Closures.{Follows}
+use Rattle.flow_operators.specs.Terminal.{FollowsRun, GivesItem, Visits, all_of, any_of, first_of}
 
 module _ {T : Type 0} where
   pub after-item : (x : T) (whole before after : ChainRun T) → Reaches whole before → GivesItem before (Ok (Some x)) after → StandsAfter x whole after
@@ -37,26 +38,42 @@ told found (Ok (Some x)) = Ok found
 told found (Ok None) = Ok (not found)
 told found (Err fault) = Err fault
 
+told-follows : {A : Type 0} (found : Bool) (meant result : Result (Option A) ChainFault) → Follows meant result → Follows (told found meant) (told found result)
+told-follows found meant (Ok (Some x)) is = ap (told found) is
+told-follows found meant (Ok None) is = ap (told found) is
+told-follows found meant (Err fault) (inl is) = inl (ap (told found) is)
+told-follows found meant (Err fault) (inr memory) = inr memory
+
 module _ {A : Type 0} (test : A → Bool) where
   any-step : (x : A) (xs : List A) (e : End) (b : Bool) → any_of test xs e ≡ told true (first_of (filter test xs) e)
       → cond (b || list_any test xs) (Ok true) (any_of test [] e) ≡ told true (first_of (cond b (x ∷ filter test xs) (filter test xs)) e)
   any-step x xs e true h = refl
   any-step x xs e false h = h
 
-  pub any-told : (xs : List A) (e : End) → any_of test xs e ≡ told true (first_of (filter test xs) e)
+  any-told : (xs : List A) (e : End) → any_of test xs e ≡ told true (first_of (filter test xs) e)
   any-told [] Completed = refl
   any-told [] (Failed fault) = refl
   any-told (x ∷ xs) e = any-step x xs e (test x) (any-told xs e)
+
+  -- whether any passes is told by the first that does, in a chain that was started anew
+  pub any-follows : (whole rest : ChainRun A) (found : Result (Option A) ChainFault) → rest ≡ whole → FollowsRun (λ xs e. first_of (filter test xs) e) rest found
+      → FollowsRun (any_of test) whole (told true found)
+  any-follows whole rest found is finds = rw (any-told (items whole) (ending whole)) (told-follows true _ found (rw is at finds))
 
   all-step : (x : A) (xs : List A) (e : End) (b : Bool) → all_of test xs e ≡ told false (first_of (filter (λ y. not (test y)) xs) e)
       → cond (b && list_all test xs) (all_of test [] e) (Ok false) ≡ told false (first_of (cond (not b) (x ∷ filter (λ y. not (test y)) xs) (filter (λ y. not (test y)) xs)) e)
   all-step x xs e true h = h
   all-step x xs e false h = refl
 
-  pub all-told : (xs : List A) (e : End) → all_of test xs e ≡ told false (first_of (filter (λ y. not (test y)) xs) e)
+  all-told : (xs : List A) (e : End) → all_of test xs e ≡ told false (first_of (filter (λ y. not (test y)) xs) e)
   all-told [] Completed = refl
   all-told [] (Failed fault) = refl
   all-told (x ∷ xs) e = all-step x xs e (test x) (all-told xs e)
+
+  -- whether all pass is told by the first that does not
+  pub all-follows : (whole rest : ChainRun A) (found : Result (Option A) ChainFault) → rest ≡ whole
+      → FollowsRun (λ xs e. first_of (filter (λ y. not (test y)) xs) e) rest found → FollowsRun (all_of test) whole (told false found)
+  all-follows whole rest found is finds = rw (all-told (items whole) (ending whole)) (told-follows false _ found (rw is at finds))
 
 module _ {A F : Type 0} (step : F → A → Result (Unit {0}) ChainFault → F → Type 0) where
   visits_memory : (f : F) (xs : List A) (e : End) → Visits step f xs e (Err OutOfMemory)

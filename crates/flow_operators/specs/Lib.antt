@@ -5,6 +5,7 @@ pub mod Collecting
 pub mod Kept
 pub mod Numbers
 pub mod Pairs
+pub mod Passing
 pub mod Results
 pub mod Sources
 pub mod Streams

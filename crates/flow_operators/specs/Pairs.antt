@@ -1,5 +1,5 @@
 -- What `zip` has left, by its two sides and the left item that it keeps; L and R are the chains' types, A and B their items.
-use Rattle.std.specs.Prelude.{◌≡◌, ◌+◌, ℕ, Bool, false, Option, Result, Ok, Err}
+use Rattle.std.specs.Prelude.{◌≡◌, ◌+◌, ℕ, Bool, false, Result, Ok, Err}
 use Rattle.flow_law.specs.declared.chain.ChainFault.{ChainFault}
 use Rattle.flow_law.specs.ChainRun.{ChainRun, gives}
 use Rattle.flow_law.specs.OperatorRuns.{zip_run}
@@ -17,10 +17,6 @@ module _ {L R A : Type 0} where
   -- the chain on the right side
   abbrev pub right_chain : Pairs L R A → R
   right_chain p = p.right
-
-  -- the left item that waits for a right one
-  abbrev pub kept_item : Pairs L R A → Option A
-  kept_item p = p.kept
 
   -- the zip has ended
   abbrev pub is_over : Pairs L R A → Bool

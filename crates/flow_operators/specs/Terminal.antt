@@ -6,7 +6,7 @@
 --   [], Completed          Ok 0          Ok None          Ok None        Ok None        Ok None        Ok 0         Ok false     Ok true
 --   [], Failed fault       Err fault, each of them
 -- Out of memory may come in place of any answer (`Follows`).
-use Rattle.std.specs.Prelude.{◌≡◌, ◌⊎◌, ℕ, ◌^◌, nat_lt, Bool, true, false, not, cond, List, [], ◌∷◌, length, filter, Option, Some, None, Result, Ok, Err}
+use Rattle.std.specs.Prelude.{◌≡◌, ◌⊎◌, ℕ, ◌^◌, nat_lt, Bool, true, false, not, cond, List, [], ◌∷◌, length, Option, Some, None, Result, Ok, Err}
 use Rattle.std.specs.List.{list_all, list_any}
 use Rattle.flow_law.specs.declared.chain.ChainFault.{ChainFault}
 use Rattle.flow_law.specs.declared.chain.ChainFault.TheVariants.{OutOfMemory, Overflow}
@@ -14,6 +14,10 @@ use Rattle.flow_law.specs.declared.chain.End.{End}
 use Rattle.flow_law.specs.declared.chain.End.TheVariants.{Completed, Failed}
 use Rattle.flow_law.specs.ChainRun.{ChainRun, ends, items, ending}
 use Rattle.flow_operators.specs.Closures.{Follows}
+
+-- the answer is what `meant` says of the run's items and its ending, or out of memory
+abbrev pub FollowsRun : {A B : Type 0} → (List A → End → Result B ChainFault) → ChainRun A → Result B ChainFault → Type 0
+FollowsRun meant run result = Follows (meant (items run) (ending run)) result
 
 -- x where the chain completed, and else its fault
 abbrev pub at_ending : {T : Type 0} → T → End → Result T ChainFault

@@ -7,6 +7,7 @@ use Rattle.flow_law.specs.ChainRun.{ChainRun, gives, pends, ends}
 use Rattle.flow_operators.specs.declared.cold.Asked.{Asked}
 use Rattle.flow_operators.specs.declared.cold.Asked.TheVariants.{Item, Pending, End as Ended, Fault}
 use Rattle.flow_operators.specs.declared.upstream.Upstream.{Upstream}
+use Rattle.flow_operators.specs.Behind.{AsksOnce}
 use Rattle.flow_operators.specs.Kept.{unless_ended}
 
 module _ {C : Type 0} where
@@ -21,6 +22,10 @@ module _ {C : Type 0} where
   -- what is left of the chain's run: nothing once the operator has ended
   abbrev pub left_of : {T : Type 0} → (C → ChainRun T) → Upstream C → ChainRun T
   left_of rest u = unless_ended u.ended (rest u.chain)
+
+  -- the operator asks the chain once
+  abbrev pub AsksUpstream : {A B : Type 0} → (C → ChainRun A) → Upstream C → Asked B → Upstream C → Type 0
+  AsksUpstream rest old result new = AsksOnce (rest old.chain) result (rest new.chain)
 
 -- an answer that is no item is passed on
 abbrev pub PassesOn : {A B : Type 0} → ChainRun A → Asked B → ChainRun A → Type 0

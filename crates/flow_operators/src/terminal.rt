@@ -5,9 +5,9 @@ ghost use Rattle.std.specs.Prelude.{◌≡◌, ◌⊎◌, Bool, Result, filter, 
 ghost use Rattle.std.specs.Fn.{FnReturnsAt};
 ghost use Rattle.flow_law.specs.declared.chain.ChainFault.{ChainFault};
 ghost use Rattle.flow_law.specs.ChainRun.{Collects, items, ending};
-ghost use Rattle.flow_operators.specs.Closures.{ComputesPairs, Decides, Follows};
+ghost use Rattle.flow_operators.specs.Closures.{ComputesPairs, Decides};
 ghost use Rattle.flow_operators.specs.Collecting.{StandsAfter, StandsAfterItem};
-ghost use Rattle.flow_operators.specs.Terminal.{CallFails, OnNoItem, VisitFails, Visits};
+ghost use Rattle.flow_operators.specs.Terminal.{CallFails, FollowsRun, OnNoItem, VisitFails, Visits};
 ghost use Rattle.flow_operators.specs.Terminal.{all_of, any_of, counted, first_of, folded, last_of, reduced_to, single_of};
 
 use crate::cold::Cold;
@@ -30,8 +30,7 @@ pub trait Terminal: Cold {
         ensures reads { (m : Self.Reading) → Self.Reads self.old m → Self.Reads self.new m }
         ensures whole { (m : Self.Reading) → Self.whole self.new m ≡ Self.whole self.old m }
         ensures folds { (m : Self.Reading) (f : U × Self.Item → Result U ChainFault) → Self.Reads self.old m
-            → ComputesPairs (F.post closure) f
-            → Follows (folded f initial (items (Self.whole self.old m)) (ending (Self.whole self.old m))) result }
+            → ComputesPairs (F.post closure) f → FollowsRun (folded f initial) (Self.whole self.old m) result }
         ensures over { IfOk result (λ _. Self.IsOver self.new) }
         // After a fault of the closure the chain is just after the item at which it was answered.
         ensures stands { IfErr result (λ _. Self.IsOver self.new
@@ -55,8 +54,7 @@ pub trait Terminal: Cold {
         ensures reads { (m : Self.Reading) → Self.Reads self.old m → Self.Reads self.new m }
         ensures whole { (m : Self.Reading) → Self.whole self.new m ≡ Self.whole self.old m }
         ensures reduces { (m : Self.Reading) (f : Self.Item × Self.Item → Result Self.Item ChainFault) → Self.Reads self.old m
-            → ComputesPairs (F.post closure) f
-            → Follows (reduced_to f (items (Self.whole self.old m)) (ending (Self.whole self.old m))) result }
+            → ComputesPairs (F.post closure) f → FollowsRun (reduced_to f) (Self.whole self.old m) result }
         ensures over { IfOk result (λ _. Self.IsOver self.new) }
         // After a fault of the closure the chain is just after the item at which it was answered.
         ensures stands { IfErr result (λ _. Self.IsOver self.new
@@ -82,7 +80,7 @@ pub trait Terminal: Cold {
         ensures reads { (m : Self.Reading) → Self.Reads self.old m → Self.Reads self.new m }
         ensures whole { (m : Self.Reading) → Self.whole self.new m ≡ Self.whole self.old m }
         ensures first { (m : Self.Reading) → Self.Reads self.old m
-            → Follows (first_of (items (Self.whole self.old m)) (ending (Self.whole self.old m))) result }
+            → FollowsRun first_of (Self.whole self.old m) result }
         ensures over { OnNoItem result (Self.IsOver self.new) }
         ensures stands { IfOk result (λ found. IfSome found (λ item. (m : Self.Reading) → Self.Reads self.old m
             → StandsAfter item (Self.whole self.old m) (Self.rest self.new m))) }
@@ -105,7 +103,7 @@ pub trait Terminal: Cold {
         ensures whole { (m : Self.Reading) → Self.whole self.new m ≡ Self.whole self.old m }
         ensures finds { (m : Self.Reading) (p : Self.Item → Bool) → Self.Reads self.old m
             → Decides (λ x b. FnReturnsAt F.Fn test x b) p
-            → Follows (first_of (filter p (items (Self.whole self.old m))) (ending (Self.whole self.old m))) result }
+            → FollowsRun (λ xs e. first_of (filter p xs) e) (Self.whole self.old m) result }
         ensures over { OnNoItem result (Self.IsOver self.new) }
         ensures stands { IfOk result (λ found. IfSome found (λ item. (m : Self.Reading) → Self.Reads self.old m
             → StandsAfter item (Self.whole self.old m) (Self.rest self.new m))) }
@@ -117,17 +115,14 @@ pub trait Terminal: Cold {
     }
 
     /// Returns whether an item passes the test. It asks nothing after the first one that does.
-    final fn any<F>(&mut self, test: F) -> Result<bool, ChainFault>
-    where
-        F: Fn(&Self::Item) -> bool,
+    final fn any<F: Fn(&Self::Item) -> bool>(&mut self, test: F) -> Result<bool, ChainFault>
         requires chain { Self.CanAsk self.old }
         requires callable { F.IsAlwaysCallable test }
         ensures callable { Self.CanAsk self.new }
         ensures reads { (m : Self.Reading) → Self.Reads self.old m → Self.Reads self.new m }
         ensures whole { (m : Self.Reading) → Self.whole self.new m ≡ Self.whole self.old m }
         ensures tells { (m : Self.Reading) (p : Self.Item → Bool) → Self.Reads self.old m
-            → Decides (λ x b. FnReturnsAt F.Fn test x b) p
-            → Follows (any_of p (items (Self.whole self.old m)) (ending (Self.whole self.old m))) result }
+            → Decides (λ x b. FnReturnsAt F.Fn test x b) p → FollowsRun (any_of p) (Self.whole self.old m) result }
         ensures stands { IfOk result (λ _. Self.IsOver self.new
             ⊎ ((m : Self.Reading) → Self.Reads self.old m → StandsAfterItem (Self.whole self.old m) (Self.rest self.new m))) }
         // A fault is the chain's own last answer. So is `OutOfMemory`.
@@ -143,17 +138,14 @@ pub trait Terminal: Cold {
     }
 
     /// Returns whether all items pass the test. It asks nothing after the first one that fails.
-    final fn all<F>(&mut self, test: F) -> Result<bool, ChainFault>
-    where
-        F: Fn(&Self::Item) -> bool,
+    final fn all<F: Fn(&Self::Item) -> bool>(&mut self, test: F) -> Result<bool, ChainFault>
         requires chain { Self.CanAsk self.old }
         requires callable { F.IsAlwaysCallable test }
         ensures callable { Self.CanAsk self.new }
         ensures reads { (m : Self.Reading) → Self.Reads self.old m → Self.Reads self.new m }
         ensures whole { (m : Self.Reading) → Self.whole self.new m ≡ Self.whole self.old m }
         ensures tells { (m : Self.Reading) (p : Self.Item → Bool) → Self.Reads self.old m
-            → Decides (λ x b. FnReturnsAt F.Fn test x b) p
-            → Follows (all_of p (items (Self.whole self.old m)) (ending (Self.whole self.old m))) result }
+            → Decides (λ x b. FnReturnsAt F.Fn test x b) p → FollowsRun (all_of p) (Self.whole self.old m) result }
         ensures stands { IfOk result (λ _. Self.IsOver self.new
             ⊎ ((m : Self.Reading) → Self.Reads self.old m → StandsAfterItem (Self.whole self.old m) (Self.rest self.new m))) }
         // A fault is the chain's own last answer. So is `OutOfMemory`.
@@ -175,7 +167,7 @@ pub trait Terminal: Cold {
         ensures reads { (m : Self.Reading) → Self.Reads self.old m → Self.Reads self.new m }
         ensures whole { (m : Self.Reading) → Self.whole self.new m ≡ Self.whole self.old m }
         ensures last { (m : Self.Reading) → Self.Reads self.old m
-            → Follows (last_of (items (Self.whole self.old m)) (ending (Self.whole self.old m))) result }
+            → FollowsRun last_of (Self.whole self.old m) result }
         ensures over { Self.IsOver self.new }
         // A fault is the chain's own last answer. So is `OutOfMemory`.
         ensures answered { IfErr result (λ fault. Self.HasAnswered self.new (End.Failed fault)) }
@@ -197,7 +189,7 @@ pub trait Terminal: Cold {
         ensures reads { (m : Self.Reading) → Self.Reads self.old m → Self.Reads self.new m }
         ensures whole { (m : Self.Reading) → Self.whole self.new m ≡ Self.whole self.old m }
         ensures single { (m : Self.Reading) → Self.Reads self.old m
-            → Follows (single_of (items (Self.whole self.old m)) (ending (Self.whole self.old m))) result }
+            → FollowsRun single_of (Self.whole self.old m) result }
         ensures stands { IfOk result (λ _. Self.IsOver self.new
             ⊎ ((m : Self.Reading) → Self.Reads self.old m → StandsAfterItem (Self.whole self.old m) (Self.rest self.new m))) }
         // A fault is the chain's own last answer. So is `OutOfMemory`.
@@ -221,7 +213,7 @@ pub trait Terminal: Cold {
         ensures reads { (m : Self.Reading) → Self.Reads self.old m → Self.Reads self.new m }
         ensures whole { (m : Self.Reading) → Self.whole self.new m ≡ Self.whole self.old m }
         ensures counts { (m : Self.Reading) → Self.Reads self.old m
-            → Follows (counted (items (Self.whole self.old m)) (ending (Self.whole self.old m))) result }
+            → FollowsRun counted (Self.whole self.old m) result }
         ensures over { IfOk result (λ _. Self.IsOver self.new) }
         // After a count that is too large the chain is just after the item that made it so.
         ensures stands { IfErr result (λ _. Self.IsOver self.new

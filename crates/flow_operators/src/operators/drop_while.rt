@@ -1,5 +1,5 @@
 //! `dropWhile`: the items from the first one that fails a test.
-ghost use Rattle.std.specs.Prelude.{◌≡◌, ◌&&◌, true, Bool};
+ghost use Rattle.std.specs.Prelude.{◌≡◌, true, Bool};
 ghost use Rattle.std.specs.Fn.{FnReturnsAt};
 ghost use Rattle.flow_law.specs.Chain.{drop_while_meaning, meaning_of};
 ghost use Rattle.flow_law.specs.OperatorRuns.{drop_while_run};
@@ -9,7 +9,7 @@ ghost use Rattle.flow_operators.specs.Kept.{drop_while_rest};
 ghost use Rattle.flow_operators.specs.Upstreams.{chain_of, is_ended, left_of};
 
 use crate::cold::{Asked, Cold};
-use crate::operators::passing::passes;
+use crate::operators::passing::next_where;
 use crate::upstream::Upstream;
 
 /// Drops the first items of a chain while they pass a test, and emits all others. Items after the first one that fails
@@ -48,16 +48,18 @@ impl<C: Cold, F: Fn(&C::Item) -> bool> Cold for DropWhile<C, F> {
         result (C.rest (chain_of new.upstream) m.0) };
 
     fn ask(&mut self) -> Asked<C::Item> {
-        loop {
-            match self.upstream.next() {
-                Ok(item) => {
-                    self.dropping = still_drops(self.dropping, &self.test, &item);
-                    if !self.dropping {
-                        return Asked::Item(item);
-                    }
-                }
-                Err(asked) => return asked,
+        if !self.dropping {
+            return match self.upstream.next() {
+                Ok(item) => Asked::Item(item),
+                Err(asked) => asked,
+            };
+        }
+        match next_where(&mut self.upstream, &self.test, false) {
+            Ok(item) => {
+                self.dropping = false;
+                Asked::Item(item)
             }
+            Err(asked) => asked,
         }
     }
 
@@ -67,14 +69,6 @@ impl<C: Cold, F: Fn(&C::Item) -> bool> Cold for DropWhile<C, F> {
     }
 
     ghost limited = { λ l s. C.limited l (chain_of s.upstream) };
-}
-
-/// Returns whether this item is dropped, too: all before it were, and it passes.
-fn still_drops<T, F: Fn(&T) -> bool>(dropping: bool, test: &F, item: &T) -> bool
-    requires { F.IsAlwaysCallable test.now }
-    ensures { (p : T → Bool) → Decides (λ x b. FnReturnsAt F.Fn test.now x b) p → result ≡ (dropping && p item.now) }
-{
-    dropping && passes(test, item)
 }
 
 impl<C: Cold, F: Fn(&C::Item) -> bool> DropWhile<C, F> {

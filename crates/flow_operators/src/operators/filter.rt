@@ -8,7 +8,7 @@ ghost use Rattle.flow_operators.specs.Closures.{Decides};
 ghost use Rattle.flow_operators.specs.Upstreams.{chain_of, is_ended, left_of};
 
 use crate::cold::{Asked, Cold};
-use crate::operators::passing::passes;
+use crate::operators::passing::next_where;
 use crate::upstream::Upstream;
 
 /// Emits the items that pass a test.
@@ -45,15 +45,9 @@ impl<C: Cold, F: Fn(&C::Item) -> bool> Cold for Filter<C, F> {
         result (C.rest (chain_of new.upstream) m.0) };
 
     fn ask(&mut self) -> Asked<C::Item> {
-        loop {
-            match self.upstream.next() {
-                Ok(item) => {
-                    if passes(&self.test, &item) {
-                        return Asked::Item(item);
-                    }
-                }
-                Err(asked) => return asked,
-            }
+        match next_where(&mut self.upstream, &self.test, true) {
+            Ok(item) => Asked::Item(item),
+            Err(asked) => asked,
         }
     }
 

@@ -1,10 +1,10 @@
 //! `map`: what a closure makes of each item.
 ghost use Rattle.std.specs.Prelude.{◌≡◌, true, Result};
+ghost use Rattle.flow_law.specs.declared.chain.ChainFault.{ChainFault};
 ghost use Rattle.flow_law.specs.Chain.{map_meaning, meaning_of};
 ghost use Rattle.flow_law.specs.OperatorRuns.{map_run};
-ghost use Rattle.flow_operators.specs.Behind.{AsksOnce};
 ghost use Rattle.flow_operators.specs.Closures.{Computes};
-ghost use Rattle.flow_operators.specs.Upstreams.{chain_of, is_ended, left_of};
+ghost use Rattle.flow_operators.specs.Upstreams.{AsksUpstream, chain_of, is_ended, left_of};
 
 use crate::cold::{Asked, Cold};
 use crate::upstream::Upstream;
@@ -23,8 +23,6 @@ where
     U: FlowValue,
     F: Fn(C::Item) -> Result<U, ChainFault>,
 {
-    ghost use Rattle.flow_law.specs.declared.chain.ChainFault.{ChainFault};
-
     type Item = U;
 
     ghost Reading = { C.Reading × (C.Item → Result U ChainFault) };
@@ -45,8 +43,7 @@ where
 
     ghost IsOver = { λ s. is_ended s.upstream ≡ true };
 
-    ghost AsksBehind = { λ old m result new.
-        AsksOnce (C.rest (chain_of old.upstream) m.0) result (C.rest (chain_of new.upstream) m.0) };
+    ghost AsksBehind = { λ old m result new. AsksUpstream (λ c. C.rest c m.0) old.upstream result new.upstream };
 
     fn ask(&mut self) -> Asked<U> {
         match self.upstream.next() {
@@ -71,8 +68,6 @@ where
     U: FlowValue,
     F: Fn(C::Item) -> Result<U, ChainFault>,
 {
-    ghost use Rattle.flow_law.specs.declared.chain.ChainFault.{ChainFault};
-
     /// Maps the items of this chain. A fault of the closure ends the chain, and no item comes of that call.
     pub fn new(upstream: C, closure: F) -> Self
         requires upstream { C.CanAsk upstream }

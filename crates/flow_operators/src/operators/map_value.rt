@@ -2,9 +2,8 @@
 ghost use Rattle.std.specs.Prelude.{◌≡◌, true, Ok};
 ghost use Rattle.flow_law.specs.Chain.{map_meaning, meaning_of};
 ghost use Rattle.flow_law.specs.OperatorRuns.{map_run};
-ghost use Rattle.flow_operators.specs.Behind.{AsksOnce};
 ghost use Rattle.flow_operators.specs.Closures.{Makes};
-ghost use Rattle.flow_operators.specs.Upstreams.{chain_of, is_ended, left_of};
+ghost use Rattle.flow_operators.specs.Upstreams.{AsksUpstream, chain_of, is_ended, left_of};
 
 use crate::cold::{Asked, Cold};
 use crate::upstream::Upstream;
@@ -43,8 +42,7 @@ where
 
     ghost IsOver = { λ s. is_ended s.upstream ≡ true };
 
-    ghost AsksBehind = { λ old m result new.
-        AsksOnce (C.rest (chain_of old.upstream) m.0) result (C.rest (chain_of new.upstream) m.0) };
+    ghost AsksBehind = { λ old m result new. AsksUpstream (λ c. C.rest c m.0) old.upstream result new.upstream };
 
     fn ask(&mut self) -> Asked<U> {
         match self.upstream.next() {

@@ -1,8 +1,8 @@
 //! Pairs of the items of two chains, for `zip`.
-ghost use Rattle.std.specs.Prelude.{◌≡◌, ◌⊎◌, ◌<◌, true, false, None, IfOk, IfErr};
+ghost use Rattle.std.specs.Prelude.{◌≡◌, ◌⊎◌, ◌<◌, true, false, IfOk, IfErr};
 ghost use Rattle.flow_operators.specs.Asking.{IsFinal};
 ghost use Rattle.flow_operators.specs.Pairs.{AsksSides, PairGives};
-ghost use Rattle.flow_operators.specs.Pairs.{is_over, kept_item, left_chain, most_pairs, right_chain};
+ghost use Rattle.flow_operators.specs.Pairs.{is_over, left_chain, most_pairs, right_chain};
 ghost use Rattle.flow_operators.specs.Upstreams.{WithAnswer};
 
 use crate::cold::{Asked, Cold};
@@ -12,24 +12,11 @@ use crate::upstream::Upstream;
 #[derive(Drop)]
 pub(crate) struct Pairs<L, R, A> {
     pub(crate) left: Upstream<L>,
-    right: R,
-    kept: Option<A>,
+    pub(crate) right: R,
+    pub(crate) kept: Option<A>,
 }
 
 impl<L: Cold, R: Cold> Pairs<L, R, L::Item> {
-    pub(crate) fn new(left: L, right: R) -> Self
-        ensures left { left_chain result ≡ left }
-        ensures right { right_chain result ≡ right }
-        ensures kept { kept_item result ≡ None }
-        ensures over { is_over result ≡ false }
-    {
-        Pairs {
-            left: Upstream::new(left),
-            right,
-            kept: None,
-        }
-    }
-
     /// Returns the next pair, or the answer in place of one.
     pub(crate) fn next<U>(&mut self) -> Result<(L::Item, R::Item), Asked<U>>
         requires left { L.CanAsk (left_chain self.old) }
@@ -69,24 +56,5 @@ impl<L: Cold, R: Cold> Pairs<L, R, L::Item> {
             Asked::End => Err(self.left.end()),
             Asked::Fault(fault) => Err(self.left.fail(fault)),
         }
-    }
-
-    pub(crate) fn rewind(&mut self)
-        requires left { L.CanAsk (left_chain self.old) }
-        requires right { R.CanAsk (right_chain self.old) }
-        ensures left { L.CanAsk (left_chain self.new) }
-        ensures right { R.CanAsk (right_chain self.new) }
-        ensures left_reads { (m : L.Reading) → L.Reads (left_chain self.old) m → L.Reads (left_chain self.new) m }
-        ensures right_reads { (n : R.Reading) → R.Reads (right_chain self.old) n → R.Reads (right_chain self.new) n }
-        ensures left_whole { (m : L.Reading) → L.whole (left_chain self.new) m ≡ L.whole (left_chain self.old) m }
-        ensures right_whole { (n : R.Reading) → R.whole (right_chain self.new) n ≡ R.whole (right_chain self.old) n }
-        ensures left_rest { (m : L.Reading) → L.rest (left_chain self.new) m ≡ L.whole (left_chain self.old) m }
-        ensures right_rest { (n : R.Reading) → R.rest (right_chain self.new) n ≡ R.whole (right_chain self.old) n }
-        ensures kept { kept_item self.new ≡ None }
-        ensures over { is_over self.new ≡ false }
-    {
-        self.kept = None;
-        self.left.rewind();
-        self.right.rewind();
     }
 }

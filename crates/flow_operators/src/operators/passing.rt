@@ -1,7 +1,14 @@
 //! Calls of the caller's tests.
-ghost use Rattle.std.specs.Prelude.{◌≡◌, Bool};
+ghost use Rattle.std.specs.Prelude.{◌≡◌, ◌⊎◌, ◌<◌, true, Bool, IfOk, IfErr};
 ghost use Rattle.std.specs.Fn.{FnReturnsAt};
+ghost use Rattle.flow_operators.specs.Asking.{IsFinal};
 ghost use Rattle.flow_operators.specs.Closures.{Decides};
+ghost use Rattle.flow_operators.specs.Passing.{from_passing};
+ghost use Rattle.flow_operators.specs.Terminal.{sought};
+ghost use Rattle.flow_operators.specs.Upstreams.{NextGives, chain_of, is_ended, left_of};
+
+use crate::cold::{Asked, Cold};
+use crate::upstream::Upstream;
 
 /// Returns whether the item passes the test, as each function that the test computes says.
 pub(crate) fn passes<T, F: Fn(&T) -> bool>(test: &F, item: &T) -> bool
@@ -9,4 +16,37 @@ pub(crate) fn passes<T, F: Fn(&T) -> bool>(test: &F, item: &T) -> bool
     ensures { (p : T → Bool) → Decides (λ x b. FnReturnsAt F.Fn test.now x b) p → result ≡ p item.now }
 {
     test(item)
+}
+
+/// Returns the upstream's next item whose test answers `wanted`, or the answer in place of one.
+pub(crate) fn next_where<C: Cold, U, F: Fn(&C::Item) -> bool>(
+    upstream: &mut Upstream<C>,
+    test: &F,
+    wanted: bool,
+) -> Result<C::Item, Asked<U>>
+    requires upstream { C.CanAsk (chain_of upstream.old) }
+    requires callable { F.IsAlwaysCallable test.now }
+    ensures callable { C.CanAsk (chain_of upstream.new) }
+    ensures reads { (m : C.Reading) → C.Reads (chain_of upstream.old) m → C.Reads (chain_of upstream.new) m }
+    ensures whole { (m : C.Reading) → C.whole (chain_of upstream.new) m ≡ C.whole (chain_of upstream.old) m }
+    ensures gives { (m : C.Reading) (p : C.Item → Bool) → C.Reads (chain_of upstream.old) m
+        → Decides (λ x b. FnReturnsAt F.Fn test.now x b) p
+        → NextGives (from_passing (sought wanted p) (left_of (λ c. C.rest c m) upstream.old)) result
+        (left_of (λ c. C.rest c m) upstream.new) }
+    ensures behind { (¬ (is_ended upstream.old ≡ true)) → (m : C.Reading) (p : C.Item → Bool)
+        → C.Reads (chain_of upstream.old) m → Decides (λ x b. FnReturnsAt F.Fn test.now x b) p
+        → NextGives (from_passing (sought wanted p) (C.rest (chain_of upstream.old) m)) result
+        (C.rest (chain_of upstream.new) m) }
+    ensures fewer { IfOk result (λ _. C.most_asks (chain_of upstream.new) < C.most_asks (chain_of upstream.old)) }
+    ensures pends { IfErr result (λ asked. IsFinal asked
+        ⊎ C.most_asks (chain_of upstream.new) < C.most_asks (chain_of upstream.old)) }
+    ensures over { IfErr result (λ asked. IsFinal asked → is_ended upstream.new ≡ true) }
+    ensures end { is_ended upstream.old ≡ true → (result ≡ Err Asked.End) × upstream.new ≡ upstream.old }
+{
+    loop {
+        let item = upstream.next()?;
+        if passes(test, &item) == wanted {
+            return Ok(item);
+        }
+    }
 }

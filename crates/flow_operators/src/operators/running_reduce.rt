@@ -1,10 +1,10 @@
 //! `runningReduce`: the first item, then the results so far.
 ghost use Rattle.std.specs.Prelude.{◌≡◌, true, None, Result};
+ghost use Rattle.flow_law.specs.declared.chain.ChainFault.{ChainFault};
 ghost use Rattle.flow_law.specs.Chain.{running_reduce_meaning, meaning_of};
 ghost use Rattle.flow_law.specs.OperatorRuns.{running_reduce_run};
-ghost use Rattle.flow_operators.specs.Behind.{AsksOnce};
 ghost use Rattle.flow_operators.specs.Closures.{ComputesPairs};
-ghost use Rattle.flow_operators.specs.Upstreams.{chain_of, is_ended, left_of};
+ghost use Rattle.flow_operators.specs.Upstreams.{AsksUpstream, chain_of, is_ended, left_of};
 
 use crate::cold::{Asked, Cold};
 use crate::operators::last::keep_made;
@@ -25,8 +25,6 @@ where
     C: Cold,
     F: Fn(C::Item, C::Item) -> Result<C::Item, ChainFault>,
 {
-    ghost use Rattle.flow_law.specs.declared.chain.ChainFault.{ChainFault};
-
     type Item = C::Item;
 
     ghost Reading = { C.Reading × (C.Item × C.Item → Result C.Item ChainFault) };
@@ -47,8 +45,7 @@ where
 
     ghost IsOver = { λ s. is_ended s.upstream ≡ true };
 
-    ghost AsksBehind = { λ old m result new.
-        AsksOnce (C.rest (chain_of old.upstream) m.0) result (C.rest (chain_of new.upstream) m.0) };
+    ghost AsksBehind = { λ old m result new. AsksUpstream (λ c. C.rest c m.0) old.upstream result new.upstream };
 
     fn ask(&mut self) -> Asked<C::Item> {
         match self.upstream.next() {
@@ -77,8 +74,6 @@ where
     C: Cold,
     F: Fn(C::Item, C::Item) -> Result<C::Item, ChainFault>,
 {
-    ghost use Rattle.flow_law.specs.declared.chain.ChainFault.{ChainFault};
-
     /// Reduces the items of this chain. A fault of the closure ends the chain.
     pub fn new(upstream: C, closure: F) -> Self
         requires upstream { C.CanAsk upstream }

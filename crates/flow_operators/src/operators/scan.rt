@@ -1,5 +1,6 @@
 //! `scan`: an initial value, then the results so far.
 ghost use Rattle.std.specs.Prelude.{◌≡◌, ◌+◌, true, Result};
+ghost use Rattle.flow_law.specs.declared.chain.ChainFault.{ChainFault};
 ghost use Rattle.flow_law.specs.ChainRun.{gives};
 ghost use Rattle.flow_law.specs.Chain.{scan_meaning, meaning_of};
 ghost use Rattle.flow_law.specs.OperatorRuns.{scan_run};
@@ -25,8 +26,6 @@ where
     U: FlowValue,
     F: Fn(U, C::Item) -> Result<U, ChainFault>,
 {
-    ghost use Rattle.flow_law.specs.declared.chain.ChainFault.{ChainFault};
-
     type Item = U;
 
     ghost Reading = { C.Reading × (U × C.Item → Result U ChainFault) };
@@ -73,8 +72,6 @@ where
     U: FlowValue,
     F: Fn(U, C::Item) -> Result<U, ChainFault>,
 {
-    ghost use Rattle.flow_law.specs.declared.chain.ChainFault.{ChainFault};
-
     /// Emits `initial` without asking the upstream, then the results. A fault of the closure ends the chain.
     pub fn new(upstream: C, initial: U, closure: F) -> Self
         requires upstream { C.CanAsk upstream }

@@ -1,10 +1,9 @@
 //! `take`: the first items.
 ghost use Rattle.std.specs.Prelude.{◌≡◌, ◌⊎◌, ◌<◌, ◌↔◌, true, IfOk, IfErr};
 ghost use Rattle.flow_law.specs.Chain.{take_meaning, meaning_of};
-ghost use Rattle.flow_operators.specs.Behind.{AsksOnce};
 ghost use Rattle.flow_operators.specs.Asking.{AskGives, IsFinal, OnEnd};
 ghost use Rattle.flow_operators.specs.Taking.{items_left, left_after};
-ghost use Rattle.flow_operators.specs.Upstreams.{chain_of, is_ended, left_of};
+ghost use Rattle.flow_operators.specs.Upstreams.{AsksUpstream, chain_of, is_ended, left_of};
 ghost use Rattle.flow_law.specs.OperatorRuns.{take_run};
 
 use crate::cold::{Asked, Cold};
@@ -67,8 +66,7 @@ impl<C: Cold> Cold for Take<C> {
 
     ghost IsOver = { λ s. (s.left ≡ 0) ⊎ (is_ended s.upstream ≡ true) };
 
-    ghost AsksBehind = { λ old m result new.
-        AsksOnce (C.rest (chain_of old.upstream) m) result (C.rest (chain_of new.upstream) m) };
+    ghost AsksBehind = { λ old m result new. AsksUpstream (λ c. C.rest c m) old.upstream result new.upstream };
 
     // The trait's clauses, and the number of items that are left. After the last item the upstream does not change.
     fn ask(&mut self) -> Asked<C::Item>

@@ -1,11 +1,10 @@
 //! `takeWhile`: the items before the first one that fails a test.
 ghost use Rattle.std.specs.Prelude.{◌≡◌, true, Bool};
-ghost use Rattle.std.specs.Fn.{FnReturnsAt};
 ghost use Rattle.flow_law.specs.Chain.{take_while_meaning, meaning_of};
 ghost use Rattle.flow_law.specs.OperatorRuns.{take_while_run};
-ghost use Rattle.flow_operators.specs.Behind.{AsksOnce};
 ghost use Rattle.flow_operators.specs.Closures.{Decides};
-ghost use Rattle.flow_operators.specs.Upstreams.{chain_of, is_ended, left_of};
+ghost use Rattle.flow_operators.specs.Upstreams.{AsksUpstream, chain_of, is_ended, left_of};
+ghost use Rattle.std.specs.Fn.{FnReturnsAt};
 
 use crate::cold::{Asked, Cold};
 use crate::operators::passing::passes;
@@ -40,18 +39,12 @@ impl<C: Cold, F: Fn(&C::Item) -> bool> Cold for TakeWhile<C, F> {
 
     ghost IsOver = { λ s. is_ended s.upstream ≡ true };
 
-    ghost AsksBehind = { λ old m result new.
-        AsksOnce (C.rest (chain_of old.upstream) m.0) result (C.rest (chain_of new.upstream) m.0) };
+    ghost AsksBehind = { λ old m result new. AsksUpstream (λ c. C.rest c m.0) old.upstream result new.upstream };
 
     fn ask(&mut self) -> Asked<C::Item> {
         match self.upstream.next() {
-            Ok(item) => {
-                if passes(&self.test, &item) {
-                    Asked::Item(item)
-                } else {
-                    self.upstream.end()
-                }
-            }
+            Ok(item) if passes(&self.test, &item) => Asked::Item(item),
+            Ok(_) => self.upstream.end(),
             Err(asked) => asked,
         }
     }

@@ -1,5 +1,6 @@
 //! `zip`: pairs of two chains.
 ghost use Rattle.std.specs.Prelude.{◌≡◌, ◌+◌, true, Result};
+ghost use Rattle.flow_law.specs.declared.chain.ChainFault.{ChainFault};
 ghost use Rattle.flow_law.specs.Chain.{zip_meaning, meaning_of};
 ghost use Rattle.flow_law.specs.OperatorRuns.{zip_run};
 ghost use Rattle.flow_operators.specs.Closures.{ComputesPairs};
@@ -8,6 +9,7 @@ ghost use Rattle.std.proofs.Common.{arith};
 
 use crate::cold::{Asked, Cold};
 use crate::operators::pairs::Pairs;
+use crate::upstream::Upstream;
 use flow_law::{ChainFault, FlowValue};
 
 /// Emits what a closure makes of each pair, and ends as soon as one side does.
@@ -27,8 +29,6 @@ where
     U: FlowValue,
     F: Fn(L::Item, R::Item) -> Result<U, ChainFault>,
 {
-    ghost use Rattle.flow_law.specs.declared.chain.ChainFault.{ChainFault};
-
     type Item = U;
 
     ghost Reading = { (L.Reading × R.Reading) × (L.Item × R.Item → Result U ChainFault) };
@@ -66,7 +66,9 @@ where
     }
 
     fn rewind(&mut self) {
-        self.pairs.rewind();
+        self.pairs.kept = None;
+        self.pairs.left.rewind();
+        self.pairs.right.rewind();
     }
 
     ghost limited = { λ l s. Prim.omega (arith, L.limited l.0 (left_chain s.pairs), R.limited l.1 (right_chain s.pairs)) };
@@ -79,8 +81,6 @@ where
     U: FlowValue,
     F: Fn(L::Item, R::Item) -> Result<U, ChainFault>,
 {
-    ghost use Rattle.flow_law.specs.declared.chain.ChainFault.{ChainFault};
-
     /// Pairs the items of two chains. A fault of the closure ends the chain.
     pub fn new(left: L, right: R, closure: F) -> Self
         requires left { L.CanAsk left }
@@ -98,7 +98,11 @@ where
             → ⟦<Zip<L, R, F> as Cold>⟧.rest result ((m, n), f) ≡ zip_run f (L.rest left m) (R.rest right n) }
     {
         Zip {
-            pairs: Pairs::new(left, right),
+            pairs: Pairs {
+                left: Upstream::new(left),
+                right,
+                kept: None,
+            },
             closure,
         }
     }

@@ -1,45 +1,24 @@
-use Rattle.std.proofs.Common.{sym, ◌∙◌, arith}
-use Rattle.std.proofs.lemmas.Grind.{common_steps}
+use Rattle.std.proofs.Common.{inl, refl, sym, ap, ◌∙◌}
+use Rattle.flow_law.specs.OperatorRuns.{filter_run}
+use Rattle.flow_operators.specs.Behind.{after_ask}
+use Rattle.flow_operators.specs.Passing.{from_passing}
+use Rattle.flow_operators.specs.Upstreams.{chain_of, left_of}
+use Rattle.flow_operators.proofs.PassingLemmas.{filter-after, filter-from, filter-item, passed-leaves, passed-on}
 use Rattle.flow_operators.proofs.operators.filter.FilterCold.ask.Goals as goal
 
-pub loop-item-preserved : goal.loop-item-preserved
-loop-item-preserved g c = record {
-  callable = c.next.ensures.callable;
-  test = c.loop-item.invariant.test;
-  decides = c.loop-item.invariant.decides;
-  ended = grind (arith, common_steps);
-  over = grind (arith, common_steps);
-  fewer = grind (arith, common_steps);
-  reads = λ m r. c.next.ensures.reads m (c.loop-item.invariant.reads m r);
-  whole = λ m. c.next.ensures.whole m ∙ c.loop-item.invariant.whole m;
-  rest = λ m p r d.
-      let passes = c.passes.ensures p (c.loop-item.invariant.decides p d) in
-      let rest = c.loop-item.invariant.rest m p r d in
-      let gives = c.in-Ok.ensures.gives m (c.loop-item.invariant.reads m r) in
-      grind (arith, common_steps);
-  behind = λ m p r d.
-      let passes = c.passes.ensures p (c.loop-item.invariant.decides p d) in
-      let behind = c.loop-item.invariant.behind m p r d in
-      let gives = c.in-Ok.ensures.behind (λ e. grind (arith, common_steps)) m (c.loop-item.invariant.reads m r) in
-      grind (arith, common_steps);
-}
+pub returns-in-Ok-clause-gives : goal.returns-in-Ok-clause-gives
+returns-in-Ok-clause-gives g c = λ m r. filter-item m.1 _ _ _ (c.in-Ok.ensures.gives m.0 m.1 r.0 r.1)
 
-pub returns-then-passes-clause-reads : goal.returns-then-passes-clause-reads
-returns-then-passes-clause-reads g c = λ m r. (c.next.ensures.reads m.0 (c.loop-item.invariant.reads m.0 r.0), c.loop-item.invariant.decides m.1 r.1)
+pub returns-in-Ok-clause-behind : goal.returns-in-Ok-clause-behind
+returns-in-Ok-clause-behind g c = λ running m r.
+    let gives = c.in-Ok.ensures.behind running m.0 m.1 r.0 r.1 in
+    inl (sym (filter-after m.1 (g.C.Cold.rest (chain_of c.args.self.now.upstream) m.0) ∙ ap after_ask gives))
 
-pub returns-then-passes-clause-gives : goal.returns-then-passes-clause-gives
-returns-then-passes-clause-gives g c = λ m r.
-    let passes = c.passes.ensures m.1 (c.loop-item.invariant.decides m.1 r.1) in
-    let rest = c.loop-item.invariant.rest m.0 m.1 r.0 r.1 in
-    let gives = c.in-Ok.ensures.gives m.0 (c.loop-item.invariant.reads m.0 r.0) in
-    grind (arith, common_steps)
+pub returns-in-Err-clause-gives : goal.returns-in-Err-clause-gives
+returns-in-Err-clause-gives g c = λ m r.
+    let before = left_of (λ d. g.C.Cold.rest d m.0) c.args.self.now.upstream in
+    passed-on (filter_run m.1) (λ q. refl) (λ e. refl) (from_passing m.1 before) before _ c.in-Err.asked (filter-from m.1 before) (c.in-Err.ensures.gives m.0 m.1 r.0 r.1)
 
-pub returns-then-passes-clause-behind : goal.returns-then-passes-clause-behind
-returns-then-passes-clause-behind g c = λ running m r.
-    let passes = c.passes.ensures m.1 (c.loop-item.invariant.decides m.1 r.1) in
-    let behind = c.loop-item.invariant.behind m.0 m.1 r.0 r.1 in
-    let gives = c.in-Ok.ensures.behind (λ e. running (sym c.loop-item.invariant.ended ∙ e)) m.0 (c.loop-item.invariant.reads m.0 r.0) in
-    grind (arith, common_steps)
-
-pub returns-in-Err-clause-reads : goal.returns-in-Err-clause-reads
-returns-in-Err-clause-reads g c = λ m r. (c.next.ensures.reads m.0 (c.loop-item.invariant.reads m.0 r.0), c.loop-item.invariant.decides m.1 r.1)
+pub returns-in-Err-clause-behind : goal.returns-in-Err-clause-behind
+returns-in-Err-clause-behind g c = λ running m r.
+    rw (filter-after m.1 (g.C.Cold.rest (chain_of c.args.self.now.upstream) m.0)) (passed-leaves _ _ c.in-Err.asked (c.in-Err.ensures.behind running m.0 m.1 r.0 r.1))

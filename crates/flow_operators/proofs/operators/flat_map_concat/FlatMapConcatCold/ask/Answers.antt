@@ -7,43 +7,25 @@ pub returns-in-Item-clause-reads : goal.returns-in-Item-clause-reads
 returns-in-Item-clause-reads g c = λ m r. ((c.loop-item.invariant.reads m.0.0 r.0.0, c.in-Item.ensures.reads m.0.1 (c.loop-item.invariant.inner_reads m.0.1 m.1 r.0.1 r.1)), c.loop-item.invariant.computes m.0.1 m.1 r.1)
 
 pub returns-in-Item-clause-gives : goal.returns-in-Item-clause-gives
-returns-in-Item-clause-gives g c = λ m r.
-    let left = c.loop-item.invariant.rest m.0.0 m.0.1 m.1 r.0.0 r.0.1 r.1 in
-    let asked = c.in-Item.ensures.gives m.0.1 (c.loop-item.invariant.inner_reads m.0.1 m.1 r.0.1 r.1) in
-    grind (arith, common_steps)
+returns-in-Item-clause-gives g c = λ m r. grind (arith, common_steps, c.loop-item.invariant.rest m.0.0 m.0.1 m.1 r.0.0 r.0.1 r.1, c.in-Item.ensures.gives m.0.1 (c.loop-item.invariant.inner_reads m.0.1 m.1 r.0.1 r.1))
 
 pub returns-in-Item-clause-behind : goal.returns-in-Item-clause-behind
-returns-in-Item-clause-behind g c = λ running m r.
-    let left = c.loop-item.invariant.behind m.0.0 m.0.1 m.1 r.0.0 r.0.1 r.1 in
-    let asked = c.in-Item.ensures.gives m.0.1 (c.loop-item.invariant.inner_reads m.0.1 m.1 r.0.1 r.1) in
-    grind (arith, common_steps)
+returns-in-Item-clause-behind g c = λ running m r. grind (arith, common_steps, c.loop-item.invariant.behind m.0.0 m.0.1 m.1 r.0.0 r.0.1 r.1, c.in-Item.ensures.gives m.0.1 (c.loop-item.invariant.inner_reads m.0.1 m.1 r.0.1 r.1))
 
 pub returns-in-Pending-clause-reads : goal.returns-in-Pending-clause-reads
 returns-in-Pending-clause-reads g c = λ m r. ((c.loop-item.invariant.reads m.0.0 r.0.0, c.in-Pending.ensures.reads m.0.1 (c.loop-item.invariant.inner_reads m.0.1 m.1 r.0.1 r.1)), c.loop-item.invariant.computes m.0.1 m.1 r.1)
 
 pub returns-in-Pending-clause-gives : goal.returns-in-Pending-clause-gives
-returns-in-Pending-clause-gives g c = λ m r.
-    let left = c.loop-item.invariant.rest m.0.0 m.0.1 m.1 r.0.0 r.0.1 r.1 in
-    let asked = c.in-Pending.ensures.gives m.0.1 (c.loop-item.invariant.inner_reads m.0.1 m.1 r.0.1 r.1) in
-    grind (arith, common_steps)
+returns-in-Pending-clause-gives g c = λ m r. grind (arith, common_steps, c.loop-item.invariant.rest m.0.0 m.0.1 m.1 r.0.0 r.0.1 r.1, c.in-Pending.ensures.gives m.0.1 (c.loop-item.invariant.inner_reads m.0.1 m.1 r.0.1 r.1))
 
 pub returns-in-Pending-clause-behind : goal.returns-in-Pending-clause-behind
-returns-in-Pending-clause-behind g c = λ running m r.
-    let left = c.loop-item.invariant.behind m.0.0 m.0.1 m.1 r.0.0 r.0.1 r.1 in
-    let asked = c.in-Pending.ensures.gives m.0.1 (c.loop-item.invariant.inner_reads m.0.1 m.1 r.0.1 r.1) in
-    grind (arith, common_steps)
+returns-in-Pending-clause-behind g c = λ running m r. grind (arith, common_steps, c.loop-item.invariant.behind m.0.0 m.0.1 m.1 r.0.0 r.0.1 r.1, c.in-Pending.ensures.gives m.0.1 (c.loop-item.invariant.inner_reads m.0.1 m.1 r.0.1 r.1))
 
 pub returns-in-Fault-clause-gives : goal.returns-in-Fault-clause-gives
-returns-in-Fault-clause-gives g c = λ m r.
-    let left = c.loop-item.invariant.rest m.0.0 m.0.1 m.1 r.0.0 r.0.1 r.1 in
-    let asked = c.in-Fault.ensures.gives m.0.1 (c.loop-item.invariant.inner_reads m.0.1 m.1 r.0.1 r.1) in
-    grind (arith, common_steps)
+returns-in-Fault-clause-gives g c = λ m r. grind (arith, common_steps, c.loop-item.invariant.rest m.0.0 m.0.1 m.1 r.0.0 r.0.1 r.1, c.in-Fault.ensures.gives m.0.1 (c.loop-item.invariant.inner_reads m.0.1 m.1 r.0.1 r.1))
 
 pub returns-in-Fault-clause-behind : goal.returns-in-Fault-clause-behind
-returns-in-Fault-clause-behind g c = λ running m r.
-    let left = c.loop-item.invariant.behind m.0.0 m.0.1 m.1 r.0.0 r.0.1 r.1 in
-    let asked = c.in-Fault.ensures.gives m.0.1 (c.loop-item.invariant.inner_reads m.0.1 m.1 r.0.1 r.1) in
-    grind (arith, common_steps)
+returns-in-Fault-clause-behind g c = λ running m r. grind (arith, common_steps, c.loop-item.invariant.behind m.0.0 m.0.1 m.1 r.0.0 r.0.1 r.1, c.in-Fault.ensures.gives m.0.1 (c.loop-item.invariant.inner_reads m.0.1 m.1 r.0.1 r.1))
 
 pub loop-item-preserved : goal.loop-item-preserved
 loop-item-preserved g c = record {
@@ -74,34 +56,16 @@ loop-item-preserved g c = record {
 }
 
 pub returns-in-Err-open-clause-gives : goal.returns-in-Err-open-clause-gives
-returns-in-Err-open-clause-gives g c = λ m r.
-    let left = c.loop-item.invariant.rest m.0.0 m.0.1 m.1 r.0.0 r.0.1 r.1 in
-    let asked = c.in-End.ensures.gives m.0.1 (c.loop-item.invariant.inner_reads m.0.1 m.1 r.0.1 r.1) in
-    let gives = c.in-Ok.ensures.behind (λ e. grind (arith, common_steps)) m.0.0 (c.loop-item.invariant.reads m.0.0 r.0.0) in
-    let opened = c.in-Err-open.ensures.opens m.0.1 m.1 (c.loop-item.invariant.computes m.0.1 m.1 r.1) in
-    grind (arith, common_steps)
+returns-in-Err-open-clause-gives g c = λ m r. grind (arith, common_steps, c.loop-item.invariant.rest m.0.0 m.0.1 m.1 r.0.0 r.0.1 r.1, c.in-End.ensures.gives m.0.1 (c.loop-item.invariant.inner_reads m.0.1 m.1 r.0.1 r.1), c.in-Ok.ensures.behind (λ e. grind (arith, common_steps)) m.0.0 (c.loop-item.invariant.reads m.0.0 r.0.0), c.in-Err-open.ensures.opens m.0.1 m.1 (c.loop-item.invariant.computes m.0.1 m.1 r.1))
 
 pub returns-in-Err-open-clause-behind : goal.returns-in-Err-open-clause-behind
-returns-in-Err-open-clause-behind g c = λ running m r.
-    let left = c.loop-item.invariant.behind m.0.0 m.0.1 m.1 r.0.0 r.0.1 r.1 in
-    let asked = c.in-End.ensures.gives m.0.1 (c.loop-item.invariant.inner_reads m.0.1 m.1 r.0.1 r.1) in
-    let gives = c.in-Ok.ensures.behind (λ e. grind (arith, common_steps)) m.0.0 (c.loop-item.invariant.reads m.0.0 r.0.0) in
-    let opened = c.in-Err-open.ensures.opens m.0.1 m.1 (c.loop-item.invariant.computes m.0.1 m.1 r.1) in
-    grind (arith, common_steps)
+returns-in-Err-open-clause-behind g c = λ running m r. grind (arith, common_steps, c.loop-item.invariant.behind m.0.0 m.0.1 m.1 r.0.0 r.0.1 r.1, c.in-End.ensures.gives m.0.1 (c.loop-item.invariant.inner_reads m.0.1 m.1 r.0.1 r.1), c.in-Ok.ensures.behind (λ e. grind (arith, common_steps)) m.0.0 (c.loop-item.invariant.reads m.0.0 r.0.0), c.in-Err-open.ensures.opens m.0.1 m.1 (c.loop-item.invariant.computes m.0.1 m.1 r.1))
 
 pub returns-in-Err-clause-gives : goal.returns-in-Err-clause-gives
-returns-in-Err-clause-gives g c = λ m r.
-    let left = c.loop-item.invariant.rest m.0.0 m.0.1 m.1 r.0.0 r.0.1 r.1 in
-    let asked = c.in-End.ensures.gives m.0.1 (c.loop-item.invariant.inner_reads m.0.1 m.1 r.0.1 r.1) in
-    let gives = c.in-Err.ensures.behind (λ e. grind (arith, common_steps)) m.0.0 (c.loop-item.invariant.reads m.0.0 r.0.0) in
-    grind (arith, common_steps)
+returns-in-Err-clause-gives g c = λ m r. grind (arith, common_steps, c.loop-item.invariant.rest m.0.0 m.0.1 m.1 r.0.0 r.0.1 r.1, c.in-End.ensures.gives m.0.1 (c.loop-item.invariant.inner_reads m.0.1 m.1 r.0.1 r.1), c.in-Err.ensures.behind (λ e. grind (arith, common_steps)) m.0.0 (c.loop-item.invariant.reads m.0.0 r.0.0))
 
 pub returns-in-Err-clause-behind : goal.returns-in-Err-clause-behind
-returns-in-Err-clause-behind g c = λ running m r.
-    let left = c.loop-item.invariant.behind m.0.0 m.0.1 m.1 r.0.0 r.0.1 r.1 in
-    let asked = c.in-End.ensures.gives m.0.1 (c.loop-item.invariant.inner_reads m.0.1 m.1 r.0.1 r.1) in
-    let gives = c.in-Err.ensures.behind (λ e. grind (arith, common_steps)) m.0.0 (c.loop-item.invariant.reads m.0.0 r.0.0) in
-    grind (arith, common_steps)
+returns-in-Err-clause-behind g c = λ running m r. grind (arith, common_steps, c.loop-item.invariant.behind m.0.0 m.0.1 m.1 r.0.0 r.0.1 r.1, c.in-End.ensures.gives m.0.1 (c.loop-item.invariant.inner_reads m.0.1 m.1 r.0.1 r.1), c.in-Err.ensures.behind (λ e. grind (arith, common_steps)) m.0.0 (c.loop-item.invariant.reads m.0.0 r.0.0))
 
 pub returns-in-Err-clause-fewer : goal.returns-in-Err-clause-fewer
 returns-in-Err-clause-fewer g c = elim c.in-Err.ensures.pends [
