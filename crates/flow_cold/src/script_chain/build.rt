@@ -76,7 +76,11 @@ impl Op {
             }),
             Op::FlatMap { to, count } => match to {
                 Spread::Range => Operator::FlatMapRange(Following::new(count)),
-                Spread::Repeat => Operator::FlatMapRepeat(Repeating::new(count)),
+                Spread::Repeat => Operator::FlatMapRepeat(Repeating {
+                    count,
+                    item: 0,
+                    left: 0,
+                }),
             },
             Op::Zip { with, by } => return Part::With(with, by),
             Op::Distinct => Operator::Distinct(Comparing { last: None }),

@@ -95,17 +95,6 @@ pub struct Repeating {
 }
 
 impl Repeating {
-    /// Begins before the first item.
-    pub fn new(count: u64) -> Repeating
-        ensures { result.count ≡ count }
-    {
-        Repeating {
-            count,
-            item: 0,
-            left: 0,
-        }
-    }
-
     /// Returns the item once more, if it has to be emitted once more.
     pub fn next_held(&mut self) -> Option<Result<i64, ChainFault>>
         ensures count { self.new.count ≡ self.old.count }

@@ -35,25 +35,10 @@ impl Stage {
         ensures end { IsStageOver self.old → (result ≡ Some Answer.End) × self.new ≡ self.old }
     {
         match self.phase {
-            Phase::Ready => None,
-            Phase::Holding => self.next_held(),
-            Phase::Over => Some(Answer::End),
+            Phase::Ready => return None,
+            Phase::Holding => {}
+            Phase::Over => return Some(Answer::End),
         }
-    }
-
-    /// Returns the next answer that is held back, or `None` if the upstream has to be asked.
-    fn next_held(&mut self) -> Option<Answer>
-        requires { self.old.phase ≡ Phase.Holding }
-        ensures whole { (r : ChainRun ℤ) → operator_whole self.new.operator r
-            ≡ operator_whole self.old.operator r }
-        ensures gives { (r : ChainRun ℤ) → MatchOption result (stage_rest self.new r ≡ stage_rest self.old r)
-            (λ given. AskGives (stage_rest self.old r) (asked_of given) (stage_rest self.new r)) }
-        ensures behind { (r : ChainRun ℤ)
-            → MatchOption result (after_stage self.old r ≡ after_stage self.new r)
-            (λ _. after_stage self.old r ≡ r) }
-        ensures ready { result ≡ None → self.new.phase ≡ Phase.Ready }
-        ensures over { IfSome result (λ given. IsFinal (asked_of given) → IsStageOver self.new) }
-    {
         match self.operator.next_held() {
             Some(Ok(item)) => Some(Answer::Item(item)),
             Some(Err(fault)) => {
