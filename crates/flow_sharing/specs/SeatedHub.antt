@@ -21,6 +21,10 @@ pub record SeatedHub (Id S E I : Type 0) : Type 0 where
 abbrev pub IsOf : {Id S E : Type 0} → Token Id E → Origin Id S → Type 0
 IsOf t flow = t.table_id ≡ flow.table_id
 
+-- a token after the two seats of a hub were made through it
+abbrev pub made_two : {Id E : Type 0} → Token Id E → Token Id E
+made_two maker = knowing maker (makes (makes maker.knows))
+
 module _ {Id S E I : Type 0} where
   -- a hub whose two seats were made through this one: first the one that counts, then the one that emits
   abbrev pub seated : Origin Id S → Token Id E → I → SeatedHub Id S E I

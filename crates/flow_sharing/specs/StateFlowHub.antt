@@ -1,5 +1,5 @@
 -- What each call of a sharing does to a state flow for several threads. Begin with `StateFlowHubDoes`.
-use Rattle.std.specs.Prelude.{◌≡◌, ◌⊎◌, Bool, false, Result, Ok, Err}
+use Rattle.std.specs.Prelude.{◌≡◌, ◌⊎◌, Bool, false, None, Result, Ok, Err}
 use Rattle.flow_law.specs.declared.fault.FlowFault.{FlowFault}
 use Rattle.flow_law.specs.declared.fault.FlowFault.TheVariants.{OutOfMemory, Busy}
 use Rattle.flow_law.specs.declared.history.Said.{Said}
@@ -11,7 +11,7 @@ use Rattle.flow_law.specs.declared.states.StateFlowState.{StateFlowState}
 use Rattle.flow_law.specs.SharingCalls.{HubCall, HubAnswer, counts, puts, polls, cancels, resets}
 use Rattle.flow_law.specs.StateFlow.{state_flow}
 use Rattle.flow_law.specs.OneHistory.{said}
-use Rattle.flow_law.specs.Tokens.{IsBusy, CallsAtOnceIn}
+use Rattle.flow_law.specs.Tokens.{Token, Origin, IsBusy, CallsAtOnceIn}
 use Rattle.flow_sharing.specs.SeatedHub.{SeatedHub, OnlySends, CountDoes}
 
 -- nothing waits in a state flow
@@ -23,6 +23,10 @@ abbrev pub StateSeats : Type 0 → Type 0 → Type 0
 StateSeats Id T = SeatedHub Id (StateFlowState T) (Said (StateCall T) (StateReply T)) T
 
 module _ {Id T : Type 0} where
+  -- a hub of a state flow by its flow, its two seats and its initial value: no emission of it waits
+  abbrev pub state_seats : Origin Id (StateFlowState T) → (watching sending : Token Id (Said (StateCall T) (StateReply T))) → T → StateSeats Id T
+  state_seats flow watching sending initial = record { flow = flow; watching = watching; sending = sending; emission = None; initial = initial }
+
   -- a put is a `set` under the sending seat; or another caller was inside, and the seat has lost one exchange
   abbrev pub SetDoes : T → StateSeats Id T → Result Bool FlowFault → StateSeats Id T → Type 0
   SetDoes x old (Ok waits) new =

@@ -1,8 +1,6 @@
 //! A shared flow for several threads as the hub of a sharing.
 ghost use Rattle.std.specs.Prelude.{◌≡◌, false};
-ghost use Rattle.flow_law.specs.Growth.{makes};
-ghost use Rattle.flow_law.specs.Tokens.{knowing};
-ghost use Rattle.flow_sharing.specs.SeatedHub.{seated};
+ghost use Rattle.flow_sharing.specs.SeatedHub.{seated, made_two};
 
 use crate::sender::Sender;
 use core::mem::replace_with;
@@ -55,15 +53,15 @@ impl<'a, T: FlowValue, A: Allocator + Copy> SharedFlowHub<'a, T, A> {
     pub fn new(flow: &'a SharedFlow<T, A>, seat: &mut Seat<T, A>) -> SharedFlowHub<'a, T, A>
         requires { seat.old.table_id ≡ flow.now.table_id }
         ensures hub { result ≡ seated flow.entry.now seat.old tt }
-        ensures seat { seat.new ≡ knowing seat.old (makes (makes seat.old.knows)) }
+        ensures seat { seat.new ≡ made_two seat.old }
         ensures waits { ⟦<SharedFlowHub<'a, T, A> as Hub>⟧.waits result ≡ false }
     {
         let watching = flow.seat(seat);
-        let sending = flow.seat(seat);
+        let sending = Sender::Idle(flow.seat(seat));
         SharedFlowHub {
             flow,
             watching,
-            sending: Sender::Idle(sending),
+            sending,
             driver: flow.watcher(),
         }
     }

@@ -1,8 +1,6 @@
 //! A state flow for several threads as the hub of a sharing.
 ghost use Rattle.std.specs.Prelude.{◌≡◌, false};
-ghost use Rattle.flow_law.specs.Growth.{makes};
-ghost use Rattle.flow_law.specs.Tokens.{knowing};
-ghost use Rattle.flow_sharing.specs.SeatedHub.{seated};
+ghost use Rattle.flow_sharing.specs.SeatedHub.{seated, made_two};
 
 use flow_law::{FlowFault, FlowValue, Refused};
 use flow_shared::{StateFlow, StateSeat, Watcher};
@@ -27,21 +25,14 @@ pub struct StateFlowHub<'a, T: FlowValue, A: Allocator + Copy = Global> {
 }
 
 impl<'a, T: FlowValue, A: Allocator + Copy> Model for StateFlowHub<'a, T, A> {
-    ghost use Rattle.std.specs.Prelude.{None};
     ghost use Rattle.atomic_table.specs.Seated.{TableId};
-    ghost use Rattle.flow_sharing.specs.StateFlowHub.{StateSeats};
+    ghost use Rattle.flow_sharing.specs.StateFlowHub.{StateSeats, state_seats};
 
     ghost Value = { StateSeats TableId T };
 
     ghost use Rattle.flow_sharing.specs.SeatedHub.{IsOf};
 
-    ghost view = { λ h. record {
-      flow = h.flow.now;
-      watching = h.watching;
-      sending = h.sending;
-      emission = None;
-      initial = h.initial;
-    } };
+    ghost view = { λ h. state_seats h.flow.now h.watching h.sending h.initial };
 
     ghost invariant = { λ h. IsOf h.watching h.flow.now × IsOf h.sending h.flow.now };
 }
@@ -56,7 +47,7 @@ impl<'a, T: FlowValue, A: Allocator + Copy> StateFlowHub<'a, T, A> {
     ) -> StateFlowHub<'a, T, A>
         requires { seat.old.table_id ≡ flow.now.table_id }
         ensures hub { result ≡ seated flow.entry.now seat.old initial }
-        ensures seat { seat.new ≡ knowing seat.old (makes (makes seat.old.knows)) }
+        ensures seat { seat.new ≡ made_two seat.old }
         ensures waits { ⟦<StateFlowHub<'a, T, A> as Hub>⟧.waits result ≡ false }
     {
         let watching = flow.seat(seat);

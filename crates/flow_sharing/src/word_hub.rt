@@ -1,8 +1,6 @@
 //! A state flow without a lock as the hub of a sharing.
 ghost use Rattle.std.specs.Prelude.{◌≡◌, false};
-ghost use Rattle.flow_law.specs.Growth.{makes};
-ghost use Rattle.flow_law.specs.Tokens.{knowing};
-ghost use Rattle.flow_sharing.specs.SeatedHub.{seated};
+ghost use Rattle.flow_sharing.specs.SeatedHub.{seated, made_two};
 
 use flow_law::{FlowFault, Packed, Refused};
 use flow_turns::Hub;
@@ -25,21 +23,14 @@ pub struct WordHub<'a, T: Packed> {
 }
 
 impl<'a, T: Packed> Model for WordHub<'a, T> {
-    ghost use Rattle.std.specs.Prelude.{None};
     ghost use Rattle.flow_word.specs.Tokens.{WordId};
-    ghost use Rattle.flow_sharing.specs.StateFlowHub.{StateSeats};
+    ghost use Rattle.flow_sharing.specs.StateFlowHub.{StateSeats, state_seats};
 
     ghost Value = { StateSeats WordId T };
 
     ghost use Rattle.flow_sharing.specs.SeatedHub.{IsOf};
 
-    ghost view = { λ h. record {
-      flow = h.flow.now;
-      watching = h.watching;
-      sending = h.sending;
-      emission = None;
-      initial = T.value_of h.initial;
-    } };
+    ghost view = { λ h. state_seats h.flow.now h.watching h.sending (T.value_of h.initial) };
 
     ghost invariant = { λ h. IsOf h.watching h.flow.now × IsOf h.sending h.flow.now × T.packs h.initial };
 }
@@ -50,7 +41,7 @@ impl<'a, T: Packed> WordHub<'a, T> {
     pub fn new(flow: &'a WordState<T>, seat: &mut WordSeat<T>, initial: T) -> WordHub<'a, T>
         requires { seat.old.table_id ≡ flow.now.table_id }
         ensures hub { result ≡ seated flow.entry.now seat.old initial }
-        ensures seat { seat.new ≡ knowing seat.old (makes (makes seat.old.knows)) }
+        ensures seat { seat.new ≡ made_two seat.old }
         ensures waits { ⟦<WordHub<'a, T> as Hub>⟧.waits result ≡ false }
     {
         let watching = flow.seat(seat);
