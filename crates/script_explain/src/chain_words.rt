@@ -1,6 +1,6 @@
 //! Chains, their sources and operators, and the keys of all of them.
 
-use crate::words::{Form, Key, Need, Row, Shape, key};
+use crate::words::{Form, Key, Need, Row, Shape, key, row};
 use flow_script::text_at;
 use serde_json::Value;
 
@@ -27,24 +27,14 @@ const SCRIPTED: Key = key!("script", Form::Entries, Need::Maybe);
 
 /// The sources, by the one key that each has.
 static SOURCE_ROWS: [Row; 3] = [
-    Row {
-        word: "of",
-        name: "a source with \"of\"",
-        keys: &[OF],
-        need: Need::Maybe,
-    },
-    Row {
-        word: "range",
-        name: "a source with \"range\"",
-        keys: &[RANGE],
-        need: Need::Maybe,
-    },
-    Row {
-        word: "script",
-        name: "a source with \"script\"",
-        keys: &[SCRIPTED],
-        need: Need::Maybe,
-    },
+    row!("of", "a source with \"of\"", &[OF], Need::Maybe),
+    row!("range", "a source with \"range\"", &[RANGE], Need::Maybe),
+    row!(
+        "script",
+        "a source with \"script\"",
+        &[SCRIPTED],
+        Need::Maybe
+    ),
 ];
 
 /// Returns the keys of a source by the first one that it has, since it has no other.

@@ -1,6 +1,6 @@
 //! The heads of scripts, their flows, and the keys of both.
 
-use crate::words::{Form, Key, Need, Row, Shape, key};
+use crate::words::{Form, Key, Need, Row, Shape, key, row};
 
 /// The most steps of a script.
 pub const MOST_STEPS: usize = 10_000;
@@ -45,36 +45,31 @@ const STARTED: Key = key!("started", Form::Started, Need::Always);
 
 /// The flows, by their tags.
 static FLOW_ROWS: [Row; 5] = [
-    Row {
-        word: "none",
-        name: "a script without a flow",
-        keys: &[KIND],
-        need: Need::OnlyInOne,
-    },
-    Row {
-        word: "shared",
-        name: "a shared flow",
-        keys: &[KIND, REPLAY, EXTRA, OVERFLOW, LIMIT],
-        need: Need::Always,
-    },
-    Row {
-        word: "state",
-        name: "a state flow",
-        keys: &[KIND, INITIAL, LIMIT],
-        need: Need::Always,
-    },
-    Row {
-        word: "share",
-        name: "a shared chain",
-        keys: &[KIND, SHARED_CHAIN, STARTED, REPLAY, LIMIT],
-        need: Need::Always,
-    },
-    Row {
-        word: "state_in",
-        name: "a chain shared as a state",
-        keys: &[KIND, SHARED_CHAIN, STARTED, INITIAL, LIMIT],
-        need: Need::Always,
-    },
+    row!("none", "a script without a flow", &[KIND], Need::OnlyInOne),
+    row!(
+        "shared",
+        "a shared flow",
+        &[KIND, REPLAY, EXTRA, OVERFLOW, LIMIT],
+        Need::Always
+    ),
+    row!(
+        "state",
+        "a state flow",
+        &[KIND, INITIAL, LIMIT],
+        Need::Always
+    ),
+    row!(
+        "share",
+        "a shared chain",
+        &[KIND, SHARED_CHAIN, STARTED, REPLAY, LIMIT],
+        Need::Always
+    ),
+    row!(
+        "state_in",
+        "a chain shared as a state",
+        &[KIND, SHARED_CHAIN, STARTED, INITIAL, LIMIT],
+        Need::Always
+    ),
 ];
 
 /// Returns the flows, by their tags.

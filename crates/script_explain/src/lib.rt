@@ -9,7 +9,7 @@
 //!
 //! # Rules
 //! `rules_of` takes the steps of a script, each with its answer, and gives the rule by which each step has that answer.
-//! The tables of `rules` have the rules; they are those of docs/DEFINITIONS.md. `losses` finds the values that
+//! `rules` has the rules; they are those of docs/DEFINITIONS.md. `losses` finds the values that
 //! `drop_oldest` takes from subscribers.
 #![tactic(auto)]
 

@@ -170,3 +170,17 @@ pub fn row_named(rows: &'static [Row], word: &str) -> Option<Row> {
     }
     None
 }
+
+/// A row of a table: the word of a tag, the name of the object that has it, the object's keys, and the versions of both.
+macro_rules! row {
+    ($word:expr, $name:expr, $keys:expr, $need:expr) => {
+        Row {
+            word: $word,
+            name: $name,
+            keys: $keys,
+            need: $need,
+        }
+    };
+}
+
+pub(crate) use row;

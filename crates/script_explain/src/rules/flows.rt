@@ -1,219 +1,144 @@
-//! The rules of shared flows, and in `states` those of state flows. Of a step and a line the first one counts.
+//! The rules of shared flows.
 
-use crate::rules::{Case, Rule, Says};
-use flow_law::FlowFault;
-
-/// A call that would take a number when all are taken.
-pub const EXHAUSTED: &str =
-    "refused: as many numbers are taken as the flow's limit says, and nothing has changed";
-
-/// There is no subscriber of that name, or not any more.
-pub const NO_SUBSCRIBER: &str =
-    "the name stands for no subscriber: it unsubscribed, or its subscription was refused";
-
-const DROPS_LATEST: &str =
-    "taken, or dropped where a subscriber has a whole buffer still to receive";
+use crate::rules::every_flow::{
+    count_rule, exhausted_rule, next_rule, subscribe_rule, tested_rule, unsubscribe_rule,
+};
+use flow_script::{Answer, number_at, text_at};
+use serde_json::Value;
 
 const ROOM: &str = "taken: there is no subscriber, or room for every subscriber";
 
-const NOBODY_TO_WAIT_FOR: &str = "taken: there is no subscriber for whom the emitter would wait";
+/// Returns whether emitters wait where a flow is blocked.
+fn suspends(flow: &Value) -> bool {
+    !matches!(text_at(flow, "overflow"), "drop_oldest" | "drop_latest")
+}
 
-pub const SUBSCRIBERS: &str = "how many subscribers there are; at first there is none";
+/// Returns whether a flow replays values to new subscribers.
+fn replays(flow: &Value) -> bool {
+    number_at(flow, "replay") > 0
+}
 
-/// What a flow says at once of a value.
-static TRY_EMIT_RULES: [Rule; 7] = [
-    Rule(
-        "try_emit",
-        Case::Has("overflow", "drop_oldest"),
-        Says::Test(true),
-        ROOM,
-    ),
-    Rule(
-        "try_emit",
-        Case::Has("overflow", "drop_latest"),
-        Says::Test(true),
-        DROPS_LATEST,
-    ),
-    Rule("try_emit", Case::Buffered, Says::Test(true), ROOM),
-    Rule(
-        "try_emit",
-        Case::Unbuffered,
-        Says::Test(true),
-        NOBODY_TO_WAIT_FOR,
-    ),
-    Rule(
-        "try_emit",
-        Case::Buffered,
-        Says::Test(false),
-        "blocked: a subscriber has a whole window still to receive",
-    ),
-    Rule(
-        "try_emit",
-        Case::Unbuffered,
-        Says::Test(false),
-        "blocked: without a buffer an emitter waits until every subscriber has received the value",
-    ),
-    Rule(
-        "try_emit",
-        Case::Always,
-        Says::Refused(FlowFault::Exhausted),
-        EXHAUSTED,
-    ),
-];
+/// Returns whether a flow keeps values for slow subscribers. That of a shared chain does.
+fn has_buffer(flow: &Value) -> bool {
+    text_at(flow, "kind") == "share" || replays(flow) || number_at(flow, "extra") > 0
+}
 
-/// What it says of one whose emitter may wait.
-static EMIT_RULES: [Rule; 7] = [
-    Rule(
-        "emit",
-        Case::Has("overflow", "drop_oldest"),
-        Says::Done,
-        ROOM,
-    ),
-    Rule(
-        "emit",
-        Case::Has("overflow", "drop_latest"),
-        Says::Done,
-        DROPS_LATEST,
-    ),
-    Rule("emit", Case::Buffered, Says::Done, ROOM),
-    Rule("emit", Case::Unbuffered, Says::Done, NOBODY_TO_WAIT_FOR),
-    Rule(
-        "emit",
-        Case::Buffered,
-        Says::Queued,
-        "blocked: a subscriber has a whole window still to receive, and the emitter waits in the queue",
-    ),
-    Rule(
-        "emit",
-        Case::Unbuffered,
-        Says::Queued,
-        "without a buffer the emitter waits until every subscriber has received the value",
-    ),
-    Rule(
-        "emit",
-        Case::Always,
-        Says::Refused(FlowFault::Exhausted),
-        EXHAUSTED,
-    ),
-];
+/// Returns the rule by which a value is taken.
+fn taken_rule(flow: &Value) -> &'static str {
+    match text_at(flow, "overflow") {
+        "drop_oldest" => ROOM,
+        "drop_latest" => "taken, or dropped where a subscriber has a whole buffer still to receive",
+        _ if has_buffer(flow) => ROOM,
+        _ => "taken: there is no subscriber for whom the emitter would wait",
+    }
+}
 
-/// Emissions that wait.
-static WAITING_RULES: [Rule; 4] = [
-    Rule(
-        "poll",
-        Case::Always,
-        Says::Waits(true),
-        "the emission waits: its value is queued, or offered and not yet received by every subscriber",
-    ),
-    Rule(
-        "poll",
-        Case::Always,
-        Says::Waits(false),
-        "the emission does not wait: its value is neither queued nor offered",
-    ),
-    Rule(
-        "cancel",
-        Case::Always,
-        Says::Test(true),
-        "the emission waited: a queued value is lost, an offered one reaches nobody else",
-    ),
-    Rule(
-        "cancel",
-        Case::Always,
-        Says::Test(false),
-        "the emission did not wait, so nothing is cancelled",
-    ),
-];
+/// Returns the first rule for a flow with a buffer, and the second one for a flow without. A flow that drops values is
+/// not blocked, and has neither.
+fn blocked_rule(flow: &Value, buffered: &'static str, unbuffered: &'static str) -> &'static str {
+    match (suspends(flow), has_buffer(flow)) {
+        (true, true) => buffered,
+        (true, false) => unbuffered,
+        _ => "",
+    }
+}
 
-/// Subscribers that come and go.
-static SUBSCRIBING_RULES: [Rule; 6] = [
-    Rule(
-        "subscribe",
-        Case::HasFirst,
-        Says::Subscribed,
-        "a new subscriber gets its own first values, then the replay cache, and then what is emitted afterwards",
-    ),
-    Rule(
-        "subscribe",
-        Case::Replays,
-        Says::Subscribed,
-        "a new subscriber gets the replay cache, and then what is emitted afterwards",
-    ),
-    Rule(
-        "subscribe",
-        Case::Always,
-        Says::Subscribed,
-        "without replay a new subscriber gets what is emitted afterwards",
-    ),
-    Rule(
-        "subscribe",
-        Case::Always,
-        Says::Refused(FlowFault::Exhausted),
-        EXHAUSTED,
-    ),
-    Rule(
-        "unsubscribe",
-        Case::Always,
-        Says::Test(true),
-        "the subscriber is gone, and emitters who waited for it alone go on",
-    ),
-    Rule(
-        "unsubscribe",
-        Case::Always,
-        Says::Test(false),
-        NO_SUBSCRIBER,
-    ),
-];
+/// Returns the rule of what a flow says at once of a value.
+fn try_emit_rule(flow: &Value, answer: &Answer) -> &'static str {
+    match answer {
+        Answer::Tested(true) => taken_rule(flow),
+        Answer::Tested(false) => blocked_rule(
+            flow,
+            "blocked: a subscriber has a whole window still to receive",
+            "blocked: without a buffer an emitter waits until every subscriber has received the value",
+        ),
+        Answer::Refused(fault) => exhausted_rule(*fault),
+        _ => "",
+    }
+}
 
-/// All others of shared flows.
-static OTHER_RULES: [Rule; 8] = [
-    Rule(
-        "next",
-        Case::Always,
-        Says::Value,
-        "the oldest of the values that the subscriber has still to receive",
-    ),
-    Rule(
-        "next",
-        Case::Always,
-        Says::Empty,
-        "the subscriber has received all that it is to receive so far",
-    ),
-    Rule("next", Case::Always, Says::Gone, NO_SUBSCRIBER),
-    Rule(
-        "cache",
-        Case::Replays,
-        Says::NoValues,
-        "nothing was emitted, or nothing after the last reset",
-    ),
-    Rule(
-        "cache",
-        Case::Always,
-        Says::NoValues,
-        "without replay the replay cache stays empty",
-    ),
-    Rule(
-        "cache",
-        Case::Always,
-        Says::Values,
-        "the most recent values, as many as the flow replays, of those emitted after the last reset",
-    ),
-    Rule("count", Case::Always, Says::Count, SUBSCRIBERS),
-    Rule(
-        "reset",
-        Case::Always,
-        Says::Reset,
-        "a reset empties the replay cache for new subscribers; old ones keep what they have still to receive",
-    ),
-];
+/// Returns the rule of a value whose emitter may wait.
+fn emit_rule(flow: &Value, answer: &Answer) -> &'static str {
+    match answer {
+        Answer::Queued => blocked_rule(
+            flow,
+            "blocked: a subscriber has a whole window still to receive, and the emitter waits in the queue",
+            "without a buffer the emitter waits until every subscriber has received the value",
+        ),
+        Answer::Done => taken_rule(flow),
+        Answer::Refused(fault) => exhausted_rule(*fault),
+        _ => "",
+    }
+}
 
-/// Returns the rules of shared flows for a step with this tag.
-pub fn shared_rules(step: &str) -> &'static [Rule] {
-    match step {
-        "try_emit" => &TRY_EMIT_RULES,
-        "emit" => &EMIT_RULES,
-        "poll" | "cancel" => &WAITING_RULES,
-        "subscribe" | "unsubscribe" => &SUBSCRIBING_RULES,
-        _ => &OTHER_RULES,
+/// Returns the rule of whether an emission waits.
+fn poll_rule(answer: &Answer) -> &'static str {
+    match answer {
+        Answer::Waits(true) => {
+            "the emission waits: its value is queued, or offered and not yet received by every subscriber"
+        }
+        Answer::Waits(false) => {
+            "the emission does not wait: its value is neither queued nor offered"
+        }
+        _ => "",
+    }
+}
+
+/// Returns what a new subscriber gets.
+fn first_values(flow: &Value, step: &Value) -> &'static str {
+    if step.get("first").is_some() {
+        "a new subscriber gets its own first values, then the replay cache, and then what is emitted afterwards"
+    } else if replays(flow) {
+        "a new subscriber gets the replay cache, and then what is emitted afterwards"
+    } else {
+        "without replay a new subscriber gets what is emitted afterwards"
+    }
+}
+
+/// Returns the rule of the values of a replay cache.
+fn values_rule(flow: &Value, values: &[i64]) -> &'static str {
+    if !values.is_empty() {
+        "the most recent values, as many as the flow replays, of those emitted after the last reset"
+    } else if replays(flow) {
+        "nothing was emitted, or nothing after the last reset"
+    } else {
+        "without replay the replay cache stays empty"
+    }
+}
+
+/// Returns the rule of what is replayed, which a step asks for or empties.
+fn cache_rule(flow: &Value, step: &str, answer: &Answer) -> &'static str {
+    match (step, answer) {
+        ("cache", Answer::Cached(values)) => values_rule(flow, values.as_slice()),
+        ("reset", Answer::Reset) => {
+            "a reset empties the replay cache for new subscribers; old ones keep what they have still to receive"
+        }
+        _ => "",
+    }
+}
+
+/// Returns the rule by which a step on a shared flow has its answer. It is empty if the step has no such answer.
+pub fn shared_rule(flow: &Value, step: &Value, answer: &Answer) -> &'static str {
+    match text_at(step, "do") {
+        "try_emit" => try_emit_rule(flow, answer),
+        "emit" => emit_rule(flow, answer),
+        "poll" => poll_rule(answer),
+        "cancel" => tested_rule(
+            answer,
+            "the emission waited: a queued value is lost, an offered one reaches nobody else",
+            "the emission did not wait, so nothing is cancelled",
+        ),
+        "subscribe" => subscribe_rule(answer, first_values(flow, step)),
+        "unsubscribe" => unsubscribe_rule(
+            answer,
+            "the subscriber is gone, and emitters who waited for it alone go on",
+        ),
+        "next" => next_rule(
+            answer,
+            "the oldest of the values that the subscriber has still to receive",
+            "the subscriber has received all that it is to receive so far",
+        ),
+        "count" => count_rule(answer),
+        word => cache_rule(flow, word, answer),
     }
 }

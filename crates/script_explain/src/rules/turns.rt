@@ -1,138 +1,99 @@
 //! The rules of the turns of a shared chain, and of collections.
 
-use crate::rules::{Case, Rule, Says};
-use flow_law::{ChainFault, Command, Event};
+use flow_law::{ChainFault, Command, End, Event, Report, ShareFault};
+use flow_script::{Answer, text_at};
+use serde_json::Value;
 
-/// The rules of turns. Of a line the first one counts.
-pub static TURN_RULES: [Rule; 16] = [
-    Rule(
-        "turn",
-        Case::Has("started", "eagerly"),
-        Says::Starts,
-        "started eagerly, the chain runs from the first turn on",
-    ),
-    Rule(
-        "turn",
-        Case::Has("started", "lazily"),
-        Says::Starts,
-        "started lazily, the chain runs from the first turn with a subscriber on",
-    ),
-    Rule(
-        "turn",
-        Case::WhileSubscribed,
-        Says::Starts,
-        "the chain runs while there are subscribers, and at each start from its beginning",
-    ),
-    Rule(
-        "turn",
-        Case::Always,
-        Says::Turn(Command::Keep, Event::Put),
-        "a turn puts one item at most: the next one went into the flow",
-    ),
-    Rule(
-        "turn",
-        Case::Always,
-        Says::Turn(Command::Keep, Event::Queued),
-        "the item waits in the queue for slow subscribers",
-    ),
-    Rule(
-        "turn",
-        Case::Always,
-        Says::Turn(Command::Keep, Event::Waiting),
-        "the item of an earlier turn waits still, so the chain is not asked",
-    ),
-    Rule(
-        "turn",
-        Case::Always,
-        Says::Turn(Command::Keep, Event::Pending),
-        "the chain has no item yet",
-    ),
-    Rule(
-        "turn",
-        Case::Always,
-        Says::Turn(Command::Keep, Event::Completed),
-        "the chain has ended, which affects no subscriber",
-    ),
-    Rule(
-        "turn",
-        Case::Has("started", "lazily"),
-        Says::Turn(Command::Keep, Event::Idle),
-        "started lazily, the chain does not run before the first turn with a subscriber",
-    ),
-    Rule(
-        "turn",
-        Case::WhileSubscribed,
-        Says::Turn(Command::Keep, Event::Idle),
-        "the chain does not run without subscribers",
-    ),
-    Rule(
-        "turn",
-        Case::Always,
-        Says::Turn(Command::Stop, Event::Idle),
-        "the stop time has passed without a subscriber: what waits is cancelled, and a kept item dropped",
-    ),
-    Rule(
-        "turn",
-        Case::Always,
-        Says::Turn(Command::StopAndReset, Event::Idle),
-        "the times of stop and expire have passed without a subscriber: the flow forgets what it replays",
-    ),
-    Rule(
-        "turn",
-        Case::Always,
-        Says::Backwards,
-        "a moment before that of the last turn is refused",
-    ),
-    Rule(
-        "turn",
-        Case::Always,
-        Says::HasEnded,
-        "the chain failed in an earlier turn, which ended the sharing",
-    ),
-    Rule(
-        "turn",
-        Case::Always,
-        Says::ChainFails,
-        "a fault of the chain ends the sharing, and is told once",
-    ),
-    Rule(
-        "turn",
-        Case::Always,
-        Says::FlowRefuses,
-        "the flow refused the item, which is kept and put in the next turn",
-    ),
-];
+/// Returns the rule by which a turn starts the chain.
+fn start_rule(flow: &Value) -> &'static str {
+    match text_at(flow, "started") {
+        "eagerly" => "started eagerly, the chain runs from the first turn on",
+        "lazily" => "started lazily, the chain runs from the first turn with a subscriber on",
+        _ => "the chain runs while there are subscribers, and at each start from its beginning",
+    }
+}
 
-/// The rules of collections. Of a line the first one counts.
-pub static COLLECT_RULES: [Rule; 5] = [
-    Rule(
-        "collect",
-        Case::Always,
-        Says::Completed,
-        "a collection runs the chain from its beginning, and gives what it emits up to its end",
-    ),
-    Rule(
-        "collect",
-        Case::Always,
-        Says::FailedBy(ChainFault::Overflow),
-        "a result that is no whole number of 64 bits ends the chain, and of its item nothing is given",
-    ),
-    Rule(
-        "collect",
-        Case::Always,
-        Says::Failed,
-        "a fault of the source ends the chain; the items before it are given",
-    ),
-    Rule(
-        "collect",
-        Case::Always,
-        Says::NotBuilt(ChainFault::NotPositive),
-        "a take of nothing is refused when the chain is built",
-    ),
-    Rule(
-        "collect",
-        Case::Always,
-        Says::NotBuilt(ChainFault::TooDeep),
-        "a chain more than 64 deep is refused when it is built",
-    ),
-];
+/// Returns the rule by which the chain does not run. One that is started eagerly always runs.
+fn idle_rule(flow: &Value) -> &'static str {
+    match text_at(flow, "started") {
+        "eagerly" => "",
+        "lazily" => {
+            "started lazily, the chain does not run before the first turn with a subscriber"
+        }
+        _ => "the chain does not run without subscribers",
+    }
+}
+
+/// Returns the rule of what came of a turn that neither starts nor stops the chain.
+fn event_rule(flow: &Value, event: Event) -> &'static str {
+    match event {
+        Event::Put => "a turn puts one item at most: the next one went into the flow",
+        Event::Queued => "the item waits in the queue for slow subscribers",
+        Event::Waiting => { "the item of an earlier turn waits still, so the chain is not asked" }
+        Event::Pending => "the chain has no item yet",
+        Event::Completed => "the chain has ended, which affects no subscriber",
+        Event::Idle => idle_rule(flow),
+        Event::Busy => "",
+    }
+}
+
+/// Returns the rule of a turn: that of its command, where that changes what runs, and else that of what came of it.
+fn report_rule(flow: &Value, report: &Report) -> &'static str {
+    match (report.command, report.event) {
+        (Command::Start, _) => start_rule(flow),
+        (Command::Keep, event) => event_rule(flow, event),
+        (Command::Stop, Event::Idle) => {
+            "the stop time has passed without a subscriber: what waits is cancelled, and a kept item dropped"
+        }
+        (Command::StopAndReset, Event::Idle) => {
+            "the times of stop and expire have passed without a subscriber: the flow forgets what it replays"
+        }
+        _ => "",
+    }
+}
+
+/// Returns the rule by which a turn is refused.
+fn refused_turn_rule(fault: &ShareFault) -> &'static str {
+    match fault {
+        ShareFault::Backwards(_) => "a moment before that of the last turn is refused",
+        ShareFault::Ended => "the chain failed in an earlier turn, which ended the sharing",
+        ShareFault::Chain(_) => "a fault of the chain ends the sharing, and is told once",
+        ShareFault::Flow(_) => "the flow refused the item, which is kept and put in the next turn",
+    }
+}
+
+/// Returns the rule by which a turn has its answer. It is empty if no turn has such an answer.
+pub fn turn_rule(flow: &Value, answer: &Answer) -> &'static str {
+    match answer {
+        Answer::Turned(report) => report_rule(flow, report),
+        Answer::TurnRefused(fault) => refused_turn_rule(fault),
+        _ => "",
+    }
+}
+
+/// Returns the rule by which a collection ends.
+fn end_rule(end: &End) -> &'static str {
+    match end {
+        End::Completed => {
+            "a collection runs the chain from its beginning, and gives what it emits up to its end"
+        }
+        End::Failed(ChainFault::Overflow) => {
+            "a result that is no whole number of 64 bits ends the chain, and of its item nothing is given"
+        }
+        End::Failed(_) => "a fault of the source ends the chain; the items before it are given",
+    }
+}
+
+/// Returns the rule by which a collection has its answer. It is empty if no collection has such an answer.
+pub fn collect_rule(answer: &Answer) -> &'static str {
+    match answer {
+        Answer::Collected(_, end) => end_rule(end),
+        Answer::NotBuilt(ChainFault::NotPositive) => {
+            "a take of nothing is refused when the chain is built"
+        }
+        Answer::NotBuilt(ChainFault::TooDeep) => {
+            "a chain more than 64 deep is refused when it is built"
+        }
+        _ => "",
+    }
+}

@@ -1,0 +1,59 @@
+//! The rules that shared flows and state flows have in common. Each function returns one of the sentences that it is
+//! given, by the answer of a step, and an empty one if no step of this kind has such an answer.
+
+use flow_law::{FlowFault, Next};
+use flow_script::Answer;
+
+const NO_SUBSCRIBER: &str =
+    "the name stands for no subscriber: it unsubscribed, or its subscription was refused";
+
+/// Returns the rule of an answer that is `true` or `false`.
+pub fn tested_rule(answer: &Answer, if_true: &'static str, if_false: &'static str) -> &'static str {
+    match answer {
+        Answer::Tested(true) => if_true,
+        Answer::Tested(false) => if_false,
+        _ => "",
+    }
+}
+
+/// Returns the rule by which a call is refused that would take a number when all are taken.
+pub fn exhausted_rule(fault: FlowFault) -> &'static str {
+    match fault {
+        FlowFault::Exhausted => {
+            "refused: as many numbers are taken as the flow's limit says, and nothing has changed"
+        }
+        _ => "",
+    }
+}
+
+/// Returns the rule of a subscription, by what a new subscriber gets.
+pub fn subscribe_rule(answer: &Answer, gets: &'static str) -> &'static str {
+    match answer {
+        Answer::Subscribed => gets,
+        Answer::Refused(fault) => exhausted_rule(*fault),
+        _ => "",
+    }
+}
+
+/// Returns the rule of an `unsubscribe`, by what happens when a subscriber goes.
+pub fn unsubscribe_rule(answer: &Answer, gone: &'static str) -> &'static str {
+    tested_rule(answer, gone, NO_SUBSCRIBER)
+}
+
+/// Returns the rule of what a subscriber receives: of a value, or of none.
+pub fn next_rule(answer: &Answer, value: &'static str, empty: &'static str) -> &'static str {
+    match answer {
+        Answer::Received(Next::Value(_)) => value,
+        Answer::Received(Next::Empty) => empty,
+        Answer::Received(Next::Gone) => NO_SUBSCRIBER,
+        _ => "",
+    }
+}
+
+/// Returns the rule of a number of subscribers.
+pub fn count_rule(answer: &Answer) -> &'static str {
+    match answer {
+        Answer::Counted(_) => "how many subscribers there are; at first there is none",
+        _ => "",
+    }
+}
