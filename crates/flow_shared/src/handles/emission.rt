@@ -69,21 +69,14 @@ impl<T: FlowValue, A: Allocator + Copy> Flow<SharedCore<T, A>, A> {
         requires { emission.token.table_id ≡ self.now.table_id }
         ensures { result ≡ queued_by self.now emission }
     {
-        BoundEmission::new(self, emission)
+        BoundEmission {
+            flow: self,
+            emission,
+        }
     }
 }
 
 impl<'a, T: FlowValue, A: Allocator + Copy> BoundEmission<'a, T, A> {
-    pub(crate) fn new(
-        flow: &'a SharedFlow<T, A>,
-        emission: Emission<T, A>,
-    ) -> BoundEmission<'a, T, A>
-        requires { emission.token.table_id ≡ flow.now.table_id }
-        ensures { result ≡ queued_by flow.now emission }
-    {
-        BoundEmission { flow, emission }
-    }
-
     /// Returns whether the emission still waits. If it does not, the flow has taken its value, and the answer has its
     /// emitter. Without a buffer every subscriber has then received it.
     pub fn poll<R: Wait>(self, rt: &R) -> PollAnswer<'a, T, A>
@@ -93,7 +86,7 @@ impl<'a, T: FlowValue, A: Allocator + Copy> BoundEmission<'a, T, A> {
         let BoundEmission { flow, emission } = self;
         match flow.poll_emit(rt, emission) {
             Polled::Done(seat) => PollAnswer::Done(FlowCaller::new(flow, seat)),
-            Polled::Waiting(emission) => PollAnswer::Waiting(BoundEmission::new(flow, emission)),
+            Polled::Waiting(emission) => PollAnswer::Waiting(flow.emission(emission)),
         }
     }
 
@@ -105,10 +98,8 @@ impl<'a, T: FlowValue, A: Allocator + Copy> BoundEmission<'a, T, A> {
         let BoundEmission { flow, emission } = self;
         match flow.poll_now(emission) {
             PolledNow::Done(seat) => Ok(PollAnswer::Done(FlowCaller::new(flow, seat))),
-            PolledNow::Waiting(emission) => {
-                Ok(PollAnswer::Waiting(BoundEmission::new(flow, emission)))
-            }
-            PolledNow::Busy(emission) => Err(BoundEmission::new(flow, emission)),
+            PolledNow::Waiting(emission) => { Ok(PollAnswer::Waiting(flow.emission(emission))) }
+            PolledNow::Busy(emission) => Err(flow.emission(emission)),
         }
     }
 
@@ -133,7 +124,7 @@ impl<'a, T: FlowValue, A: Allocator + Copy> BoundEmission<'a, T, A> {
         let BoundEmission { flow, emission } = self;
         match flow.cancel_now(emission) {
             Ok((seat, was_waiting)) => Ok((FlowCaller::new(flow, seat), was_waiting)),
-            Err(back) => Err(BoundEmission::new(flow, back)),
+            Err(back) => Err(flow.emission(back)),
         }
     }
 

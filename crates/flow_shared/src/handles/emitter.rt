@@ -80,7 +80,7 @@ impl<'a, T: FlowValue, A: Allocator + Copy> FlowCaller<'a, SharedCore<T, A>, A> 
         let FlowCaller { flow, seat } = self;
         match flow.emit(rt, seat, value) {
             Emitted::Done(seat) => EmitAnswer::Done(FlowCaller::new(flow, seat)),
-            Emitted::Queued(emission) => EmitAnswer::Queued(BoundEmission::new(flow, emission)),
+            Emitted::Queued(emission) => EmitAnswer::Queued(flow.emission(emission)),
             Emitted::Refused(seat, value, fault) => EmitAnswer::Refused(
                 FlowCaller::new(flow, seat),
                 Rejected {
@@ -99,7 +99,7 @@ impl<'a, T: FlowValue, A: Allocator + Copy> FlowCaller<'a, SharedCore<T, A>, A> 
         let FlowCaller { flow, seat } = self;
         match flow.emit_now(seat, value) {
             Emitted::Done(seat) => EmitAnswer::Done(FlowCaller::new(flow, seat)),
-            Emitted::Queued(emission) => EmitAnswer::Queued(BoundEmission::new(flow, emission)),
+            Emitted::Queued(emission) => EmitAnswer::Queued(flow.emission(emission)),
             Emitted::Refused(seat, value, fault) => EmitAnswer::Refused(
                 FlowCaller::new(flow, seat),
                 Rejected {

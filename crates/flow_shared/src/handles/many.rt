@@ -65,10 +65,10 @@ impl<'a, S: FlowCore + Drop, A: Allocator + Copy> FlowCaller<'a, S, A> {
         ensures flow { self.new.flow ≡ self.old.flow }
         ensures meets { OnlyMeets self.old.token self.new.token }
         ensures count { length readers.new ≡ length readers.old }
-        ensures flows { (i : ℕ) (d : _) → i < length readers.old →
-            (slice_index_or readers.new i d).flow ≡ (slice_index_or readers.old i d).flow }
         ensures numbers { (i : ℕ) (d : _) → i < length readers.old →
             (slice_index_or readers.new i d).subscription.number ≡ (slice_index_or readers.old i d).subscription.number }
+        ensures flows { (i : ℕ) (d : _) → i < length readers.old →
+            (slice_index_or readers.new i d).flow ≡ (slice_index_or readers.old i d).flow }
         ensures met { (i : ℕ) (d : _) → i < length readers.old →
             MeetsInTurn S.kind self.old.flow.first self.old.token.knows self.new.token.knows
             (slice_index_or readers.old i d).subscription.token (slice_index_or readers.new i d).subscription.token }

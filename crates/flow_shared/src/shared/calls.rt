@@ -136,35 +136,6 @@ impl<T: FlowValue, A: Allocator + Copy> CoreCall<SharedCore<T, A>> for Cancel {
 }
 
 #[derive(Drop)]
-pub(super) struct ReplayCache;
-
-impl<T: FlowValue, A: Allocator + Copy> CoreCall<SharedCore<T, A>> for ReplayCache {
-    type Answer = Result<Vec<T, A>, FlowFault>;
-
-    ghost call = { λ c name. call.ReplayCache };
-
-    ghost reply = { λ answer. cache_reply answer };
-
-    ghost also = { λ c answer. ⊤ };
-
-    fn run(self, core: &mut SharedCore<T, A>) -> Result<Vec<T, A>, FlowFault> {
-        core.replay_cache()
-    }
-
-    fn ends(&self) -> Option<u64> {
-        None
-    }
-
-    fn cancels(&self) -> Option<u64> {
-        None
-    }
-
-    fn is_set(_answer: &Result<Vec<T, A>, FlowFault>) -> bool {
-        false
-    }
-}
-
-#[derive(Drop)]
 pub(super) struct ResetReplayCache;
 
 impl<T: FlowValue, A: Allocator + Copy> CoreCall<SharedCore<T, A>> for ResetReplayCache {
@@ -189,6 +160,35 @@ impl<T: FlowValue, A: Allocator + Copy> CoreCall<SharedCore<T, A>> for ResetRepl
     }
 
     fn is_set(_answer: &()) -> bool {
+        false
+    }
+}
+
+#[derive(Drop)]
+pub(super) struct ReplayCache;
+
+impl<T: FlowValue, A: Allocator + Copy> CoreCall<SharedCore<T, A>> for ReplayCache {
+    type Answer = Result<Vec<T, A>, FlowFault>;
+
+    ghost call = { λ c name. call.ReplayCache };
+
+    ghost reply = { λ answer. cache_reply answer };
+
+    ghost also = { λ c answer. ⊤ };
+
+    fn run(self, core: &mut SharedCore<T, A>) -> Result<Vec<T, A>, FlowFault> {
+        core.replay_cache()
+    }
+
+    fn ends(&self) -> Option<u64> {
+        None
+    }
+
+    fn cancels(&self) -> Option<u64> {
+        None
+    }
+
+    fn is_set(_answer: &Result<Vec<T, A>, FlowFault>) -> bool {
         false
     }
 }

@@ -11,35 +11,6 @@ use flow_law::{FlowFault, FlowValue};
 use std::alloc::Allocator;
 
 #[derive(Drop)]
-pub(super) struct GetValue;
-
-impl<T: FlowValue, A: Allocator + Copy> CoreCall<StateCore<T, A>> for GetValue {
-    type Answer = Result<T, FlowFault>;
-
-    ghost call = { λ c name. call.GetValue };
-
-    ghost reply = { λ answer. value_reply answer };
-
-    ghost also = { λ c answer. T.IsAlwaysCopied → IsOk answer };
-
-    fn run(self, core: &mut StateCore<T, A>) -> Result<T, FlowFault> {
-        core.value()
-    }
-
-    fn ends(&self) -> Option<u64> {
-        None
-    }
-
-    fn cancels(&self) -> Option<u64> {
-        None
-    }
-
-    fn is_set(_answer: &Result<T, FlowFault>) -> bool {
-        false
-    }
-}
-
-#[derive(Drop)]
 pub(super) struct Set<T: FlowValue> {
     pub(super) value: T,
 }
@@ -137,6 +108,35 @@ impl<'a, T: FlowValue, A: Allocator + Copy> CoreCall<StateCore<T, A>> for Compar
 }
 
 #[derive(Drop)]
+pub(super) struct ResetReplayCache;
+
+impl<T: FlowValue, A: Allocator + Copy> CoreCall<StateCore<T, A>> for ResetReplayCache {
+    type Answer = Result<(), FlowFault>;
+
+    ghost call = { λ c name. call.ResetReplayCache };
+
+    ghost reply = { λ answer. reset_reply answer };
+
+    ghost also = { λ c answer. answer ≡ Err Unsupported };
+
+    fn run(self, core: &mut StateCore<T, A>) -> Result<(), FlowFault> {
+        core.reset_replay_cache()
+    }
+
+    fn ends(&self) -> Option<u64> {
+        None
+    }
+
+    fn cancels(&self) -> Option<u64> {
+        None
+    }
+
+    fn is_set(_answer: &Result<(), FlowFault>) -> bool {
+        false
+    }
+}
+
+#[derive(Drop)]
 pub(super) struct ReplayCache;
 
 impl<T: FlowValue, A: Allocator + Copy> CoreCall<StateCore<T, A>> for ReplayCache {
@@ -166,19 +166,19 @@ impl<T: FlowValue, A: Allocator + Copy> CoreCall<StateCore<T, A>> for ReplayCach
 }
 
 #[derive(Drop)]
-pub(super) struct ResetReplayCache;
+pub(super) struct GetValue;
 
-impl<T: FlowValue, A: Allocator + Copy> CoreCall<StateCore<T, A>> for ResetReplayCache {
-    type Answer = Result<(), FlowFault>;
+impl<T: FlowValue, A: Allocator + Copy> CoreCall<StateCore<T, A>> for GetValue {
+    type Answer = Result<T, FlowFault>;
 
-    ghost call = { λ c name. call.ResetReplayCache };
+    ghost call = { λ c name. call.GetValue };
 
-    ghost reply = { λ answer. reset_reply answer };
+    ghost reply = { λ answer. value_reply answer };
 
-    ghost also = { λ c answer. answer ≡ Err Unsupported };
+    ghost also = { λ c answer. T.IsAlwaysCopied → IsOk answer };
 
-    fn run(self, core: &mut StateCore<T, A>) -> Result<(), FlowFault> {
-        core.reset_replay_cache()
+    fn run(self, core: &mut StateCore<T, A>) -> Result<T, FlowFault> {
+        core.value()
     }
 
     fn ends(&self) -> Option<u64> {
@@ -189,7 +189,7 @@ impl<T: FlowValue, A: Allocator + Copy> CoreCall<StateCore<T, A>> for ResetRepla
         None
     }
 
-    fn is_set(_answer: &Result<(), FlowFault>) -> bool {
+    fn is_set(_answer: &Result<T, FlowFault>) -> bool {
         false
     }
 }
