@@ -49,6 +49,6 @@ impl<T: FlowValue, A: Allocator + Copy> Flow<SharedCore<T, A>, A> {
         ensures subscribed { IsSome (position_of subscription.new.number
             (state_after self.now.first.config subscription.new.token.knows.seen).subscribers) }
     {
-        self.look(&mut subscription.seat);
+        self.seen(&mut subscription.seat);
     }
 }

@@ -37,6 +37,6 @@ impl<T: FlowValue, A: Allocator + Copy> Flow<StateCore<T, A>, A> {
         ensures subscribed { IsThere subscription.new.number
             (state_after_all self.now.first subscription.new.token.knows.seen) }
     {
-        self.look(&mut subscription.seat);
+        self.seen(&mut subscription.seat);
     }
 }

@@ -2,24 +2,9 @@ use Rattle.std.proofs.Common.{sym, subst}
 use Rattle.flow_law.specs.History.{IsSubscription}
 use Rattle.flow_law.specs.SharedHistory.{shared_flow}
 use Rattle.flow_core.specs.SubId.{number_of}
-use Rattle.flow_law.proofs.SeenLemmas.{history_admits, history_calm, history_delivers, history_lags, history_replays, shared_has}
+use Rattle.flow_law.proofs.SeenLemmas.{shared_has}
 use Rattle.flow_shared.proofs.shared.seen.Flow+SharedCore+T+A+A.seen_by_subscription.Goals as goal
-
-pub returns-clause-delivered : goal.returns-clause-delivered
-returns-clause-delivered g c = history_delivers _ _ c.look.ensures.history
-
-pub returns-clause-no_idle_queue : goal.returns-clause-no_idle_queue
-returns-clause-no_idle_queue g c = history_calm _ _ c.look.ensures.history
-
-pub returns-clause-admitted : goal.returns-clause-admitted
-returns-clause-admitted g c = history_admits _ _ c.look.ensures.history
-
-pub returns-clause-lagged : goal.returns-clause-lagged
-returns-clause-lagged g c = history_lags _ _ c.look.ensures.history
-
-pub returns-clause-replayed : goal.returns-clause-replayed
-returns-clause-replayed g c = history_replays _ _ c.look.ensures.history
 
 pub returns-clause-subscribed : goal.returns-clause-subscribed
 returns-clause-subscribed g c =
-    shared_has _ c.look.new.seat.knows _ c.look.ensures.history (subst (λ t. IsSubscription shared_flow t.knows (number_of c.subscription.inside.id)) (sym c.look.ensures.unchanged) c.subscription.invariant)
+    shared_has _ c.seen.new.seat.knows _ c.seen.ensures.history (subst (λ t. IsSubscription shared_flow t.knows (number_of c.subscription.inside.id)) (sym c.seen.ensures.unchanged) c.subscription.invariant)
