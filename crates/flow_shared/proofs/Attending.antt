@@ -22,9 +22,9 @@ use Rattle.flow_shared.specs.SharedReplies.{emitted_reply, EmitIsWait}
 use Rattle.flow_shared.specs.declared.attended.Attended.{Attended}
 use Rattle.flow_shared.specs.Attended.{AttendedAs, attended_stands, Rests, Lasts, Watches, HasSubscribers, AddsWaiting, without, IsWait, IsUndone}
 
--- nobody sleeps
-pub nobody : (P : ℕ → Type 0) (sleepers : List ℕ) → sleepers ≡ [] → All P sleepers
-nobody P sleepers none = subst (All P) (sym none) (All-nil P)
+-- no caller sleeps
+pub none_sleeps : (P : ℕ → Type 0) (sleepers : List ℕ) → sleepers ≡ [] → All P sleepers
+none_sleeps P sleepers none = subst (All P) (sym none) (All-nil P)
 
 -- one more in a list
 pub joins : (P : ℕ → Type 0) (u : ℕ) (old new : List ℕ) → Adds u old new → P u → All P old → All P new
@@ -130,7 +130,7 @@ module _ {K T S C R : Type 0} {kind : Kind T S C R} (sleeping : Sleeping kind) (
   }
 
 module _ {K A T S C R : Type 0} {kind : Kind T S C R} (sleeping : Sleeping kind) (start : K → S) (StandsAs : K → S → Type 0) where
-  -- a core of which nobody has called anything yet
+  -- a core of which no call was made yet
   pub begins : (w : Attended K A T S C R) → kind.MayBegin (start w.core) → StandsAs w.core (start w.core) → (w.readers ≡ []) × (w.emitters ≡ []) × (w.watchers ≡ []) → attended_stands sleeping start StandsAs w w []
   begins w may stands alone = (
     record { begins = may; legal = tt; owned = tt },

@@ -29,11 +29,39 @@ pub struct Attended<S: FlowCore, A: Allocator + Copy = Global> {
     watchers: Sleepers<A>,
     /// The number of subscribers that the watchers have seen.
     watched: u64,
-    woken: Woken<A>,
-    done: Woken<A>,
-    counted: Woken<A>,
-    /// Whether a caller is to be woken.
-    wakes: bool,
+    to_wake: ToWake<A>,
+}
+
+/// The callers that a call has taken out. They are woken after it has left the gate.
+#[derive(Drop)]
+pub(crate) struct ToWake<A: Allocator = Global> {
+    readers: Woken<A>,
+    emitters: Woken<A>,
+    watchers: Woken<A>,
+    /// Whether there are any.
+    any: bool,
+}
+
+impl<A: Allocator + Copy> ToWake<A> {
+    fn new(alloc: A) -> Self {
+        ToWake {
+            readers: Woken::new(alloc),
+            emitters: Woken::new(alloc),
+            watchers: Woken::new(alloc),
+            any: false,
+        }
+    }
+
+    /// Returns all of them, and leaves none.
+    fn take(&mut self) -> Self {
+        self.any = false;
+        ToWake {
+            readers: self.readers.take(),
+            emitters: self.emitters.take(),
+            watchers: self.watchers.take(),
+            any: true,
+        }
+    }
 }
 
 // Not derived, for the reason given at `Flow`.
@@ -45,10 +73,7 @@ impl<S: FlowCore + Drop, A: Allocator + Copy> Drop for Attended<S, A> {
             emitters: _,
             watchers: _,
             watched: _,
-            woken: _,
-            done: _,
-            counted: _,
-            wakes: _,
+            to_wake: _,
         } = self;
     }
 }
@@ -90,10 +115,7 @@ impl<S: FlowCore, A: Allocator + Copy> Attended<S, A> {
             emitters: Sleepers::new(alloc),
             watchers: Sleepers::new(alloc),
             watched: 0,
-            woken: Woken::new(alloc),
-            done: Woken::new(alloc),
-            counted: Woken::new(alloc),
-            wakes: false,
+            to_wake: ToWake::new(alloc),
         }
     }
 
@@ -107,10 +129,7 @@ impl<S: FlowCore, A: Allocator + Copy> Attended<S, A> {
             emitters: _,
             watchers: _,
             watched: _,
-            woken: _,
-            done: _,
-            counted: _,
-            wakes: _,
+            to_wake: _,
         } = self;
         core
     }
@@ -132,8 +151,8 @@ impl<S: FlowCore, A: Allocator + Copy> Attended<S, A> {
         ensures emitters { self.new.emitters ≡ self.old.emitters }
     {
         if !self.readers.is_empty() {
-            self.woken = self.readers.take_all();
-            self.wakes = true;
+            self.to_wake.readers = self.readers.take_all();
+            self.to_wake.any = true;
         }
     }
 
@@ -164,8 +183,8 @@ impl<S: FlowCore, A: Allocator + Copy> Attended<S, A> {
         match now {
             Some(number) => self.emitters.wake_below(number),
             None => {
-                self.done = self.emitters.take_all();
-                self.wakes = true;
+                self.to_wake.emitters = self.emitters.take_all();
+                self.to_wake.any = true;
             }
         }
     }
@@ -177,8 +196,8 @@ impl<S: FlowCore, A: Allocator + Copy> Attended<S, A> {
         ensures emitters { self.new.emitters ≡ self.old.emitters }
         ensures watchers { self.new.watchers ≡ [] }
     {
-        self.counted = self.watchers.take_all();
-        self.wakes = true;
+        self.to_wake.watchers = self.watchers.take_all();
+        self.to_wake.any = true;
     }
 
     /// Removes all watchers if the number of subscribers is another one than they have seen.
@@ -218,7 +237,7 @@ impl<S: FlowCore, A: Allocator + Copy> Attended<S, A> {
     }
 
     /// Makes a call of the core, and takes out those who have something after it. It is a call of its own, so that a
-    /// call with nobody asleep saves no registers for it.
+    /// call while no caller sleeps saves no registers for it.
     #[cold]
     #[inline(never)]
     fn call_and_take_out<C: CoreCall<S>>(&mut self, call: C) -> C::Answer
@@ -248,22 +267,19 @@ impl<S: FlowCore, A: Allocator + Copy> Attended<S, A> {
         ensures armed { IsWait result → W.is_armed waiter.new }
         ensures kept { W.keeps waiter.old waiter.new }
     {
-        let next = match self.call(TakeNext { id }) {
-            Ok(next) => next,
-            Err(fault) => {
-                waiter.ask_again();
-                return Err(fault);
-            }
-        };
-        match next {
-            Next::Value(value) => Ok(Next::Value(value)),
-            Next::Empty => {
+        match self.call(TakeNext { id }) {
+            Ok(Next::Value(value)) => Ok(Next::Value(value)),
+            Ok(Next::Empty) => {
                 let _asleep: Poll<()> = self.readers.sleep(waiter, id.number());
                 Ok(Next::Empty)
             }
-            Next::Gone => {
+            Ok(Next::Gone) => {
                 waiter.ask_again();
                 Ok(Next::Gone)
+            }
+            Err(fault) => {
+                waiter.ask_again();
+                Err(fault)
             }
         }
     }
@@ -309,7 +325,7 @@ impl<S: FlowCore, A: Allocator + Copy> Attended<S, A> {
         count
     }
 
-    /// Takes values of the core that a subscriber can receive, at most so many, with nobody asleep. Returns how many.
+    /// Takes values of the core that a subscriber can receive, at most so many, if no caller sleeps. Returns how many.
     pub(crate) fn take_held<B: Allocator>(
         &mut self,
         id: SubId,
@@ -329,18 +345,17 @@ impl<S: FlowCore, A: Allocator + Copy> Attended<S, A> {
 
     /// Returns whether a caller is to be woken.
     pub(crate) fn wakes_any(&self) -> bool {
-        self.wakes
+        self.to_wake.any
     }
 
     /// Takes those out who are to be woken.
-    pub(crate) fn take_woken(&mut self) -> (Woken<A>, Woken<A>, Woken<A>)
+    pub(crate) fn take_woken(&mut self) -> ToWake<A>
         ensures core { self.new.core ≡ self.old.core }
         ensures readers { self.new.readers ≡ self.old.readers }
         ensures emitters { self.new.emitters ≡ self.old.emitters }
         ensures watchers { self.new.watchers ≡ self.old.watchers }
         ensures watched { self.new.watched ≡ self.old.watched }
     {
-        self.wakes = false;
-        (self.woken.take(), self.done.take(), self.counted.take())
+        self.to_wake.take()
     }
 }

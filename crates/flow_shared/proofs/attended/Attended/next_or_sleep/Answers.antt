@@ -9,19 +9,16 @@ use Rattle.flow_shared.specs.Attended.{AttendedAs}
 use Rattle.flow_shared.proofs.Attending.{joins}
 use Rattle.flow_shared.proofs.attended.Attended.next_or_sleep.Goals as goal
 
-pub returns-in-Err-clause-documented : goal.returns-in-Err-clause-documented
-returns-in-Err-clause-documented g c = c.in-Err.ensures.documented []
-
-pub returns-in-Value-clause-documented : goal.returns-in-Value-clause-documented
-returns-in-Value-clause-documented g c =
+pub returns-in-Ok-Value-clause-documented : goal.returns-in-Ok-Value-clause-documented
+returns-in-Ok-Value-clause-documented g c =
     let kind = g.S.FlowCore.kind in
-    subst (λ next. Documents kind (AttendedAs g.S.FlowCore.sleeping g.S.FlowCore.stands_as) c.args.self.now (kind.take_next (number_of c.args.id)) (replied kind kind.received (Ok next)) c.call.new.self) c.in-Value.is (c.in-Ok.ensures.documented [])
+    subst (λ next. Documents kind (AttendedAs g.S.FlowCore.sleeping g.S.FlowCore.stands_as) c.args.self.now (kind.take_next (number_of c.args.id)) (replied kind kind.received (Ok next)) c.call.new.self) c.in-Ok-Value.field-0-is (c.in-Ok-Value.ensures.documented [])
 
-pub returns-in-Empty-clause-documented : goal.returns-in-Empty-clause-documented
-returns-in-Empty-clause-documented g c = λ s at.
+pub returns-in-Ok-Empty-clause-documented : goal.returns-in-Ok-Empty-clause-documented
+returns-in-Ok-Empty-clause-documented g c = λ s at.
     let kind = g.S.FlowCore.kind in
     let u = number_of c.args.id in
-    let told = subst (λ next. Documents kind (AttendedAs g.S.FlowCore.sleeping g.S.FlowCore.stands_as) c.args.self.now (kind.take_next u) (replied kind kind.received (Ok next)) c.call.new.self) c.in-Empty.is (c.in-Ok.ensures.documented []) s at in
+    let told = subst (λ next. Documents kind (AttendedAs g.S.FlowCore.sleeping g.S.FlowCore.stands_as) c.args.self.now (kind.take_next u) (replied kind kind.received (Ok next)) c.call.new.self) c.in-Ok-Empty.field-0-is (c.in-Ok-Empty.ensures.documented []) s at in
     let adds = subst (λ n. Adds n c.call.new.self.readers c.sleep-asleep.new.self) c.number.ensures c.sleep-asleep.ensures.adds in (
       told.0,
       record {
@@ -33,7 +30,10 @@ returns-in-Empty-clause-documented g c = λ s at.
       },
     )
 
-pub returns-in-Gone-clause-documented : goal.returns-in-Gone-clause-documented
-returns-in-Gone-clause-documented g c =
+pub returns-in-Ok-Gone-clause-documented : goal.returns-in-Ok-Gone-clause-documented
+returns-in-Ok-Gone-clause-documented g c =
     let kind = g.S.FlowCore.kind in
-    subst (λ next. Documents kind (AttendedAs g.S.FlowCore.sleeping g.S.FlowCore.stands_as) c.args.self.now (kind.take_next (number_of c.args.id)) (replied kind kind.received (Ok next)) c.call.new.self) c.in-Gone.is (c.in-Ok.ensures.documented [])
+    subst (λ next. Documents kind (AttendedAs g.S.FlowCore.sleeping g.S.FlowCore.stands_as) c.args.self.now (kind.take_next (number_of c.args.id)) (replied kind kind.received (Ok next)) c.call.new.self) c.in-Ok-Gone.field-0-is (c.in-Ok-Gone.ensures.documented [])
+
+pub returns-in-Err-clause-documented : goal.returns-in-Err-clause-documented
+returns-in-Err-clause-documented g c = c.in-Err.ensures.documented []

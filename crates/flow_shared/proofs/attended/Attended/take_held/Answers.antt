@@ -5,7 +5,7 @@ use Rattle.flow_law.specs.History.{replied}
 use Rattle.flow_law.specs.Sleeping.{FindsNothing}
 use Rattle.flow_shared.specs.Attended.{AttendedAs}
 use Rattle.flow_shared.specs.Drains.{CoreNexts}
-use Rattle.flow_shared.proofs.Attending.{nobody}
+use Rattle.flow_shared.proofs.Attending.{none_sleeps}
 use Rattle.flow_shared.proofs.attended.Attended.take_held.Goals as goal
 
 pub returns-clause-taken : goal.returns-clause-taken
@@ -27,8 +27,8 @@ returns-then-is_alone-clause-taken g c =
       record {
         core = now.1;
         sound = sleeping.keeps s said reply at.sound;
-        readers = nobody (λ u. FindsNothing kind u (kind.after s said reply)) c.args.self.now.readers c.if-is_alone.ensures.0;
-        emitters = nobody (λ e. sleeping.waits e (kind.after s said reply) ≡ true) c.args.self.now.emitters c.if-is_alone.ensures.1;
+        readers = none_sleeps (λ u. FindsNothing kind u (kind.after s said reply)) c.args.self.now.readers c.if-is_alone.ensures.0;
+        emitters = none_sleeps (λ e. sleeping.waits e (kind.after s said reply) ≡ true) c.args.self.now.emitters c.if-is_alone.ensures.1;
         watchers = inl c.if-is_alone.ensures.2;
       },
     ))
