@@ -39,22 +39,7 @@ fn take_values<S: FlowCore, A: Allocator + Copy, B: Allocator>(
     ensures given { S.Item.IsAlwaysCopied → IsOk result }
 {
     let taken = state.take_held(id, most, values);
-    take_each(state, id, most - taken, values)
-}
-
-/// `next` of a core again and again, each value into a list that has room for all.
-fn take_each<S: FlowCore, A: Allocator + Copy, B: Allocator>(
-    state: &mut Attended<S, A>,
-    id: SubId,
-    most: usize,
-    values: &mut Vec<S::Item, B>,
-) -> Result<Drained, FlowFault>
-    requires { vec_len values.old + most ≤ vec_capacity values.old }
-    ensures takes { TakesBy (CoreNexts S.kind (number_of id) (AttendedAs S.sleeping S.stands_as)) most
-        state.old values.old.items result values.new.items state.new }
-    ensures given { S.Item.IsAlwaysCopied → IsOk result }
-{
-    for _ in 0..most {
+    for _ in taken..most {
         match state.call(TakeNext { id })? {
             Next::Value(value) => values.push_reserved(value),
             Next::Empty => return Ok(Drained::Empty),
@@ -92,15 +77,15 @@ impl<S: FlowCore + Drop, A: Allocator + Copy> Flow<S, A> {
     fn take<R: Wait, B: Allocator>(
         &self,
         rt: &R,
-        seat: &mut FlowSeat<S, A>,
         id: SubId,
+        seat: &mut FlowSeat<S, A>,
         most: usize,
         values: &mut Vec<S::Item, B>,
     ) -> Result<Drained, FlowFault>
-        requires flow { seat.old.table_id ≡ self.now.table_id }
-        requires subscribed { IsSubscription S.kind seat.old.knows (number_of id) }
         requires some { most ≢ 0 }
         requires room { vec_len values.old + most ≤ vec_capacity values.old }
+        requires flow { seat.old.table_id ≡ self.now.table_id }
+        requires subscribed { IsSubscription S.kind seat.old.knows (number_of id) }
         ensures drained { DrainsBy (NextsOf S.kind self.now) most
             (numbered seat.old (number_of id)) values.old.items
             result values.new.items (numbered seat.new (number_of id)) }
@@ -139,7 +124,7 @@ impl<S: FlowCore + Drop, A: Allocator + Copy> Flow<S, A> {
                 return Err(FlowFault::OutOfMemory);
             }
             let room = left.min(values.capacity() - values.len());
-            match self.take(rt, seat, id, room, values)? {
+            match self.take(rt, id, seat, room, values)? {
                 Drained::Most => left -= room,
                 ended => return Ok(ended),
             }

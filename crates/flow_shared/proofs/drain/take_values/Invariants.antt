@@ -4,7 +4,7 @@ use Rattle.flow_core.specs.SubId.{number_of}
 use Rattle.flow_law.proofs.DrainingLemmas.{HasTaken}
 use Rattle.flow_shared.specs.Attended.{AttendedAs}
 use Rattle.flow_shared.specs.Drains.{CoreNexts}
-use Rattle.flow_shared.proofs.drain.take_each.Given as goal
+use Rattle.flow_shared.proofs.drain.take_values.Given as goal
 
 abbrev pub invariant-loop : goal.invariant-loop
 invariant-loop g l = record {
