@@ -102,7 +102,7 @@ module _ {K T S C R : Type 0} (kind : Kind T S C R) (StandsAs : K → S → Type
   abbrev pub adding : Token (Said C R) → List (Said C R) → Token (Said C R)
   adding t more = knowing t (adds more t.knows)
 
-  -- values in a row, with nobody else between
+  -- values in a row, with no other caller between
   abbrev Gives : (t : Token (Said C R)) (values : List T) (end : Token (Said C R)) (core : K) → Type 0
   Gives t values end core = NextsGive (NextsOf kind flow) (numbered t n) values (numbered end n) × Stays end core
 
@@ -208,10 +208,12 @@ pub appended_since : {T : Type 0} (old new values : List T) → new ≡ old ++ v
 appended_since old new values e = ap (drop (length old)) e ∙ drop-append_seam old values
 
 -- Who is inside, from the core that was lent to it to leaving: `since` is what the evidence says of the list before.
-module _ {K T S C R : Type 0} (kind : Kind T S C R) (start : K → S) (StandsAs : K → S → Type 0) (stands : K → K → List (HistoryEvent (Said C R)) → Type 0)
-    (so : (first core : K) (h : List (HistoryEvent (Said C R))) → stands first core h → StandsForHistory kind StandsAs (start first) core h)
-    (back : (first core : K) (h : List (HistoryEvent (Said C R))) → StandsForHistory kind StandsAs (start first) core h → stands first core h) (law : Lawful kind) (n : ℕ) where
-  module _ (held : HeldState K (Said C R)) (stood : stands held.first held.state held.token.knows.seen) (subscribed : IsSubscription kind held.token.knows n)
+module _ {K T S C R : Type 0} (kind : Kind T S C R) (start : K → S) (StandsAs : K → S → Type 0) (law : Lawful kind) (n : ℕ) where
+  -- from the first core on, it stands for this history
+  abbrev stands_since : K → K → List (HistoryEvent (Said C R)) → Type 0
+  stands_since first core h = StandsForHistory kind StandsAs (start first) core h
+
+  module _ (held : HeldState K (Said C R)) (stood : stands_since held.first held.state held.token.knows.seen) (subscribed : IsSubscription kind held.token.knows n)
       (names : NamesOnlyMade held.token.knows.name held.token.knows.made held.token.knows.seen) (lent new : K) (is : lent ≡ held.state)
       (most : ℕ) (some : 1 ≤ most) (old_list since new_list : List T) (same : since ≡ old_list) (result : Result Drained FlowFault) (t : TakesBy (CoreNexts kind n StandsAs) most lent old_list result new_list new) where
     takes : TakesBy (CoreNexts kind n StandsAs) most held.state old_list result new_list new
@@ -231,23 +233,23 @@ module _ {K T S C R : Type 0} (kind : Kind T S C R) (start : K → S) (StandsAs 
     given : drop (length since) new_list ≡ t.values
     given = appended_since since new_list t.values (t.appended ∙ ap (λ (l : List T). l ++ t.values) (sym same))
 
-    pub may_leave : stands held.first new (held.token.knows.seen ++ events_of held.token.knows.name (added (drop (length since) new_list)))
+    pub may_leave : stands_since held.first new (held.token.knows.seen ++ events_of held.token.knows.name (added (drop (length since) new_list)))
     unfolding takes
-    may_leave = back held.first new _ (subst (λ (values : List T). StandsForHistory kind StandsAs (start held.first) new (held.token.knows.seen ++ events_of held.token.knows.name (added values))) (sym given)
+    may_leave = subst (λ (values : List T). StandsForHistory kind StandsAs (start held.first) new (held.token.knows.seen ++ events_of held.token.knows.name (added values))) (sym given)
         (stands_then kind StandsAs law (origin held.token.table_id (start held.first)) n held.token held.token.knows.lost held.token.knows.seen held.state (omega arith) (grew_refl held.token.knows.name held.token.knows.seen, names)
-        (so held.first held.state held.token.knows.seen stood) subscribed most some old_list new_list result new takes))
+        stood subscribed most some old_list new_list result new takes)
 
     pub has_taken : (after : Token (Said C R)) → after ≡ knowing held.token (adds (added (drop (length since) new_list)) held.token.knows) → TakesInside kind n StandsAs most held old_list result new_list after
     unfolding takes
     has_taken _ left = record { core = new; takes = takes; left = left ∙ ap (λ (values : List T). knowing held.token (adds (added values) held.token.knows)) given }
 
   -- who entered, and what the drain then is
-  module _ (flow : Origin S) (gate : Origin K) (before : Token (Said C R)) (held : HeldState K (Said C R)) (is : origin gate.table_id (start gate.first) ≡ flow) (f : Finds stands gate before held) (subscribed : IsSubscription kind before.knows n) where
+  module _ (flow : Origin S) (gate : Origin K) (before : Token (Said C R)) (held : HeldState K (Said C R)) (is : origin gate.table_id (start gate.first) ≡ flow) (f : Finds stands_since gate before held) (subscribed : IsSubscription kind before.knows n) where
     found : StandsForHistory kind StandsAs flow.first held.state f.history
-    found = subst (λ (o : Origin S). StandsForHistory kind StandsAs o.first held.state f.history) is (so gate.first held.state f.history f.stood)
+    found = subst (λ (o : Origin S). StandsForHistory kind StandsAs o.first held.state f.history) is f.stood
 
-    pub stood_inside : stands held.first held.state held.token.knows.seen
-    stood_inside = subst (λ (z : K × Token (Said C R)). stands z.0 held.state z.1.knows.seen) (λ i. (sym f.first i, sym f.token i)) f.stood
+    pub stood_inside : stands_since held.first held.state held.token.knows.seen
+    stood_inside = subst (λ (z : K × Token (Said C R)). stands_since z.0 held.state z.1.knows.seen) (λ i. (sym f.first i, sym f.token i)) f.stood
 
     pub names_inside : NamesOnlyMade held.token.knows.name held.token.knows.made held.token.knows.seen
     names_inside = subst (λ (t : Token (Said C R)). NamesOnlyMade t.knows.name t.knows.made t.knows.seen) (sym f.token) f.fits.1

@@ -14,19 +14,21 @@ use Rattle.flow_law.proofs.TokenLemmas.{stands_next, may_grows}
 use Rattle.flow_gate.specs.Tokens.{Token, Origin, HeldState, Finds, HasStood}
 use Rattle.flow_shared.specs.Calls.{SaysIn}
 
--- K are the cores; `start` is the state that a new one stands for, and `stands` says for which histories one stands
-module _ {K T S C R : Type 0} (kind : Kind T S C R) (start : K → S) (StandsAs : K → S → Type 0) (stands : K → K → List (HistoryEvent (Said C R)) → Type 0)
-    (so : (first core : K) (h : List (HistoryEvent (Said C R))) → stands first core h → StandsForHistory kind StandsAs (start first) core h)
-    (back : (first core : K) (h : List (HistoryEvent (Said C R))) → StandsForHistory kind StandsAs (start first) core h → stands first core h) where
+-- K are what a gate guards; `start` is the state that a new one stands for
+module _ {K T S C R : Type 0} (kind : Kind T S C R) (start : K → S) (StandsAs : K → S → Type 0) where
+  -- from the first one on, it stands for this history
+  abbrev stands : K → K → List (HistoryEvent (Said C R)) → Type 0
+  stands first core h = StandsForHistory kind StandsAs (start first) core h
+
   -- x is the core as it was lent, y what it became; c' is the call as it was named on leaving
   module _ (held : HeldState K (Said C R)) (x y : K) (c c' : C) (r : R) (stood : stands held.first held.state held.token.knows.seen) (lent : x ≡ held.state) (named : c' ≡ c)
       (documents : Documents kind StandsAs x c r y) (may : MayCall kind c held.token.knows.name held.token.knows.seen) where
     both : StandsForHistory kind StandsAs (start held.first) y (held.token.knows.seen ++ event held.token.knows.name (said c r) ∷ [])
-    both = stands_next kind StandsAs (start held.first) held.state y held.token.knows.seen held.token.knows.name c r (so held.first held.state held.token.knows.seen stood)
+    both = stands_next kind StandsAs (start held.first) held.state y held.token.knows.seen held.token.knows.name c r stood
         (subst (λ (z : K). Documents kind StandsAs z c r y) lent documents) may
 
     pub may_leave : stands held.first y (held.token.knows.seen ++ event held.token.knows.name (said c' r) ∷ [])
-    may_leave = subst (λ (d : C). stands held.first y (held.token.knows.seen ++ event held.token.knows.name (said d r) ∷ [])) (sym named) (back held.first y _ both)
+    may_leave = subst (λ (d : C). stands held.first y (held.token.knows.seen ++ event held.token.knows.name (said d r) ∷ [])) (sym named) both
 
     pub has_said : (after : Token (Said C R)) → after ≡ knowing held.token (adds (said c' r ∷ []) held.token.knows) → SaysIn kind (start held.first) held c r after
     has_said after is = (is ∙ ap (λ (d : C). knowing held.token (adds (said d r ∷ []) held.token.knows)) named, both.0)
@@ -34,7 +36,7 @@ module _ {K T S C R : Type 0} (kind : Kind T S C R) (start : K → S) (StandsAs 
   -- some core stood for a history that begins with what the token has seen: so that is a history, too
   pub has_seen : (flow : Origin S) (gate : Origin K) (t : Token (Said C R)) → origin gate.table_id (start gate.first) ≡ flow → HasStood stands gate t → IsHistory kind flow.first t.knows.seen
   has_seen flow gate t is stood = let of_gate = stood.1 in let grown = of_gate.2.0 in
-      history_left kind flow.first t.knows.seen grown.0 (subst (λ (z : S × List (HistoryEvent (Said C R))). IsHistory kind z.0 z.1) (λ i. ((is i).first, grown.1 i)) (so gate.first stood.0 of_gate.0 of_gate.1).0)
+      history_left kind flow.first t.knows.seen grown.0 (subst (λ (z : S × List (HistoryEvent (Said C R))). IsHistory kind z.0 z.1) (λ i. ((is i).first, grown.1 i)) of_gate.1.0)
 
   -- who enters, and what it then says
   module _ (law : Lawful kind) (flow : Origin S) (gate : Origin K) (before : Token (Said C R)) (held : HeldState K (Said C R)) (is : origin gate.table_id (start gate.first) ≡ flow) (f : Finds stands gate before held) where
@@ -54,7 +56,7 @@ module _ {K T S C R : Type 0} (kind : Kind T S C R) (start : K → S) (StandsAs 
     pub may_inside : (c : List ℕ → C) → MayCall kind (c (subscription_name before.knows)) before.knows.name before.knows.seen
         → MayCall kind (c (subscription_name held.token.knows)) held.token.knows.name held.token.knows.seen
     may_inside c may = subst (λ (z : List ℕ × List ℕ). MayCall kind (c z.0) z.1 held.token.knows.seen) (λ i. (same_name i, sym found_name i))
-        (may_grows kind law (start held.first) (c (subscription_name before.knows)) before.knows.name before.knows.seen held.token.knows.seen (so held.first held.state held.token.knows.seen found).0 found_grows may)
+        (may_grows kind law (start held.first) (c (subscription_name before.knows)) before.knows.name before.knows.seen held.token.knows.seen found.0 found_grows may)
 
     module _ (c : List ℕ → C) (r : R) (after : Token (Said C R)) (says : SaysIn kind (start held.first) held (c (subscription_name held.token.knows)) r after) where
       abbrev call : C

@@ -1,4 +1,5 @@
 pub mod Inside
+pub mod Seats
 pub mod Drains
 pub mod Emissions
 pub mod EmitCountLemmas

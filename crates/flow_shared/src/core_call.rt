@@ -1,11 +1,11 @@
 //! Calls inside the gate: the call of the core, and leaving with the event that names it.
 ghost use Rattle.std.specs.Prelude.{◌≡◌, ℕ, List};
+ghost use Rattle.flow_law.specs.Growth.{adds};
 ghost use Rattle.flow_law.specs.History.{MayCall};
 ghost use Rattle.flow_law.specs.Standing.{Documents};
-ghost use Rattle.flow_shared.specs.Attended.{AttendedAs, attended_stands};
-ghost use Rattle.flow_law.specs.Growth.{adds};
-ghost use Rattle.flow_gate.specs.Tokens.{StandsWith};
 ghost use Rattle.flow_law.specs.Tokens.{subscription_name, knowing};
+ghost use Rattle.flow_gate.specs.Tokens.{StandsWith};
+ghost use Rattle.flow_shared.specs.Attended.{AttendedAs, attended_stands};
 ghost use Rattle.flow_shared.specs.Calls.{SaysIn};
 
 use crate::attended::Attended;

@@ -2,7 +2,8 @@
 ghost use Rattle.std.specs.Prelude.{◌≡◌, IfOk, IfErr, IfSome, MatchResult};
 ghost use Rattle.flow_law.specs.History.{MayCall, IsHistory};
 ghost use Rattle.flow_law.specs.Growth.{makes, child};
-ghost use Rattle.flow_law.specs.Tokens.{subscription_name, knowing, IsBusy};
+ghost use Rattle.flow_law.specs.Tokens.{Begins, subscription_name, knowing, IsBusy};
+ghost use Rattle.flow_law.specs.declared.fault.FlowFault.TheVariants.{OutOfMemory};
 ghost use Rattle.flow_shared.specs.Calls.{Calls, CallsAtOnce, ClosesAs, Meets};
 
 use crate::attended::Attended;
@@ -10,6 +11,7 @@ use crate::core_call::{CoreCall, SleepingCall, call_core, call_core_or_sleep};
 use crate::token::{FlowSeat, FlowSubscription};
 use flow_core::FlowCore;
 use flow_gate::Gate;
+use flow_law::FlowFault;
 use flow_sleepers::Waiter;
 use std::alloc::{Allocator, Global};
 use std::marker::Model;
@@ -42,14 +44,37 @@ impl<S: FlowCore, A: Allocator + Copy> Model for Flow<S, A> {
     ghost view = { λ f. origin f.gate.table_id (S.first f.gate.first.core) };
 }
 
+/// A seat at the gate of a flow.
+type GateSeat<S, A> = flow_gate::Seat<Attended<S, A>, A>;
+
+/// What a call that does not wait came to: the seat and the answer, or the seat and the call if another caller was
+/// inside.
+type Tried<S, A, Answer, C> = Result<(GateSeat<S, A>, Answer), (GateSeat<S, A>, C)>;
+
 impl<S: FlowCore + Drop, A: Allocator + Copy> Flow<S, A> {
+    /// Puts a core behind a gate, and makes the first seat. The only error is `OutOfMemory`.
+    pub(crate) fn begin(alloc: A, core: S) -> Result<(Flow<S, A>, FlowSeat<S, A>), FlowFault>
+        requires may { S.kind.MayBegin (S.first core) }
+        requires stands { S.stands_as core (S.first core) }
+        ensures begun { IfOk result (Begins (S.first core)) }
+        ensures memory { IfErr result (λ fault. fault ≡ OutOfMemory) }
+    {
+        match Gate::new(alloc, Attended::new(alloc, core)) {
+            Ok((gate, seat)) => {
+                let watchers = AtomicU64::new(0);
+                Ok((Flow { gate, watchers }, FlowSeat { seat: Some(seat) }))
+            }
+            Err(_failed) => Err(FlowFault::OutOfMemory),
+        }
+    }
+
     #[inline]
     pub(crate) fn call_by<R: Wait, C: CoreCall<S>>(
         &self,
         rt: &R,
-        seat: flow_gate::Seat<Attended<S, A>, A>,
+        seat: GateSeat<S, A>,
         call: C,
-    ) -> (flow_gate::Seat<Attended<S, A>, A>, C::Answer)
+    ) -> (GateSeat<S, A>, C::Answer)
         requires flow { seat.table_id ≡ self.now.table_id }
         requires may { MayCall S.kind (C.call call (subscription_name seat.knows))
             seat.knows.name seat.knows.seen }
@@ -63,12 +88,9 @@ impl<S: FlowCore + Drop, A: Allocator + Copy> Flow<S, A> {
 
     pub(crate) fn call_by_now<C: CoreCall<S>>(
         &self,
-        seat: flow_gate::Seat<Attended<S, A>, A>,
+        seat: GateSeat<S, A>,
         call: C,
-    ) -> Result<
-        (flow_gate::Seat<Attended<S, A>, A>, C::Answer),
-        (flow_gate::Seat<Attended<S, A>, A>, C),
-    >
+    ) -> Tried<S, A, C::Answer, C>
         requires flow { seat.table_id ≡ self.now.table_id }
         requires may { MayCall S.kind (C.call call (subscription_name seat.knows))
             seat.knows.name seat.knows.seen }
@@ -86,13 +108,10 @@ impl<S: FlowCore + Drop, A: Allocator + Copy> Flow<S, A> {
     /// again.
     pub(crate) fn call_by_or_sleep<C: SleepingCall<S, A>, W: Waiter<A>>(
         &self,
-        seat: flow_gate::Seat<Attended<S, A>, A>,
+        seat: GateSeat<S, A>,
         call: C,
         waiter: &mut W,
-    ) -> Result<
-        (flow_gate::Seat<Attended<S, A>, A>, C::Answer),
-        (flow_gate::Seat<Attended<S, A>, A>, C),
-    >
+    ) -> Tried<S, A, C::Answer, C>
         requires flow { seat.table_id ≡ self.now.table_id }
         requires may { MayCall S.kind (C.call call (subscription_name seat.knows))
             seat.knows.name seat.knows.seen }
@@ -115,10 +134,10 @@ impl<S: FlowCore + Drop, A: Allocator + Copy> Flow<S, A> {
     pub(crate) fn call_by_asleep<R: Wait, C: SleepingCall<S, A>, W: Waiter<A>>(
         &self,
         rt: &R,
-        seat: flow_gate::Seat<Attended<S, A>, A>,
+        seat: GateSeat<S, A>,
         call: C,
         waiter: &mut W,
-    ) -> (flow_gate::Seat<Attended<S, A>, A>, C::Answer)
+    ) -> (GateSeat<S, A>, C::Answer)
         requires flow { seat.table_id ≡ self.now.table_id }
         requires may { MayCall S.kind (C.call call (subscription_name seat.knows))
             seat.knows.name seat.knows.seen }
@@ -188,12 +207,16 @@ impl<S: FlowCore + Drop, A: Allocator + Copy> Flow<S, A> {
         ensures busy { IfErr result (λ back. IsBusy seat.old seat.new × (back ≡ call)) }
     {
         let own = seat.seat.take().unwrap();
-        let (own, answer) = match self.call_by_now(own, call) {
-            Ok((own, answer)) => (own, Ok(answer)),
-            Err((own, call)) => (own, Err(call)),
-        };
-        seat.seat = Some(own);
-        answer
+        match self.call_by_now(own, call) {
+            Ok((own, answer)) => {
+                seat.seat = Some(own);
+                Ok(answer)
+            }
+            Err((own, call)) => {
+                seat.seat = Some(own);
+                Err(call)
+            }
+        }
     }
 
     /// Does the same as `call_now`. If the reply is a wait, the caller sleeps; if another caller is inside, it asks
@@ -214,12 +237,16 @@ impl<S: FlowCore + Drop, A: Allocator + Copy> Flow<S, A> {
         ensures kept { W.keeps waiter.old waiter.new }
     {
         let own = seat.seat.take().unwrap();
-        let (own, answer) = match self.call_by_or_sleep(own, call, waiter) {
-            Ok((own, answer)) => (own, Ok(answer)),
-            Err((own, call)) => (own, Err(call)),
-        };
-        seat.seat = Some(own);
-        answer
+        match self.call_by_or_sleep(own, call, waiter) {
+            Ok((own, answer)) => {
+                seat.seat = Some(own);
+                Ok(answer)
+            }
+            Err((own, call)) => {
+                seat.seat = Some(own);
+                Err(call)
+            }
+        }
     }
 
     /// Makes a seat through another one. Call it for each thread, before the thread starts, or for one more emission

@@ -8,15 +8,12 @@ ghost use Rattle.flow_law.specs.declared.call.SharedReply.TheVariants as reply;
 ghost use Rattle.flow_core.specs.SharedCore.{cache_reply};
 ghost use Rattle.flow_shared.specs.SharedReplies.{Calls, ResetsNow};
 
-use crate::attended::Attended;
 use crate::flow::Flow;
 use crate::token::{FlowSeat, FlowSubscription};
 use flow_core::SharedCore;
-use flow_gate::Gate;
 use flow_law::{Config, FlowFault, FlowValue};
 use std::alloc::{Allocator, Global};
 use std::sync::Wait;
-use std::sync::atomic::AtomicU64;
 
 mod asleep;
 mod calls;
@@ -50,13 +47,7 @@ impl<T: FlowValue, A: Allocator + Copy> Flow<SharedCore<T, A>, A> {
             (NoFlow config) }
     {
         let core = SharedCore::new(alloc, config)?;
-        match Gate::new(alloc, Attended::new(alloc, core)) {
-            Ok((gate, seat)) => {
-                let watchers = AtomicU64::new(0);
-                Ok((Flow { gate, watchers }, FlowSeat { seat: Some(seat) }))
-            }
-            Err(_failed) => Err(FlowFault::OutOfMemory),
-        }
+        Flow::begin(alloc, core)
     }
 
     /// Returns the replay cache: copies of at most `replay` values. A new subscriber receives them first, unless a

@@ -7,15 +7,12 @@ ghost use Rattle.flow_law.specs.declared.call.StateCall.TheVariants as call;
 ghost use Rattle.flow_core.specs.StateCore.{cache_reply, reset_reply};
 ghost use Rattle.flow_shared.specs.StateReplies.{StateCalls};
 
-use crate::attended::Attended;
 use crate::flow::Flow;
 use crate::token::{FlowSeat, FlowSubscription};
 use flow_core::StateCore;
-use flow_gate::Gate;
 use flow_law::{FlowFault, FlowValue};
 use std::alloc::{Allocator, Global};
 use std::sync::Wait;
-use std::sync::atomic::AtomicU64;
 
 mod calls;
 mod seen;
@@ -50,13 +47,7 @@ impl<T: FlowValue, A: Allocator + Copy> Flow<StateCore<T, A>, A> {
         ensures memory { IfErr result (λ fault. fault ≡ FlowFault.OutOfMemory) }
     {
         let core = StateCore::new(alloc, initial, limit);
-        match Gate::new(alloc, Attended::new(alloc, core)) {
-            Ok((gate, seat)) => {
-                let watchers = AtomicU64::new(0);
-                Ok((Flow { gate, watchers }, FlowSeat { seat: Some(seat) }))
-            }
-            Err(_failed) => Err(FlowFault::OutOfMemory),
-        }
+        Flow::begin(alloc, core)
     }
 
     /// Returns a list of the current value, which is a state flow's replay cache. The only error is `OutOfMemory`.

@@ -1,32 +1,14 @@
-use Rattle.std.proofs.Common.{◌≡◌, IfOk, IfErr, ap, sym, ◌∙◌, subst}
-use Rattle.flow_law.specs.History.{MayCall}
-use Rattle.flow_law.specs.Tokens.{subscription_name, IsBusy}
-use Rattle.flow_shared.specs.Calls.{CallsAtOnce}
+use Rattle.std.proofs.Common.{ap, sym, ◌∙◌, subst}
+use Rattle.flow_law.specs.Tokens.{IsBusy}
 use Rattle.flow_shared.specs.Tokens.{seat_in}
-use Rattle.flow_shared.proofs.flow.Flow.call_now.Goals.{in-Ok, in-Err}
+use Rattle.flow_shared.proofs.Seats.{may_by, calls_at_once_by}
 use Rattle.flow_shared.proofs.flow.Flow.call_now.Goals as goal
 
 pub call_by_now-requires-clause-may : goal.call_by_now-requires-clause-may
-call_by_now-requires-clause-may g c =
-    let is = ap seat_in (sym c.unwrap-own.ensures ∙ c.take.ensures.value) ∙ c.seat.view_is in
-    subst (λ t. MayCall g.S.FlowCore.kind (g.C.CoreCall.call c.args.call (subscription_name t.knows)) t.knows.name t.knows.seen) (sym is) c.requires.may
+call_by_now-requires-clause-may g c = may_by g.S.FlowCore.kind (g.C.CoreCall.call c.args.call) c.unwrap-own.result c.args.seat.now (ap seat_in (sym c.unwrap-own.ensures ∙ c.take.ensures.value) ∙ c.seat.view_is) c.requires.may
 
-pub returns-clause-called : goal.returns-clause-called
-returns-clause-called g c =
-    let is = ap seat_in (sym c.unwrap-own.ensures ∙ c.take.ensures.value) ∙ c.seat.view_is in
-    elim c.match-call_by_now.branch [
-      | in-Ok w ↦ subst (λ z. IfOk z.1 (λ answer. CallsAtOnce g.S.FlowCore.kind c.args.self.now c.args.seat.now (g.C.CoreCall.call c.args.call (subscription_name c.args.seat.now.knows)) (g.C.CoreCall.reply answer) z.0 × g.C.CoreCall.also c.args.call answer)) (sym w.own-is) (
-        subst (λ t. CallsAtOnce g.S.FlowCore.kind c.args.self.now t (g.C.CoreCall.call c.args.call (subscription_name t.knows)) (g.C.CoreCall.reply w.in-Ok.answer) w.in-Ok.own) is w.in-Ok.ensures.called.0,
-        w.in-Ok.ensures.called.1,
-      )
-      | in-Err w ↦ subst (λ z. IfOk z.1 (λ answer. CallsAtOnce g.S.FlowCore.kind c.args.self.now c.args.seat.now (g.C.CoreCall.call c.args.call (subscription_name c.args.seat.now.knows)) (g.C.CoreCall.reply answer) z.0 × g.C.CoreCall.also c.args.call answer)) (sym w.own-is) tt
-    ]
+pub returns-in-Ok-clause-called : goal.returns-in-Ok-clause-called
+returns-in-Ok-clause-called g c = (calls_at_once_by g.S.FlowCore.kind (g.C.CoreCall.call c.args.call) c.unwrap-own.result c.args.seat.now (ap seat_in (sym c.unwrap-own.ensures ∙ c.take.ensures.value) ∙ c.seat.view_is) c.args.self.now (g.C.CoreCall.reply c.in-Ok.answer) c.in-Ok.own c.in-Ok.ensures.called.0, c.in-Ok.ensures.called.1)
 
-pub returns-clause-busy : goal.returns-clause-busy
-returns-clause-busy g c =
-    let is = ap seat_in (sym c.unwrap-own.ensures ∙ c.take.ensures.value) ∙ c.seat.view_is in
-    elim c.match-call_by_now.branch [
-      | in-Ok w ↦ subst (λ z. IfErr z.1 (λ back. IsBusy c.args.seat.now z.0 × (back ≡ c.args.call))) (sym w.own-is) tt
-      | in-Err w ↦ subst (λ z. IfErr z.1 (λ back. IsBusy c.args.seat.now z.0 × (back ≡ c.args.call))) (sym w.own-is)
-          (subst (λ t. IsBusy t w.in-Err.own) is w.in-Err.ensures.busy.0, w.in-Err.ensures.busy.1)
-    ]
+pub returns-in-Err-clause-busy : goal.returns-in-Err-clause-busy
+returns-in-Err-clause-busy g c = (subst (λ t. IsBusy t c.in-Err.own) (ap seat_in (sym c.unwrap-own.ensures ∙ c.take.ensures.value) ∙ c.seat.view_is) c.in-Err.ensures.busy.0, c.in-Err.ensures.busy.1)
