@@ -1,5 +1,5 @@
 -- Calls that found nothing, or an emission that waits, before one that ends the wait.
-use Rattle.std.proofs.Common.{◌≡◌, inr, ℕ, true, false, [], ◌∷◌, Result, Ok, subst, arith}
+use Rattle.std.proofs.Common.{◌≡◌, inr, ℕ, true, false, [], ◌∷◌, Option, None, Result, Ok, Err, subst, arith}
 use Rattle.flow_law.specs.declared.fault.FlowFault.{FlowFault}
 use Rattle.flow_law.specs.declared.history.Said.{Said}
 use Rattle.flow_law.specs.declared.outcome.Next.{Next}
@@ -9,6 +9,7 @@ use Rattle.flow_law.specs.declared.call.SharedReply.TheVariants as reply
 use Rattle.flow_law.specs.declared.outcome.Emit.TheVariants.{Queued}
 use Rattle.flow_law.specs.declared.states.SharedFlowState.{SharedFlowState}
 use Rattle.flow_law.specs.History.{Kind}
+use Rattle.flow_law.specs.Handles.{next_of}
 use Rattle.flow_law.specs.Tokens.{IsBusy}
 use Rattle.flow_gate.specs.Tokens.{Token, Origin}
 use Rattle.flow_shared.specs.Calls as flows
@@ -41,6 +42,19 @@ module _ {T S C R : Type 0} (kind : Kind T S C R) (flow : Origin S) where
 
   pub leads_to : (s t u : NumberedToken (Said C R)) (answer : Result (Next T) FlowFault) → LeadsOn s t → NextsOf kind flow t answer u → NextsUntil kind flow s answer u
   leads_to s t u answer led called = led answer u ([], called)
+
+  -- a call in a loop, at the flow as the loop has it: it ends the wait, or found nothing
+  module _ (here : Origin S) (s t u : NumberedToken (Said C R)) (same : here ≡ flow) (led : LeadsOn s t) where
+    pub is_refused : (fault : FlowFault) → NextsOf kind here t (Err fault) u → NextsUntil kind flow s (Err fault) u
+    is_refused fault called = leads_to s t u (Err fault) led (subst (λ (f : Origin S). NextsOf kind f t (Err fault) u) same called)
+
+    pub has_next : (found next : Option T) → found ≡ next → NextsOf kind here t (Ok (next_of found)) u → NextsUntil kind flow s (Ok (next_of next)) u
+    has_next found next is called = leads_to s t u (Ok (next_of next)) led
+        (subst (λ (o : Option T). NextsOf kind flow t (Ok (next_of o)) u) is (subst (λ (f : Origin S). NextsOf kind f t (Ok (next_of found)) u) same called))
+
+    pub goes_on : (found : Option T) → found ≡ None → NextsOf kind here t (Ok (next_of found)) u → LeadsOn s u
+    goes_on found is called = leads_further s t u led
+        (subst (λ (o : Option T). NextsOf kind flow t (Ok (next_of o)) u) is (subst (λ (f : Origin S). NextsOf kind f t (Ok (next_of found)) u) same called))
 
 module _ {T : Type 0} (flow : Origin (SharedFlowState T)) where
   -- so far the emission waits: where it ends from here on it ends from there on
