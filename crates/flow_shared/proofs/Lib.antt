@@ -5,10 +5,10 @@ pub mod Emissions
 pub mod EmitCountLemmas
 pub mod EmitRuns
 pub mod NextRuns
+pub mod NextTries
 pub mod Refusals
 pub mod Rounds
 pub mod DrainEnds
-pub mod Yields
 pub mod Attending
 pub mod Waits
 pub mod Tries

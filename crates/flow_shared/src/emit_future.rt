@@ -9,7 +9,9 @@ ghost use Rattle.flow_shared.specs.EmitFutures.{Emitting, emitting, HoldsOf, Emi
 use crate::answers::{Emission, Emitted, PolledNow};
 use crate::dropping::TRIES;
 use crate::shared::{Seat, SharedFlow};
+use crate::sleepless::{Sleepless, again_if_pending};
 use flow_law::{FlowFault, FlowValue};
+use flow_sleepers::Waiter;
 use futures::Future;
 use futures::task::{Context, Poll};
 use std::alloc::{Allocator, Global};
@@ -95,15 +97,42 @@ impl<'a, T: FlowValue, A: Allocator + Copy> EmitFuture<'a, T, A> {
             EmitStage::Ended => None,
         }
     }
+}
 
+impl<'a, T: FlowValue, A: Allocator + Copy> Future for EmitFuture<'a, T, A> {
+    type Output = Sent<T, A>;
+
+    ghost gives = { λ f sent. GivesSent f sent };
+
+    fn poll(&mut self, cx: &mut Context<'_>) -> Poll<Sent<T, A>>
+        ensures flow { self.new.flow ≡ self.old.flow }
+        ensures polls { EmitPolls self.old.flow self.old.stage result self.new.stage }
+        ensures one { OneEach Says self.old.flow (held self.old.stage) result (token_after result self.new.stage) }
+        ensures asked { OnPending result (cx.new.is_woken ≡ true) }
+        ensures count { KeepsCount self.old.stage result self.new.stage }
+        ensures refused { IfReady result IsRefusedIfDue }
+        // The trait's own clauses.
+        ensures value { IfReady result (GivesSent self.old) }
+        ensures again { OnPending result ⊤ }
+        ensures same { OnPending result ((x : _) → GivesSent self.new x → GivesSent self.old x) }
+        ensures registered { OnPending result (Covers cx.new (λ _. ⊥)) }
+        ensures kept { Keeps cx.old cx.new }
+    {
+        again_if_pending(self.advance(&mut Sleepless), cx)
+    }
+}
+
+impl<'a, T: FlowValue, A: Allocator + Copy> EmitFuture<'a, T, A> {
     /// Emits the value, at the first poll that is not busy.
-    fn emit(&mut self, seat: Seat<T, A>, value: T) -> Poll<Sent<T, A>>
+    fn emit<W: Waiter<A>>(&mut self, seat: Seat<T, A>, value: T, waiter: &mut W) -> Poll<Sent<T, A>>
         requires { (self.old.stage ≡ Ended) × (seat.table_id ≡ self.old.flow.table_id) }
         ensures flow { self.new.flow ≡ self.old.flow }
         ensures polls { EmitPolls self.old.flow (Fresh seat value) result self.new.stage }
         ensures at { IfReady result (λ s. (sent_token s).table_id ≡ self.old.flow.table_id) }
+        ensures armed { OnPending result (W.is_armed waiter.new) }
+        ensures kept { W.keeps waiter.old waiter.new }
     {
-        match self.flow.emit_now(seat, value) {
+        match self.flow.emit_or_sleep(seat, value, waiter) {
             Emitted::Done(seat) => Poll::Ready(Sent::Done(seat)),
             Emitted::Queued(emission) => {
                 self.stage = EmitStage::Waiting(emission);
@@ -118,13 +147,15 @@ impl<'a, T: FlowValue, A: Allocator + Copy> EmitFuture<'a, T, A> {
     }
 
     /// Asks whether the emission still waits.
-    fn ask(&mut self, emission: Emission<T, A>) -> Poll<Sent<T, A>>
+    fn ask<W: Waiter<A>>(&mut self, emission: Emission<T, A>, waiter: &mut W) -> Poll<Sent<T, A>>
         requires { (self.old.stage ≡ Ended) × (emission.token.table_id ≡ self.old.flow.table_id) }
         ensures flow { self.new.flow ≡ self.old.flow }
         ensures polls { EmitPolls self.old.flow (Waiting emission) result self.new.stage }
         ensures at { IfReady result (λ s. (sent_token s).table_id ≡ self.old.flow.table_id) }
+        ensures armed { OnPending result (W.is_armed waiter.new) }
+        ensures kept { W.keeps waiter.old waiter.new }
     {
-        match self.flow.poll_now(emission) {
+        match self.flow.poll_or_sleep(emission, waiter) {
             PolledNow::Done(seat) => Poll::Ready(Sent::Done(seat)),
             PolledNow::Waiting(left) | PolledNow::Busy(left) => {
                 self.stage = EmitStage::Waiting(left);
@@ -133,42 +164,36 @@ impl<'a, T: FlowValue, A: Allocator + Copy> EmitFuture<'a, T, A> {
         }
     }
 
-    /// Does what a poll does, except that it does not ask to be polled again.
-    fn advance(&mut self) -> Poll<Sent<T, A>>
+    /// Makes the one call of a poll. If the emission waits, the caller sleeps or asks again.
+    fn call<W: Waiter<A>>(&mut self, waiter: &mut W) -> Poll<Sent<T, A>>
         ensures flow { self.new.flow ≡ self.old.flow }
         ensures polls { EmitPolls self.old.flow self.old.stage result self.new.stage }
         ensures at { IfReady result (λ s. (sent_token s).table_id ≡ self.old.flow.table_id) }
+        ensures armed { OnPending result (W.is_armed waiter.new) }
+        ensures kept { W.keeps waiter.old waiter.new }
     {
         match mem::replace(&mut self.stage, EmitStage::Ended) {
-            EmitStage::Fresh(seat, value) => self.emit(seat, value),
-            EmitStage::Waiting(emission) => self.ask(emission),
-            EmitStage::Ended => Poll::Pending,
+            EmitStage::Fresh(seat, value) => self.emit(seat, value, waiter),
+            EmitStage::Waiting(emission) => self.ask(emission, waiter),
+            EmitStage::Ended => {
+                waiter.ask_again();
+                Poll::Pending
+            }
         }
     }
-}
 
-impl<'a, T: FlowValue, A: Allocator + Copy> Future for EmitFuture<'a, T, A> {
-    type Output = Sent<T, A>;
-
-    ghost gives = { λ f sent. GivesSent f sent };
-
-    fn poll(&mut self, cx: &mut Context<'_>) -> Poll<Sent<T, A>>
+    /// Does what a poll does with this waiter, and proves what it promises of the whole run.
+    pub(crate) fn advance<W: Waiter<A>>(&mut self, waiter: &mut W) -> Poll<Sent<T, A>>
+        ensures value { IfReady result (GivesSent self.old) }
+        ensures same { OnPending result ((x : _) → GivesSent self.new x → GivesSent self.old x) }
+        ensures armed { OnPending result (W.is_armed waiter.new) }
+        ensures kept { W.keeps waiter.old waiter.new }
         ensures flow { self.new.flow ≡ self.old.flow }
         ensures polls { EmitPolls self.old.flow self.old.stage result self.new.stage }
         ensures one { OneEach Says self.old.flow (held self.old.stage) result (token_after result self.new.stage) }
         ensures count { KeepsCount self.old.stage result self.new.stage }
         ensures refused { IfReady result IsRefusedIfDue }
-        ensures asked { OnPending result (cx.new.is_woken ≡ true) }
-        // The trait's own clauses.
-        ensures value { IfReady result (GivesSent self.old) }
-        ensures again { OnPending result ⊤ }
-        ensures same { OnPending result ((x : _) → GivesSent self.new x → GivesSent self.old x) }
-        ensures registered { OnPending result (Covers cx.new (λ _. ⊥)) }
-        ensures kept { Keeps cx.old cx.new }
     {
-        match self.advance() {
-            Poll::Ready(sent) => Poll::Ready(sent),
-            Poll::Pending => cx.yield_now(),
-        }
+        self.call(waiter)
     }
 }

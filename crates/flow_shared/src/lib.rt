@@ -39,6 +39,7 @@ mod next_future;
 mod receive_future;
 mod send_future;
 mod shared;
+mod sleepless;
 mod state;
 mod subscriber;
 mod token;

@@ -7,7 +7,9 @@ ghost use Rattle.flow_shared.specs.NextFutures.{Receiving, receiving, IsTo, Next
 
 use crate::dropping::TRIES;
 use crate::shared::{SharedFlow, Subscription};
+use crate::sleepless::{Sleepless, again_if_pending};
 use flow_law::{FlowFault, FlowValue, Next};
+use flow_sleepers::Waiter;
 use futures::Future;
 use futures::task::{Context, Poll};
 use std::alloc::{Allocator, Global};
@@ -48,9 +50,7 @@ impl<'a, T: FlowValue, A: Allocator + Copy> Model for NextFuture<'a, T, A> {
 }
 
 /// Returns what an answer of the flow gives the future to answer: nothing if it has to ask again.
-pub(crate) fn given_by<T: FlowValue>(
-    answer: Result<Next<T>, FlowFault>,
-) -> Option<Result<T, FlowFault>>
+fn given_by<T: FlowValue>(answer: Result<Next<T>, FlowFault>) -> Option<Result<T, FlowFault>>
     ensures { result ≡ given_by answer }
 {
     match answer {
@@ -83,16 +83,22 @@ impl<'a, T: FlowValue, A: Allocator + Copy> NextFuture<'a, T, A> {
         subscription
     }
 
-    /// Makes one call of the flow.
-    fn ask(&mut self, subscription: Subscription<T, A>) -> Poll<Received<T, A>>
+    /// Calls `next` of this subscription. If there is nothing to receive, the caller sleeps or asks again.
+    fn ask<W: Waiter<A>>(
+        &mut self,
+        subscription: Subscription<T, A>,
+        waiter: &mut W,
+    ) -> Poll<Received<T, A>>
         requires { (self.old.subscription ≡ None)
             × (subscription.token.table_id ≡ self.old.flow.table_id) }
         ensures flow { self.new.flow ≡ self.old.flow }
         ensures polls { NextPolls self.old.flow (Some subscription) result self.new.subscription }
         ensures at { IfReady result (λ r. r.0.token.table_id ≡ self.old.flow.table_id) }
+        ensures armed { OnPending result (W.is_armed waiter.new) }
+        ensures kept { W.keeps waiter.old waiter.new }
     {
         let mut subscription = subscription;
-        let answer = self.flow.next_now(&mut subscription);
+        let answer = self.flow.next_or_sleep(&mut subscription, waiter);
         match given_by(answer) {
             Some(given) => Poll::Ready((subscription, given)),
             None => {
@@ -102,16 +108,37 @@ impl<'a, T: FlowValue, A: Allocator + Copy> NextFuture<'a, T, A> {
         }
     }
 
-    /// Does what a poll does, except that it does not ask to be polled again.
-    fn advance(&mut self) -> Poll<Received<T, A>>
+    /// Makes the one call of a poll.
+    fn call<W: Waiter<A>>(&mut self, waiter: &mut W) -> Poll<Received<T, A>>
         ensures flow { self.new.flow ≡ self.old.flow }
         ensures polls { NextPolls self.old.flow self.old.subscription result self.new.subscription }
         ensures at { IfReady result (λ r. r.0.token.table_id ≡ self.old.flow.table_id) }
+        ensures armed { OnPending result (W.is_armed waiter.new) }
+        ensures kept { W.keeps waiter.old waiter.new }
     {
         match self.subscription.take() {
-            Some(subscription) => self.ask(subscription),
-            None => Poll::Pending,
+            Some(subscription) => self.ask(subscription, waiter),
+            None => {
+                waiter.ask_again();
+                Poll::Pending
+            }
         }
+    }
+
+    /// Does what a poll does with this waiter, and proves what it promises of the whole run.
+    pub(crate) fn advance<W: Waiter<A>>(&mut self, waiter: &mut W) -> Poll<Received<T, A>>
+        ensures value { IfReady result (GivesReceived self.old) }
+        ensures same { OnPending result
+            ((x : _) → GivesReceived self.new x → GivesReceived self.old x) }
+        ensures armed { OnPending result (W.is_armed waiter.new) }
+        ensures kept { W.keeps waiter.old waiter.new }
+        ensures flow { self.new.flow ≡ self.old.flow }
+        ensures polls { NextPolls self.old.flow self.old.subscription result self.new.subscription }
+        ensures refused { IfReady result IsRefusedIfDue }
+        ensures one { OneEach Says self.old.flow (held self.old.subscription)
+            result (token_after result self.new.subscription) }
+    {
+        self.call(waiter)
     }
 }
 
@@ -123,9 +150,9 @@ impl<'a, T: FlowValue, A: Allocator + Copy> Future for NextFuture<'a, T, A> {
     fn poll(&mut self, cx: &mut Context<'_>) -> Poll<Received<T, A>>
         ensures flow { self.new.flow ≡ self.old.flow }
         ensures polls { NextPolls self.old.flow self.old.subscription result self.new.subscription }
+        ensures asked { OnPending result (cx.new.is_woken ≡ true) }
         ensures one { OneEach Says self.old.flow (held self.old.subscription) result (token_after result self.new.subscription) }
         ensures refused { IfReady result IsRefusedIfDue }
-        ensures asked { OnPending result (cx.new.is_woken ≡ true) }
         // The trait's own clauses.
         ensures value { IfReady result (GivesReceived self.old) }
         ensures again { OnPending result ⊤ }
@@ -133,9 +160,6 @@ impl<'a, T: FlowValue, A: Allocator + Copy> Future for NextFuture<'a, T, A> {
         ensures registered { OnPending result (Covers cx.new (λ _. ⊥)) }
         ensures kept { Keeps cx.old cx.new }
     {
-        match self.advance() {
-            Poll::Ready(received) => Poll::Ready(received),
-            Poll::Pending => cx.yield_now(),
-        }
+        again_if_pending(self.advance(&mut Sleepless), cx)
     }
 }

@@ -1,12 +1,11 @@
 //! The next value of a subscription to a shared flow, as a future that is woken.
-ghost use Rattle.std.specs.Prelude.{◌≡◌, ⊤, Some, None};
-ghost use Rattle.futures.specs.Task.{IsArmed, Covers, Keeps};
+ghost use Rattle.std.specs.Prelude.{◌≡◌, ⊤, Some};
+ghost use Rattle.futures.specs.Task.{Covers, Keeps};
 ghost use Rattle.futures.specs.Poll.{IfReady, OnPending};
 ghost use Rattle.flow_shared.specs.Futures.{OneEach};
-ghost use Rattle.flow_shared.specs.NextFutures.{Receiving, receiving, IsTo, NextPolls, Says, held, token_after, IsRefusedIfDue, GivesReceived};
+ghost use Rattle.flow_shared.specs.NextFutures.{Receiving, receiving, NextPolls, Says, held, token_after, IsRefusedIfDue, GivesReceived};
 
-use crate::dropping::TRIES;
-use crate::next_future::{Received, given_by};
+use crate::next_future::{NextFuture, Received};
 use crate::shared::{SharedFlow, Subscription};
 use flow_law::FlowValue;
 use futures::Future;
@@ -24,26 +23,15 @@ use std::marker::Model;
 /// # Dropping
 /// Dropping the future ends its subscription, as dropping a `Reader` does. Its task may be woken once more. Call
 /// `into_subscription` to keep the subscription.
+#[derive(Drop)]
 pub struct ReceiveFuture<'a, T: FlowValue, A: Allocator + Copy = Global> {
-    flow: &'a SharedFlow<T, A>,
-    subscription: Option<Subscription<T, A>>,
-}
-
-impl<T: FlowValue, A: Allocator + Copy> Drop for ReceiveFuture<'_, T, A> {
-    fn drop(self) {
-        let Self { flow, subscription } = self;
-        if let Some(subscription) = subscription {
-            let _ended = flow.unsubscribe_within(subscription, TRIES);
-        }
-    }
+    next: NextFuture<'a, T, A>,
 }
 
 impl<'a, T: FlowValue, A: Allocator + Copy> Model for ReceiveFuture<'a, T, A> {
     ghost Value = { Receiving T };
 
-    ghost view = { λ f. receiving f.flow.now f.subscription };
-
-    ghost invariant = { λ f. IsTo f.flow.now.table_id f.subscription };
+    ghost view = { λ f. f.next };
 }
 
 impl<'a, T: FlowValue, A: Allocator + Copy> ReceiveFuture<'a, T, A> {
@@ -55,60 +43,16 @@ impl<'a, T: FlowValue, A: Allocator + Copy> ReceiveFuture<'a, T, A> {
         requires { subscription.token.table_id ≡ flow.now.table_id }
         ensures { result ≡ receiving flow.now (Some subscription) }
     {
-        ReceiveFuture {
-            flow,
-            subscription: Some(subscription),
-        }
+        let next = NextFuture::new(flow, subscription);
+        ReceiveFuture { next }
     }
 
     /// Ends the future, and returns the subscription, or `None` after `Ready`, when the answer had it.
     pub fn into_subscription(self) -> Option<Subscription<T, A>>
         ensures { result ≡ self.entry.subscription }
     {
-        let ReceiveFuture {
-            flow: _,
-            subscription,
-        } = self;
-        subscription
-    }
-
-    /// Makes one call of the flow.
-    fn ask(
-        &mut self,
-        subscription: Subscription<T, A>,
-        cx: &mut Context<'_>,
-    ) -> Poll<Received<T, A>>
-        requires { (self.old.subscription ≡ None)
-            × (subscription.token.table_id ≡ self.old.flow.table_id) }
-        ensures flow { self.new.flow ≡ self.old.flow }
-        ensures polls { NextPolls self.old.flow (Some subscription) result self.new.subscription }
-        ensures at { IfReady result (λ r. r.0.token.table_id ≡ self.old.flow.table_id) }
-        ensures armed { OnPending result (IsArmed cx.new) }
-        ensures kept { Keeps cx.old cx.new }
-    {
-        let mut subscription = subscription;
-        let answer = self.flow.next_or_sleep(&mut subscription, cx);
-        match given_by(answer) {
-            Some(given) => Poll::Ready((subscription, given)),
-            None => {
-                self.subscription = Some(subscription);
-                Poll::Pending
-            }
-        }
-    }
-
-    /// Does what a poll does, except for what it proves of the future.
-    fn advance(&mut self, cx: &mut Context<'_>) -> Poll<Received<T, A>>
-        ensures flow { self.new.flow ≡ self.old.flow }
-        ensures polls { NextPolls self.old.flow self.old.subscription result self.new.subscription }
-        ensures at { IfReady result (λ r. r.0.token.table_id ≡ self.old.flow.table_id) }
-        ensures armed { OnPending result (IsArmed cx.new) }
-        ensures kept { Keeps cx.old cx.new }
-    {
-        match self.subscription.take() {
-            Some(subscription) => self.ask(subscription, cx),
-            None => cx.yield_now(),
-        }
+        let ReceiveFuture { next } = self;
+        next.into_subscription()
     }
 }
 
@@ -129,9 +73,6 @@ impl<'a, T: FlowValue, A: Allocator + Copy> Future for ReceiveFuture<'a, T, A> {
         ensures registered { OnPending result (Covers cx.new (λ _. ⊥)) }
         ensures kept { Keeps cx.old cx.new }
     {
-        match self.advance(cx) {
-            Poll::Ready(received) => Poll::Ready(received),
-            Poll::Pending => Poll::Pending,
-        }
+        self.next.advance(cx)
     }
 }

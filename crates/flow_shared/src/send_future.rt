@@ -1,21 +1,18 @@
 //! Emitting a value into a shared flow, as a future that is woken.
 ghost use Rattle.std.specs.Prelude.{◌≡◌, ⊤};
-ghost use Rattle.futures.specs.Task.{IsArmed, Covers, Keeps};
+ghost use Rattle.futures.specs.Task.{Covers, Keeps};
 ghost use Rattle.futures.specs.Poll.{IfReady, OnPending};
-ghost use Rattle.flow_shared.specs.declared.emit_future.EmitStage.TheVariants.{Fresh, Waiting, Ended};
+ghost use Rattle.flow_shared.specs.declared.emit_future.EmitStage.TheVariants.{Fresh};
 ghost use Rattle.flow_shared.specs.Futures.{OneEach};
-ghost use Rattle.flow_shared.specs.EmitFutures.{Emitting, emitting, HoldsOf, EmitPolls, Says, held, token_after, KeepsCount, IsRefusedIfDue, sent_token, GivesSent, Cancels};
+ghost use Rattle.flow_shared.specs.EmitFutures.{Emitting, emitting, EmitPolls, Says, held, token_after, KeepsCount, IsRefusedIfDue, GivesSent, Cancels};
 
-use crate::answers::{Emission, Emitted, PolledNow};
-use crate::dropping::TRIES;
-use crate::emit_future::{EmitStage, Sent};
+use crate::emit_future::{EmitFuture, Sent};
 use crate::shared::{Seat, SharedFlow};
-use flow_law::{FlowFault, FlowValue};
+use flow_law::FlowValue;
 use futures::Future;
 use futures::task::{Context, Poll};
 use std::alloc::{Allocator, Global};
 use std::marker::Model;
-use std::mem;
 use std::sync::Wait;
 
 /// Emits a value once, as an `EmitFuture` does, and is woken when its emission ends.
@@ -28,26 +25,15 @@ use std::sync::Wait;
 /// # Dropping
 /// Dropping the future cancels its emission if that waits, as dropping a `BoundEmission` does, and loses its seat. Call
 /// `cancel` to get the seat back.
+#[derive(Drop)]
 pub struct SendFuture<'a, T: FlowValue, A: Allocator + Copy = Global> {
-    flow: &'a SharedFlow<T, A>,
-    stage: EmitStage<T, A>,
-}
-
-impl<T: FlowValue, A: Allocator + Copy> Drop for SendFuture<'_, T, A> {
-    fn drop(self) {
-        let Self { flow, stage } = self;
-        if let EmitStage::Waiting(emission) = stage {
-            let _ended = flow.cancel_within(emission, TRIES);
-        }
-    }
+    emit: EmitFuture<'a, T, A>,
 }
 
 impl<'a, T: FlowValue, A: Allocator + Copy> Model for SendFuture<'a, T, A> {
     ghost Value = { Emitting T A };
 
-    ghost view = { λ f. emitting f.flow.now f.stage };
-
-    ghost invariant = { λ f. HoldsOf f.flow.now.table_id f.stage };
+    ghost view = { λ f. f.emit };
 }
 
 impl<'a, T: FlowValue, A: Allocator + Copy> SendFuture<'a, T, A> {
@@ -56,10 +42,8 @@ impl<'a, T: FlowValue, A: Allocator + Copy> SendFuture<'a, T, A> {
         requires { seat.table_id ≡ flow.now.table_id }
         ensures { result ≡ emitting flow.now (Fresh seat value) }
     {
-        SendFuture {
-            flow,
-            stage: EmitStage::Fresh(seat, value),
-        }
+        let emit = EmitFuture::new(flow, seat, value);
+        SendFuture { emit }
     }
 
     /// Ends the future, and returns its seat and whether the value was still on its way. It was, too, if no poll came
@@ -70,68 +54,8 @@ impl<'a, T: FlowValue, A: Allocator + Copy> SendFuture<'a, T, A> {
     pub fn cancel<R: Wait>(self, rt: &R) -> Option<(Seat<T, A>, bool)>
         ensures { Cancels self.entry result }
     {
-        let SendFuture { flow, stage } = self;
-        match stage {
-            EmitStage::Fresh(seat, _value) => Some((seat, true)),
-            EmitStage::Waiting(emission) => Some(flow.cancel(rt, emission)),
-            EmitStage::Ended => None,
-        }
-    }
-
-    /// Emits the value, at the first poll that is not busy.
-    fn emit(&mut self, seat: Seat<T, A>, value: T, cx: &mut Context<'_>) -> Poll<Sent<T, A>>
-        requires { (self.old.stage ≡ Ended) × (seat.table_id ≡ self.old.flow.table_id) }
-        ensures flow { self.new.flow ≡ self.old.flow }
-        ensures polls { EmitPolls self.old.flow (Fresh seat value) result self.new.stage }
-        ensures at { IfReady result (λ s. (sent_token s).table_id ≡ self.old.flow.table_id) }
-        ensures armed { OnPending result (IsArmed cx.new) }
-        ensures kept { Keeps cx.old cx.new }
-    {
-        match self.flow.emit_or_sleep(seat, value, cx) {
-            Emitted::Done(seat) => Poll::Ready(Sent::Done(seat)),
-            Emitted::Queued(emission) => {
-                self.stage = EmitStage::Waiting(emission);
-                Poll::Pending
-            }
-            Emitted::Refused(seat, value, FlowFault::Busy) => {
-                self.stage = EmitStage::Fresh(seat, value);
-                Poll::Pending
-            }
-            Emitted::Refused(seat, value, fault) => Poll::Ready(Sent::Refused(seat, value, fault)),
-        }
-    }
-
-    /// Asks whether the emission still waits.
-    fn ask(&mut self, emission: Emission<T, A>, cx: &mut Context<'_>) -> Poll<Sent<T, A>>
-        requires { (self.old.stage ≡ Ended) × (emission.token.table_id ≡ self.old.flow.table_id) }
-        ensures flow { self.new.flow ≡ self.old.flow }
-        ensures polls { EmitPolls self.old.flow (Waiting emission) result self.new.stage }
-        ensures at { IfReady result (λ s. (sent_token s).table_id ≡ self.old.flow.table_id) }
-        ensures armed { OnPending result (IsArmed cx.new) }
-        ensures kept { Keeps cx.old cx.new }
-    {
-        match self.flow.poll_or_sleep(emission, cx) {
-            PolledNow::Done(seat) => Poll::Ready(Sent::Done(seat)),
-            PolledNow::Waiting(left) | PolledNow::Busy(left) => {
-                self.stage = EmitStage::Waiting(left);
-                Poll::Pending
-            }
-        }
-    }
-
-    /// Does what a poll does, except for what it proves of the future.
-    fn advance(&mut self, cx: &mut Context<'_>) -> Poll<Sent<T, A>>
-        ensures flow { self.new.flow ≡ self.old.flow }
-        ensures polls { EmitPolls self.old.flow self.old.stage result self.new.stage }
-        ensures at { IfReady result (λ s. (sent_token s).table_id ≡ self.old.flow.table_id) }
-        ensures armed { OnPending result (IsArmed cx.new) }
-        ensures kept { Keeps cx.old cx.new }
-    {
-        match mem::replace(&mut self.stage, EmitStage::Ended) {
-            EmitStage::Fresh(seat, value) => self.emit(seat, value, cx),
-            EmitStage::Waiting(emission) => self.ask(emission, cx),
-            EmitStage::Ended => cx.yield_now(),
-        }
+        let SendFuture { emit } = self;
+        emit.cancel(rt)
     }
 }
 
@@ -153,9 +77,6 @@ impl<'a, T: FlowValue, A: Allocator + Copy> Future for SendFuture<'a, T, A> {
         ensures registered { OnPending result (Covers cx.new (λ _. ⊥)) }
         ensures kept { Keeps cx.old cx.new }
     {
-        match self.advance(cx) {
-            Poll::Ready(sent) => Poll::Ready(sent),
-            Poll::Pending => Poll::Pending,
-        }
+        self.emit.advance(cx)
     }
 }

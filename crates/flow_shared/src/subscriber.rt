@@ -3,7 +3,6 @@ ghost use Rattle.std.specs.Prelude.{◌≡◌, ◌≢◌, ◌⊎◌, ℕ, true, 
 ghost use Rattle.flow_law.specs.History.{replied};
 ghost use Rattle.flow_law.specs.declared.fault.FlowFault.TheVariants.{OutOfMemory, Exhausted};
 ghost use Rattle.flow_law.specs.declared.outcome.Next.TheVariants.{Gone};
-ghost use Rattle.futures.specs.Task.{IsArmed, Keeps};
 ghost use Rattle.flow_core.specs.SubId.{number_of};
 ghost use Rattle.flow_shared.specs.Attended.{IsWait};
 ghost use Rattle.flow_shared.specs.Calls.{Nexts, Unsubscribes, Counts, Meets, Subscribes, NextsNow, CountsNow};
@@ -16,7 +15,6 @@ use crate::watcher::Count;
 use flow_core::{FlowCore, SubId};
 use flow_law::{FlowFault, Next};
 use flow_sleepers::Waiter;
-use futures::task::Context;
 use std::alloc::Allocator;
 use std::sync::Wait;
 
@@ -177,10 +175,8 @@ impl<S: FlowCore + Drop, A: Allocator + Copy> Flow<S, A> {
         ensures given { S.Item.IsAlwaysCopied → IfErr result (λ fault. fault ≡ FlowFault.Busy) }
     {
         let id = subscription.id;
-        match self.call_now(&mut subscription.seat, TakeNext { id }) {
-            Ok(answer) => answer,
-            Err(_call) => Err(FlowFault::Busy),
-        }
+        let tried = self.call_now(&mut subscription.seat, TakeNext { id });
+        tried.unwrap_or(Err(FlowFault::Busy))
     }
 
     /// Does the same as `next`. If there is nothing to receive, the caller sleeps.
@@ -202,23 +198,21 @@ impl<S: FlowCore + Drop, A: Allocator + Copy> Flow<S, A> {
         self.call_asleep(rt, &mut subscription.seat, TakeNext { id }, waiter)
     }
 
-    /// Does the same as `next_now`. If there is nothing to receive, the caller sleeps. If another caller is inside, the
-    /// task asks to be polled again.
-    pub(crate) fn next_or_sleep(
+    /// Does the same as `next_now`. If there is nothing to receive, the caller sleeps. If another caller is inside, it asks
+    /// again.
+    pub(crate) fn next_or_sleep<W: Waiter<A>>(
         &self,
         subscription: &mut FlowSubscription<S, A>,
-        cx: &mut Context<'_>,
+        waiter: &mut W,
     ) -> Result<Next<S::Item>, FlowFault>
         requires { subscription.old.token.table_id ≡ self.now.table_id }
         ensures called { NextsNow S.kind self.now subscription.old result subscription.new }
-        ensures armed { IsWait result → IsArmed cx.new }
-        ensures kept { Keeps cx.old cx.new }
+        ensures armed { IsWait result → W.is_armed waiter.new }
+        ensures kept { W.keeps waiter.old waiter.new }
     {
         let id = subscription.id;
-        match self.call_or_sleep(&mut subscription.seat, TakeNext { id }, cx) {
-            Ok(answer) => answer,
-            Err(_call) => Err(FlowFault::Busy),
-        }
+        let tried = self.call_or_sleep(&mut subscription.seat, TakeNext { id }, waiter);
+        tried.unwrap_or(Err(FlowFault::Busy))
     }
 
     /// Ends the subscription, and returns its seat, for other calls. Emissions that waited only for it are done.

@@ -8,6 +8,7 @@ use crate::attended::Attended;
 use crate::core_call::{CoreCall, SleepingCall};
 use crate::flow::Flow;
 use crate::handles::FlowCaller;
+use crate::sleepless::Sleepless;
 use crate::token::FlowSeat;
 use flow_core::{FlowCore, SharedCore};
 use flow_law::{FlowFault, FlowValue};
@@ -173,12 +174,11 @@ impl<'a, S: FlowCore + Drop, A: Allocator + Copy> FlowCaller<'a, S, A> {
         ensures flow { self.new.flow ≡ self.old.flow }
         ensures counted { Counts S.kind self.old.flow self.old.token result self.new.token }
     {
-        let mut nobody: ThreadWaiter<A> = ThreadWaiter::new();
         let count = Count {
             watching: Watching::AllEnd,
         };
         self.flow
-            .call_asleep(rt, &mut self.seat, count, &mut nobody)
+            .call_asleep(rt, &mut self.seat, count, &mut Sleepless)
     }
 }
 

@@ -5,7 +5,6 @@ ghost use Rattle.flow_law.specs.declared.call.SharedReply.TheVariants as reply;
 ghost use Rattle.flow_law.specs.SharedHistory.{shared_flow};
 ghost use Rattle.flow_law.specs.Standing.{Documents, StandsFor};
 ghost use Rattle.flow_law.proofs.SharedSleeping.{shared_sleeping};
-ghost use Rattle.futures.specs.Task.{IsArmed, Keeps};
 ghost use Rattle.flow_core.specs.SharedCore.{emit_reply};
 ghost use Rattle.flow_shared.specs.SharedReplies.{EmitsNow, PollsNow, EmitIsWait, PollIsWait};
 ghost use Rattle.flow_shared.specs.Attended.{AttendedAs, AddsWaiting, IsUndone};
@@ -21,7 +20,7 @@ use crate::token::FlowSeat;
 use flow_core::SharedCore;
 use flow_law::{Emit, FlowFault, FlowValue, Refused};
 use flow_sleepers::Waiter;
-use futures::task::{Context, Poll};
+use futures::task::Poll;
 use std::alloc::Allocator;
 
 impl<T: FlowValue, A: Allocator + Copy> Attended<SharedCore<T, A>, A> {
@@ -112,21 +111,21 @@ impl<T: FlowValue, A: Allocator + Copy> SleepingCall<SharedCore<T, A>, A> for Po
 }
 
 impl<T: FlowValue, A: Allocator + Copy> Flow<SharedCore<T, A>, A> {
-    /// Does the same as `emit_now`. If the emission waits, the caller sleeps. If another caller is inside, the task
-    /// asks to be polled again.
-    pub(crate) fn emit_or_sleep(
+    /// Does the same as `emit_now`. If the emission waits, the caller sleeps. If another caller is inside, it asks
+    /// again.
+    pub(crate) fn emit_or_sleep<W: Waiter<A>>(
         &self,
         seat: Seat<T, A>,
         value: T,
-        cx: &mut Context<'_>,
+        waiter: &mut W,
     ) -> Emitted<T, A>
         requires { seat.table_id ≡ self.now.table_id }
         ensures emits { EmitsNow self.now seat value result }
-        ensures armed { EmitIsWait result → IsArmed cx.new }
-        ensures kept { Keeps cx.old cx.new }
+        ensures armed { EmitIsWait result → W.is_armed waiter.new }
+        ensures kept { W.keeps waiter.old waiter.new }
     {
         let FlowSeat { seat } = seat;
-        match self.call_by_or_sleep(seat.unwrap(), EmitCall { value }, cx) {
+        match self.call_by_or_sleep(seat.unwrap(), EmitCall { value }, waiter) {
             Ok(done) => {
                 let (own, answer) = done;
                 answered(own, answer)

@@ -7,9 +7,9 @@ use Rattle.flow_shared.proofs.emit_future.EmitFuture.emit.Goals as goal
 
 pub returns-in-Done-clause-polls : goal.returns-in-Done-clause-polls
 returns-in-Done-clause-polls g c =
-    let polled = subst (λ f. EmitPolls {A = g.row.A.Denot} f.flow (Fresh c.args.seat c.args.value) (Ready (sent.Done c.in-Done.seat)) Ended) c.self.view_is c.in-Done.ensures in
+    let polled = subst (λ f. EmitPolls {A = g.row.A.Denot} f.flow (Fresh c.args.seat c.args.value) (Ready (sent.Done c.in-Done.seat)) Ended) c.self.view_is c.in-Done.ensures.emits in
     subst (λ stage. EmitPolls {A = g.row.A.Denot} c.args.self.now.flow (Fresh c.args.seat c.args.value) (Ready (sent.Done c.in-Done.seat)) stage) (sym c.requires.0) polled
 
 pub returns-in-Queued-clause-polls : goal.returns-in-Queued-clause-polls
 returns-in-Queued-clause-polls g c =
-    subst (λ f. EmitPolls {A = g.row.A.Denot} f.flow (Fresh c.args.seat c.args.value) Pending (Waiting c.in-Queued.emission)) c.self.view_is c.in-Queued.ensures
+    subst (λ f. EmitPolls {A = g.row.A.Denot} f.flow (Fresh c.args.seat c.args.value) Pending (Waiting c.in-Queued.emission)) c.self.view_is c.in-Queued.ensures.emits

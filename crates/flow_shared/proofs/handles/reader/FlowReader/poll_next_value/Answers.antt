@@ -15,5 +15,5 @@ returns-clause-polls g c =
 
 pub returns-clause-armed : goal.returns-clause-armed
 returns-clause-armed g c =
-    subst (λ p. OnPending p (IsArmed c.next_or_sleep-answer.new.cx)) (sym c.polled.ensures)
-    (armed_by c.next_or_sleep-answer.result (IsArmed c.next_or_sleep-answer.new.cx) c.next_or_sleep-answer.ensures.armed)
+    subst (λ p. OnPending p (IsArmed c.next_or_sleep-answer.new.waiter)) (sym c.polled.ensures)
+    (armed_by c.next_or_sleep-answer.result (IsArmed c.next_or_sleep-answer.new.waiter) c.next_or_sleep-answer.ensures.armed)
