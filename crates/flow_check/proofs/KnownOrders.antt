@@ -1,6 +1,6 @@
 -- If an order explains calls, a first part of it explains what was known of them at any cut. So there is one first moment at which
--- a record goes wrong. Begin with `orders_until` and `none_from`.
-use Rattle.std.proofs.Common.{◌≡◌, ℕ, ◌+◌, ◌≤◌, true, false, List, [], ◌∷◌, ◌++◌, length, map, cond, Option, Some, None, IfSome, refl, sym, ap, ◌∙◌, subst, arith}
+-- a record goes wrong. Begin with `goes_wrong`.
+use Rattle.std.proofs.Common.{◌≡◌, ℕ, ◌+◌, ◌≤◌, true, false, List, [], ◌∷◌, ◌++◌, length, map, cond, Option, Some, None, refl, sym, ap, ◌∙◌, subst, arith}
 use Rattle.std.specs.Prelude.{filter, Vec}
 use Rattle.std.specs.declared.alloc.Global.{Global}
 use Rattle.std.proofs.lemmas.Bool.{lt-ltb, leb-true, le-leb}
@@ -13,9 +13,12 @@ use Rattle.flow_law.proofs.Rows.{split}
 use Rattle.flow_check.specs.declared.timed.Timed.{Timed}
 use Rattle.flow_check.specs.declared.moments.Cut.{Cut}
 use Rattle.flow_check.specs.declared.moments.Cut.TheVariants.{Before, By}
+use Rattle.flow_check.specs.declared.verdict.Verdict.{Verdict}
+use Rattle.flow_check.specs.declared.verdict.Verdict.TheVariants.{Legal, Illegal, GaveUp}
 use Rattle.flow_check.specs.Records.{Calls, is_over_before, IsWellTimed}
+use Rattle.flow_check.specs.Verdicts.{Judges}
 use Rattle.flow_check.specs.Orders.{turns_of, Explains}
-use Rattle.flow_check.specs.Moments.{is_past, past_end, known_call, known_row, IsKnown, HasOrder, HasNoOrder, HasOrdersUntil, HasNoOrderFrom}
+use Rattle.flow_check.specs.Moments.{is_past, past_end, known_call, known_row, IsKnown, HasOrder, HasNoOrder, HasOrdersUntil, HasNoOrderFrom, GoesWrong, JudgesKnown, IsCutOff}
 use Rattle.flow_check.proofs.Ordering.{Goes, goes_history, goes_explains, explains_goes}
 use Rattle.flow_check.proofs.Ends.{not_over, pending_known}
 use Rattle.flow_check.proofs.KnownRows.{began, known_row_again, known_at, known_from, well_known}
@@ -93,11 +96,7 @@ module _ {C : Type 0} (cut : Cut) where
 -- ---- the first moment
 
 module _ {C : Type 0} (explains : Calls C → List ℕ → Type 0) where
-  -- what explains calls explains in part what was known of them
-  abbrev pub IsCutOff : Type 0
-  IsCutOff = (cut : Cut) (callers known : Calls C) → IsWellTimed callers → IsKnown cut callers known → (order : List ℕ) → explains callers order → (part : List ℕ) × explains known part
-
-  pub orders_until : IsCutOff → (callers : Calls C) → IsWellTimed callers → (moment : ℕ) → HasOrder explains (Before moment) callers → HasOrdersUntil explains moment callers
+  orders_until : IsCutOff explains → (callers : Calls C) → IsWellTimed callers → (moment : ℕ) → HasOrder explains (Before moment) callers → HasOrdersUntil explains moment callers
   orders_until cuts callers well moment x earlier low =
       let known = x.0 in
       let then = all_cut_off (By earlier) known in (
@@ -106,7 +105,7 @@ module _ {C : Type 0} (explains : Calls C → List ℕ → Type 0) where
         cuts (By earlier) known then (well_known (Before moment) callers known well x.1) (cut_is_known (By earlier) known) x.2.0 x.2.1,
       )
 
-  pub none_from : IsCutOff → (callers : Calls C) → IsWellTimed callers → (moment : ℕ) → HasNoOrder explains (By moment) callers → HasNoOrderFrom explains moment callers
+  none_from : IsCutOff explains → (callers : Calls C) → IsWellTimed callers → (moment : ℕ) → HasNoOrder explains (By moment) callers → HasNoOrderFrom explains moment callers
   none_from cuts callers well moment x later low =
       let known = all_cut_off (By later) callers in
       let is = cut_is_known (By later) callers in (
@@ -118,6 +117,17 @@ module _ {C : Type 0} (explains : Calls C → List ℕ → Type 0) where
             x.2 part.0 part.1,
       )
 
-pub for_some : {A : Type 0} (o : Option A) (P Q : A → Type 0) → ((a : A) → P a → Q a) → IfSome o P → IfSome o Q
-for_some (Some a) P Q f h = f a h
-for_some None P Q f h = h
+  -- if some order explains what was known before a moment, and none what was known by it, the calls go wrong there
+  pub goes_wrong : IsCutOff explains → (callers : Calls C) → IsWellTimed callers → (moment : ℕ) → HasOrder explains (Before moment) callers → HasNoOrder explains (By moment) callers → GoesWrong explains moment callers
+  goes_wrong cuts callers well moment before by = record {
+    legal_before = before;
+    illegal_by = by;
+    legal_until = orders_until cuts callers well moment before;
+    illegal_from = none_from cuts callers well moment by;
+  }
+
+  -- a verdict on what was known
+  pub known_judged : (cut : Cut) (callers known : Calls C) → IsKnown cut callers known → (verdict : Verdict) → Judges (explains known) verdict → JudgesKnown explains cut callers verdict
+  known_judged cut callers known is (Legal order) x = (known, is, (order.items, x))
+  known_judged cut callers known is Illegal x = (known, is, x)
+  known_judged cut callers known is GaveUp x = tt

@@ -7,16 +7,18 @@ use Rattle.flow_law.specs.declared.history.Said.{Said}
 use Rattle.flow_law.specs.declared.call.SharedCall.{SharedCall}
 use Rattle.flow_law.specs.Growth.{event}
 use Rattle.flow_law.specs.OneHistory.{said}
-use Rattle.flow_law.specs.History.{Owner, with_owner, owners_all}
+use Rattle.flow_law.specs.History.{Owner, with_owner, owners_all, MaySpeak}
 use Rattle.flow_law.specs.declared.states.SharedFlowState.{SharedFlowState}
 use Rattle.flow_law.specs.SharedFlow.{first_state}
-use Rattle.flow_law.specs.SharedHistory.{History, shared_flow, after_all, after, answer_to, is_refused, gives}
+use Rattle.flow_law.specs.SharedHistory.{History, shared_flow, after_all, after, answer_to, is_refused, gives, speaks_of}
 use Rattle.flow_law.proofs.HistoryLemmas.{after_all-snoc}
 use Rattle.flow_law.proofs.Owners.{owners_all-append}
 use Rattle.flow_law.proofs.RowOrder.{InOrder, always_in_order}
+use Rattle.flow_check.specs.declared.shared_calls.SharedOperation.{SharedOperation}
 use Rattle.flow_check.specs.declared.shared_calls.SharedEntry.{SharedEntry}
 use Rattle.flow_check.specs.Records.{Calls}
 use Rattle.flow_check.specs.StateRecords.{name_of}
+use Rattle.flow_check.specs.SharedRecords.{call_of}
 use Rattle.flow_check.specs.SharedMachine.{Kept, trim}
 use Rattle.flow_check.proofs.SharedStanding.{StandsAs}
 use Rattle.flow_check.proofs.SharedCalls.{later, trimmed}
@@ -29,6 +31,10 @@ first_of config limit = first_state (record config { limit = limit })
 -- the checker's state m stands for the state that the history h led to in k turns
 abbrev pub StandsIn : Calls SharedEntry → Config → ℕ → Kept → ℕ → History ℕ → Type 0
 StandsIn callers config limit m k h = StandsAs (length callers) m k (after_all (first_of config limit) h) (owners_all shared_flow [] h)
+
+-- after the history h the caller may speak of what its call of this number names
+abbrev pub SpeaksOf : History ℕ → ℕ → SharedOperation → ℕ → Type 0
+SpeaksOf h caller op n = MaySpeak {T = ℕ} shared_flow (speaks_of (call_of caller n op)) (owners_all shared_flow [] h) (name_of caller)
 
 pub in_order : (config : Config) (limit : ℕ) (h : History ℕ) → InOrder (after_all (first_of config limit) h)
 in_order config limit h = always_in_order (record config { limit = limit }) h

@@ -9,11 +9,11 @@ use Rattle.flow_law.specs.declared.call.SharedCall.TheVariants as call
 use Rattle.flow_law.specs.declared.call.SharedReply.TheVariants as reply
 use Rattle.flow_law.specs.Growth.{event}
 use Rattle.flow_law.specs.OneHistory.{said}
-use Rattle.flow_law.specs.History.{Owner, with_owner, owners_all, IsHistory, MaySpeak}
+use Rattle.flow_law.specs.History.{Owner, with_owner, owners_all, IsHistory}
 use Rattle.flow_law.specs.declared.states.SharedFlowState.{SharedFlowState}
 use Rattle.flow_law.specs.SharedFlow.{position_of}
 use Rattle.flow_law.specs.SharedStep as flow
-use Rattle.flow_law.specs.SharedHistory.{History, shared_flow, after_all, answer_to, is_refused, gives, speaks_of}
+use Rattle.flow_law.specs.SharedHistory.{History, shared_flow, after_all, answer_to, is_refused, gives}
 use Rattle.flow_law.proofs.Owners.{history_left, legal_right, owned_right}
 use Rattle.flow_check.specs.declared.shared_calls.SharedOperation.{SharedOperation}
 use Rattle.flow_check.specs.declared.shared_calls.SharedOperation.TheVariants as operation
@@ -33,30 +33,21 @@ use Rattle.flow_check.proofs.SharedStanding.{StandsAs}
 use Rattle.flow_check.proofs.SharedCalls.{later, reset}
 use Rattle.flow_check.proofs.SharedSteps.{next_told, try_told, emit_told, free_seat, subscribe_told, next_told_of, next_gone, left_told, cancel_told, cache_same}
 use Rattle.flow_check.proofs.SharedReplies.{Reply, same_own, own_agrees, replied_own}
-use Rattle.flow_check.proofs.SharedEvents.{first_of, StandsIn, in_order, told, goes_on, stays_on}
+use Rattle.flow_check.proofs.SharedEvents.{first_of, StandsIn, SpeaksOf, in_order, told, goes_on, stays_on}
 use Rattle.flow_check.proofs.SharedOffering.{free_mine}
 
 module _ (callers : Calls SharedEntry) (config : Config) (limit : ℕ) where
-  abbrev first : SharedFlowState ℕ
-  first = first_of config limit
-
-  abbrev Stands : Kept → ℕ → History ℕ → Type 0
-  Stands = StandsIn callers config limit
-
-  module _ (m : Kept) (k : ℕ) (h : History ℕ) (st : Stands m k h) (is : IsHistory shared_flow first h) (caller : ℕ) (near : caller < length callers) where
+  module _ (m : Kept) (k : ℕ) (h : History ℕ) (st : StandsIn callers config limit m k h) (is : IsHistory shared_flow (first_of config limit) h) (caller : ℕ) (near : caller < length callers) where
     abbrev s : SharedFlowState ℕ
-    s = after_all first h
+    s = after_all (first_of config limit) h
 
     abbrev owners : List Owner
     owners = owners_all shared_flow [] h
 
-    abbrev Spoken : SharedOperation → ℕ → Type 0
-    Spoken op n = MaySpeak {T = ℕ} shared_flow (speaks_of (call_of caller n op)) owners (name_of caller)
-
     -- ---- an event is a step
 
     abbrev Followed : SharedOperation → Option SharedAnswer → History ℕ → Type 0
-    Followed op written part = (agrees (own_answer caller op m) written ≡ true) × Stands (trim (made caller op m)) (k + 1) (h ++ part)
+    Followed op written part = (agrees (own_answer caller op m) written ≡ true) × StandsIn callers config limit (trim (made caller op m)) (k + 1) (h ++ part)
 
     received_same : (x y : Next ℕ) → reply.Received x ≡ reply.Received y → x ≡ y
     received_same x y q = cc
@@ -71,7 +62,7 @@ module _ (callers : Calls SharedEntry) (config : Config) (limit : ℕ) where
     told_there None q = cc
     told_there (Some v) q = cc
 
-    follows_next : (written : Option SharedAnswer) (n : ℕ) (a : SharedAnswer) (x : Option ℕ) (r : Reply) → IsRecorded written a → r ≡ reply.Received (next_told x) → r ≡ (answer_to (call.TakeNext n) s).reply → Spoken operation.Next n
+    follows_next : (written : Option SharedAnswer) (n : ℕ) (a : SharedAnswer) (x : Option ℕ) (r : Reply) → IsRecorded written a → r ≡ reply.Received (next_told x) → r ≡ (answer_to (call.TakeNext n) s).reply → SpeaksOf h caller operation.Next n
         → same_answer (emitted_answer x) a ≡ true → Followed operation.Next written (told caller (call.TakeNext n) r ∷ [])
     follows_next written n a x r given is e speaks same = by (position_of n s.subscribers) refl
       where
@@ -92,7 +83,7 @@ module _ (callers : Calls SharedEntry) (config : Config) (limit : ℕ) where
             )
 
     -- the event, as it is said of the history's last one
-    follows_by : (op : SharedOperation) (written : Option SharedAnswer) (n : ℕ) (a : SharedAnswer) (r : Reply) → IsRecorded written a → IsReply n op a r → r ≡ (answer_to (call_of caller n op) s).reply → Spoken op n → MayMake s owners caller op
+    follows_by : (op : SharedOperation) (written : Option SharedAnswer) (n : ℕ) (a : SharedAnswer) (r : Reply) → IsRecorded written a → IsReply n op a r → r ≡ (answer_to (call_of caller n op) s).reply → SpeaksOf h caller op n → MayMake s owners caller op
         → Followed op written (told caller (call_of caller n op) r ∷ [])
     follows_by (operation.TryEmit v) written n (answer.Truth b) r given is e speaks may =
         let fresh = ap is_refused is in
@@ -172,7 +163,7 @@ module _ (callers : Calls SharedEntry) (config : Config) (limit : ℕ) where
 
     -- nothing happened
     follows_nothing : (op : SharedOperation) (written : Option SharedAnswer) → MayAddNothing s owners caller (record { operation = op; answer = written })
-        → (next : Kept) × IsStep stepped may_skip m caller (record { operation = op; answer = written }) next × Stands next (k + 1) (h ++ [])
+        → (next : Kept) × IsStep stepped may_skip m caller (record { operation = op; answer = written }) next × StandsIn callers config limit next (k + 1) (h ++ [])
     follows_nothing operation.EmitReturned written x =
         let free = free_mine (length callers) m s owners st.seats st.values (in_order config limit h) st.waits caller x.1 in
         let agreed = own_agrees done (done_if (not (is_waiting caller m))) written answer.Done (ap (λ (b : Bool). done_if (not b)) free) x.0 refl in
@@ -181,29 +172,29 @@ module _ (callers : Calls SharedEntry) (config : Config) (limit : ℕ) where
         let free = free_mine (length callers) m s owners st.seats st.values (in_order config limit h) st.waits caller x.1 in
         let agreed = own_agrees done (Some done) written answer.Done refl x.0 refl in
         (trim (cancel caller m), inl (step_of operation.EmitCancelled written agreed), stays_on callers config limit m k h st (cancel caller m) (cond-false (is_waiting caller m) (settle (withdraw caller m)) m free))
-    follows_nothing (operation.EmitOrNot v) written x = (m, inr (refl, refl), subst (λ (p : History ℕ). Stands m (k + 1) p) (sym (append-nil h)) (later (length callers) k owners m s st))
+    follows_nothing (operation.EmitOrNot v) written x = (m, inr (refl, refl), subst (λ (p : History ℕ). StandsIn callers config limit m (k + 1) p) (sym (append-nil h)) (later (length callers) k owners m s st))
     follows_nothing _ written x = absurd x
 
-  pub follows_history : Follows stepped may_skip shared_flow (AddsEntry first) callers first Stands
+  pub follows_history : Follows stepped may_skip shared_flow (AddsEntry (first_of config limit)) callers (first_of config limit) (StandsIn callers config limit)
   follows_history m k h caller entry part st near x is = elim x [
     | inl y ↦
         let op = entry.operation in
         let c = call_of caller y.number op in
         let e = event (name_of caller) (said c y.replied) in
-        let all = subst (λ (p : History ℕ). IsHistory shared_flow first (h ++ p)) y.is_event is in
-        let before = history_left shared_flow first h (e ∷ []) all in
-        let replies = (legal_right shared_flow first h (e ∷ []) all.legal).0 in
+        let all = subst (λ (p : History ℕ). IsHistory shared_flow (first_of config limit) (h ++ p)) y.is_event is in
+        let before = history_left shared_flow (first_of config limit) h (e ∷ []) all in
+        let replies = (legal_right shared_flow (first_of config limit) h (e ∷ []) all.legal).0 in
         let speaks = (owned_right shared_flow [] h (e ∷ []) all.owned).0 in
         let followed = follows_by m k h st before caller near op entry.answer y.number y.given y.replied y.is_recorded y.is_reply
-        (replied_own (after_all first h) c y.replied (fresh_of y.number op y.given y.replied y.is_reply) replies) speaks y.may_make in (
+        (replied_own (after_all (first_of config limit) h) c y.replied (fresh_of y.number op y.given y.replied y.is_reply) replies) speaks y.may_make in (
           trim (made caller op m),
           inl (subst (λ (b : Bool). cond b (Some (trim (made caller op m))) None ≡ Some (trim (made caller op m))) (sym followed.0) refl),
-          subst (λ (p : History ℕ). Stands (trim (made caller op m)) (k + 1) (h ++ p)) (sym y.is_event) followed.1,
+          subst (λ (p : History ℕ). StandsIn callers config limit (trim (made caller op m)) (k + 1) (h ++ p)) (sym y.is_event) followed.1,
         )
     | inr y ↦
-        let before = subst (IsHistory shared_flow first) (append-nil h) (subst (λ (p : History ℕ). IsHistory shared_flow first (h ++ p)) y.0 is) in
+        let before = subst (IsHistory shared_flow (first_of config limit)) (append-nil h) (subst (λ (p : History ℕ). IsHistory shared_flow (first_of config limit) (h ++ p)) y.0 is) in
         let followed = follows_nothing m k h st before caller near entry.operation entry.answer y.1 in
-        (followed.0, followed.1, subst (λ (p : History ℕ). Stands followed.0 (k + 1) (h ++ p)) (sym y.0) followed.2)
+        (followed.0, followed.1, subst (λ (p : History ℕ). StandsIn callers config limit followed.0 (k + 1) (h ++ p)) (sym y.0) followed.2)
   ]
     where
       -- a recorded answer is no refusal

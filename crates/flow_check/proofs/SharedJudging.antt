@@ -21,10 +21,11 @@ use Rattle.flow_check.specs.Verdicts.{Judges}
 use Rattle.flow_check.specs.SharedRecords.{AddsEntry, ExplainsShared}
 use Rattle.flow_check.specs.Subscribed.{none_subscribed}
 use Rattle.flow_check.specs.SharedMachine.{Kept, most_lag, own_left, no_values, stepped, may_skip}
+use Rattle.flow_check.specs.Moments.{IsCutOff}
 use Rattle.flow_check.proofs.KeptLemmas.{present-none, kept-none}
 use Rattle.flow_check.proofs.Places.{counts_none}
 use Rattle.flow_check.proofs.Ordering.{goes_explains, explains_goes}
-use Rattle.flow_check.proofs.KnownOrders.{known_explains, IsCutOff}
+use Rattle.flow_check.proofs.KnownOrders.{known_explains}
 use Rattle.flow_check.proofs.Bridging.{steps_go, goes_steps}
 use Rattle.flow_check.proofs.SharedSeats.{Seat}
 use Rattle.flow_check.proofs.SharedEvents.{first_of, StandsIn}

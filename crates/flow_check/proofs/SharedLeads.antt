@@ -8,12 +8,12 @@ use Rattle.flow_law.specs.declared.config.Config.{Config}
 use Rattle.flow_law.specs.declared.outcome.Next.TheVariants as next
 use Rattle.flow_law.specs.declared.call.SharedCall.TheVariants as call
 use Rattle.flow_law.specs.declared.call.SharedReply.TheVariants as reply
-use Rattle.flow_law.specs.History.{Owner, with_owner, owners_all, IsHistory, MaySpeak}
+use Rattle.flow_law.specs.History.{Owner, with_owner, owners_all, IsHistory}
 use Rattle.flow_law.specs.declared.states.SharedFlowState.{SharedFlowState}
 use Rattle.flow_law.specs.SharedFlow.{is_exhausted}
 use Rattle.flow_law.specs.EmitRule as rule
 use Rattle.flow_law.specs.SharedStep as flow
-use Rattle.flow_law.specs.SharedHistory.{History, shared_flow, after_all, answer_to, is_refused, gives, speaks_of}
+use Rattle.flow_law.specs.SharedHistory.{History, shared_flow, after_all, answer_to, is_refused, gives}
 use Rattle.flow_law.proofs.HistoryLemmas.{IsHistory-snoc}
 use Rattle.flow_law.proofs.Moves.{history_keeps}
 use Rattle.flow_check.specs.declared.shared_calls.SharedOperation.{SharedOperation}
@@ -33,44 +33,35 @@ use Rattle.flow_check.proofs.SharedStanding.{StandsAs}
 use Rattle.flow_check.proofs.SharedCalls.{later, reset}
 use Rattle.flow_check.proofs.SharedSteps.{next_told, try_told, emit_told, no_seat, subscribe_told, next_told_of, left_told, cancel_told, cache_same}
 use Rattle.flow_check.proofs.SharedReplies.{Reply, Recorded, recorded_own, done_is, tested_is, counted_is, replies_of, fresh_try, fresh_emit, fresh_subscribe, limit_keeps}
-use Rattle.flow_check.proofs.SharedEvents.{first_of, StandsIn, in_order, told, goes_on, stays_on}
+use Rattle.flow_check.proofs.SharedEvents.{first_of, StandsIn, SpeaksOf, in_order, told, goes_on, stays_on}
 use Rattle.flow_check.proofs.SharedOffering.{free_theirs, waits_theirs}
 
 module _ (callers : Calls SharedEntry) (config : Config) (limit : ℕ) where
-  abbrev first : SharedFlowState ℕ
-  first = first_of config limit
-
-  abbrev Stands : Kept → ℕ → History ℕ → Type 0
-  Stands = StandsIn callers config limit
-
-  module _ (m : Kept) (k : ℕ) (h : History ℕ) (st : Stands m k h) (is : IsHistory shared_flow first h) (caller : ℕ) (near : caller < length callers) where
+  module _ (m : Kept) (k : ℕ) (h : History ℕ) (st : StandsIn callers config limit m k h) (is : IsHistory shared_flow (first_of config limit) h) (caller : ℕ) (near : caller < length callers) where
     abbrev s : SharedFlowState ℕ
-    s = after_all first h
+    s = after_all (first_of config limit) h
 
     abbrev owners : List Owner
     owners = owners_all shared_flow [] h
 
-    abbrev Spoken : SharedOperation → ℕ → Type 0
-    Spoken op n = MaySpeak {T = ℕ} shared_flow (speaks_of (call_of caller n op)) owners (name_of caller)
-
     abbrev Led : SharedOperation → Option SharedAnswer → Type 0
-    Led op written = (part : History ℕ) × AddsEntry first h caller (record { operation = op; answer = written }) part × IsHistory shared_flow first (h ++ part) × Stands (trim (made caller op m)) (k + 1) (h ++ part)
+    Led op written = (part : History ℕ) × AddsEntry (first_of config limit) h caller (record { operation = op; answer = written }) part × IsHistory shared_flow (first_of config limit) (h ++ part) × StandsIn callers config limit (trim (made caller op m)) (k + 1) (h ++ part)
 
     by_event : (op : SharedOperation) (written : Option SharedAnswer) (n : ℕ) (a : SharedAnswer) (r : Reply) → IsRecorded written a → IsReply n op a r → is_refused r ≡ false → r ≡ (answer_to (call_of caller n op) s).reply
-        → Spoken op n → MayMake s owners caller op
+        → SpeaksOf h caller op n → MayMake s owners caller op
         → StandsAs (length callers) (made caller op m) (k + 1) (answer_to (call_of caller n op) s).after (with_owner (gives (name_of caller) (call_of caller n op) r) owners) → Led op written
     by_event op written n a r recorded replies fresh e speaks may stands =
         let c = call_of caller n op in (
           told caller c r ∷ [],
           inl (record { number = n; given = a; replied = r; is_recorded = recorded; is_reply = replies; is_event = refl {a = told caller c r ∷ []}; may_make = may }),
-          IsHistory-snoc shared_flow first h (told caller c r) is (replies_of s c r fresh e) speaks,
+          IsHistory-snoc shared_flow (first_of config limit) h (told caller c r) is (replies_of s c r fresh e) speaks,
           goes_on callers config limit m k h st caller (made caller op m) c r fresh stands,
         )
 
     -- ---- a step is an event
 
     limit_is : s.config.limit ≡ limit
-    limit_is = history_keeps (λ t. t.config.limit ≡ limit) (limit_keeps limit) first h refl
+    limit_is = history_keeps (λ t. t.config.limit ≡ limit) (limit_keeps limit) (first_of config limit) h refl
 
     has_room : k < limit → is_exhausted s ≡ false
     has_room few = let upto = st.issued in let is = limit_is in ne_eqb s.issued s.config.limit (λ z. absurd (omega arith))
@@ -114,7 +105,7 @@ module _ (callers : Calls SharedEntry) (config : Config) (limit : ℕ) where
     leads_returned : (written : Option SharedAnswer) → is_waiting caller m ≡ false → IsRecorded written answer.Done → Led operation.EmitReturned written
     leads_returned written free given =
         let none = free_theirs (length callers) m s owners st.seats st.values (in_order config limit h) st.waits caller free in
-        ([], inr (refl, (given, none)), subst (IsHistory shared_flow first) (sym (append-nil h)) is, stays_on callers config limit m k h st m refl)
+        ([], inr (refl, (given, none)), subst (IsHistory shared_flow (first_of config limit)) (sym (append-nil h)) is, stays_on callers config limit m k h st m refl)
 
     leads_cancelled : (written : Option SharedAnswer) → IsRecorded written answer.Done → (b : Bool) → is_waiting caller m ≡ b → Led operation.EmitCancelled written
     leads_cancelled written given true e =
@@ -125,7 +116,7 @@ module _ (callers : Calls SharedEntry) (config : Config) (limit : ℕ) where
         let none = free_theirs (length callers) m s owners st.seats st.values (in_order config limit h) st.waits caller e in (
           [],
           inr (refl, (given, none)),
-          subst (IsHistory shared_flow first) (sym (append-nil h)) is,
+          subst (IsHistory shared_flow (first_of config limit)) (sym (append-nil h)) is,
           stays_on callers config limit m k h st (cancel caller m) (cond-false (is_waiting caller m) (settle (withdraw caller m)) m e),
         )
 
@@ -204,22 +195,22 @@ module _ (callers : Calls SharedEntry) (config : Config) (limit : ℕ) where
     leads_by operation.ResetReplayCache written o e x few = leads_reset written (recorded_done written o (sym (same_Some done o e)) x)
     leads_by operation.SubscriptionCount written o e x few = leads_count written (subst (Recorded written) (sym (same_Some (counted (present m.lags)) o e)) x)
 
-  pub leads_history : Leads stepped may_skip shared_flow (AddsEntry first) callers first Stands limit
+  pub leads_history : Leads stepped may_skip shared_flow (AddsEntry (first_of config limit)) callers (first_of config limit) (StandsIn callers config limit) limit
   leads_history m next k h caller entry st is few near step = elim step [
     | inl e ↦
         let op = entry.operation in
         let w = cond_some (agrees (own_answer caller op m) entry.answer) (trim (made caller op m)) next e in
         let own = recorded_own (own_answer caller op m) entry.answer w.0 in
         let led = leads_by m k h st is caller near op entry.answer own.0 own.1 own.2 few in
-        (led.0, led.1, led.2, subst (λ (x : Kept). Stands x (k + 1) (h ++ led.0)) w.1 led.3)
+        (led.0, led.1, led.2, subst (λ (x : Kept). StandsIn callers config limit x (k + 1) (h ++ led.0)) w.1 led.3)
     | inr e ↦ (
       [],
       inr (refl, skipped entry.operation e.0),
-      subst (IsHistory shared_flow first) (sym (append-nil h)) is,
-      subst (λ (p : History ℕ). Stands next (k + 1) p) (sym (append-nil h)) (subst (λ (x : Kept). Stands x (k + 1) h) (sym e.1) (later (length callers) k (owners_all shared_flow [] h) m (after_all first h) st)),
+      subst (IsHistory shared_flow (first_of config limit)) (sym (append-nil h)) is,
+      subst (λ (p : History ℕ). StandsIn callers config limit next (k + 1) p) (sym (append-nil h)) (subst (λ (x : Kept). StandsIn callers config limit x (k + 1) h) (sym e.1) (later (length callers) k (owners_all shared_flow [] h) m (after_all (first_of config limit) h) st)),
     )
   ]
     where
-      skipped : (op : SharedOperation) → may_skip_operation op ≡ true → MayAddNothing (after_all first h) (owners_all shared_flow [] h) caller (record { operation = op; answer = entry.answer })
+      skipped : (op : SharedOperation) → may_skip_operation op ≡ true → MayAddNothing (after_all (first_of config limit) h) (owners_all shared_flow [] h) caller (record { operation = op; answer = entry.answer })
       skipped (operation.EmitOrNot v) e = tt
       skipped _ e = absurd (false≢true e)

@@ -27,10 +27,11 @@ use Rattle.flow_check.specs.Verdicts.{Judges}
 use Rattle.flow_check.specs.StateRecords.{name_of, call_of, IsRecorded, AddsEntry, ExplainsState}
 use Rattle.flow_check.specs.Subscribed.{none_subscribed}
 use Rattle.flow_check.specs.StateMachine.{Kept, own_answer, moved, same_answer, agrees, stepped, may_skip}
+use Rattle.flow_check.specs.Moments.{IsCutOff}
 use Rattle.flow_check.proofs.KeptLemmas.{present-none, kept-none}
 use Rattle.flow_check.proofs.Places.{counts_none}
 use Rattle.flow_check.proofs.Ordering.{goes_explains, explains_goes}
-use Rattle.flow_check.proofs.KnownOrders.{known_explains, IsCutOff}
+use Rattle.flow_check.proofs.KnownOrders.{known_explains}
 use Rattle.flow_check.proofs.Bridging.{Leads, Follows, steps_go, goes_steps}
 use Rattle.flow_check.proofs.StateSeats.{Seat, StandsAs, IsSound}
 use Rattle.flow_check.proofs.StateSteps.{moves, leads, only}

@@ -3,7 +3,9 @@ use Rattle.std.specs.Prelude.{◌≡◌, ℕ, ◌<◌, ◌≤◌, Bool, nat_lt, 
 use Rattle.flow_check.specs.declared.timed.Timed.{Timed}
 use Rattle.flow_check.specs.declared.moments.Cut.{Cut}
 use Rattle.flow_check.specs.declared.moments.Cut.TheVariants.{Before, By}
-use Rattle.flow_check.specs.Records.{Calls}
+use Rattle.flow_check.specs.declared.verdict.Verdict.{Verdict}
+use Rattle.flow_check.specs.declared.verdict.Verdict.TheVariants.{Legal, Illegal, GaveUp}
+use Rattle.flow_check.specs.Records.{Calls, IsWellTimed}
 
 -- a moment is before that one, or it is not after it
 abbrev pub is_past : Cut → ℕ → Bool
@@ -38,6 +40,12 @@ module _ {C : Type 0} where
     abbrev pub HasNoOrder : Type 0
     HasNoOrder = (known : Calls C) × IsKnown cut callers known × ((order : List ℕ) → explains known order → ⊥)
 
+    -- what a verdict on what was known says
+    abbrev pub JudgesKnown : Verdict → Type 0
+    JudgesKnown (Legal order) = HasOrder
+    JudgesKnown Illegal = HasNoOrder
+    JudgesKnown GaveUp = Unit {0}
+
   module _ (explains : Calls C → List ℕ → Type 0) (moment : ℕ) (callers : Calls C) where
     -- at each earlier moment some order explains what was known by it
     abbrev pub HasOrdersUntil : Type 0
@@ -46,3 +54,16 @@ module _ {C : Type 0} where
     -- at this moment and at each later one no order explains what was known by it
     abbrev pub HasNoOrderFrom : Type 0
     HasNoOrderFrom = (later : ℕ) → moment ≤ later → HasNoOrder explains (By later) callers
+
+    -- the calls go wrong at this moment
+    pub record GoesWrong : Type 0 where
+      pub legal_before : HasOrder explains (Before moment) callers
+      pub illegal_by : HasNoOrder explains (By moment) callers
+      pub legal_until : HasOrdersUntil
+      pub illegal_from : HasNoOrderFrom
+
+  -- what explains calls explains in part what was known of them at any cut
+  abbrev pub IsCutOff : (Calls C → List ℕ → Type 0) → Type 0
+  IsCutOff explains =
+      (cut : Cut) (callers known : Calls C) → IsWellTimed callers → IsKnown cut callers known →
+      (order : List ℕ) → explains callers order → (part : List ℕ) × explains known part

@@ -23,6 +23,7 @@ mod record;
 mod refuting;
 mod remaining;
 mod replaying;
+mod same;
 mod search;
 mod shared_answers;
 mod shared_calls;

@@ -13,238 +13,193 @@ use crate::table::Table;
 use crate::timed::Timed;
 use std::alloc::{AllocError, Global};
 
-/// Returns whether the node at this place has this state, in which so many calls have happened.
-fn is_node<C, M: Machine<C>>(
+/// A record's calls, and a table that may show that no order goes through them. The table is not trusted.
+#[derive(Drop)]
+struct Claim<'a, C, M> {
     alloc: Global,
-    table: &Table<M>,
-    place: usize,
-    state: &M,
-    placed: &Vec<u32>,
-) -> Result<bool, AllocError>
-    ensures { IfOk result (λ yes. IsTrue yes →
-        IsInTable (nodes_of M.read table.now) state.now placed.now.items) }
-{
-    let found = table.at(alloc, place)?;
-    let Some(node) = found else {
-        return Ok(false);
-    };
-    if !node.state.same(state) {
-        return Ok(false);
-    }
-    let yes = node.placed.as_slice() == placed.as_slice();
-    Ok(yes)
+    callers: &'a [Vec<Timed<C>>],
+    table: &'a Table<M>,
 }
 
-/// Returns whether the table has this state after one more call of the caller.
-fn is_placed<C, M: Machine<C>>(
-    alloc: Global,
-    table: &Table<M>,
-    node: &Node<M>,
-    caller: usize,
-    after: &M,
-) -> Result<bool, AllocError>
-    ensures { IfOk result (λ yes. IsTrue yes →
-        IsInTable (nodes_of M.read table.now) after.now (placing caller node.now.placed.items)) }
-{
-    let mut placed = Vec::from_slice(alloc, node.placed.as_slice())?;
-    if !place(&mut placed, caller) {
-        return Ok(false);
-    }
-    let Some(at) = table.find(after, &placed) else {
-        return Ok(false);
-    };
-    let yes = is_node(alloc, table, at, after, &placed)?;
-    Ok(yes)
-}
-
-/// Returns whether the table has what follows if this call is made, if it may be.
-fn is_made_followed<C, M: Machine<C>>(
-    alloc: Global,
-    table: &Table<M>,
-    node: &Node<M>,
-    caller: usize,
-    call: &C,
-) -> Result<bool, AllocError>
-    ensures { IfOk result (λ yes. IsTrue yes →
-        (after : M) → M.stepped node.now.state caller call.now ≡ Some after →
-        IsInTable (nodes_of M.read table.now) after (placing caller node.now.placed.items)) }
-{
-    let stepped = node.state.step(alloc, caller, call)?;
-    let Some(after) = stepped else {
-        return Ok(true);
-    };
-    let yes = is_placed(alloc, table, node, caller, &after)?;
-    Ok(yes)
-}
-
-/// Returns whether the table has what follows if this call is skipped, if it may be.
-fn is_skip_followed<C, M: Machine<C>>(
-    alloc: Global,
-    table: &Table<M>,
-    node: &Node<M>,
-    caller: usize,
-    call: &C,
-) -> Result<bool, AllocError>
-    ensures { IfOk result (λ yes. IsTrue yes → M.may_skip call.now ≡ true →
-        IsInTable (nodes_of M.read table.now) node.now.state (placing caller node.now.placed.items)) }
-{
-    if !node.state.may_skip(call) {
-        return Ok(true);
-    }
-    let yes = is_placed(alloc, table, node, caller, &node.state)?;
-    Ok(yes)
-}
-
-/// Returns whether the table has what follows if this caller's next call happens.
-fn is_followed_at<C: Copy, M: Machine<C>>(
-    alloc: Global,
-    callers: &[Vec<Timed<C>>],
-    table: &Table<M>,
-    node: &Node<M>,
-    caller: usize,
-) -> Result<bool, AllocError>
-    ensures { IfOk result (λ yes. IsTrue yes →
-        IsFollowedAt M.stepped M.may_skip M.is_look callers.now (nodes_of M.read table.now)
-        (reached node.now) caller) }
-{
-    let Some(call) = next_call(callers, &node.placed, caller) else {
-        return Ok(true);
-    };
-    if !may_come_next(callers, &node.placed, call.begin) {
-        return Ok(true);
-    }
-    let made = is_made_followed(alloc, table, node, caller, &call.call)?;
-    if !made {
-        return Ok(false);
-    }
-    let skipped = is_skip_followed(alloc, table, node, caller, &call.call)?;
-    Ok(skipped)
-}
-
-/// Returns whether the table has what follows if any caller's next call happens.
-fn is_each_followed<C: Copy, M: Machine<C>>(
-    alloc: Global,
-    callers: &[Vec<Timed<C>>],
-    table: &Table<M>,
-    node: &Node<M>,
-) -> Result<bool, AllocError>
-    ensures { IfOk result (λ yes. IsTrue yes → (caller : ℕ) →
-        IsFollowedAt M.stepped M.may_skip M.is_look callers.now (nodes_of M.read table.now)
-        (reached node.now) caller) }
-{
-    for caller in 0..callers.len() {
-        let yes = is_followed_at(alloc, callers, table, node, caller)?;
-        if !yes {
-            return Ok(false);
-        }
-    }
-    Ok(true)
-}
-
-/// Returns whether this caller's next call is a look that ended, and the table has what follows.
-fn is_look_followed<C: Copy, M: Machine<C>>(
-    alloc: Global,
-    callers: &[Vec<Timed<C>>],
-    table: &Table<M>,
-    node: &Node<M>,
-    caller: usize,
-) -> Result<bool, AllocError>
-    ensures { IfOk result (λ yes. IsTrue yes →
-        IsLookFollowed M.stepped M.may_skip M.is_look callers.now (nodes_of M.read table.now)
-        (reached node.now) caller) }
-{
-    let Some(call) = next_call(callers, &node.placed, caller) else {
-        return Ok(false);
-    };
-    if call.end.is_none() {
-        return Ok(false);
-    }
-    if !node.state.is_look(&call.call) {
-        return Ok(false);
-    }
-    let yes = is_placed(alloc, table, node, caller, &node.state)?;
-    Ok(yes)
-}
-
-/// Returns whether the table has what follows some look that ended.
-fn is_some_look_followed<C: Copy, M: Machine<C>>(
-    alloc: Global,
-    callers: &[Vec<Timed<C>>],
-    table: &Table<M>,
-    node: &Node<M>,
-) -> Result<bool, AllocError>
-    ensures { IfOk result (λ yes. IsTrue yes → (caller : ℕ) ×
-        IsLookFollowed M.stepped M.may_skip M.is_look callers.now (nodes_of M.read table.now)
-        (reached node.now) caller) }
-{
-    for caller in 0..callers.len() {
-        let yes = is_look_followed(alloc, callers, table, node, caller)?;
-        if yes {
-            return Ok(true);
-        }
-    }
-    Ok(false)
-}
-
-/// Returns whether the table has what follows a node, and the node is no end. A look changes nothing, so if an order goes through
-/// the rest, one that begins with it does.
-fn is_followed<C: Copy, M: Machine<C>>(
-    alloc: Global,
-    callers: &[Vec<Timed<C>>],
-    table: &Table<M>,
-    node: &Node<M>,
-) -> Result<bool, AllocError>
-    ensures { IfOk result (λ yes. IsTrue yes →
-        IsFollowed M.stepped M.may_skip M.is_look callers.now (nodes_of M.read table.now)
-        (reached node.now)
-        × (OwesNothing callers.now node.now.placed.items → ⊥)) }
-{
-    if owes_nothing(callers, &node.placed) {
-        return Ok(false);
-    }
-    let looks = is_some_look_followed(alloc, callers, table, node)?;
-    if looks {
-        return Ok(true);
-    }
-    let each = is_each_followed(alloc, callers, table, node)?;
-    Ok(each)
-}
-
-/// Returns whether the table is closed.
-fn is_closed<C: Copy, M: Machine<C>>(
-    alloc: Global,
-    callers: &[Vec<Timed<C>>],
-    table: &Table<M>,
-) -> Result<bool, AllocError>
-    ensures { IfOk result (λ yes. IsTrue yes →
-        IsClosed M.stepped M.may_skip M.is_look callers.now (nodes_of M.read table.now)) }
-{
-    for place in 0..table.len() {
-        let found = table.at(alloc, place)?;
+impl<'a, C: Copy, M: Machine<C>> Claim<'a, C, M> {
+    /// Returns whether the node at this place has this state, in which so many calls have happened.
+    fn is_node(&self, place: usize, state: &M, placed: &Vec<u32>) -> Result<bool, AllocError>
+        ensures { IfOk result (λ yes. IsTrue yes →
+            IsInTable (nodes_of M.read self.now.table.now) state.now placed.now.items) }
+    {
+        let found = self.table.at(self.alloc, place)?;
         let Some(node) = found else {
             return Ok(false);
         };
-        let yes = is_followed(alloc, callers, table, &node)?;
-        if !yes {
+        if !node.state.same(state) {
             return Ok(false);
         }
+        let yes = node.placed.as_slice() == placed.as_slice();
+        Ok(yes)
     }
-    Ok(true)
-}
 
-/// Returns whether the table begins before any call.
-fn begins<C, M: Machine<C>>(
-    alloc: Global,
-    first: &M,
-    callers: &[Vec<Timed<C>>],
-    table: &Table<M>,
-) -> Result<bool, AllocError>
-    ensures { IfOk result (λ yes. IsTrue yes →
-        IsInTable (nodes_of M.read table.now) first.now (none_placed callers.now)) }
-{
-    let placed = none_placed(alloc, callers)?;
-    let yes = is_node(alloc, table, 0, first, &placed)?;
-    Ok(yes)
+    /// Returns whether the table has this state after one more call of the caller.
+    fn is_placed(&self, node: &Node<M>, caller: usize, after: &M) -> Result<bool, AllocError>
+        ensures { IfOk result (λ yes. IsTrue yes →
+            IsInTable (nodes_of M.read self.now.table.now) after.now
+            (placing caller node.now.placed.items)) }
+    {
+        let mut placed = Vec::from_slice(self.alloc, node.placed.as_slice())?;
+        if !place(&mut placed, caller) {
+            return Ok(false);
+        }
+        let Some(at) = self.table.find(after, &placed) else {
+            return Ok(false);
+        };
+        let yes = self.is_node(at, after, &placed)?;
+        Ok(yes)
+    }
+
+    /// Returns whether the table has what follows if this call is made, if it may be.
+    fn is_made_followed(&self, node: &Node<M>, caller: usize, call: &C) -> Result<bool, AllocError>
+        ensures { IfOk result (λ yes. IsTrue yes →
+            (after : M) → M.stepped node.now.state caller call.now ≡ Some after →
+            IsInTable (nodes_of M.read self.now.table.now) after
+            (placing caller node.now.placed.items)) }
+    {
+        let stepped = node.state.step(self.alloc, caller, call)?;
+        let Some(after) = stepped else {
+            return Ok(true);
+        };
+        let yes = self.is_placed(node, caller, &after)?;
+        Ok(yes)
+    }
+
+    /// Returns whether the table has what follows if this call is skipped, if it may be.
+    fn is_skip_followed(&self, node: &Node<M>, caller: usize, call: &C) -> Result<bool, AllocError>
+        ensures { IfOk result (λ yes. IsTrue yes → M.may_skip call.now ≡ true →
+            IsInTable (nodes_of M.read self.now.table.now) node.now.state
+            (placing caller node.now.placed.items)) }
+    {
+        if !node.state.may_skip(call) {
+            return Ok(true);
+        }
+        let yes = self.is_placed(node, caller, &node.state)?;
+        Ok(yes)
+    }
+
+    /// Returns whether the table has what follows if this caller's next call happens.
+    fn is_followed_at(&self, node: &Node<M>, caller: usize) -> Result<bool, AllocError>
+        ensures { IfOk result (λ yes. IsTrue yes →
+            IsFollowedAt M.stepped M.may_skip M.is_look self.now.callers.now
+            (nodes_of M.read self.now.table.now) (reached node.now) caller) }
+    {
+        let Some(call) = next_call(self.callers, &node.placed, caller) else {
+            return Ok(true);
+        };
+        if !may_come_next(self.callers, &node.placed, call.begin) {
+            return Ok(true);
+        }
+        let made = self.is_made_followed(node, caller, &call.call)?;
+        if !made {
+            return Ok(false);
+        }
+        let skipped = self.is_skip_followed(node, caller, &call.call)?;
+        Ok(skipped)
+    }
+
+    /// Returns whether the table has what follows if any caller's next call happens.
+    fn is_each_followed(&self, node: &Node<M>) -> Result<bool, AllocError>
+        ensures { IfOk result (λ yes. IsTrue yes → (caller : ℕ) →
+            IsFollowedAt M.stepped M.may_skip M.is_look self.now.callers.now
+            (nodes_of M.read self.now.table.now) (reached node.now) caller) }
+    {
+        for caller in 0..self.callers.len() {
+            let yes = self.is_followed_at(node, caller)?;
+            if !yes {
+                return Ok(false);
+            }
+        }
+        Ok(true)
+    }
+
+    /// Returns whether this caller's next call is a look that ended, and the table has what follows.
+    fn is_look_followed(&self, node: &Node<M>, caller: usize) -> Result<bool, AllocError>
+        ensures { IfOk result (λ yes. IsTrue yes →
+            IsLookFollowed M.stepped M.may_skip M.is_look self.now.callers.now
+            (nodes_of M.read self.now.table.now) (reached node.now) caller) }
+    {
+        let Some(call) = next_call(self.callers, &node.placed, caller) else {
+            return Ok(false);
+        };
+        if call.end.is_none() {
+            return Ok(false);
+        }
+        if !node.state.is_look(&call.call) {
+            return Ok(false);
+        }
+        let yes = self.is_placed(node, caller, &node.state)?;
+        Ok(yes)
+    }
+
+    /// Returns whether the table has what follows some look that ended.
+    fn is_some_look_followed(&self, node: &Node<M>) -> Result<bool, AllocError>
+        ensures { IfOk result (λ yes. IsTrue yes → (caller : ℕ) ×
+            IsLookFollowed M.stepped M.may_skip M.is_look self.now.callers.now
+            (nodes_of M.read self.now.table.now) (reached node.now) caller) }
+    {
+        for caller in 0..self.callers.len() {
+            let yes = self.is_look_followed(node, caller)?;
+            if yes {
+                return Ok(true);
+            }
+        }
+        Ok(false)
+    }
+
+    /// Returns whether the table has what follows a node, and the node is no end. A look changes nothing, so if an order
+    /// goes through the rest, one that begins with it does.
+    fn is_followed(&self, node: &Node<M>) -> Result<bool, AllocError>
+        ensures { IfOk result (λ yes. IsTrue yes →
+            IsFollowed M.stepped M.may_skip M.is_look self.now.callers.now
+            (nodes_of M.read self.now.table.now) (reached node.now)
+            × (OwesNothing self.now.callers.now node.now.placed.items → ⊥)) }
+    {
+        if owes_nothing(self.callers, &node.placed) {
+            return Ok(false);
+        }
+        let looks = self.is_some_look_followed(node)?;
+        if looks {
+            return Ok(true);
+        }
+        let each = self.is_each_followed(node)?;
+        Ok(each)
+    }
+
+    /// Returns whether the table is closed.
+    fn is_closed(&self) -> Result<bool, AllocError>
+        ensures { IfOk result (λ yes. IsTrue yes →
+            IsClosed M.stepped M.may_skip M.is_look self.now.callers.now
+            (nodes_of M.read self.now.table.now)) }
+    {
+        for place in 0..self.table.len() {
+            let found = self.table.at(self.alloc, place)?;
+            let Some(node) = found else {
+                return Ok(false);
+            };
+            let yes = self.is_followed(&node)?;
+            if !yes {
+                return Ok(false);
+            }
+        }
+        Ok(true)
+    }
+
+    /// Returns whether the table begins before any call.
+    fn begins(&self, first: &M) -> Result<bool, AllocError>
+        ensures { IfOk result (λ yes. IsTrue yes →
+            IsInTable (nodes_of M.read self.now.table.now) first.now
+            (none_placed self.now.callers.now)) }
+    {
+        let placed = none_placed(self.alloc, self.callers)?;
+        let yes = self.is_node(0, first, &placed)?;
+        Ok(yes)
+    }
 }
 
 /// Returns whether the table shows that no order goes through the calls. The table is not trusted.
@@ -259,10 +214,15 @@ pub fn refutes<C: Copy, M: Machine<C>>(
     ensures { IfOk result (λ yes. IsTrue yes →
         (order : List ℕ) → GoesThroughAll M.stepped M.may_skip callers.now first.now order → ⊥) }
 {
-    let yes = begins(alloc, first, callers, table)?;
+    let claim = Claim {
+        alloc,
+        callers,
+        table,
+    };
+    let yes = claim.begins(first)?;
     if !yes {
         return Ok(false);
     }
-    let closed = is_closed(alloc, callers, table)?;
+    let closed = claim.is_closed()?;
     Ok(closed)
 }

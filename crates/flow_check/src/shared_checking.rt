@@ -3,8 +3,7 @@ ghost use Rattle.std.specs.Prelude.{◌≡◌, IfOk, IfSome, is_some};
 ghost use Rattle.flow_law.specs.SharedFlow.{config_fault};
 ghost use Rattle.flow_check.specs.SharedRecords.{ExplainsShared};
 ghost use Rattle.flow_check.specs.Verdicts.{Judges};
-ghost use Rattle.flow_check.specs.declared.moments.Cut.TheVariants.{Before, By};
-ghost use Rattle.flow_check.specs.Moments.{HasOrder, HasNoOrder, HasOrdersUntil, HasNoOrderFrom};
+ghost use Rattle.flow_check.specs.Moments.{GoesWrong, IsCutOff};
 
 use crate::checking::check;
 use crate::record::Record;
@@ -47,7 +46,6 @@ pub fn check_shared<'a>(
 #[derive(Clone, Copy)]
 struct SharedChecker {
     config: Config,
-    budget: u64,
 }
 
 impl<'a> Checker<SharedEntry<'a>> for SharedChecker {
@@ -55,18 +53,28 @@ impl<'a> Checker<SharedEntry<'a>> for SharedChecker {
 
     ghost explains = { λ checker calls. ExplainsShared calls checker.config };
 
-    fn check(&self, alloc: Global, calls: &Record<SharedEntry<'a>>) -> Result<Verdict, AllocError> {
-        check_shared(alloc, self.config, calls, self.budget)
+    fn check(
+        &self,
+        alloc: Global,
+        calls: &Record<SharedEntry<'a>>,
+        budget: u64,
+    ) -> Result<Verdict, AllocError> {
+        check_shared(alloc, self.config, calls, budget)
     }
 
     fn guess(
         &self,
         alloc: Global,
         callers: &[Vec<Timed<SharedEntry<'a>>>],
+        budget: u64,
     ) -> Result<Option<u64>, AllocError> {
         let machine = SharedMachine::new(alloc, self.config, callers)?;
-        guess_moment(alloc, &machine, callers, self.budget)
+        guess_moment(alloc, &machine, callers, budget)
     }
+
+    fn law_cut_off(&self)
+        ensures { IsCutOff (λ known. ExplainsShared known self.now.config) }
+    {}
 }
 
 /// Returns the first moment by which no order explains the calls of a record that `check_shared` calls illegal, as
@@ -77,16 +85,10 @@ pub fn shared_goes_wrong<'a>(
     calls: &Record<SharedEntry<'a>>,
     budget: u64,
 ) -> Result<Option<u64>, AllocError>
-    ensures legal_before { IfOk result (λ found. IfSome found (λ moment.
-        HasOrder (λ known. ExplainsShared known config) (Before moment) calls.now)) }
-    ensures illegal_by { IfOk result (λ found. IfSome found (λ moment.
-        HasNoOrder (λ known. ExplainsShared known config) (By moment) calls.now)) }
-    ensures legal_until { IfOk result (λ found. IfSome found (λ moment.
-        HasOrdersUntil (λ known. ExplainsShared known config) moment calls.now)) }
-    ensures illegal_from { IfOk result (λ found. IfSome found (λ moment.
-        HasNoOrderFrom (λ known. ExplainsShared known config) moment calls.now)) }
+    ensures { IfOk result (λ found. IfSome found (λ moment.
+        GoesWrong (λ known. ExplainsShared known config) moment calls.now)) }
 {
-    let checker = SharedChecker { config, budget };
-    let moment = wrong_moment(alloc, &checker, calls)?;
+    let checker = SharedChecker { config };
+    let moment = wrong_moment(alloc, &checker, calls, budget)?;
     Ok(moment)
 }

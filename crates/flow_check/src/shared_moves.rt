@@ -116,38 +116,28 @@ impl SharedMachine {
         Ok(())
     }
 
-    fn emit(
-        &mut self,
-        alloc: Global,
-        caller: usize,
-        value: u64,
-        case: EmitCase,
-    ) -> Result<(), AllocError>
-        ensures { OnOk result (self.new ≡ emit_in case caller value self.old) }
+    fn emit(&mut self, alloc: Global, held: Held, case: EmitCase) -> Result<(), AllocError>
+        ensures { OnOk result (self.new ≡ emit_in case held.caller held.value self.old) }
     {
         match case {
             EmitCase::Appends | EmitCase::Offers | EmitCase::DropsOldest => {
-                self.append(alloc, caller, value)
+                self.append(alloc, held.caller, held.value)
             }
             EmitCase::Queues => {
-                self.queue.push(Held { caller, value })?;
+                self.queue.push(held)?;
                 Ok(())
             }
             EmitCase::DropsLatest => Ok(()),
         }
     }
 
-    fn try_emit(
-        &mut self,
-        alloc: Global,
-        caller: usize,
-        value: u64,
-        case: EmitCase,
-    ) -> Result<(), AllocError>
-        ensures { OnOk result (self.new ≡ try_emit_in case caller value self.old) }
+    fn try_emit(&mut self, alloc: Global, held: Held, case: EmitCase) -> Result<(), AllocError>
+        ensures { OnOk result (self.new ≡ try_emit_in case held.caller held.value self.old) }
     {
         match case {
-            EmitCase::Appends | EmitCase::DropsOldest => self.append(alloc, caller, value),
+            EmitCase::Appends | EmitCase::DropsOldest => {
+                self.append(alloc, held.caller, held.value)
+            }
             EmitCase::Offers | EmitCase::Queues | EmitCase::DropsLatest => Ok(()),
         }
     }
@@ -224,11 +214,11 @@ impl SharedMachine {
         match operation {
             SharedOperation::TryEmit(value) => {
                 let case = self.emit_case();
-                self.try_emit(alloc, caller, value, case)
+                self.try_emit(alloc, Held { caller, value }, case)
             }
             SharedOperation::Emit(value) | SharedOperation::EmitOrNot(value) => {
                 let case = self.emit_case();
-                self.emit(alloc, caller, value, case)
+                self.emit(alloc, Held { caller, value }, case)
             }
             SharedOperation::EmitCancelled => self.cancel(alloc, caller),
             SharedOperation::Subscribe(values) => {

@@ -2,6 +2,7 @@
 ghost use Rattle.std.specs.Prelude.{◌≡◌, IsTrue};
 ghost use Rattle.flow_check.specs.SharedMachine.{same_values};
 
+use crate::same::Same;
 use crate::shared_machine::{Held, Own, own_at};
 use flow_law::{Config, Overflow};
 
@@ -45,50 +46,20 @@ pub fn are_same_values(one: &[u64], other: &[u64]) -> bool
     same_values(one, other)
 }
 
-pub fn is_same_lag(one: Option<usize>, other: Option<usize>) -> bool
-    ensures { IsTrue result → one ≡ other }
-{
-    match (one, other) {
-        (None, None) => true,
-        (Some(one), Some(other)) => one == other,
-        _ => false,
+impl Same for Option<usize> {
+    fn is_same(self, other: Self) -> bool {
+        match (self, other) {
+            (None, None) => true,
+            (Some(one), Some(other)) => one == other,
+            _ => false,
+        }
     }
 }
 
-pub fn are_same_lags(one: &[Option<usize>], other: &[Option<usize>]) -> bool
-    ensures { IsTrue result → one.now ≡ other.now }
-{
-    let mut left = one;
-    let mut right = other;
-    while let (Some((first, rest)), Some((second, more))) = (
-        left.split_first(),
-        right.split_first(),
-    ) {
-        if !is_same_lag(*first, *second) {
-            return false;
-        }
-        left = rest;
-        right = more;
+impl Same for Held {
+    fn is_same(self, other: Self) -> bool {
+        self.caller == other.caller && self.value == other.value
     }
-    left.is_empty() && right.is_empty()
-}
-
-pub fn is_same_queue(one: &[Held], other: &[Held]) -> bool
-    ensures { IsTrue result → one.now ≡ other.now }
-{
-    let mut left = one;
-    let mut right = other;
-    while let (Some((first, rest)), Some((second, more))) = (
-        left.split_first(),
-        right.split_first(),
-    ) {
-        if first.caller != second.caller || first.value != second.value {
-            return false;
-        }
-        left = rest;
-        right = more;
-    }
-    left.is_empty() && right.is_empty()
 }
 
 pub fn are_same_owns(one: &[Own], other: &[Own]) -> bool

@@ -4,11 +4,10 @@ ghost use Rattle.flow_check.specs.SharedMachine.{read};
 
 use crate::machine::Machine;
 use crate::marks::{mix, mix_all};
+use crate::same::{Same, are_same};
 use crate::shared_calls::{SharedAnswer, SharedEntry, SharedOperation};
 use crate::shared_machine::{Held, Own, SharedMachine};
-use crate::shared_same::{
-    are_same_lags, are_same_owns, are_same_values, is_same_config, is_same_lag, is_same_queue,
-};
+use crate::shared_same::{are_same_owns, are_same_values, is_same_config};
 use std::alloc::{AllocError, Global};
 
 /// Mixes what each caller has still to receive into a number.
@@ -45,14 +44,6 @@ impl<'a> Machine<SharedEntry<'a>> for SharedMachine {
 
     ghost stepped = { stepped };
 
-    ghost may_skip = { may_skip };
-
-    ghost is_look = { is_look };
-
-    ghost IsSound = { IsSound };
-
-    ghost read = { read };
-
     fn step(
         &self,
         alloc: Global,
@@ -67,9 +58,15 @@ impl<'a> Machine<SharedEntry<'a>> for SharedMachine {
         Ok(Some(after))
     }
 
+    ghost may_skip = { may_skip };
+
     fn may_skip(&self, call: &SharedEntry<'a>) -> bool {
         matches!(call.operation, SharedOperation::EmitOrNot(_))
     }
+
+    ghost is_look = { is_look };
+
+    ghost IsSound = { IsSound };
 
     fn is_look(&self, call: &SharedEntry<'a>) -> bool {
         match (call.operation, call.answer) {
@@ -99,15 +96,17 @@ impl<'a> Machine<SharedEntry<'a>> for SharedMachine {
         is_same_config(self.config, other.config)
             && are_same_values(self.values.as_slice(), other.values.as_slice())
             && self.cached == other.cached
-            && are_same_lags(self.lags.as_slice(), other.lags.as_slice())
+            && are_same(self.lags.as_slice(), other.lags.as_slice())
             && are_same_owns(self.owns.as_slice(), other.owns.as_slice())
-            && is_same_queue(self.queue.as_slice(), other.queue.as_slice())
-            && is_same_lag(self.offered, other.offered)
+            && are_same(self.queue.as_slice(), other.queue.as_slice())
+            && self.offered.is_same(other.offered)
     }
 
     fn write(&self, words: &mut Vec<u32>) -> Result<(), AllocError> {
         self.write_words(words)
     }
+
+    ghost read = { read };
 
     fn read(&self, alloc: Global, words: &[u32]) -> Result<Self, AllocError>
         ensures { IfOk result (λ state. state ≡ read self.now words.now) }

@@ -2,8 +2,7 @@
 ghost use Rattle.std.specs.Prelude.{IfOk, IfSome};
 ghost use Rattle.flow_check.specs.StateRecords.{ExplainsState};
 ghost use Rattle.flow_check.specs.Verdicts.{Judges};
-ghost use Rattle.flow_check.specs.declared.moments.Cut.TheVariants.{Before, By};
-ghost use Rattle.flow_check.specs.Moments.{HasOrder, HasNoOrder, HasOrdersUntil, HasNoOrderFrom};
+ghost use Rattle.flow_check.specs.Moments.{GoesWrong};
 
 use crate::checking::check;
 use crate::record::Record;
@@ -35,7 +34,6 @@ pub fn check_state(
 #[derive(Clone, Copy)]
 struct StateChecker {
     initial: u64,
-    budget: u64,
 }
 
 impl Checker<StateEntry> for StateChecker {
@@ -43,18 +41,26 @@ impl Checker<StateEntry> for StateChecker {
 
     ghost explains = { λ checker calls. ExplainsState calls checker.initial };
 
-    fn check(&self, alloc: Global, calls: &Record<StateEntry>) -> Result<Verdict, AllocError> {
-        check_state(alloc, self.initial, calls, self.budget)
+    fn check(
+        &self,
+        alloc: Global,
+        calls: &Record<StateEntry>,
+        budget: u64,
+    ) -> Result<Verdict, AllocError> {
+        check_state(alloc, self.initial, calls, budget)
     }
 
     fn guess(
         &self,
         alloc: Global,
         callers: &[Vec<Timed<StateEntry>>],
+        budget: u64,
     ) -> Result<Option<u64>, AllocError> {
         let machine = StateMachine::new(alloc, self.initial, callers)?;
-        guess_moment(alloc, &machine, callers, self.budget)
+        guess_moment(alloc, &machine, callers, budget)
     }
+
+    fn law_cut_off(&self) {}
 }
 
 /// Returns the first moment by which no order explains the calls of a record that `check_state` calls illegal: at each earlier
@@ -65,16 +71,10 @@ pub fn state_goes_wrong(
     calls: &Record<StateEntry>,
     budget: u64,
 ) -> Result<Option<u64>, AllocError>
-    ensures legal_before { IfOk result (λ found. IfSome found (λ moment.
-        HasOrder (λ known. ExplainsState known initial) (Before moment) calls.now)) }
-    ensures illegal_by { IfOk result (λ found. IfSome found (λ moment.
-        HasNoOrder (λ known. ExplainsState known initial) (By moment) calls.now)) }
-    ensures legal_until { IfOk result (λ found. IfSome found (λ moment.
-        HasOrdersUntil (λ known. ExplainsState known initial) moment calls.now)) }
-    ensures illegal_from { IfOk result (λ found. IfSome found (λ moment.
-        HasNoOrderFrom (λ known. ExplainsState known initial) moment calls.now)) }
+    ensures { IfOk result (λ found. IfSome found (λ moment.
+        GoesWrong (λ known. ExplainsState known initial) moment calls.now)) }
 {
-    let checker = StateChecker { initial, budget };
-    let moment = wrong_moment(alloc, &checker, calls)?;
+    let checker = StateChecker { initial };
+    let moment = wrong_moment(alloc, &checker, calls, budget)?;
     Ok(moment)
 }

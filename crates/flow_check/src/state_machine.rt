@@ -8,6 +8,7 @@ ghost use Rattle.flow_check.specs.StateMachine.{reader_in, read};
 
 use crate::machine::Machine;
 use crate::marks::mix;
+use crate::same::{Same, are_same};
 use crate::state_calls::{StateAnswer, StateEntry, StateOperation};
 use crate::subscribed::present;
 use crate::words::{Part, number_of, read_parts, word_at, words_from, write_number, write_parts};
@@ -181,33 +182,15 @@ impl StateMachine {
     }
 }
 
-fn is_same_reader(one: Option<Option<u64>>, other: Option<Option<u64>>) -> bool
-    ensures { IsTrue result → one ≡ other }
-{
-    match (one, other) {
-        (None, None) => true,
-        (Some(None), Some(None)) => true,
-        (Some(Some(v)), Some(Some(w))) => v == w,
-        _ => false,
-    }
-}
-
-fn is_same_list(one: &[Option<Option<u64>>], other: &[Option<Option<u64>>]) -> bool
-    ensures { IsTrue result → one.now ≡ other.now }
-{
-    let mut left = one;
-    let mut right = other;
-    while let (Some((first, rest)), Some((second, more))) = (
-        left.split_first(),
-        right.split_first(),
-    ) {
-        if !is_same_reader(*first, *second) {
-            return false;
+impl Same for Option<Option<u64>> {
+    fn is_same(self, other: Self) -> bool {
+        match (self, other) {
+            (None, None) => true,
+            (Some(None), Some(None)) => true,
+            (Some(Some(v)), Some(Some(w))) => v == w,
+            _ => false,
         }
-        left = rest;
-        right = more;
     }
-    left.is_empty() && right.is_empty()
 }
 
 /// Returns what words say that a caller has received.
@@ -254,14 +237,6 @@ impl Machine<StateEntry> for StateMachine {
 
     ghost stepped = { stepped };
 
-    ghost may_skip = { may_skip };
-
-    ghost is_look = { is_look };
-
-    ghost IsSound = { IsSound };
-
-    ghost read = { read };
-
     fn step(
         &self,
         alloc: Global,
@@ -276,9 +251,15 @@ impl Machine<StateEntry> for StateMachine {
         Ok(Some(after))
     }
 
+    ghost may_skip = { may_skip };
+
     fn may_skip(&self, _call: &StateEntry) -> bool {
         false
     }
+
+    ghost is_look = { is_look };
+
+    ghost IsSound = { IsSound };
 
     fn is_look(&self, call: &StateEntry) -> bool {
         match (call.operation, call.answer) {
@@ -301,13 +282,15 @@ impl Machine<StateEntry> for StateMachine {
     }
 
     fn same(&self, other: &Self) -> bool {
-        self.value == other.value && is_same_list(self.readers.as_slice(), other.readers.as_slice())
+        self.value == other.value && are_same(self.readers.as_slice(), other.readers.as_slice())
     }
 
     fn write(&self, words: &mut Vec<u32>) -> Result<(), AllocError> {
         write_number(words, self.value)?;
         write_parts(words, self.readers.as_slice())
     }
+
+    ghost read = { read };
 
     fn read(&self, alloc: Global, words: &[u32]) -> Result<Self, AllocError> {
         let readers = read_parts(alloc, words_from(words, 2), self.readers.len())?;

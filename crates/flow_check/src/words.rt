@@ -115,9 +115,6 @@ pub fn write_parts<P: Part>(words: &mut Vec<u32>, parts: &[P]) -> Result<(), All
 }
 
 impl Part for u64 {
-    ghost use Rattle.std.specs.Prelude.{drop};
-    ghost use Rattle.flow_check.specs.Words.{number_of};
-
     ghost part = { number_of };
 
     ghost others = { drop 2 };

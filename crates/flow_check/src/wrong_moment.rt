@@ -1,9 +1,8 @@
 //! The first moment at which a record goes wrong.
-ghost use Rattle.std.specs.Prelude.{ℕ, List, IfOk, IfSome, IsTrue};
-ghost use Rattle.flow_check.specs.Records.{Calls, IsWellTimed};
+ghost use Rattle.std.specs.Prelude.{ℕ, List, IfOk, IfSome};
+ghost use Rattle.flow_check.specs.Records.{Calls};
 ghost use Rattle.flow_check.specs.Verdicts.{Judges};
-ghost use Rattle.flow_check.specs.declared.moments.Cut.TheVariants.{Before, By};
-ghost use Rattle.flow_check.specs.Moments.{HasOrder, HasNoOrder};
+ghost use Rattle.flow_check.specs.Moments.{JudgesKnown, GoesWrong, IsCutOff};
 
 use crate::machine::Machine;
 use crate::moments::{Cut, known_record};
@@ -19,11 +18,20 @@ pub trait Checker<C: Copy> {
     /// The orders that explain calls.
     ghost explains: { Self → Calls C → List ℕ → Type 0 };
 
-    fn check(&self, alloc: Global, calls: &Record<C>) -> Result<Verdict, AllocError>
+    fn check(&self, alloc: Global, calls: &Record<C>, budget: u64) -> Result<Verdict, AllocError>
         ensures { IfOk result (λ verdict. Judges (explains self.now calls.now) verdict) };
 
     /// Returns the moment at which calls that no order explains go wrong first. Nothing is promised of it.
-    fn guess(&self, alloc: Global, callers: &[Vec<Timed<C>>]) -> Result<Option<u64>, AllocError>;
+    fn guess(
+        &self,
+        alloc: Global,
+        callers: &[Vec<Timed<C>>],
+        budget: u64,
+    ) -> Result<Option<u64>, AllocError>;
+
+    /// Proves that what explains calls explains in part what was known of them.
+    fn law_cut_off(&self)
+        ensures { IsCutOff (explains self.now) };
 }
 
 /// Returns the latest of the deadlines of these nodes. In each node some call that ended by then has not happened.
@@ -54,44 +62,23 @@ pub fn guess_moment<C: Copy, M: Machine<C>>(
     }
 }
 
-/// Returns whether an order is found that explains what was known at the cut.
-fn has_order<C: Copy, K: Checker<C>>(
+/// Judges what was known of the calls at the cut.
+fn judge_known<C: Copy, K: Checker<C>>(
     alloc: Global,
     checker: &K,
     calls: &Record<C>,
     cut: Cut,
-) -> Result<bool, AllocError>
-    ensures { IfOk result (λ yes. IsTrue yes → HasOrder (K.explains checker.now) cut calls.now) }
+    budget: u64,
+) -> Result<Verdict, AllocError>
+    ensures { IfOk result (λ verdict.
+        JudgesKnown (K.explains checker.now) cut calls.now verdict) }
 {
     let made = known_record(alloc, calls, cut)?;
     let Some(known) = made else {
-        return Ok(false);
+        return Ok(Verdict::GaveUp);
     };
-    let verdict = checker.check(alloc, &known)?;
-    match verdict {
-        Verdict::Legal(_order) => Ok(true),
-        Verdict::Illegal | Verdict::GaveUp => Ok(false),
-    }
-}
-
-/// Returns whether it is sure that no order explains what was known at the cut.
-fn has_no_order<C: Copy, K: Checker<C>>(
-    alloc: Global,
-    checker: &K,
-    calls: &Record<C>,
-    cut: Cut,
-) -> Result<bool, AllocError>
-    ensures { IfOk result (λ yes. IsTrue yes → HasNoOrder (K.explains checker.now) cut calls.now) }
-{
-    let made = known_record(alloc, calls, cut)?;
-    let Some(known) = made else {
-        return Ok(false);
-    };
-    let verdict = checker.check(alloc, &known)?;
-    match verdict {
-        Verdict::Illegal => Ok(true),
-        Verdict::Legal(_) | Verdict::GaveUp => Ok(false),
-    }
+    let verdict = checker.check(alloc, &known, budget)?;
+    Ok(verdict)
 }
 
 /// Returns the moment at which the calls go wrong: before it an order explains them, and by it none does.
@@ -99,22 +86,21 @@ pub fn wrong_moment<C: Copy, K: Checker<C>>(
     alloc: Global,
     checker: &K,
     calls: &Record<C>,
+    budget: u64,
 ) -> Result<Option<u64>, AllocError>
-    ensures before { IfOk result (λ found. IfSome found (λ moment.
-        HasOrder (K.explains checker.now) (Before moment) calls.now)) }
-    ensures by { IfOk result (λ found. IfSome found (λ moment.
-        HasNoOrder (K.explains checker.now) (By moment) calls.now)) }
-    ensures well { IfOk result (λ _. IsWellTimed calls.now) }
+    ensures { IfOk result (λ found. IfSome found (λ moment.
+        GoesWrong (K.explains checker.now) moment calls.now)) }
 {
     let callers = calls.callers();
-    let guessed = checker.guess(alloc, callers)?;
+    let guessed = checker.guess(alloc, callers, budget)?;
     let Some(moment) = guessed else {
         return Ok(None);
     };
-    let is_legal_before = has_order(alloc, checker, calls, Cut::Before(moment))?;
-    let is_illegal_by = has_no_order(alloc, checker, calls, Cut::By(moment))?;
-    if is_legal_before && is_illegal_by {
-        return Ok(Some(moment));
-    }
-    Ok(None)
+    let before = judge_known(alloc, checker, calls, Cut::Before(moment), budget)?;
+    let by = judge_known(alloc, checker, calls, Cut::By(moment), budget)?;
+    let (Verdict::Legal(_order), Verdict::Illegal) = (before, by) else {
+        return Ok(None);
+    };
+    checker.law_cut_off();
+    Ok(Some(moment))
 }

@@ -1,6 +1,0 @@
-use Rattle.std.proofs.Common.{ℕ, List, subst}
-use Rattle.flow_check.specs.Tables.{nodes_of, IsInTable}
-use Rattle.flow_check.proofs.refuting.begins.Goals as goal
-
-pub returns : goal.returns
-returns g c = λ yes. subst (λ (p : List ℕ). IsInTable (nodes_of g.M.Machine.read c.args.table.now) c.args.first.now p) c.in_ok-placed.ensures (c.in_ok-yes.ensures yes)

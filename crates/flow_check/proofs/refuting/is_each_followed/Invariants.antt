@@ -1,6 +1,0 @@
-use Rattle.flow_check.specs.Tables.{nodes_of, reached}
-use Rattle.flow_check.proofs.Parts.{IsFollowedBelow}
-use Rattle.flow_check.proofs.refuting.is_each_followed.Given as goal
-
-abbrev pub invariant-loop-caller : goal.invariant-loop-caller
-invariant-loop-caller g l = IsFollowedBelow g.M.Machine.stepped g.M.Machine.may_skip g.M.Machine.is_look l.callers (nodes_of g.M.Machine.read l.table) l.caller (reached l.node)

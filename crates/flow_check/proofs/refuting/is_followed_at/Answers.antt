@@ -1,8 +1,0 @@
-use Rattle.std.proofs.Common.{sym}
-use Rattle.flow_check.proofs.Parts.{followed_at}
-use Rattle.flow_check.specs.Tables.{nodes_of, reached}
-use Rattle.flow_check.proofs.refuting.is_followed_at.Goals as goal
-
-pub returns : goal.returns
-returns g c = λ yes. followed_at g.M.Machine.stepped g.M.Machine.may_skip g.M.Machine.is_look c.args.callers.now (nodes_of g.M.Machine.read c.args.table.now) (reached c.args.node.now) c.args.caller c.in-Some.call
-    (sym c.in-Some.ensures) (c.in_ok-made.ensures c.if-not-made.false) (c.in_ok-skipped.ensures yes)
