@@ -47,19 +47,23 @@ abbrev pub later_op_named : Version → List ℕ → Option OpName
 later_op_named One text = None
 later_op_named Two text = if bytes_eq text (codes "drop_while") then Some DropWhile else (if bytes_eq text (codes "running_reduce") then Some RunningReduce else None)
 
+-- the operators that look at the items before an item, too, or at those of another chain
+abbrev pub run_op_named : Version → List ℕ → Option OpName
+run_op_named version text =
+    if bytes_eq text (codes "take_while") then Some TakeWhile
+    else (if bytes_eq text (codes "take") then Some Take
+    else (if bytes_eq text (codes "drop") then Some DropFirst
+    else (if bytes_eq text (codes "scan") then Some Scan
+    else (if bytes_eq text (codes "zip") then Some Zip
+    else (if bytes_eq text (codes "distinct") then Some Distinct else later_op_named version text)))))
+
 -- the operator that a text names, in a version of the format
 abbrev pub op_named : Version → List ℕ → Option OpName
 op_named version text =
     if bytes_eq text (codes "map") then Some Map
     else (if bytes_eq text (codes "filter") then Some Filter
-    else (if bytes_eq text (codes "take_while") then Some TakeWhile
     else (if bytes_eq text (codes "transform") then Some Transform
-    else (if bytes_eq text (codes "take") then Some Take
-    else (if bytes_eq text (codes "drop") then Some DropFirst
-    else (if bytes_eq text (codes "scan") then Some Scan
-    else (if bytes_eq text (codes "flat_map") then Some FlatMap
-    else (if bytes_eq text (codes "zip") then Some Zip
-    else (if bytes_eq text (codes "distinct") then Some Distinct else later_op_named version text)))))))))
+    else (if bytes_eq text (codes "flat_map") then Some FlatMap else run_op_named version text)))
 
 -- the operator that the key `op` names
 abbrev pub op_name_of : Version → Data → Option OpName
@@ -137,9 +141,13 @@ take_operator count = record { takes_none = count == 0; depth = λ depth. depth 
 abbrev pub zip_operator : Joining → BuiltChain → Operator
 zip_operator by with = record { takes_none = false; depth = λ depth. max depth with.depth + 1; run = λ r. zip_run (joined by) r with.run }
 
+-- how an operator computes, and the number under its only other key
+abbrev pub computing_with : List ℕ → Data → Option (Arithmetic × ℤ)
+computing_with key d = where_true (has_only (codes "op" ∷ codes "by" ∷ key ∷ []) d) (option_and_then (λ by. option_map (λ number. (by, number)) (i64_at key d)) (arithmetic_at d))
+
 -- a `map`: what it computes, and with which number
 abbrev pub map_of : Data → Option Operator
-map_of d = where_true (has_only (codes "op" ∷ codes "by" ∷ codes "k" ∷ []) d) (option_and_then (λ by. option_map (λ k. one_deeper (map_run (λ x. computed by (x, k)))) (i64_at (codes "k") d)) (arithmetic_at d))
+map_of d = option_map (λ c. one_deeper (map_run (λ x. computed c.0 (x, c.1)))) (computing_with (codes "k") d)
 
 -- a `filter` by its test
 abbrev pub filter_of : Data → Option Operator
@@ -163,7 +171,7 @@ drop_of d = where_true (has_only (codes "op" ∷ codes "n" ∷ []) d) (option_ma
 
 -- a `scan`, which gives its first value before any item
 abbrev pub scan_of : Data → Option Operator
-scan_of d = where_true (has_only (codes "op" ∷ codes "by" ∷ codes "from" ∷ []) d) (option_and_then (λ by. option_map (λ from. one_deeper (λ r. gives from (scan_run (computed by) from r))) (i64_at (codes "from") d)) (arithmetic_at d))
+scan_of d = option_map (λ c. one_deeper (λ r. gives c.1 (scan_run (computed c.0) c.1 r))) (computing_with (codes "from") d)
 
 -- a `running_reduce`, whose first item is the first that it gives
 abbrev pub running_reduce_of : Data → Option Operator

@@ -41,21 +41,30 @@ fn later_op_named(version: Version, text: &str) -> Option<OpName>
     }
 }
 
+/// Returns an operator that looks at the items before an item, too, or at those of another chain.
+fn run_op_named(version: Version, text: &str) -> Option<OpName>
+    ensures { result ≡ chains.run_op_named version text.now }
+{
+    match text {
+        "take_while" => Some(OpName::TakeWhile),
+        "take" => Some(OpName::Take),
+        "drop" => Some(OpName::DropFirst),
+        "scan" => Some(OpName::Scan),
+        "zip" => Some(OpName::Zip),
+        "distinct" => Some(OpName::Distinct),
+        _ => later_op_named(version, text),
+    }
+}
+
 fn op_named(version: Version, text: &str) -> Option<OpName>
     ensures { result ≡ chains.op_named version text.now }
 {
     match text {
         "map" => Some(OpName::Map),
         "filter" => Some(OpName::Filter),
-        "take_while" => Some(OpName::TakeWhile),
         "transform" => Some(OpName::Transform),
-        "take" => Some(OpName::Take),
-        "drop" => Some(OpName::DropFirst),
-        "scan" => Some(OpName::Scan),
         "flat_map" => Some(OpName::FlatMap),
-        "zip" => Some(OpName::Zip),
-        "distinct" => Some(OpName::Distinct),
-        _ => later_op_named(version, text),
+        _ => run_op_named(version, text),
     }
 }
 
@@ -66,57 +75,15 @@ pub fn op_name_of(version: Version, op: &Value) -> Option<OpName>
     op_named(version, text_at(op, "op")?)
 }
 
-fn arithmetic_named(text: &str) -> Option<Arithmetic>
-    ensures { result ≡ chains.arithmetic_named text.now }
-{
-    match text {
-        "add" => Some(Arithmetic::Add),
-        "mul" => Some(Arithmetic::Mul),
-        _ => None,
-    }
-}
-
 /// How a `map`, a `scan` or a `running_reduce` computes.
 pub fn arithmetic_at(op: &Value) -> Option<Arithmetic>
     ensures { result ≡ chains.arithmetic_at (view op.now) }
 {
-    arithmetic_named(text_at(op, "by")?)
-}
-
-fn joining_named(text: &str) -> Option<Joining>
-    ensures { result ≡ chains.joining_named text.now }
-{
-    match text {
-        "add" => Some(Joining::Add),
-        "mul" => Some(Joining::Mul),
-        "left" => Some(Joining::Left),
-        "right" => Some(Joining::Right),
+    match text_at(op, "by")? {
+        "add" => Some(Arithmetic::Add),
+        "mul" => Some(Arithmetic::Mul),
         _ => None,
     }
-}
-
-/// How a `zip` joins.
-pub fn joining_at(op: &Value) -> Option<Joining>
-    ensures { result ≡ chains.joining_at (view op.now) }
-{
-    joining_named(text_at(op, "by")?)
-}
-
-fn spread_named(text: &str) -> Option<Spread>
-    ensures { result ≡ chains.spread_named text.now }
-{
-    match text {
-        "range" => Some(Spread::Range),
-        "repeat" => Some(Spread::Repeat),
-        _ => None,
-    }
-}
-
-/// Returns what a `flat_map` makes of an item.
-pub fn spread_at(op: &Value) -> Option<Spread>
-    ensures { result ≡ chains.spread_at (view op.now) }
-{
-    spread_named(text_at(op, "to")?)
 }
 
 /// Returns the number that a test compares with.
@@ -141,6 +108,30 @@ pub fn test_of(op: &Value) -> Option<Test>
         "lt" => Some(Test::Less(compared_with(op)?)),
         "gt" => Some(Test::Greater(compared_with(op)?)),
         "ne" => Some(Test::NotEqual(compared_with(op)?)),
+        _ => None,
+    }
+}
+
+/// Returns what a `flat_map` makes of an item.
+pub fn spread_at(op: &Value) -> Option<Spread>
+    ensures { result ≡ chains.spread_at (view op.now) }
+{
+    match text_at(op, "to")? {
+        "range" => Some(Spread::Range),
+        "repeat" => Some(Spread::Repeat),
+        _ => None,
+    }
+}
+
+/// How a `zip` joins.
+pub fn joining_at(op: &Value) -> Option<Joining>
+    ensures { result ≡ chains.joining_at (view op.now) }
+{
+    match text_at(op, "by")? {
+        "add" => Some(Joining::Add),
+        "mul" => Some(Joining::Mul),
+        "left" => Some(Joining::Left),
+        "right" => Some(Joining::Right),
         _ => None,
     }
 }

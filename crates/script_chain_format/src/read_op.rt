@@ -10,7 +10,7 @@ use crate::read_source::numbers_in;
 use crate::reading::fault::ScriptFault;
 use crate::reading::members::{has_only, i64_at, u64_at};
 use crate::reading::version::Version;
-use flow_cold::{Joining, Op, Spread};
+use flow_cold::{Arithmetic, Joining, Op, Spread};
 use serde_json::Value;
 use std::alloc::Global;
 
@@ -18,14 +18,22 @@ const MOST_ADDED: usize = 16;
 
 const MOST_SPREAD: u64 = 1_000;
 
-fn map_of(op: &Value) -> Option<Op>
-    ensures { option_map operator_of result ≡ chains.map_of (view op.now) }
+/// Returns how an operator computes, and the number under its only other key.
+fn computing_with(op: &Value, key: &str) -> Option<(Arithmetic, i64)>
+    ensures { result ≡ chains.computing_with key.now (view op.now) }
 {
-    if !has_only(op, &["op", "by", "k"]) {
+    if !has_only(op, &["op", "by", key]) {
         return None;
     }
     let by = arithmetic_at(op)?;
-    let k = i64_at(op, "k")?;
+    let number = i64_at(op, key)?;
+    Some((by, number))
+}
+
+fn map_of(op: &Value) -> Option<Op>
+    ensures { option_map operator_of result ≡ chains.map_of (view op.now) }
+{
+    let (by, k) = computing_with(op, "k")?;
     Some(Op::Map { by, k })
 }
 
@@ -73,11 +81,7 @@ fn drop_of(op: &Value) -> Option<Op>
 fn scan_of(op: &Value) -> Option<Op>
     ensures { option_map operator_of result ≡ chains.scan_of (view op.now) }
 {
-    if !has_only(op, &["op", "by", "from"]) {
-        return None;
-    }
-    let by = arithmetic_at(op)?;
-    let from = i64_at(op, "from")?;
+    let (by, from) = computing_with(op, "from")?;
     Some(Op::Scan { from, by })
 }
 
