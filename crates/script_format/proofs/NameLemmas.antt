@@ -1,14 +1,16 @@
 -- Names as the reader keeps them, and as the definitions list them.
-use Rattle.std.proofs.Common.{◌≡◌, ℕ, zero, suc, ◌+◌, ◌<◌, ◌≤◌, Bool, true, false, cond, ◌||◌, nat_lt, if◌then◌else◌, List, [], ◌∷◌, ◌++◌, map, length, get_or, drop, Option, None, Some, Ok, Err, Bor, refl, sym, ap, subst, ◌∙◌, arith}
+use Rattle.std.proofs.Common.{◌≡◌, ℕ, zero, suc, ◌+◌, ◌<◌, ◌≤◌, Bool, true, false, cond, ◌||◌, nat_lt, if◌then◌else◌, List, [], ◌∷◌, ◌++◌, map, length, get_or, drop, Option, None, Some, Result, Ok, Err, Bor, refl, sym, ap, subst, ◌∙◌, arith}
 use borrow.Author.Tests.{true-ltb, false-ltb}
 use Rattle.std.proofs.Math.ListN.{set, drop_of_length-le}
 use Rattle.std.proofs.lemmas.List.{map-set}
 use Rattle.std.specs.List.{list_any, position, position_from}
 use Rattle.std.specs.Str.{bytes_eq}
 use Rattle.std.proofs.lemmas.Iterator.Adapters.{position_from-zero}
-use Rattle.script_chain_format.specs.declared.reading.fault.ScriptFault.TheVariants.{DuplicateName}
+use Rattle.script_chain_format.specs.declared.reading.fault.ScriptFault.TheVariants.{DuplicateName, UnknownName}
+use Rattle.script_chain_format.specs.declared.reading.fault.ScriptFault.{ScriptFault}
+use Rattle.script_chain_format.specs.Results.{Gives, or_fault}
 use Rattle.script_format.specs.declared.names.FlowNames.{FlowNames}
-use Rattle.script_format.specs.Checks.{NameLists, introduced, is_known, names_at, no_names}
+use Rattle.script_format.specs.Checks.{NameLists, introduced, is_known, names_at, no_names, place_of}
 use Rattle.script_format.specs.Names.{lists_of}
 use Rattle.script_chain_format.proofs.ListLemmas.{rest_from}
 
@@ -83,13 +85,17 @@ names-past [] i past = refl
 names-past (x ∷ xs) zero past = absurd (omega arith)
 names-past (x ∷ xs) (suc i) past = names-past xs i (omega arith)
 
--- what a look at a borrowed row finds at a place
-pub names-there : (items lent : List FlowNames) (i : ℕ) (k : FlowNames) → lent ≡ items → true ≡ nat_lt i (length lent) → k ≡ get_or lent i k
-    → names_at i (map lists_of items) ≡ lists_of k
-names-there items lent i k same here is = names-at items i k (subst (λ l. i < length l) same (true-ltb i (length lent) here)) (is ∙ ap (λ l. get_or l i k) same)
+-- what a look at a borrowed row finds of a name at a place: its place among the names of a kind, of which `of` says which
+pub found-there : (of : NameLists → List (List ℕ)) (at : ℕ) (name : List ℕ) (items lent : List FlowNames) (i : ℕ) (k : FlowNames) (result : Result ℕ ScriptFault) → lent ≡ items → true ≡ nat_lt i (length lent)
+    → k ≡ get_or lent i k → Gives (or_fault (UnknownName at) (place_of name (of (lists_of k)))) result → Gives (or_fault (UnknownName at) (place_of name (of (names_at i (map lists_of items))))) result
+found-there of at name items lent i k result same here is found =
+    subst (λ names. Gives (or_fault (UnknownName at) (place_of name (of names))) result)
+    (sym (names-at items i k (subst (λ l. i < length l) same (true-ltb i (length lent) here)) (is ∙ ap (λ l. get_or l i k) same))) found
 
-pub no-names-there : (items lent : List FlowNames) (i : ℕ) → lent ≡ items → false ≡ nat_lt i (length lent) → names_at i (map lists_of items) ≡ no_names
-no-names-there items lent i same past = names-past items i (subst (λ l. length l ≤ i) same (false-ltb i (length lent) past))
+pub no-names-there : (of : NameLists → List (List ℕ)) (at : ℕ) (name : List ℕ) (items lent : List FlowNames) (i : ℕ) → lent ≡ items → false ≡ nat_lt i (length lent)
+    → or_fault (UnknownName at) (place_of name (of (names_at i (map lists_of items)))) ≡ or_fault (UnknownName at) (place_of name (of no_names))
+no-names-there of at name items lent i same past =
+    ap (λ (n : NameLists). or_fault (UnknownName at) (place_of name (of n))) (names-past items i (subst (λ l. length l ≤ i) same (false-ltb i (length lent) past)))
 
 pub unknown-at : (name : List ℕ) (items : List FlowNames) (i : ℕ) (k : FlowNames) → i < length items → k ≡ get_or items i k
     → list_any (is_known name) (map lists_of items) ≡ false → is_known name (lists_of k) ≡ false
@@ -102,17 +108,17 @@ set-past [] i p past = refl
 set-past (x ∷ xs) zero p past = absurd (omega arith)
 set-past (x ∷ xs) (suc i) p past = ap (λ l. lists_of x ∷ l) (set-past xs i p (omega arith))
 
-pub introduced-new : (at : ℕ) (name : List ℕ) (row after : List NameLists) → list_any (is_known name) row ≡ false → introduced at name row after ≡ Ok after
-introduced-new at name row after none = ap (λ t. if t then Err (DuplicateName at) else Ok after) none
-
 pub introduced-again : (at : ℕ) (name : List ℕ) (row after : List NameLists) → list_any (is_known name) row ≡ true → introduced at name row after ≡ Err (DuplicateName at)
 introduced-again at name row after known = ap (λ t. if t then Err (DuplicateName at) else Ok after) known
 
--- the row after a name was added for the flow at a place
-pub added-at : (f : NameLists → NameLists) (items : List FlowNames) (i : ℕ) (k new : FlowNames) → i < length items → k ≡ get_or items i k → lists_of new ≡ f (lists_of k)
-    → set (map lists_of items) i (f (names_at i (map lists_of items))) ≡ map lists_of (set items i new)
-added-at f items i k new here is adds =
-    ap (λ n. set (map lists_of items) i (f n)) (names-at items i k here is) ∙ ap (λ n. set (map lists_of items) i n) (sym adds) ∙ sym (map-set lists_of items i new)
+-- a new name of the flow at a place, where `f` adds it
+pub added-at : (f : NameLists → NameLists) (at : ℕ) (name : List ℕ) (items : List FlowNames) (i : ℕ) (k new : FlowNames) → list_any (is_known name) (map lists_of items) ≡ false
+    → i < length items → k ≡ get_or items i k → lists_of new ≡ f (lists_of k)
+    → introduced at name (map lists_of items) (set (map lists_of items) i (f (names_at i (map lists_of items)))) ≡ Ok (map lists_of (set items i new))
+added-at f at name items i k new none here is adds =
+    let row = map lists_of items in
+    ap (λ t. if t then Err (DuplicateName at) else Ok (set row i (f (names_at i row)))) none
+    ∙ ap (λ n. Ok (set row i (f n))) (names-at items i k here is) ∙ ap (λ n. Ok (set row i n)) (sym adds) ∙ ap Ok (sym (map-set lists_of items i new))
 
 pub added-past : (f : NameLists → NameLists) (items : List FlowNames) (i : ℕ) → length items ≤ i → set (map lists_of items) i (f (names_at i (map lists_of items))) ≡ map lists_of items
 added-past f items i past = set-past items i (f (names_at i (map lists_of items))) past

@@ -1,6 +1,6 @@
 -- What the reading functions find, in the terms of the definitions.
 use Rattle.std.proofs.Common.{◌≡◌, ℕ, ◌+◌, ◌<◌, ◌≤◌, true, false, nat_lt, if◌then◌else◌, List, [], ◌∷◌, ◌++◌, length, drop, get_or, Result, Ok, Err, Option, Some, sym, ap, ◌∙◌, append_assoc, refl, arith}
-use Rattle.std.specs.Prelude.{option_and_then, option_map, codes, Bool, None}
+use Rattle.std.specs.Prelude.{option_and_then, option_map, None}
 use Rattle.serde_json.specs.Data.{Data}
 use Rattle.serde_json.specs.View.{view, items_view}
 use Rattle.serde_json.specs.declared.value.Value.{Value}
@@ -12,11 +12,7 @@ use Rattle.std.proofs.lemmas.Bool.Decides.{nat_tests}
 use Rattle.serde_json.specs.Read.{read}
 use Rattle.script_format.specs.Checks.{NameLists, nothing_named, checked, json_of, most_bytes, most_steps, read_script, script_of, step_of, steps_of}
 use Rattle.script_chain_format.specs.Results.{or_fault, result_map, result_then}
-use Rattle.serde_json.specs.Find.{get}
-use Rattle.script_chain_format.specs.Members.{has_only, i64_at, u32_at, where_true}
-use Rattle.script_format.specs.Format.{limit_at}
-use Rattle.script_format.specs.Heads.{NamedHead, share_parts, started_at, state_in_parts, share_keys, state_in_keys}
-use Rattle.script_format.specs.HeadViews.{CommonParts, shared_chain_in, with_initial, with_replay}
+use Rattle.script_format.specs.Heads.{NamedHead, SharedParts, with_key}
 use Rattle.script_chain_format.specs.declared.reading.version.Version.{Version}
 use Rattle.script_chain_format.proofs.ListLemmas.{items_len_is, rest_from}
 
@@ -83,27 +79,12 @@ all-three f oa ob oc a b c ea eb ec =
     ∙ ap (λ o. option_and_then (λ y. option_and_then (λ z. f a y z) oc) o) eb
     ∙ ap (λ o. option_and_then (λ x. option_and_then (λ y. option_and_then (λ z. f x y z) oc) ob) o) ea
 
--- of four keys the third may be read after the others
-pub third-last : {A B C D P R : Type 0} (p : A → B → D → P) (f : P → C → R) (oa : Option A) (ob : Option B) (oc : Option C) (od : Option D) (test : Bool)
-    → option_and_then (λ parts. option_map (f parts) oc) (option_and_then (λ a. option_and_then (λ b. option_and_then (λ d. where_true test (Some (p a b d))) od) ob) oa)
-    ≡ option_and_then (λ a. option_and_then (λ b. option_and_then (λ c. option_and_then (λ d. where_true test (Some (f (p a b d) c))) od) oc) ob) oa
-third-last p f None ob oc od test = refl
-third-last p f (Some a) None oc od test = refl
-third-last p f (Some a) (Some b) None None test = refl
-third-last p f (Some a) (Some b) None (Some d) true = refl
-third-last p f (Some a) (Some b) None (Some d) false = refl
-third-last p f (Some a) (Some b) (Some c) None test = refl
-third-last p f (Some a) (Some b) (Some c) (Some d) true = refl
-third-last p f (Some a) (Some b) (Some c) (Some d) false = refl
+-- where the parts of a shared chain are not read, or what the key more says, or where both are
+pub no-parts : {N : Type 0} (parts : Option SharedParts) (key : Option N) → None ≡ parts → None ≡ with_key parts key
+no-parts parts key none = ap (λ o. with_key o key) none
 
-pub share-parts : (version : Version) (d : Data)
-    → option_and_then (λ (shared : CommonParts). option_map (λ replay. with_replay shared replay) (u32_at (codes "replay") d)) (shared_chain_in version share_keys d) ≡ share_parts version d
-share-parts version d =
-    third-last (λ chain started limit. record { chain = chain; started = started; limit = limit }) with_replay (get (codes "chain") d) (started_at version d) (u32_at (codes "replay") d) (limit_at d)
-    (has_only share_keys d)
+pub no-key : {N : Type 0} (parts : Option SharedParts) (key : Option N) (shared : SharedParts) → Some shared ≡ parts → None ≡ key → None ≡ with_key parts key
+no-key parts key shared some none = ap (option_map (λ n. (shared, n))) none ∙ ap (λ o. with_key o key) some
 
-pub state-in-parts : (version : Version) (d : Data)
-    → option_and_then (λ (shared : CommonParts). option_map (λ initial. with_initial shared initial) (i64_at (codes "initial") d)) (shared_chain_in version state_in_keys d) ≡ state_in_parts version d
-state-in-parts version d =
-    third-last (λ chain started limit. record { chain = chain; started = started; limit = limit }) with_initial (get (codes "chain") d) (started_at version d) (i64_at (codes "initial") d) (limit_at d)
-    (has_only state_in_keys d)
+pub parts-and-key : {N : Type 0} (parts : Option SharedParts) (key : Option N) (shared : SharedParts) (n : N) → Some shared ≡ parts → Some n ≡ key → Some (shared, n) ≡ with_key parts key
+parts-and-key parts key shared n some given = ap (option_map (λ n. (shared, n))) given ∙ ap (λ o. with_key o key) some

@@ -1,6 +1,6 @@
 -- What the JSON text of a script says: the configuration of a flow, and the keys of each step.
 -- Begin with `config_of` and `verb_of`. Members are in Members of script_chain_format, the head is in Heads. What is refused, and in which order, is in Checks.
-use Rattle.std.specs.Prelude.{ℕ, ◌^◌, ◌-◌, Bool, true, false, if◌then◌else◌, List, [], ◌∷◌, Option, Some, None, option_and_then, is_some, codes}
+use Rattle.std.specs.Prelude.{ℕ, ◌^◌, ◌-◌, ◌||◌, Bool, true, false, if◌then◌else◌, List, [], ◌∷◌, Option, Some, None, option_and_then, is_some, codes}
 use Rattle.std.specs.Option.{option_map_or}
 use Rattle.std.specs.Str.{bytes_eq}
 use Rattle.serde_json.specs.Data.{Data}
@@ -46,12 +46,6 @@ abbrev pub is_flow : Kind → Bool
 is_flow kind.Absent = false
 is_flow _ = true
 
--- a flow into which the script emits
-abbrev pub is_mutable : Kind → Bool
-is_mutable kind.Shared = true
-is_mutable kind.State = true
-is_mutable _ = false
-
 -- a shared flow
 abbrev pub is_shared : Kind → Bool
 is_shared kind.Shared = true
@@ -61,6 +55,10 @@ is_shared _ = false
 abbrev pub is_state : Kind → Bool
 is_state kind.State = true
 is_state _ = false
+
+-- a flow into which the script emits
+abbrev pub is_mutable : Kind → Bool
+is_mutable kind = is_shared kind || is_state kind
 
 -- a flow with one current value
 abbrev pub has_value : Kind → Bool
@@ -96,24 +94,32 @@ allows Turn kind = is_sharing kind
 abbrev pub subscription : Bool → FlowVerb
 subscription has_first = if has_first then SubscribeWith else Subscribe
 
--- what a step does by the text of its key `do`
-abbrev pub verb_named : List ℕ → Bool → Option Verb
-verb_named text has_first =
-    if bytes_eq text (codes "try_emit") then Some (Flow TryEmit)
-    else (if bytes_eq text (codes "emit") then Some (Flow Emit)
-    else (if bytes_eq text (codes "poll") then Some (Flow Poll)
-    else (if bytes_eq text (codes "cancel") then Some (Flow Cancel)
-    else (if bytes_eq text (codes "subscribe") then Some (Flow (subscription has_first))
-    else (if bytes_eq text (codes "next") then Some (Flow Next)
-    else (if bytes_eq text (codes "unsubscribe") then Some (Flow Unsubscribe)
-    else (if bytes_eq text (codes "cache") then Some (Flow Cache)
-    else (if bytes_eq text (codes "count") then Some (Flow Count)
+-- what a step does with the values of a flow, without a subscriber, by the text of its key `do`
+abbrev pub value_verb_named : List ℕ → Option Verb
+value_verb_named text =
+    if bytes_eq text (codes "cache") then Some (Flow Cache)
     else (if bytes_eq text (codes "reset") then Some (Flow Reset)
     else (if bytes_eq text (codes "value") then Some (Flow Value)
     else (if bytes_eq text (codes "set") then Some (Flow Set)
-    else (if bytes_eq text (codes "compare_and_set") then Some (Flow CompareAndSet)
+    else (if bytes_eq text (codes "compare_and_set") then Some (Flow CompareAndSet) else None))))
+
+-- what a step does with the subscribers of a flow, or with its values
+abbrev pub subscriber_verb_named : List ℕ → Bool → Option Verb
+subscriber_verb_named text has_first =
+    if bytes_eq text (codes "subscribe") then Some (Flow (subscription has_first))
+    else (if bytes_eq text (codes "next") then Some (Flow Next)
+    else (if bytes_eq text (codes "unsubscribe") then Some (Flow Unsubscribe)
+    else (if bytes_eq text (codes "count") then Some (Flow Count) else value_verb_named text)))
+
+-- what a step does by the text of its key `do`
+abbrev pub verb_named : List ℕ → Bool → Option Verb
+verb_named text has_first =
+    if bytes_eq text (codes "collect") then Some Collect
     else (if bytes_eq text (codes "turn") then Some (Flow Turn)
-    else (if bytes_eq text (codes "collect") then Some Collect else None))))))))))))))
+    else (if bytes_eq text (codes "try_emit") then Some (Flow TryEmit)
+    else (if bytes_eq text (codes "emit") then Some (Flow Emit)
+    else (if bytes_eq text (codes "poll") then Some (Flow Poll)
+    else (if bytes_eq text (codes "cancel") then Some (Flow Cancel) else subscriber_verb_named text has_first)))))
 
 -- whether a subscription has first values of its own, which are known from version 2 on
 abbrev pub has_first : Version → Data → Bool

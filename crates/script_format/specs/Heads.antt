@@ -77,49 +77,40 @@ started_of version d = option_map_or started_named (as_str d) (while_subscribed 
 abbrev pub started_at : Version → Data → Option Started
 started_at version d = option_and_then (started_of version) (get (codes "started") d)
 
--- what a head says of a chain that is shared into a shared flow
-pub record ShareParts : Type 0 where
+-- what a head says of a chain that is shared, whatever the kind of its flow
+pub record SharedParts : Type 0 where
   pub chain : Data
   pub started : Started
-  pub replay : ℕ
   pub limit : ℕ
 
--- its keys
-abbrev pub share_keys : List (List ℕ)
-share_keys = codes "kind" ∷ codes "chain" ∷ codes "started" ∷ codes "replay" ∷ codes "limit" ∷ []
+-- what the keys of a shared chain say, if each has the right form and there are no other keys than these
+abbrev pub shared_parts : Version → List (List ℕ) → Data → Option SharedParts
+shared_parts version keys d =
+    option_and_then (λ chain. option_and_then (λ started. option_and_then (λ limit.
+    where_true (has_only keys d) (Some (record { chain = chain; started = started; limit = limit })))
+    (limit_at d)) (started_at version d)) (get (codes "chain") d)
 
--- what the keys of a shared chain say, if each has the right form and there is no other
-abbrev pub share_parts : Version → Data → Option ShareParts
+-- those parts, with what one key more says
+abbrev pub with_key : {N : Type 0} → Option SharedParts → Option N → Option (SharedParts × N)
+with_key shared key = option_and_then (λ parts. option_map (λ n. (parts, n)) key) shared
+
+-- a chain that is shared into a shared flow, with how many values are replayed
+abbrev pub share_parts : Version → Data → Option (SharedParts × ℕ)
 share_parts version d =
-    option_and_then (λ chain. option_and_then (λ started. option_and_then (λ replay. option_and_then (λ limit.
-    where_true (has_only share_keys d) (Some (record { chain = chain; started = started; replay = replay; limit = limit })))
-    (limit_at d)) (u32_at (codes "replay") d)) (started_at version d)) (get (codes "chain") d)
+    with_key (shared_parts version (codes "kind" ∷ codes "chain" ∷ codes "started" ∷ codes "replay" ∷ codes "limit" ∷ []) d) (u32_at (codes "replay") d)
 
 -- a chain that is shared into a shared flow
 abbrev pub share_in : Version → Data → Result Head ScriptFault
-share_in version d = result_then (λ parts. result_map (λ build. shared_chain build parts.started parts.replay parts.limit) (chain_in version 0 parts.chain)) (or_fault (BadShape 0) (share_parts version d))
+share_in version d = result_then (λ parts. result_map (λ build. shared_chain build parts.0.started parts.1 parts.0.limit) (chain_in version 0 parts.0.chain)) (or_fault (BadShape 0) (share_parts version d))
 
--- what a head says of a chain that is shared into a state flow
-pub record StateInParts : Type 0 where
-  pub chain : Data
-  pub started : Started
-  pub initial : ℤ
-  pub limit : ℕ
-
--- the keys of that
-abbrev pub state_in_keys : List (List ℕ)
-state_in_keys = codes "kind" ∷ codes "chain" ∷ codes "started" ∷ codes "initial" ∷ codes "limit" ∷ []
-
--- what these keys say, if each has the right form and there is no other
-abbrev pub state_in_parts : Version → Data → Option StateInParts
+-- a chain that is shared into a state flow, with the first value
+abbrev pub state_in_parts : Version → Data → Option (SharedParts × ℤ)
 state_in_parts version d =
-    option_and_then (λ chain. option_and_then (λ started. option_and_then (λ initial. option_and_then (λ limit.
-    where_true (has_only state_in_keys d) (Some (record { chain = chain; started = started; initial = initial; limit = limit })))
-    (limit_at d)) (i64_at (codes "initial") d)) (started_at version d)) (get (codes "chain") d)
+    with_key (shared_parts version (codes "kind" ∷ codes "chain" ∷ codes "started" ∷ codes "initial" ∷ codes "limit" ∷ []) d) (i64_at (codes "initial") d)
 
 -- a chain that is shared into a state flow
 abbrev pub state_in : Version → Data → Result Head ScriptFault
-state_in version d = result_then (λ parts. result_map (λ build. state_chain build parts.started parts.initial parts.limit) (chain_in version 0 parts.chain)) (or_fault (BadShape 0) (state_in_parts version d))
+state_in version d = result_then (λ parts. result_map (λ build. state_chain build parts.0.started parts.1 parts.0.limit) (chain_in version 0 parts.0.chain)) (or_fault (BadShape 0) (state_in_parts version d))
 
 -- a flow by the word of its kind
 abbrev pub flow_named : Version → List ℕ → Data → Result Head ScriptFault

@@ -3,7 +3,7 @@ ghost use Rattle.std.specs.Prelude.{◌≡◌, map, option_map};
 ghost use Rattle.serde_json.specs.View.{view};
 ghost use Rattle.script_format.specs.Heads as heads;
 ghost use Rattle.script_chain_format.specs.Results.{Gives};
-ghost use Rattle.script_format.specs.HeadViews.{shared_chain_of, shared_chain_in, share_parts_of, state_in_parts_of, flow_result};
+ghost use Rattle.script_format.specs.HeadViews.{flow_result, parts_of, shared_parts_of};
 
 use crate::read_config::limit_at;
 use crate::script::ScriptFlow;
@@ -84,8 +84,8 @@ struct SharedChain<'a> {
 
 /// Returns what they have in common, if the flow has no keys beside these.
 fn shared_chain<'a>(version: Version, keys: &[&str], flow: &'a Value) -> Option<SharedChain<'a>>
-    ensures { option_map shared_chain_of result
-        ≡ shared_chain_in version (map (λ key. key.now) keys.now) (view flow.now) }
+    ensures { option_map shared_parts_of result
+        ≡ heads.shared_parts version (map (λ key. key.now) keys.now) (view flow.now) }
 {
     let chain = flow.get("chain")?;
     let started = started_at(version, flow)?;
@@ -102,7 +102,7 @@ fn shared_chain<'a>(version: Version, keys: &[&str], flow: &'a Value) -> Option<
 
 /// Returns a chain that is shared, and how many values are replayed.
 fn share_parts(version: Version, flow: &Value) -> Option<(SharedChain<'_>, u32)>
-    ensures { option_map share_parts_of result ≡ heads.share_parts version (view flow.now) }
+    ensures { option_map parts_of result ≡ heads.share_parts version (view flow.now) }
 {
     let shared = shared_chain(version, SHARE_KEYS, flow)?;
     let replay = u32_at(flow, "replay")?;
@@ -127,7 +127,7 @@ pub fn share_in(alloc: Global, version: Version, flow: &Value) -> Result<ScriptF
 
 /// Returns a chain that is shared, and the first value.
 fn state_in_parts(version: Version, flow: &Value) -> Option<(SharedChain<'_>, i64)>
-    ensures { option_map state_in_parts_of result ≡ heads.state_in_parts version (view flow.now) }
+    ensures { option_map parts_of result ≡ heads.state_in_parts version (view flow.now) }
 {
     let shared = shared_chain(version, STATE_IN_KEYS, flow)?;
     let initial = i64_at(flow, "initial")?;

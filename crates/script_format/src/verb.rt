@@ -54,27 +54,45 @@ fn subscription(has_first: bool) -> FlowVerb
     }
 }
 
+/// Returns what a step does with the values of a flow, without a subscriber.
+fn value_verb_named(text: &str) -> Option<Verb>
+    ensures { result ≡ format.value_verb_named text.now }
+{
+    match text {
+        "cache" => Some(Verb::Flow(FlowVerb::Cache)),
+        "reset" => Some(Verb::Flow(FlowVerb::Reset)),
+        "value" => Some(Verb::Flow(FlowVerb::Value)),
+        "set" => Some(Verb::Flow(FlowVerb::Set)),
+        "compare_and_set" => Some(Verb::Flow(FlowVerb::CompareAndSet)),
+        _ => None,
+    }
+}
+
+/// Returns what a step does with the subscribers of a flow, or with its values.
+fn subscriber_verb_named(text: &str, has_first: bool) -> Option<Verb>
+    ensures { result ≡ format.subscriber_verb_named text.now has_first }
+{
+    match text {
+        "subscribe" => Some(Verb::Flow(subscription(has_first))),
+        "next" => Some(Verb::Flow(FlowVerb::Next)),
+        "unsubscribe" => Some(Verb::Flow(FlowVerb::Unsubscribe)),
+        "count" => Some(Verb::Flow(FlowVerb::Count)),
+        _ => value_verb_named(text),
+    }
+}
+
 /// Returns what a step does, by the text of its key `do`, and whether it has first values of its own.
 pub fn verb_named(text: &str, has_first: bool) -> Option<Verb>
     ensures { result ≡ format.verb_named text.now has_first }
 {
     match text {
+        "collect" => Some(Verb::Collect),
+        "turn" => Some(Verb::Flow(FlowVerb::Turn)),
         "try_emit" => Some(Verb::Flow(FlowVerb::TryEmit)),
         "emit" => Some(Verb::Flow(FlowVerb::Emit)),
         "poll" => Some(Verb::Flow(FlowVerb::Poll)),
         "cancel" => Some(Verb::Flow(FlowVerb::Cancel)),
-        "subscribe" => Some(Verb::Flow(subscription(has_first))),
-        "next" => Some(Verb::Flow(FlowVerb::Next)),
-        "unsubscribe" => Some(Verb::Flow(FlowVerb::Unsubscribe)),
-        "cache" => Some(Verb::Flow(FlowVerb::Cache)),
-        "count" => Some(Verb::Flow(FlowVerb::Count)),
-        "reset" => Some(Verb::Flow(FlowVerb::Reset)),
-        "value" => Some(Verb::Flow(FlowVerb::Value)),
-        "set" => Some(Verb::Flow(FlowVerb::Set)),
-        "compare_and_set" => Some(Verb::Flow(FlowVerb::CompareAndSet)),
-        "turn" => Some(Verb::Flow(FlowVerb::Turn)),
-        "collect" => Some(Verb::Collect),
-        _ => None,
+        _ => subscriber_verb_named(text, has_first),
     }
 }
 
@@ -162,7 +180,7 @@ impl Kind {
     fn is_mutable(self) -> bool
         ensures { result ≡ format.is_mutable self }
     {
-        matches!(self, Kind::Shared | Kind::State)
+        self.is_shared() || self.is_state()
     }
 
     fn is_shared(self) -> bool
