@@ -73,20 +73,15 @@ fn next<F: ScriptCore>(core: &mut F, numbers: &Numbers, place: usize) -> Result<
     }
 }
 
-fn unsubscribe<F: ScriptCore>(
-    core: &mut F,
-    numbers: &Numbers,
-    place: usize,
-) -> Result<Answer, ScriptFault>
-    ensures plays { IfOk result (Follows F.stands_as (flow_turn F.kind F.played (FlowStep.Unsubscribe place))
-        core.old core.new numbers.now numbers.now) }
-    ensures fault { IfErr result (λ fault. fault ≡ ScriptFault.OutOfMemory) }
+fn unsubscribe<F: ScriptCore>(core: &mut F, numbers: &Numbers, place: usize) -> Answer
+    ensures { Follows F.stands_as (flow_turn F.kind F.played (FlowStep.Unsubscribe place))
+        core.old core.new numbers.now numbers.now result }
 {
     F::law_answers();
     let Some(id) = numbers.subscriber_at(place) else {
-        return Ok(answer_without_call(FlowStep::Unsubscribe(place)));
+        return answer_without_call(FlowStep::Unsubscribe(place));
     };
-    Ok(Answer::Tested(core.unsubscribe(id)))
+    Answer::Tested(core.unsubscribe(id))
 }
 
 fn cache<F: ScriptCore>(core: &F, numbers: &Numbers) -> Result<Answer, ScriptFault>
@@ -124,7 +119,7 @@ pub fn flow_step<F: ScriptCore>(
         FlowStep::TryEmit(value) => try_emit(core, numbers, value),
         FlowStep::Subscribe => subscribe(core, numbers),
         FlowStep::Next(place) => next(core, numbers, place),
-        FlowStep::Unsubscribe(place) => unsubscribe(core, numbers, place),
+        FlowStep::Unsubscribe(place) => Ok(unsubscribe(core, numbers, place)),
         FlowStep::Cache => cache(core, numbers),
         FlowStep::Count => count(core, numbers),
         own => core.own_step(numbers, own),

@@ -29,6 +29,9 @@ pub enum Player {
     StateIn(Sharing<ScriptChain, StateHub<i64>>),
 }
 
+/// A flow into which a chain is shared, or why there is none.
+type Made = Result<Player, ShareFault>;
+
 /// Returns the chain from its beginning, unless it could not be built.
 fn rewound(chain: Build) -> Result<ScriptChain, ShareFault>
     ensures { Rewinds chain result }
@@ -43,13 +46,7 @@ fn rewound(chain: Build) -> Result<ScriptChain, ShareFault>
 }
 
 impl Player {
-    fn share(
-        alloc: Global,
-        chain: Build,
-        started: Started,
-        replay: u32,
-        limit: u64,
-    ) -> Result<Self, ShareFault>
+    fn share(alloc: Global, chain: Build, started: Started, replay: u32, limit: u64) -> Made
         ensures { MakesSharing (shared_chain (build_of chain) started replay limit) result }
     {
         let chain = rewound(chain)?;
@@ -57,13 +54,7 @@ impl Player {
         Ok(Player::Share(sharing))
     }
 
-    fn state_in(
-        alloc: Global,
-        chain: Build,
-        started: Started,
-        initial: i64,
-        limit: u64,
-    ) -> Result<Self, ShareFault>
+    fn state_in(alloc: Global, chain: Build, started: Started, initial: i64, limit: u64) -> Made
         ensures { MakesSharing (state_chain (build_of chain) started initial limit) result }
     {
         let chain = rewound(chain)?;

@@ -8,8 +8,8 @@ use Rattle.flow_script.specs.Shown.{numbers_of}
 use Rattle.flow_script.proofs.CallLemmas.{tells}
 use Rattle.flow_script.proofs.flow_steps.unsubscribe.Goals as goal
 
-pub returns-clause-plays : goal.returns-clause-plays
-returns-clause-plays g c =
+pub returns : goal.returns
+returns g c =
     let n = numbers_of c.args.numbers.now in
     tells g.F.FlowCore.kind g.F.ScriptCore.played g.F.FlowCore.stands_as c.law_answers.ensures (step.Unsubscribe c.args.place) _ _ (g.F.FlowCore.kind.tested c.unsubscribe.result)
     c.args.core.now c.unsubscribe.new.self n n (tested c.unsubscribe.result) (ap (option_map g.F.FlowCore.kind.unsubscribe) {x = number_at c.args.place n.subscribers} (sym c.in-Some.ensures)) c.unsubscribe.ensures
