@@ -10,7 +10,7 @@ use crate::command::{count_of, crowd_of};
 use crate::crowd_lines::crowd_text;
 use flow_count::{CountSize, run_count};
 use flow_crowd::{CrowdSize, run_crowd};
-use flow_script::{REFUSED, Watched, play, tell, tell_fault, tell_memory};
+use flow_script::{REFUSED, Watched, play, tell, tell_arguments, tell_fault, tell_memory};
 use std::alloc::{AllocError, AllocGlobal, Global};
 use std::io::{ErrorKind, Read, Write};
 use std::sync::Wait;
@@ -19,17 +19,8 @@ use std::thread::Threads;
 /// The script was played.
 const PLAYED: u8 = 0;
 
-fn tell_usage<W: Write>(output: &mut Watched<W>) -> u8
-    requires { has_failed output.old ≡ false }
-    ensures { Tells (has_failed output.new)
-        (W.contents (inner_of output.old)) (W.contents (inner_of output.new)) usage_line 2 result }
-{
-    tell(
-        output,
-        "usage: flow_play [crowd E S N | count T N]\n",
-        REFUSED,
-    )
-}
+/// How the program is called.
+const USAGE: &str = "usage: flow_play [crowd E S N | count T N]\n";
 
 /// Says why the arguments were not read: out of memory, or else that they are wrong.
 pub fn refuse_arguments<W: Write>(output: &mut Watched<W>, kind: ErrorKind) -> u8
@@ -39,10 +30,7 @@ pub fn refuse_arguments<W: Write>(output: &mut Watched<W>, kind: ErrorKind) -> u
     ensures wrong { kind ≢ ErrorKind.OutOfMemory → Tells (has_failed output.new)
         (W.contents (inner_of output.old)) (W.contents (inner_of output.new)) usage_line 2 result }
 {
-    match kind {
-        ErrorKind::OutOfMemory => tell_memory(output),
-        _ => tell_usage(output),
-    }
+    tell_arguments(output, kind, USAGE)
 }
 
 /// Returns the lines of a crowd that has run. `None` if memory or a thread is refused.
@@ -151,6 +139,6 @@ pub fn run<H: Threads + Wait + Sync + AllocGlobal, R: Read, W: Write>(
     }
     match count_of(args) {
         Some(size) => tell_count(rt, rt.alloc(), output, size),
-        None => tell_usage(output),
+        None => tell(output, USAGE, REFUSED),
     }
 }

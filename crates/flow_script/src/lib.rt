@@ -57,7 +57,7 @@ pub use script_format::{
 };
 pub use script_text::{add_answer, text_of};
 pub use telling::{
-    OUT_OF_MEMORY, REFUSED, TRANSFER_FAILED, line_of, tell, tell_fault, tell_memory,
+    OUT_OF_MEMORY, REFUSED, TRANSFER_FAILED, line_of, tell, tell_arguments, tell_fault, tell_memory,
 };
 pub use transfer::{read_all, write_all};
 pub use watched::Watched;

@@ -1,5 +1,5 @@
 //! The lines by which a program tells why a script was not played, and its statuses.
-ghost use Rattle.std.specs.Prelude.{◌≡◌, ◌⊎◌, ◌++◌, false, OnOk, IfOk, string_bytes};
+ghost use Rattle.std.specs.Prelude.{◌≡◌, ◌≢◌, ◌⊎◌, ◌++◌, false, OnOk, IfOk, string_bytes};
 ghost use Rattle.flow_script.specs.Playing.{write_failed};
 ghost use Rattle.flow_script.specs.Watching.{inner_of, has_failed};
 ghost use Rattle.flow_script.specs.Telling.{Tells, TellsFault, fault_line, memory_line, IsRefusal};
@@ -8,7 +8,7 @@ use crate::transfer::write_all;
 use crate::watched::Watched;
 use script_format::ScriptFault;
 use std::alloc::{AllocError, Global};
-use std::io::Write;
+use std::io::{ErrorKind, Write};
 
 /// The script or the arguments were refused.
 pub const REFUSED: u8 = 2;
@@ -36,6 +36,20 @@ pub fn tell_memory<W: Write>(output: &mut Watched<W>) -> u8
         (W.contents (inner_of output.old)) (W.contents (inner_of output.new)) memory_line 4 result }
 {
     tell(output, "out of memory\n", OUT_OF_MEMORY)
+}
+
+/// Says why the arguments of a program were not read: out of memory, or else, in this line, how it is called.
+pub fn tell_arguments<W: Write>(output: &mut Watched<W>, kind: ErrorKind, usage: &str) -> u8
+    requires { has_failed output.old ≡ false }
+    ensures memory { kind ≡ ErrorKind.OutOfMemory → Tells (has_failed output.new)
+        (W.contents (inner_of output.old)) (W.contents (inner_of output.new)) memory_line 4 result }
+    ensures wrong { kind ≢ ErrorKind.OutOfMemory → Tells (has_failed output.new)
+        (W.contents (inner_of output.old)) (W.contents (inner_of output.new)) usage.now 2 result }
+{
+    match kind {
+        ErrorKind::OutOfMemory => tell_memory(output),
+        _ => tell(output, usage, REFUSED),
+    }
 }
 
 /// Returns the line by which a program reports a fault.

@@ -9,7 +9,7 @@ ghost use Rattle.script_drawing.specs.Program.{RunsDrawing, form_of, usage_line}
 
 use crate::drawing::{Form, drawing_of};
 use flow_script::{
-    REFUSED, ScriptFault, Watched, read_all, tell, tell_fault, tell_memory, write_all,
+    REFUSED, ScriptFault, Watched, read_all, tell, tell_arguments, tell_fault, write_all,
 };
 use script_explain::explain_refusal;
 use std::alloc::Global;
@@ -17,6 +17,9 @@ use std::io::{ErrorKind, Read, Write};
 
 /// The script was drawn.
 const DRAWN: u8 = 0;
+
+/// How the program is called.
+const USAGE: &str = "usage: flow_draw [--text | --explain]\n";
 
 /// What the arguments ask for, without the program's name.
 fn form_of(args: &[String]) -> Option<Form>
@@ -33,14 +36,6 @@ fn form_of(args: &[String]) -> Option<Form>
     }
 }
 
-fn tell_usage<W: Write>(output: &mut Watched<W>) -> u8
-    requires { has_failed output.old ≡ false }
-    ensures { Tells (has_failed output.new)
-        (W.contents (inner_of output.old)) (W.contents (inner_of output.new)) usage_line 2 result }
-{
-    tell(output, "usage: flow_draw [--text | --explain]\n", REFUSED)
-}
-
 /// Tells why the arguments were not read: out of memory, or else that they are wrong.
 pub fn refuse_arguments<W: Write>(output: &mut Watched<W>, kind: ErrorKind) -> u8
     requires { has_failed output.old ≡ false }
@@ -49,10 +44,7 @@ pub fn refuse_arguments<W: Write>(output: &mut Watched<W>, kind: ErrorKind) -> u
     ensures wrong { kind ≢ ErrorKind.OutOfMemory → Tells (has_failed output.new)
         (W.contents (inner_of output.old)) (W.contents (inner_of output.new)) usage_line 2 result }
 {
-    match kind {
-        ErrorKind::OutOfMemory => tell_memory(output),
-        _ => tell_usage(output),
-    }
+    tell_arguments(output, kind, USAGE)
 }
 
 /// What is drawn of the script of these bytes, or why it is refused. Where and why it is refused is explained to a person, too.
@@ -148,6 +140,6 @@ pub fn run<R: Read, W: Write, E: Write>(
 {
     match form_of(args) {
         Some(form) => draw_script(alloc, form, input, output, errors),
-        None => tell_usage(output),
+        None => tell(output, USAGE, REFUSED),
     }
 }
