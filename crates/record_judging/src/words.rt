@@ -60,6 +60,24 @@ impl AnswerForm {
     }
 }
 
+/// The kinds of flow that have a call.
+#[derive(Clone, Copy)]
+pub enum Kinds {
+    State,
+    Shared,
+    Both,
+}
+
+impl Kinds {
+    fn has(self, is_state: bool) -> bool {
+        match self {
+            Kinds::State => is_state,
+            Kinds::Shared => !is_state,
+            Kinds::Both => true,
+        }
+    }
+}
+
 /// A call: its word, its keys, its answers, and the kinds of flow that have it.
 #[derive(Clone, Copy)]
 pub struct CallRow {
@@ -67,8 +85,7 @@ pub struct CallRow {
     pub call: CallWord,
     pub keys: &'static [&'static str],
     pub answer: AnswerForm,
-    pub of_state: bool,
-    pub of_shared: bool,
+    pub kinds: Kinds,
 }
 
 const PLAIN: &[&str] = &["by", "call", "begin", "end", "answer"];
@@ -79,58 +96,35 @@ const WITH_EXPECT: &[&str] = &["by", "call", "expect", "value", "begin", "end", 
 
 const WITH_FIRST: &[&str] = &["by", "call", "first", "begin", "end", "answer"];
 
-/// A row of `CALLS`: the word, the call, its keys, its answers, and whether state and shared flows
-/// have it.
+/// A row of `CALLS`: the word, the call, its keys, its answers, and the kinds of flow that have it.
 macro_rules! row {
-    ($word:expr, $call:ident, $keys:expr, $answer:ident, $of_state:expr, $of_shared:expr) => {
+    ($word:expr, $call:ident, $keys:expr, $answer:ident, $kinds:ident) => {
         CallRow {
             word: $word,
             call: CallWord::$call,
             keys: $keys,
             answer: AnswerForm::$answer,
-            of_state: $of_state,
-            of_shared: $of_shared,
+            kinds: Kinds::$kinds,
         }
     };
 }
 
 /// All calls. Those of state flows alone come first, and those of shared flows alone last.
 const CALLS: &[CallRow] = &[
-    row!("value", Value, PLAIN, Value, true, false),
-    row!("set", Set, WITH_VALUE, Done, true, false),
-    row!(
-        "compare_and_set",
-        CompareAndSet,
-        WITH_EXPECT,
-        Truth,
-        true,
-        false
-    ),
-    row!("update", Update, PLAIN, Exchange, true, false),
-    row!("try_emit", TryEmit, WITH_VALUE, Truth, true, true),
-    row!("subscribe", Subscribe, PLAIN, Done, true, false),
-    row!("subscribe", Subscribe, WITH_FIRST, Done, false, true),
-    row!("next", Next, PLAIN, Next, true, true),
-    row!("unsubscribe", Unsubscribe, PLAIN, Done, true, true),
-    row!("first", First, PLAIN, Value, true, true),
-    row!(
-        "subscription_count",
-        SubscriptionCount,
-        PLAIN,
-        Number,
-        true,
-        true
-    ),
-    row!("replay_cache", ReplayCache, PLAIN, Values, true, true),
-    row!("emit", Emit, WITH_VALUE, Ended, false, true),
-    row!(
-        "reset_replay_cache",
-        ResetReplayCache,
-        PLAIN,
-        Done,
-        false,
-        true
-    ),
+    row!("value", Value, PLAIN, Value, State),
+    row!("set", Set, WITH_VALUE, Done, State),
+    row!("compare_and_set", CompareAndSet, WITH_EXPECT, Truth, State),
+    row!("update", Update, PLAIN, Exchange, State),
+    row!("try_emit", TryEmit, WITH_VALUE, Truth, Both),
+    row!("subscribe", Subscribe, PLAIN, Done, State),
+    row!("subscribe", Subscribe, WITH_FIRST, Done, Shared),
+    row!("next", Next, PLAIN, Next, Both),
+    row!("unsubscribe", Unsubscribe, PLAIN, Done, Both),
+    row!("first", First, PLAIN, Value, Both),
+    row!("subscription_count", SubscriptionCount, PLAIN, Number, Both),
+    row!("replay_cache", ReplayCache, PLAIN, Values, Both),
+    row!("emit", Emit, WITH_VALUE, Ended, Shared),
+    row!("reset_replay_cache", ResetReplayCache, PLAIN, Done, Shared),
 ];
 
 /// The words of the calls of state flows.
@@ -176,12 +170,7 @@ pub const OVERFLOWS: &[&str] = &["suspend", "drop_oldest", "drop_latest"];
 /// Returns the row of a call of this kind of flow.
 pub fn row_of(word: &str, is_state: bool) -> Option<CallRow> {
     for row in CALLS {
-        let has_it = if is_state {
-            row.of_state
-        } else {
-            row.of_shared
-        };
-        if has_it && row.word == word {
+        if row.kinds.has(is_state) && row.word == word {
             return Some(*row);
         }
     }
