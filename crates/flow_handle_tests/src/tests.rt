@@ -5,6 +5,7 @@ mod dropping;
 mod emissions;
 mod errors;
 mod first;
+mod flows;
 mod leaving;
 mod many_threads;
 mod refusals;

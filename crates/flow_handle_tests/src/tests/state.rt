@@ -1,8 +1,9 @@
 //! Setters and readers of a state flow, on one thread.
 use crate::tests::compare::compare;
+use crate::tests::flows::lend_state;
 use flow_law::{OutOfMemory, Unsupported};
-use flow_shared::{DrainEnd, Setter, StateFlow, StateReader};
-use std::alloc::Global;
+use flow_shared::{DrainEnd, Setter, StateReader};
+use std::alloc::AllocGlobal;
 use std::process::Abort;
 use std::sync::Wait;
 
@@ -35,8 +36,8 @@ fn updates<R: Wait + Abort>(rt: &R, setter: &mut Setter<'_, i64>) {
     compare(rt, 6, setter.value(rt), Ok(7));
 }
 
-fn reads<R: Wait + Abort>(rt: &R, alloc: Global, reader: &mut StateReader<'_, i64>) {
-    let mut values = Vec::new(alloc);
+fn reads<R: Wait + Abort + AllocGlobal>(rt: &R, reader: &mut StateReader<'_, i64>) {
+    let mut values = Vec::new(rt.alloc());
     compare(rt, 0, reader.next(rt), Ok(Some(7)));
     compare(rt, 1, reader.try_next(), Ok(None));
     compare(rt, 2, reader.drain(rt, 8, &mut values), Ok(DrainEnd::Empty));
@@ -53,13 +54,18 @@ fn caches<R: Wait + Abort>(rt: &R, setter: &mut Setter<'_, i64>) {
     setter.seen();
 }
 
+fn sets_and_reads<R: Wait + Abort + AllocGlobal>(
+    rt: &R,
+    setter: &mut Setter<'_, i64>,
+    reader: &mut StateReader<'_, i64>,
+) {
+    sets(rt, setter);
+    updates(rt, setter);
+    caches(rt, setter);
+    reads(rt, reader);
+}
+
 #[test]
 fn a_setter_sets_what_its_reader_reads(rt: HostRuntime) {
-    let (flow, seat) = StateFlow::new(rt.alloc(), 7, 8).expect(&rt, "a flow");
-    let mut setter = flow.setter(seat);
-    let mut reader = setter.subscribe(&rt).expect(&rt, "a reader");
-    sets(&rt, &mut setter);
-    updates(&rt, &mut setter);
-    caches(&rt, &mut setter);
-    reads(&rt, rt.alloc(), &mut reader);
+    lend_state(&rt, 7, 8, sets_and_reads);
 }

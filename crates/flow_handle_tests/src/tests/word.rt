@@ -1,5 +1,6 @@
 //! Setters and readers of a word state, on one thread.
 use crate::tests::compare::compare;
+use crate::tests::flows::lend_word;
 use flow_law::Exhausted;
 use flow_word::{WordReader, WordSetter, WordState};
 use std::process::Abort;
@@ -28,14 +29,19 @@ fn reads<R: Abort>(rt: &R, reader: &mut WordReader<'_, i64>) {
 }
 
 /// The only number is given to the reader.
+fn sets_and_reads<R: Wait + Abort>(
+    rt: &R,
+    setter: &mut WordSetter<'_, i64>,
+    reader: &mut WordReader<'_, i64>,
+) {
+    sets(rt, setter);
+    reads(rt, reader);
+    compare(rt, 0, setter.subscribe(rt).err(), Some(Exhausted));
+}
+
 #[test]
 fn a_word_setter_sets_what_its_reader_reads(rt: HostRuntime) {
-    let (flow, seat) = WordState::new(rt.alloc(), 7, 1).expect(&rt, "a flow");
-    let mut setter = flow.setter(seat);
-    let mut reader = setter.subscribe(&rt).expect(&rt, "a reader");
-    sets(&rt, &mut setter);
-    reads(&rt, &mut reader);
-    compare(&rt, 0, setter.subscribe(&rt).err(), Some(Exhausted));
+    lend_word(&rt, sets_and_reads);
 }
 
 #[test]

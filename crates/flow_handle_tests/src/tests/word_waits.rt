@@ -1,5 +1,6 @@
 //! Readers of a word state that sleep until there is a value.
 use crate::tests::compare::compare;
+use crate::tests::flows::lend_word;
 use flow_word::{WordReader, WordSetter, WordState};
 use futures::StreamExt;
 use futures::executor::block_on;
@@ -7,7 +8,7 @@ use std::alloc::AllocGlobal;
 use std::process::Abort;
 use std::random::RandomSource;
 use std::sync::Wait;
-use std::thread::{join, sleep};
+use std::thread::{Threads, join, sleep};
 use std::time::{Clock, Duration};
 
 fn milliseconds(count: u64) -> Duration {
@@ -26,13 +27,54 @@ fn set_slowly<R: Clock>(rt: &R, setter: &mut WordSetter<'_, i64>, last: i64) {
     }
 }
 
-/// Adds up what changed, up to the value that is the last.
-fn sum_up_to<R: Wait>(rt: &R, reader: &mut WordReader<'_, i64>, last: i64) -> i64 {
+/// Has one thread read while another one sets the numbers from 1 to `last`. Returns what was read.
+fn read_while_set<R, F, X>(
+    rt: &R,
+    setter: WordSetter<'_, i64>,
+    last: i64,
+    reader: WordReader<'_, i64>,
+    read: F,
+) -> X
+where
+    R: Wait + Threads + Clock + Sync,
+    F: FnOnce(&R, WordReader<'_, i64>) -> X + Send,
+    X: Send,
+    requires { F.IsAlwaysCallable read }
+{
+    let mut setter = setter;
+    let (found, ()) = join(
+        rt,
+        || read(rt, reader),
+        || set_slowly(rt, &mut setter, last),
+    );
+    found
+}
+
+/// Does so with a new word state, which has the value 0. Where the reader is to have got the 0, it has before.
+fn read_and_set<R, F, X>(rt: &R, has_first: bool, last: i64, read: F) -> X
+where
+    R: Wait + Threads + Clock + Abort + AllocGlobal + Sync,
+    F: FnOnce(&R, WordReader<'_, i64>) -> X + Send,
+    X: Send,
+    requires { F.IsAlwaysCallable read }
+{
+    let (flow, seat) = WordState::new(rt.alloc(), 0, 1).expect(rt, "a flow");
+    let mut setter = flow.setter(seat);
+    let mut reader = setter.subscribe(rt).expect(rt, "a reader");
+    if has_first {
+        compare(rt, 0, reader.next(), Some(0));
+    }
+    read_while_set(rt, setter, last, reader, read)
+}
+
+/// Adds up what changed, up to the value 5, which is the last.
+fn sum_up_to_five<R: Wait>(rt: &R, reader: WordReader<'_, i64>) -> i64 {
+    let mut reader = reader;
     let mut sum = 0i64;
     for _ in rt.forever() {
         let value = reader.changed(rt);
         sum = sum.wrapping_add(value);
-        if value == last {
+        if value == 5 {
             return sum;
         }
     }
@@ -43,29 +85,19 @@ fn sum_up_to<R: Wait>(rt: &R, reader: &mut WordReader<'_, i64>, last: i64) -> i6
 /// that is set while the reader has not looked yet may be skipped, so the sum is 15 at most; here it has the time to look.
 #[test]
 fn a_word_reader_sleeps_until_the_value_changes(rt: HostRuntime) {
-    let (flow, seat) = WordState::new(rt.alloc(), 0, 1).expect(&rt, "a flow");
-    let mut setter = flow.setter(seat);
-    let mut reader = setter.subscribe(&rt).expect(&rt, "a reader");
-    let (sum, _set) = join(
-        &rt,
-        || sum_up_to(&rt, &mut reader, 5),
-        || set_slowly(&rt, &mut setter, 5),
-    );
+    let sum = read_and_set(&rt, false, 5, sum_up_to_five);
     assert!(rt; sum <= 15 && sum >= 5, "the sum is {sum}");
+}
+
+fn wait_for_four<R: Wait>(rt: &R, reader: WordReader<'_, i64>) -> i64 {
+    let mut reader = reader;
+    reader.wait_for(rt, |value| *value > 3)
 }
 
 /// `StateFlow.first { it > 3 }` is 4 if the values are set one after the other, and slowly.
 #[test]
 fn a_word_reader_waits_for_a_value_that_passes(rt: HostRuntime) {
-    let (flow, seat) = WordState::new(rt.alloc(), 0, 1).expect(&rt, "a flow");
-    let mut setter = flow.setter(seat);
-    let mut reader = setter.subscribe(&rt).expect(&rt, "a reader");
-    let (found, _set) = join(
-        &rt,
-        || reader.wait_for(&rt, |value| *value > 3),
-        || set_slowly(&rt, &mut setter, 4),
-    );
-    compare(&rt, 0, found, 4);
+    compare(&rt, 0, read_and_set(&rt, false, 4, wait_for_four), 4);
 }
 
 /// As `withTimeoutOrNull`: null if nothing came in time, and else the value.
@@ -95,27 +127,23 @@ fn waits_in_time<R: Wait + Clock + Abort>(
 
 #[test]
 fn a_wait_of_a_word_reader_ends_in_time(rt: HostRuntime) {
-    let (flow, seat) = WordState::new(rt.alloc(), 7, 1).expect(&rt, "a flow");
-    let mut setter = flow.setter(seat);
-    let mut reader = setter.subscribe(&rt).expect(&rt, "a reader");
-    waits_in_time(&rt, &mut setter, &mut reader);
+    lend_word(&rt, waits_in_time);
+}
+
+/// Awaits a change, and looks for another one, which does not come.
+fn change_and_next<R: Wait + RandomSource + AllocGlobal>(
+    rt: &R,
+    reader: WordReader<'_, i64>,
+) -> Option<(i64, Option<i64>)> {
+    let (mut reader, value) = block_on(rt, reader.into_changed()).ok()?;
+    Some((value, reader.next()))
 }
 
 /// A task sleeps in the executor until the other thread sets a value.
 #[test]
 fn a_task_is_woken_by_a_change(rt: HostRuntime) {
-    let (flow, seat) = WordState::new(rt.alloc(), 0, 1).expect(&rt, "a flow");
-    let mut setter = flow.setter(seat);
-    let mut reader = setter.subscribe(&rt).expect(&rt, "a reader");
-    compare(&rt, 0, reader.next(), Some(0));
-    let (given, _set) = join(
-        &rt,
-        || block_on(&rt, reader.into_changed()),
-        || set_slowly(&rt, &mut setter, 1),
-    );
-    let (mut reader, value) = given.expect(&rt, "an executor");
-    compare(&rt, 1, value, 1);
-    compare(&rt, 2, reader.next(), None);
+    let found = read_and_set(&rt, true, 1, change_and_next);
+    compare(&rt, 1, found, Some((1, None)));
 }
 
 /// The value that the reader receives next, by way of a stream and its operators.
@@ -132,14 +160,6 @@ fn next_ten_times<R: Wait + RandomSource + AllocGlobal>(
 /// `drop(1).take(1).map { 10 * it }` of a state that begins with 0 and is set to 1 gives 10.
 #[test]
 fn a_stream_of_a_word_reader_serves_combinators(rt: HostRuntime) {
-    let (flow, seat) = WordState::new(rt.alloc(), 0, 1).expect(&rt, "a flow");
-    let mut setter = flow.setter(seat);
-    let mut reader = setter.subscribe(&rt).expect(&rt, "a reader");
-    compare(&rt, 0, reader.next(), Some(0));
-    let (given, _set) = join(
-        &rt,
-        || next_ten_times(&rt, reader),
-        || set_slowly(&rt, &mut setter, 1),
-    );
+    let given = read_and_set(&rt, true, 1, next_ten_times);
     compare(&rt, 1, given, Some(10));
 }
