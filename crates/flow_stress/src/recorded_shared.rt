@@ -24,13 +24,13 @@ impl<'a> RecordedShared<'a> {
                 self.reader = Some(self.emitter.subscribe(rt).ok()?);
                 Some(Answer::Done)
             }
+            Call::SubscriptionCount => Some(Answer::Number(self.emitter.subscription_count(rt))),
             Call::Next => self.next(rt),
             Call::Unsubscribe => {
                 let reader = self.reader.take()?;
                 let _emitter = reader.unsubscribe(rt);
                 Some(Answer::Done)
             }
-            Call::SubscriptionCount => Some(Answer::Number(self.emitter.subscription_count(rt))),
             Call::ReplayCache => {
                 let cache = self.emitter.replay_cache(rt).ok()?;
                 Some(Answer::Cache(cache.as_slice().first().copied()))

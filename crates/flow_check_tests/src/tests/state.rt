@@ -1,5 +1,6 @@
 //! Records of state flows. Each says in its comment why it is legal or illegal.
-use crate::tests::records::{Outcome, call, judge, order_of, pending};
+use crate::tests::records::Outcome::{BeginsEarly, EndsEarly, GaveUp, Illegal, Legal};
+use crate::tests::records::{call, judge, order_of, pending};
 use flow_check::StateAnswer::{Done, Empty, Number, Truth, Value};
 use flow_check::StateOperation;
 use flow_check::StateOperation::{
@@ -15,69 +16,38 @@ fn judges_reads(rt: HostRuntime) -> Result<(), AllocError> {
     let read = StateOperation::Value;
     let rows = [
         // It was set before the read began.
-        (
-            call(Set(1), Done, 0, 1),
-            call(read, Value(0), 2, 3),
-            Outcome::Illegal,
-        ),
-        (
-            call(Set(1), Done, 0, 1),
-            call(read, Value(1), 2, 3),
-            Outcome::Legal,
-        ),
+        (call(Set(1), Done, 0, 1), read, Value(0), 2, Illegal),
+        (call(Set(1), Done, 0, 1), read, Value(1), 2, Legal),
         // Both overlap, or touch in one moment: either may come first.
-        (
-            call(Set(1), Done, 0, 2),
-            call(read, Value(0), 1, 3),
-            Outcome::Legal,
-        ),
-        (
-            call(Set(1), Done, 0, 2),
-            call(read, Value(0), 2, 3),
-            Outcome::Legal,
-        ),
+        (call(Set(1), Done, 0, 2), read, Value(0), 1, Legal),
+        (call(Set(1), Done, 0, 2), read, Value(0), 2, Legal),
         // It was never set to 2.
-        (
-            call(Set(1), Done, 0, 2),
-            call(read, Value(2), 1, 3),
-            Outcome::Illegal,
-        ),
+        (call(Set(1), Done, 0, 2), read, Value(2), 1, Illegal),
         // A pending set may have happened, or not yet.
-        (
-            pending(Set(1), 0),
-            call(read, Value(1), 2, 3),
-            Outcome::Legal,
-        ),
-        (
-            pending(Set(1), 0),
-            call(read, Value(0), 2, 3),
-            Outcome::Legal,
-        ),
+        (pending(Set(1), 0), read, Value(1), 2, Legal),
+        (pending(Set(1), 0), read, Value(0), 2, Legal),
         // `tryEmit` sets the value, and is never refused.
         (
             call(TryEmit(1), Truth(true), 0, 1),
-            call(read, Value(1), 2, 3),
-            Outcome::Legal,
+            read,
+            Value(1),
+            2,
+            Legal,
         ),
         (
             call(TryEmit(1), Truth(false), 0, 1),
-            call(read, Value(1), 2, 3),
-            Outcome::Illegal,
+            read,
+            Value(1),
+            2,
+            Illegal,
         ),
         // The replay cache is the value.
-        (
-            call(Set(1), Done, 0, 1),
-            call(ReplayCache, Value(1), 2, 3),
-            Outcome::Legal,
-        ),
-        (
-            call(Set(1), Done, 0, 1),
-            call(ReplayCache, Value(0), 2, 3),
-            Outcome::Illegal,
-        ),
+        (call(Set(1), Done, 0, 1), ReplayCache, Value(1), 2, Legal),
+        (call(Set(1), Done, 0, 1), ReplayCache, Value(0), 2, Illegal),
     ];
-    for (place, (one, other, wanted)) in rows.iter().enumerate() {
-        let found = judge(rt.alloc(), TURNS, &[&[*one], &[*other]])?;
+    for (place, (one, operation, answer, begin, wanted)) in rows.iter().enumerate() {
+        let other = call(*operation, *answer, *begin, 3);
+        let found = judge(rt.alloc(), TURNS, &[&[*one], &[other]])?;
         assert_eq!(rt; found, *wanted, "row {place}");
     }
     Ok(())
@@ -87,10 +57,10 @@ fn judges_reads(rt: HostRuntime) -> Result<(), AllocError> {
 #[test]
 fn judges_exchanges(rt: HostRuntime) -> Result<(), AllocError> {
     let rows = [
-        (Truth(true), Truth(true), Outcome::Illegal),
-        (Truth(true), Truth(false), Outcome::Legal),
-        (Truth(false), Truth(true), Outcome::Legal),
-        (Truth(false), Truth(false), Outcome::Illegal),
+        (Truth(true), Truth(true), Illegal),
+        (Truth(true), Truth(false), Legal),
+        (Truth(false), Truth(true), Legal),
+        (Truth(false), Truth(false), Illegal),
     ];
     for (place, (one, other, wanted)) in rows.iter().enumerate() {
         let found = judge(
@@ -112,12 +82,12 @@ fn judges_exchanges(rt: HostRuntime) -> Result<(), AllocError> {
 fn judges_subscribers(rt: HostRuntime) -> Result<(), AllocError> {
     let rows = [
         // 0, and then 1 and 0 again before it asks: the values are conflated.
-        (Set(1), Set(0), Empty, Outcome::Legal),
-        (Set(1), Set(0), Value(0), Outcome::Illegal),
+        (Set(1), Set(0), Empty, Legal),
+        (Set(1), Set(0), Value(0), Illegal),
         // It is never told the same value twice, also if that is set again.
-        (Set(0), Set(0), Value(0), Outcome::Illegal),
-        (Set(0), Set(2), Value(2), Outcome::Legal),
-        (Set(1), Set(2), Value(1), Outcome::Illegal),
+        (Set(0), Set(0), Value(0), Illegal),
+        (Set(0), Set(2), Value(2), Legal),
+        (Set(1), Set(2), Value(1), Illegal),
     ];
     for (place, (first, second, answer, wanted)) in rows.iter().enumerate() {
         let found = judge(
@@ -143,11 +113,11 @@ fn judges_subscribers(rt: HostRuntime) -> Result<(), AllocError> {
 #[test]
 fn judges_counts(rt: HostRuntime) -> Result<(), AllocError> {
     let rows = [
-        (1, 3, Outcome::Legal),
-        (0, 3, Outcome::Illegal),
-        (2, 3, Outcome::Illegal),
-        (0, 6, Outcome::Legal),
-        (1, 6, Outcome::Illegal),
+        (1, 3, Legal),
+        (0, 3, Illegal),
+        (2, 3, Illegal),
+        (0, 6, Legal),
+        (1, 6, Illegal),
     ];
     for (place, (count, begin, wanted)) in rows.iter().enumerate() {
         let found = judge(
@@ -161,7 +131,7 @@ fn judges_counts(rt: HostRuntime) -> Result<(), AllocError> {
         assert_eq!(rt; found, *wanted, "row {place}");
     }
     let without = judge(rt.alloc(), TURNS, &[&[call(Next, Value(0), 0, 1)]])?;
-    assert_eq!(rt; without, Outcome::Illegal);
+    assert_eq!(rt; without, Illegal);
     Ok(())
 }
 
@@ -174,37 +144,37 @@ fn refuses_records(rt: HostRuntime) -> Result<(), AllocError> {
             call(Set(1), Done, 0, 2),
             call(Set(2), Done, 1, 3),
             TURNS,
-            Outcome::BeginsEarly,
+            BeginsEarly,
         ),
         (
             pending(Set(1), 0),
             call(Set(2), Done, 1, 3),
             TURNS,
-            Outcome::BeginsEarly,
+            BeginsEarly,
         ),
         (
             call(Set(1), Done, 0, 2),
             call(Set(2), Done, 5, 4),
             TURNS,
-            Outcome::EndsEarly,
+            EndsEarly,
         ),
         (
             call(Set(1), Done, 0, 2),
             call(Set(2), Done, 2, 3),
             TURNS,
-            Outcome::Legal,
+            Legal,
         ),
         (
             call(Subscribe, Done, 0, 2),
             call(Next, Value(0), 0, 2),
             TURNS,
-            Outcome::Legal,
+            Legal,
         ),
         (
             call(Set(1), Done, 0, 1),
             call(Set(2), Done, 2, 3),
             0,
-            Outcome::GaveUp,
+            GaveUp,
         ),
     ];
     for (place, (one, other, budget, wanted)) in rows.iter().enumerate() {

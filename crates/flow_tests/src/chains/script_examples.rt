@@ -193,6 +193,12 @@ pub const EXAMPLES: &[Example] = &[
     // A result that is out of range is an overflow, in each operator that computes.
     Example {
         start: GREATEST,
+        stages: &[Stage::Spread],
+        items: &[1, 2],
+        end: OVERFLOW,
+    },
+    Example {
+        start: GREATEST,
         stages: &[ADD_ONE],
         items: &[2],
         end: OVERFLOW,
@@ -205,20 +211,8 @@ pub const EXAMPLES: &[Example] = &[
     },
     Example {
         start: GREATEST,
-        stages: &[Stage::Scan],
-        items: &[0, 1],
-        end: OVERFLOW,
-    },
-    Example {
-        start: GREATEST,
         stages: &[Stage::RunningReduce(Arithmetic::Add)],
         items: &[1],
-        end: OVERFLOW,
-    },
-    Example {
-        start: GREATEST,
-        stages: &[Stage::Spread],
-        items: &[1, 2],
         end: OVERFLOW,
     },
     Example {
@@ -231,6 +225,12 @@ pub const EXAMPLES: &[Example] = &[
         start: GREATEST,
         stages: &[Stage::Zip(Start::List(&[1, 2]), Joining::Mul)],
         items: &[1],
+        end: OVERFLOW,
+    },
+    Example {
+        start: GREATEST,
+        stages: &[Stage::Scan],
+        items: &[0, 1],
         end: OVERFLOW,
     },
     // A chain may be 64 deep.

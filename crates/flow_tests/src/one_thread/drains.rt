@@ -2,7 +2,7 @@
 use crate::one_thread::shared_calls::Call::{
     Drain, Emit, RefuseCopy, Subscribe, TryEmit, Unsubscribe, Values,
 };
-use crate::one_thread::shared_calls::{Example, UNBUFFERED};
+use crate::one_thread::shared_calls::{Example, ROOM_FOR_ONE, UNBUFFERED};
 use flow_law::Drained::{Empty, Gone, Most};
 use flow_law::Emit::{Done, Queued};
 use flow_law::{Config, FlowFault};
@@ -35,10 +35,7 @@ pub const DRAINS: &[Example] = &[
     // A drain makes room, so a value that waited in the queue comes with the others. Nothing is lost if a drain is
     // refused: the second value stays in the flow, and the first one in the list.
     Example {
-        config: Config {
-            extra: 1,
-            ..UNBUFFERED
-        },
+        config: ROOM_FOR_ONE,
         calls: &[
             Subscribe(1),
             Emit(1, Done),

@@ -22,6 +22,12 @@ pub const UNBUFFERED: Config = Config {
     limit: u64::MAX,
 };
 
+/// The configuration of a flow that has room for one value.
+pub const ROOM_FOR_ONE: Config = Config {
+    extra: 1,
+    ..UNBUFFERED
+};
+
 /// A worked example: the configuration of a flow, and calls on it.
 pub struct Example {
     pub config: Config,
