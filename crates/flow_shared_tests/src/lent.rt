@@ -26,24 +26,9 @@ pub fn emit_one<R: Wait, T: FlowValue>(
     taken
 }
 
-/// Receives the next value: where there is none, the subscriber has received all that was delivered to it.
-pub fn next_or_all<R: Wait, T: FlowValue>(
-    rt: &R,
-    flow: &SharedFlow<T>,
-    subscription: &mut Subscription<T>,
-) -> Result<Next<T>, FlowFault>
-    requires { subscription.old.token.table_id ≡ flow.now.table_id }
-    ensures table { subscription.new.token.table_id ≡ flow.now.table_id }
-    ensures all { result ≡ Ok Empty
-        → HasAll subscription.new.number flow.now.first.config subscription.new.token.knows.seen }
-{
-    let next = flow.next(rt, subscription);
-    flow.seen_by_subscription(subscription);
-    next
-}
-
 /// Receives the next value: what the subscriber received so far was emitted since it subscribed, in order; with a buffer,
-/// unless the flow drops the oldest, nothing is left out.
+/// unless the flow drops the oldest, nothing is left out. Where there is no next value, the subscriber has received all that was
+/// delivered to it.
 pub fn next_in_order<R: Wait, T: FlowValue>(
     rt: &R,
     flow: &SharedFlow<T>,
@@ -52,6 +37,8 @@ pub fn next_in_order<R: Wait, T: FlowValue>(
     requires { subscription.old.token.table_id ≡ flow.now.table_id }
     ensures table { subscription.new.token.table_id ≡ flow.now.table_id }
     ensures in_order { ReadsInOrder subscription.new.number flow.now.first.config subscription.new.token.knows.seen }
+    ensures all { result ≡ Ok Empty
+        → HasAll subscription.new.number flow.now.first.config subscription.new.token.knows.seen }
 {
     let next = flow.next(rt, subscription);
     flow.seen_by_subscription(subscription);

@@ -1,6 +1,6 @@
 //! Callers to whom a flow was lent, by the values that they get.
 use crate::compare::compare;
-use crate::lent::{emit_one, next_in_order, next_or_all, read_newest};
+use crate::lent::{emit_one, next_in_order, read_newest};
 use flow_law::Next::{Empty, Value};
 use flow_law::{Config, Overflow};
 use flow_shared::SharedFlow;
@@ -14,9 +14,9 @@ fn subscriber_of_a_lent_flow_receives_all(rt: HostRuntime) {
     let mut subscription = flow.subscribe(&rt, &mut seat).expect(&rt, "a subscription");
     compare(&rt, 0, emit_one(&rt, &flow, &mut seat, 1), Ok(true));
     compare(&rt, 1, emit_one(&rt, &flow, &mut seat, 2), Ok(true));
-    let first = next_or_all(&rt, &flow, &mut subscription);
-    let second = next_or_all(&rt, &flow, &mut subscription);
-    let third = next_or_all(&rt, &flow, &mut subscription);
+    let first = next_in_order(&rt, &flow, &mut subscription);
+    let second = next_in_order(&rt, &flow, &mut subscription);
+    let third = next_in_order(&rt, &flow, &mut subscription);
     compare(&rt, 2, first, Ok(Value(1)));
     compare(&rt, 3, second, Ok(Value(2)));
     compare(&rt, 4, third, Ok(Empty));
