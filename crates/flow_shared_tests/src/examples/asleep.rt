@@ -12,7 +12,7 @@ use std::process::Abort;
 use std::sync::Wait;
 
 /// A flow, a seat, and two subscribers.
-fn two_subscribers<R: Wait + Abort>(
+pub fn two_subscribers<R: Wait + Abort>(
     rt: &R,
     alloc: Global,
     config: Config,

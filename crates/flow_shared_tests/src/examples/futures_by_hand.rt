@@ -2,34 +2,14 @@
 ghost use Rattle.std.specs.Prelude.{◌≡◌};
 
 use crate::compare::compare;
+use crate::examples::asleep::two_subscribers;
 use flow_law::{Config, FlowFault};
-use flow_shared::{EmitFuture, NextFuture, Seat, Sent, SharedFlow, Subscription};
+use flow_shared::{EmitFuture, NextFuture, Sent, SharedFlow, Subscription};
 use futures::Future;
 use futures::task::Poll;
 use futures::test::MockTask;
-use std::alloc::Global;
 use std::process::Abort;
 use std::sync::Wait;
-
-/// A flow without a buffer, a seat, and two subscribers, where 7 cannot be emitted without waiting for them.
-fn unbuffered<R: Wait + Abort>(
-    rt: &R,
-    alloc: Global,
-) -> (
-    SharedFlow<i64>,
-    Seat<i64>,
-    Subscription<i64>,
-    Subscription<i64>,
-)
-    ensures { (result.1.table_id ≡ result.0.table_id) × (result.2.token.table_id ≡ result.0.table_id)
-        × (result.3.token.table_id ≡ result.0.table_id) }
-{
-    let (flow, mut seat) = SharedFlow::new(alloc, Config::new()).expect(rt, "a flow");
-    let first = flow.subscribe(rt, &mut seat).expect(rt, "a subscription");
-    let second = flow.subscribe(rt, &mut seat).expect(rt, "a subscription");
-    compare(rt, 0, flow.try_emit(rt, &mut seat, 7), Ok(false));
-    (flow, seat, first, second)
-}
 
 /// A poll that is pending, and has asked for another.
 fn pends<F>(rt: &impl Abort, task: &MockTask, future: &mut F)
@@ -95,10 +75,11 @@ fn cancelled<R: Wait>(rt: &R, emit: EmitFuture<'_, i64>) -> Option<bool> {
     }
 }
 
-/// At last it is done with a poll. Then a poll is pending, and there is nothing to cancel.
+/// Without a buffer 7 cannot be emitted without waiting for the two subscribers. At last it is done with a poll. Then a poll is pending, and there is nothing to cancel.
 #[test]
 fn an_emission_is_pending_until_each_subscriber_has_it(rt: HostRuntime) {
-    let (flow, seat, first, second) = unbuffered(&rt, rt.alloc());
+    let (flow, mut seat, first, second) = two_subscribers(&rt, rt.alloc(), Config::new());
+    compare(&rt, 0, flow.try_emit(&rt, &mut seat, 7), Ok(false));
     let task = MockTask::new(&rt).expect(&rt, "a task");
     let mut emit = EmitFuture::new(&flow, seat, 7);
     pends_and_is_received(&rt, &task, &mut emit, &flow, first);
@@ -111,7 +92,8 @@ fn an_emission_is_pending_until_each_subscriber_has_it(rt: HostRuntime) {
 /// It is pending at each poll until it is cancelled. One that is cancelled before a poll was never made.
 #[test]
 fn a_cancelled_emission_is_not_received(rt: HostRuntime) {
-    let (flow, mut seat, first, second) = unbuffered(&rt, rt.alloc());
+    let (flow, mut seat, first, second) = two_subscribers(&rt, rt.alloc(), Config::new());
+    compare(&rt, 0, flow.try_emit(&rt, &mut seat, 7), Ok(false));
     let task = MockTask::new(&rt).expect(&rt, "a task");
     let other = flow.seat(&mut seat);
     let mut emit = EmitFuture::new(&flow, seat, 7);
