@@ -1,7 +1,7 @@
 //! A flow forgets what it replays some time after the chain has stopped (`replayExpirationMillis`).
 use crate::sharing::playing::FlowKind::{Shared, State};
 use crate::sharing::playing::{Chain, Example};
-use crate::sharing::sharing_steps::Step::{Flow, Turn};
+use crate::sharing::sharing_steps::Step::{Flow, Turn, Turns};
 use crate::steps::Step::{Cache, Current, Next, Subscribe, Unsubscribe};
 use flow_law::Command::{Keep, Start, Stop, StopAndReset};
 use flow_law::Event::{Idle, Put};
@@ -47,10 +47,8 @@ pub const EXAMPLES: &[Example] = &[
         steps: &[
             Flow(Subscribe),
             Turn(0, Start, Put),
-            Turn(0, Keep, Put),
             Flow(Unsubscribe(0)),
-            Turn(10, Keep, Put),
-            Turn(109, Keep, Put),
+            Turns(10, 12, Keep, Put),
             Turn(110, Stop, Idle),
             Flow(Subscribe),
             Turn(300, Start, Put),

@@ -3,76 +3,72 @@ use crate::compare::compare;
 use crate::playing::subscriber_step;
 use crate::sharing::playing::{Example, FlowKind};
 use crate::sharing::sharing_steps::{Step, turn};
-use crate::steps;
+use crate::steps::Step as FlowStep;
 use flow_cold::Scripted;
 use flow_core::SubId;
-use flow_sharing::{CoreHub, Sharing, StateHub, share_in, state_in};
+use flow_sharing::{CoreHub, Hub, Sharing, StateHub, share_in, state_in};
 use std::alloc::Global;
 use std::process::Abort;
 
-/// Takes a step of a sharing whose flow is shared.
-fn shared_step(
-    rt: &impl Abort,
-    sharing: &mut Sharing<Scripted<i64>, CoreHub<i64>>,
-    subscribers: &mut Vec<SubId>,
-    place: usize,
-    step: Step,
-) {
-    match step {
-        Step::Flow(steps::Step::Cache(values)) => {
-            let cache = sharing.hub().core().replay_cache().expect(rt, "memory");
+/// A hub that has a flow for one thread.
+trait Played: Hub<Item = i64> {
+    /// Takes a step on the flow, whose subscribers these are, and compares what it answers.
+    fn take(&mut self, rt: &impl Abort, ids: &mut Vec<SubId>, place: usize, step: FlowStep);
+}
+
+impl Played for CoreHub<i64> {
+    fn take(&mut self, rt: &impl Abort, ids: &mut Vec<SubId>, place: usize, step: FlowStep) {
+        if let FlowStep::Cache(values) = step {
+            let cache = self.core().replay_cache().expect(rt, "memory");
             compare(rt, place, cache.as_slice(), values);
+            return;
         }
-        Step::Flow(step) => {
-            let core = sharing.hub_mut().core_mut();
-            let taken = subscriber_step(rt, core, subscribers, place, step);
-            compare(rt, place, taken, Ok(()));
-        }
-        step => turn(rt, sharing, place, step),
+        let taken = subscriber_step(rt, self.core_mut(), ids, place, step);
+        compare(rt, place, taken, Ok(()));
     }
 }
 
-/// Takes a step of a sharing that has a state flow.
-fn state_step(
+impl Played for StateHub<i64> {
+    fn take(&mut self, rt: &impl Abort, ids: &mut Vec<SubId>, place: usize, step: FlowStep) {
+        if let FlowStep::Current(value) = step {
+            return compare(rt, place, self.core().value(), Ok(value));
+        }
+        let taken = subscriber_step(rt, self.core_mut(), ids, place, step);
+        compare(rt, place, taken, Ok(()));
+    }
+}
+
+/// Takes the steps of a sharing and of its flow.
+fn take_steps<H: Played>(
     rt: &impl Abort,
-    sharing: &mut Sharing<Scripted<i64>, StateHub<i64>>,
-    subscribers: &mut Vec<SubId>,
-    place: usize,
-    step: Step,
+    alloc: Global,
+    first: usize,
+    steps: &[Step],
+    sharing: &mut Sharing<Scripted<i64>, H>,
 ) {
-    match step {
-        Step::Flow(steps::Step::Current(value)) => {
-            compare(rt, place, sharing.hub().core().value(), Ok(value));
+    let mut subscribers = Vec::new(alloc);
+    for (index, step) in steps.iter().enumerate() {
+        let place = first.saturating_add(index);
+        match *step {
+            Step::Flow(step) => sharing.hub_mut().take(rt, &mut subscribers, place, step),
+            step => turn(rt, sharing, place, step),
         }
-        Step::Flow(step) => {
-            let core = sharing.hub_mut().core_mut();
-            let taken = subscriber_step(rt, core, subscribers, place, step);
-            compare(rt, place, taken, Ok(()));
-        }
-        step => turn(rt, sharing, place, step),
     }
 }
 
 /// Shares the chain of an example by `share_in` or `state_in`, and takes the example's steps.
 fn play_one(rt: &impl Abort, alloc: Global, first: usize, example: &Example) {
     let chain = example.chain.make(rt, alloc);
-    let mut subscribers = Vec::new(alloc);
     match example.flow {
         FlowKind::Shared(replay) => {
             let shared = share_in(alloc, chain, example.started, replay, u64::MAX);
             let mut sharing = shared.expect(rt, "a sharing");
-            for (index, step) in example.steps.iter().enumerate() {
-                let place = first.saturating_add(index);
-                shared_step(rt, &mut sharing, &mut subscribers, place, *step);
-            }
+            take_steps(rt, alloc, first, example.steps, &mut sharing);
         }
         FlowKind::State => {
             let shared = state_in(alloc, chain, example.started, 0, u64::MAX);
             let mut sharing = shared.expect(rt, "a sharing");
-            for (index, step) in example.steps.iter().enumerate() {
-                let place = first.saturating_add(index);
-                state_step(rt, &mut sharing, &mut subscribers, place, *step);
-            }
+            take_steps(rt, alloc, first, example.steps, &mut sharing);
         }
     }
 }

@@ -21,6 +21,7 @@ pub struct Example {
 }
 
 /// The chain of an example.
+#[derive(Drop)]
 pub enum Chain {
     List(&'static [i64]),
     /// The numbers from 1 to 66.

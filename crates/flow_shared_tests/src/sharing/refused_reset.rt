@@ -1,8 +1,7 @@
 //! A sharing over a state flow, a reset, and a chain, that are refused with `OutOfMemory`.
 use crate::compare::compare;
+use crate::sharing::sharing_steps::{RESTS, STARTS};
 use flow_cold::OfList;
-use flow_law::Command::{Keep, Start};
-use flow_law::Event::{Idle, Put};
 use flow_law::{ChainFault, FlowFault, Report, ShareFault, Started};
 use flow_sharing::{Sharing, StateHub, state_in};
 use flow_testing::CopyLimited;
@@ -42,18 +41,6 @@ fn share<'a>(
 }
 
 const OUT_OF_MEMORY: ShareFault = ShareFault::Flow(FlowFault::OutOfMemory);
-
-/// The chain is started, and puts its item.
-const STARTS: Report = Report {
-    command: Start,
-    event: Put,
-};
-
-/// There is nothing to do.
-const RESTS: Report = Report {
-    command: Keep,
-    event: Idle,
-};
 
 /// The copy of the initial value that the sharing keeps for resets is refused, and then there is a sharing. A reset that is
 /// refused stays due, and is made in the next turn. A chain that is refused the copy of an item tells it once, and ends the

@@ -7,6 +7,24 @@ use flow_law::{Command, Event, Report, ShareFault};
 use flow_sharing::{Hub, Sharing};
 use std::process::Abort;
 
+/// The chain is started, and puts its first item.
+pub const STARTS: Report = Report {
+    command: Command::Start,
+    event: Event::Put,
+};
+
+/// The chain puts its next item.
+pub const PUTS: Report = Report {
+    command: Command::Keep,
+    event: Event::Put,
+};
+
+/// There is nothing to do.
+pub const RESTS: Report = Report {
+    command: Command::Keep,
+    event: Event::Idle,
+};
+
 /// A step, and what it answers.
 #[derive(Clone, Copy)]
 pub enum Step {

@@ -1,22 +1,9 @@
 //! Subscribers of sharings on one thread, by the calls of the sharing itself.
 use crate::compare::compare;
+use crate::sharing::sharing_steps::{PUTS, STARTS};
 use flow_cold::OfRange;
-use flow_law::Command::{Keep, Start};
-use flow_law::Event::Put;
-use flow_law::{Next, Report, Started};
+use flow_law::{Next, Started};
 use flow_sharing::{share_in, state_in};
-
-/// The chain is started, and puts its first item.
-const STARTS: Report = Report {
-    command: Start,
-    event: Put,
-};
-
-/// The chain puts its next item.
-const PUTS: Report = Report {
-    command: Keep,
-    event: Put,
-};
 
 /// Without a replay a subscriber gets the items that are put after it came.
 #[test]
