@@ -32,7 +32,7 @@ module _ {T : Type 0} where
   stands-further whole before after (xs, same, ends_so) (ys, x, next, ends_then) =
       (xs ++ ys, x, same ∙ ap (λ zs. xs ++ zs) next ∙ sym (append_assoc xs ys (x ∷ items after)), ends_so ∙ ends_then)
 
--- what is told by the item that was found
+-- what `any` (found is true) and `all` (found is false) return for the item that was searched
 abbrev pub told : {A : Type 0} → Bool → Result (Option A) ChainFault → Result Bool ChainFault
 told found (Ok (Some x)) = Ok found
 told found (Ok None) = Ok (not found)
@@ -55,7 +55,7 @@ module _ {A : Type 0} (test : A → Bool) where
   any-told [] (Failed fault) = refl
   any-told (x ∷ xs) e = any-step x xs e (test x) (any-told xs e)
 
-  -- whether any passes is told by the first that does, in a chain that was started anew
+  -- `any` returns the answer for the first item that passes; the chain is restarted before it is searched
   pub any-follows : (whole rest : ChainRun A) (found : Result (Option A) ChainFault) → rest ≡ whole → FollowsRun (λ xs e. first_of (filter test xs) e) rest found
       → FollowsRun (any_of test) whole (told true found)
   any-follows whole rest found is finds = rw (any-told (items whole) (ending whole)) (told-follows true _ found (rw is at finds))
@@ -70,7 +70,7 @@ module _ {A : Type 0} (test : A → Bool) where
   all-told [] (Failed fault) = refl
   all-told (x ∷ xs) e = all-step x xs e (test x) (all-told xs e)
 
-  -- whether all pass is told by the first that does not
+  -- `all` returns the answer for the first item that fails; the chain is restarted before it is searched
   pub all-follows : (whole rest : ChainRun A) (found : Result (Option A) ChainFault) → rest ≡ whole
       → FollowsRun (λ xs e. first_of (filter (λ y. not (test y)) xs) e) rest found → FollowsRun (all_of test) whole (told false found)
   all-follows whole rest found is finds = rw (all-told (items whole) (ending whole)) (told-follows false _ found (rw is at finds))

@@ -30,7 +30,7 @@ returns-in-FlatMapRepeat-clause-gives c = λ r. rw (c.in-FlatMapRepeat.is, c.on_
 pub returns-in-Distinct-clause-gives : goal.returns-in-Distinct-clause-gives
 returns-in-Distinct-clause-gives c = λ r. rw (c.in-Distinct.is, c.on_item-in-Distinct.ensures.held) (simp (to_z-of_z, c.ranges.item) at (c.on_item-in-Distinct.ensures.gives r))
 
--- how far the upstream is asked
+-- what one ask takes from the upstream
 pub returns-in-Transform-clause-behind : goal.returns-in-Transform-clause-behind
 returns-in-Transform-clause-behind c = λ r. rw c.in-Transform.is (simp (to_z-of_z, c.ranges.item) at (c.on_item.ensures.behind r))
 
