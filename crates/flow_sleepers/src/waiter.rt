@@ -13,7 +13,11 @@ use std::{mem, thread};
 
 /// How often a thread asks before it leaves its waker. What it waits for often comes soon, and a sleep costs as much as many
 /// looks.
-const LOOKS: u32 = 64;
+const LOOKS: u32 = 32;
+
+/// How often a thread yields between two looks, at most. A look enters the flow, and holds up the callers that are about to
+/// give the thread something.
+const YIELDS: u32 = 4;
 
 /// The wakers of a sleeper: that of its task, or of its thread. Dropping them wakes it.
 #[derive(Drop)]
@@ -153,7 +157,14 @@ impl<A: Allocator + Copy> ThreadWaiter<A> {
         match (mem::replace(&mut self.rest, Rest::None), &self.parker, most) {
             (Rest::Asleep, Some(parker), Some(most)) => parker.park_timeout(rt, most),
             (Rest::Asleep, Some(parker), None) => parker.park(rt),
-            _ => thread::yield_now(),
+            _ => self.let_others_go_first(),
+        }
+    }
+
+    /// Yields once after the first look, twice after the second, and so on up to `YIELDS` times.
+    fn let_others_go_first(&self) {
+        for _ in 0..self.looks.clamp(1, YIELDS) {
+            thread::yield_now();
         }
     }
 

@@ -14,7 +14,7 @@ use std::time::{Clock, Duration};
 /// How long a call with a time limit waits, in microseconds.
 const LIMIT: u64 = 20;
 
-/// How long a pause takes, in microseconds. A thread that waits asks 64 times before it sleeps, which takes less.
+/// How long a pause takes, in microseconds. A thread that waits asks 32 times before it sleeps, which takes less.
 const PAUSE: u64 = 200;
 
 /// What a thread of a crowd does.
