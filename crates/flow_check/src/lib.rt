@@ -14,6 +14,7 @@
 //! which it found none is checked to be complete.
 #![tactic(auto)]
 
+mod candidates;
 mod checking;
 mod machine;
 mod marks;

@@ -1,6 +1,7 @@
 //! Searches for an order. Nothing is promised of what it finds, so its caller checks that.
 ghost use Rattle.std.specs.Prelude.{◌≡◌};
 
+use crate::candidates::{Candidate, first_look, turn_after};
 use crate::machine::Machine;
 use crate::node::{Move, Node};
 use crate::remaining::{next_call, none_placed, owes_nothing, place};
@@ -17,35 +18,6 @@ pub enum Found<M> {
     GaveUp,
 }
 
-/// A turn that may come next, and the end of its call.
-#[derive(Clone, Copy)]
-struct Candidate {
-    turn: Move,
-    end: u64,
-}
-
-impl Candidate {
-    /// Returns whether this turn is tried before another one: calls that end first are, and a call that may be skipped is made
-    /// first.
-    fn is_before(self, other: Candidate) -> bool {
-        if self.end != other.end {
-            return self.end < other.end;
-        }
-        if self.turn.caller != other.turn.caller {
-            return self.turn.caller < other.turn.caller;
-        }
-        !self.turn.skips && other.turn.skips
-    }
-
-    /// Returns whether this turn is tried after another one, if there was one.
-    fn is_after(self, last: Option<Candidate>) -> bool {
-        match last {
-            None => true,
-            Some(last) => last.is_before(self),
-        }
-    }
-}
-
 /// A node of the path, and the turn that was tried last there.
 #[derive(Clone, Copy)]
 struct Frame {
@@ -53,105 +25,6 @@ struct Frame {
     tried: Option<Candidate>,
     /// The turn is a look, and no other one is tried.
     looks: bool,
-}
-
-/// Returns the end of a call; a pending call ends last.
-fn end_of<C: Copy>(call: &Timed<C>) -> u64 {
-    match call.end {
-        Some(end) => end,
-        None => u64::MAX,
-    }
-}
-
-/// Returns the first end of the callers' next calls. No call that begins later may come next.
-pub fn deadline_of<C: Copy>(callers: &[Vec<Timed<C>>], placed: &Vec<u32>) -> u64 {
-    let mut deadline = u64::MAX;
-    for caller in 0..callers.len() {
-        if let Some(call) = next_call(callers, placed, caller) {
-            deadline = deadline.min(end_of(&call));
-        }
-    }
-    deadline
-}
-
-/// Returns the first turn of a caller that is tried after the last one, if its next call may come next.
-fn turn_of<C: Copy, M: Machine<C>>(
-    callers: &[Vec<Timed<C>>],
-    node: &Node<M>,
-    caller: usize,
-    deadline: u64,
-    last: Option<Candidate>,
-) -> Option<Candidate> {
-    let call = next_call(callers, &node.placed, caller)?;
-    if call.begin > deadline {
-        return None;
-    }
-    let turn = Move {
-        caller,
-        skips: false,
-    };
-    let end = end_of(&call);
-    let made = Candidate { turn, end };
-    if made.is_after(last) {
-        return Some(made);
-    }
-    let turn = Move {
-        caller,
-        skips: true,
-    };
-    let skipped = Candidate { turn, end };
-    (node.state.may_skip(&call.call) && skipped.is_after(last)).then_some(skipped)
-}
-
-/// Returns the turn that is tried after the last one at a node.
-fn turn_after<C: Copy, M: Machine<C>>(
-    callers: &[Vec<Timed<C>>],
-    node: &Node<M>,
-    last: Option<Candidate>,
-) -> Option<Candidate> {
-    let deadline = deadline_of(callers, &node.placed);
-    let mut first: Option<Candidate> = None;
-    for caller in 0..callers.len() {
-        if let Some(candidate) = turn_of(callers, node, caller, deadline, last) {
-            if first.is_none_or(|other| candidate.is_before(other)) {
-                first = Some(candidate);
-            }
-        }
-    }
-    first
-}
-
-/// Returns the turn of a caller whose next call is a look that ended and may come next, if the flow may answer so.
-fn look_of<C: Copy, M: Machine<C>>(
-    callers: &[Vec<Timed<C>>],
-    node: &Node<M>,
-    caller: usize,
-    deadline: u64,
-) -> Option<Candidate> {
-    let call = next_call(callers, &node.placed, caller)?;
-    let end = call.end?;
-    let may_come = call.begin <= deadline && node.state.is_look(&call.call);
-    let turn = Move {
-        caller,
-        skips: false,
-    };
-    (may_come && node.state.may_answer(caller, &call.call)).then_some(Candidate { turn, end })
-}
-
-/// Returns the first look at a node that may come next. If an order goes on from the node, one that begins with the look does, so no
-/// other turn has to be tried.
-fn first_look<C: Copy, M: Machine<C>>(
-    callers: &[Vec<Timed<C>>],
-    node: &Node<M>,
-) -> Option<Candidate> {
-    let deadline = deadline_of(callers, &node.placed);
-    for caller in 0..callers.len() {
-        let look = look_of(callers, node, caller, deadline);
-        if look.is_some() {
-            return look;
-        }
-    }
-    None
 }
 
 /// Takes the next turn of a node, the last one of the path.
@@ -212,31 +85,128 @@ fn turns_of(alloc: Global, path: &[Frame]) -> Result<Vec<Move>, AllocError> {
     Ok(turns)
 }
 
-/// Adds a node to the table and to the path.
-fn go_to<C, M: Machine<C>>(
-    table: &mut Table<M>,
-    path: &mut Vec<Frame>,
-    node: &Node<M>,
-) -> Result<(), AllocError> {
-    let place = table.add(node)?;
-    path.push(Frame {
-        node: place,
-        tried: None,
-        looks: false,
-    })?;
-    Ok(())
+/// What follows a turn of the search.
+#[derive(Clone, Copy)]
+enum Turned {
+    GoesOn,
+    /// The turns that were tried last are an order.
+    Ordered,
+    /// No turn is left.
+    Exhausted,
 }
 
-/// Goes back to the node before the last one of the path, if there is one.
-fn go_back<C, M: Machine<C>>(
-    alloc: Global,
-    table: &Table<M>,
-    path: &mut Vec<Frame>,
-) -> Result<Option<Node<M>>, AllocError> {
-    let _ = path.pop();
-    match path.last() {
-        None => Ok(None),
-        Some(frame) => table.at(alloc, frame.node),
+/// The nodes that a search has found, and the one that it is at, the last one of the path.
+#[derive(Drop)]
+struct Walk<M> {
+    table: Table<M>,
+    path: Vec<Frame>,
+    node: Node<M>,
+}
+
+impl<M> Walk<M> {
+    /// Begins in this state, in which no call has happened.
+    fn new<C>(alloc: Global, first: &M, placed: Vec<u32>) -> Result<Walk<M>, AllocError>
+    where
+        M: Machine<C>,
+    {
+        let table = Table::new(alloc, first.try_copy(alloc)?, placed.len());
+        let state = first.try_copy(alloc)?;
+        let mut walk = Walk {
+            table,
+            path: Vec::new(alloc),
+            node: Node { state, placed },
+        };
+        walk.keep_node()?;
+        Ok(walk)
+    }
+
+    /// Adds the node to the table and to the path.
+    fn keep_node<C>(&mut self) -> Result<(), AllocError>
+    where
+        M: Machine<C>,
+    {
+        let place = self.table.add(&self.node)?;
+        self.path.push(Frame {
+            node: place,
+            tried: None,
+            looks: false,
+        })?;
+        Ok(())
+    }
+
+    /// Goes back to the node before the last one of the path, if there is one.
+    fn go_back<C>(&mut self, alloc: Global) -> Result<Turned, AllocError>
+    where
+        M: Machine<C>,
+    {
+        let _ = self.path.pop();
+        let Some(frame) = self.path.last() else {
+            return Ok(Turned::Exhausted);
+        };
+        match self.table.at(alloc, frame.node)? {
+            None => Ok(Turned::Exhausted),
+            Some(node) => {
+                self.node = node;
+                Ok(Turned::GoesOn)
+            }
+        }
+    }
+
+    /// Goes to a node that follows, if it is a new one.
+    fn go_to<C: Copy>(
+        &mut self,
+        callers: &[Vec<Timed<C>>],
+        next: Node<M>,
+    ) -> Result<Turned, AllocError>
+    where
+        M: Machine<C>,
+    {
+        if self.table.find(&next.state, &next.placed).is_some() {
+            return Ok(Turned::GoesOn);
+        }
+        if owes_nothing(callers, &next.placed) {
+            return Ok(Turned::Ordered);
+        }
+        self.node = next;
+        self.keep_node()?;
+        Ok(Turned::GoesOn)
+    }
+
+    /// Takes the next turn.
+    fn turn<C: Copy>(
+        &mut self,
+        alloc: Global,
+        callers: &[Vec<Timed<C>>],
+    ) -> Result<Turned, AllocError>
+    where
+        M: Machine<C>,
+    {
+        let Some(turn) = take_turn(callers, &self.node, &mut self.path) else {
+            return self.go_back(alloc);
+        };
+        match advance(alloc, callers, &self.node, turn)? {
+            None => Ok(Turned::GoesOn),
+            Some(next) => self.go_to(callers, next),
+        }
+    }
+
+    /// Takes turns until the search ends, at most as many as `budget` says.
+    fn turns<C: Copy>(
+        &mut self,
+        alloc: Global,
+        callers: &[Vec<Timed<C>>],
+        budget: u64,
+    ) -> Result<Turned, AllocError>
+    where
+        M: Machine<C>,
+    {
+        for _ in 0..budget {
+            let turned = self.turn(alloc, callers)?;
+            if !matches!(turned, Turned::GoesOn) {
+                return Ok(turned);
+            }
+        }
+        Ok(Turned::GoesOn)
     }
 }
 
@@ -252,30 +222,10 @@ pub fn search<C: Copy, M: Machine<C>>(
     if owes_nothing(callers, &placed) {
         return Ok(Found::Order(Vec::new(alloc)));
     }
-    let state = first.try_copy(alloc)?;
-    let mut node = Node { state, placed };
-    let mut table = Table::new(alloc, first.try_copy(alloc)?, callers.len());
-    let mut path = Vec::new(alloc);
-    go_to(&mut table, &mut path, &node)?;
-    for _ in 0..budget {
-        let Some(turn) = take_turn(callers, &node, &mut path) else {
-            match go_back(alloc, &table, &mut path)? {
-                None => return Ok(Found::Table(table)),
-                Some(last) => node = last,
-            }
-            continue;
-        };
-        let Some(next) = advance(alloc, callers, &node, turn)? else {
-            continue;
-        };
-        if table.find(&next.state, &next.placed).is_some() {
-            continue;
-        }
-        if owes_nothing(callers, &next.placed) {
-            return Ok(Found::Order(turns_of(alloc, path.as_slice())?));
-        }
-        go_to(&mut table, &mut path, &next)?;
-        node = next;
+    let mut walk = Walk::new(alloc, first, placed)?;
+    match walk.turns(alloc, callers, budget)? {
+        Turned::GoesOn => Ok(Found::GaveUp),
+        Turned::Ordered => Ok(Found::Order(turns_of(alloc, walk.path.as_slice())?)),
+        Turned::Exhausted => Ok(Found::Table(walk.table)),
     }
-    Ok(Found::GaveUp)
 }

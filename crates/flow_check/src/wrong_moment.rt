@@ -4,10 +4,11 @@ ghost use Rattle.flow_check.specs.Records.{Calls};
 ghost use Rattle.flow_check.specs.Verdicts.{Judges};
 ghost use Rattle.flow_check.specs.Moments.{JudgesKnown, GoesWrong, IsCutOff};
 
+use crate::candidates::deadline_of;
 use crate::machine::Machine;
 use crate::moments::{Cut, known_record};
 use crate::record::Record;
-use crate::search::{Found, deadline_of, search};
+use crate::search::{Found, search};
 use crate::table::Table;
 use crate::timed::Timed;
 use crate::verdict::Verdict;
