@@ -53,23 +53,30 @@ impl Conflict {
         let Some(moment) = wrong_moment(alloc, sheet)? else {
             return Ok(None);
         };
+        let conflict = Conflict::at(alloc, sheet, moment)?;
+        Ok(Some(conflict))
+    }
+
+    /// Returns the conflict that is complete at this moment.
+    fn at(alloc: Global, sheet: &Sheet, moment: u64) -> Result<Conflict, AllocError> {
         let mut roles = Roles::new(alloc, sheet, moment)?;
         roles.leave_out_looks(alloc, sheet)?;
         let begin = begin_of(sheet, moment, &roles);
-        let before = change_before(sheet, begin);
-        let from = before.map_or(begin, |call| call.begin);
-        let end = before.map_or(begin, |call| call.end.unwrap_or(begin));
+        let (from, end) = match change_before(sheet, begin) {
+            Some(call) => (call.begin, call.end.unwrap_or(begin)),
+            None => (begin, begin),
+        };
         roles.leave_out_changes(alloc, sheet, end)?;
-        Ok(Some(Conflict {
+        Ok(Conflict {
             moment,
             from,
             roles,
-        }))
+        })
     }
 
     /// Returns whether a call overlaps the moments of the conflict.
     pub fn overlaps(&self, call: WrittenCall) -> bool {
-        call.begin <= self.moment && call.end.is_none_or(|end| self.from <= end)
+        call.begin <= self.moment && !matches!(call.end, Some(end) if end < self.from)
     }
 
     /// Returns whether a call is needed to say why the calls are illegal.

@@ -82,7 +82,10 @@ impl Picture {
 
     /// Returns how many callers are drawn.
     pub fn lanes(&self) -> usize {
-        self.bars.last().map_or(0, |bar| bar.lane.saturating_add(1))
+        match self.bars.last() {
+            Some(bar) => bar.lane.saturating_add(1),
+            None => 0,
+        }
     }
 
     /// Returns the lane of a caller's next call, which is a new one after a call of another caller.
@@ -172,6 +175,15 @@ fn write_bar<W: Write>(out: &mut W, bar: &Bar, columns: usize) -> io::Result<()>
     write!(out, "{}", if bar.to >= columns { ">" } else { " " })
 }
 
+/// Writes a call after its line over so many columns.
+fn write_row<W: Write>(out: &mut W, sheet: &Sheet, bar: &Bar, columns: usize) -> io::Result<()> {
+    write_bar(out, bar, columns)?;
+    let mark = if bar.is_marked { "!" } else { " " };
+    write!(out, " {mark} ")?;
+    write_line(out, sheet, bar.caller, bar.call)?;
+    writeln!(out)
+}
+
 fn write_text<W: Write>(
     out: &mut W,
     sheet: &Sheet,
@@ -180,10 +192,7 @@ fn write_text<W: Write>(
 ) -> io::Result<()> {
     writeln!(out, "{word}")?;
     for bar in picture.bars.as_slice() {
-        write_bar(out, bar, picture.moments.len())?;
-        write!(out, " {} ", if bar.is_marked { "!" } else { " " })?;
-        write_line(out, sheet, bar.caller, bar.call)?;
-        writeln!(out)?;
+        write_row(out, sheet, bar, picture.moments.len())?;
     }
     Ok(())
 }

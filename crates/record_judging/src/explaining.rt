@@ -1,21 +1,22 @@
 //! Explains where and why a record is refused.
 use crate::reading::{has_lines, is_blank, value_of};
 use crate::refusal::{Part, Refusal, Unread, Wrong};
+use crate::words::is_one_of;
 use json_places::{Place, Spot, Text, nearest, not_json};
 use serde_json::Value;
 use std::alloc::{AllocError, Global};
 
-/// Returns where a part of a record begins that is one object.
-fn part_in_whole<'a>(
+/// Returns where a part of a record begins, of the object that begins here. A line has a call alone.
+fn part_in<'a>(
     text: Text<'a>,
-    value: &'a Value,
+    root: Spot<'a>,
     part: Part,
+    in_lines: bool,
 ) -> Result<Option<Spot<'a>>, AllocError> {
-    let at = text.part_from(0).unwrap_or(0);
-    let root = Spot { value, at };
     match part {
         Part::Head => Ok(Some(root)),
         Part::Flow => text.member(root, "flow"),
+        Part::Call(_) if in_lines => Ok(Some(root)),
         Part::Call(number) => match text.member(root, "calls")? {
             Some(calls) => Ok(text.item(calls, number.saturating_sub(1))),
             None => Ok(None),
@@ -107,44 +108,74 @@ impl<'a> Report<'a> {
             let Some(member) = self.text.member_from(object, from)? else {
                 break;
             };
-            if !keys.iter().any(|key| *key == member.name) {
-                self.add_place(member.key, part)?;
-                self.add_value(member.key)?;
-                self.add(&[" is no key here\n  expected: "])?;
-                self.add_choices(keys)?;
-                return self.add_nearest(member.name, keys);
+            if !is_one_of(member.name, keys) {
+                return self.tell_unknown(member.key, member.name, part, keys);
             }
             from = member.end;
         }
         Ok(())
     }
 
+    /// Tells of the key that begins here, which is none of these.
+    fn tell_unknown(
+        &mut self,
+        at: usize,
+        name: &str,
+        part: Part,
+        keys: &'static [&'static str],
+    ) -> Result<(), AllocError> {
+        self.add_place(at, part)?;
+        self.add_value(at)?;
+        self.add(&[" is no key here\n  expected: "])?;
+        self.add_choices(keys)?;
+        self.add_nearest(name, keys)
+    }
+
+    /// Tells of a value that its key may not have.
+    fn tell_value(
+        &mut self,
+        refusal: Refusal,
+        object: Spot<'_>,
+        words: &'static [&'static str],
+    ) -> Result<(), AllocError> {
+        let key = refusal.key.unwrap_or("");
+        let found = self.text.member(object, key)?.unwrap_or(object);
+        self.add_place(found.at, refusal.part)?;
+        self.add_value(found.at)?;
+        self.add(&[
+            " is no value of \"",
+            key,
+            "\"\n  expected: ",
+            refusal.expected,
+        ])?;
+        self.add_nearest(found.value.as_str().unwrap_or(""), words)
+    }
+
+    /// Tells that no object begins here.
+    fn tell_no_object(&mut self, refusal: Refusal, at: usize) -> Result<(), AllocError> {
+        self.add_place(at, refusal.part)?;
+        self.add_value(at)?;
+        self.add(&[" is no object\n  expected: ", refusal.expected])
+    }
+
+    /// Tells of a key that the object has not.
+    fn tell_missing(
+        &mut self,
+        refusal: Refusal,
+        at: usize,
+        key: &'static str,
+    ) -> Result<(), AllocError> {
+        self.add_place(at, refusal.part)?;
+        self.add(&["\"", key, "\" is missing\n  expected: ", refusal.expected])
+    }
+
     /// Tells why a part is refused that begins here.
     fn tell(&mut self, refusal: Refusal, object: Spot<'_>) -> Result<(), AllocError> {
         match refusal.wrong {
             Wrong::Key(keys) => self.tell_key(object, refusal.part, keys),
-            Wrong::NoObject => {
-                self.add_place(object.at, refusal.part)?;
-                self.add_value(object.at)?;
-                self.add(&[" is no object\n  expected: ", refusal.expected])
-            }
-            Wrong::Missing(key) => {
-                self.add_place(object.at, refusal.part)?;
-                self.add(&["\"", key, "\" is missing\n  expected: ", refusal.expected])
-            }
-            Wrong::Value(words) => {
-                let key = refusal.key.unwrap_or("");
-                let found = self.text.member(object, key)?.unwrap_or(object);
-                self.add_place(found.at, refusal.part)?;
-                self.add_value(found.at)?;
-                self.add(&[
-                    " is no value of \"",
-                    key,
-                    "\"\n  expected: ",
-                    refusal.expected,
-                ])?;
-                self.add_nearest(found.value.as_str().unwrap_or(""), words)
-            }
+            Wrong::NoObject => self.tell_no_object(refusal, object.at),
+            Wrong::Missing(key) => self.tell_missing(refusal, object.at, key),
+            Wrong::Value(words) => self.tell_value(refusal, object, words),
         }
     }
 
@@ -191,17 +222,9 @@ fn tell_refusal(
     let Ok(value) = value_of(text.alloc, text.bytes.get(begin..end).unwrap_or(&[])) else {
         return Err(AllocError);
     };
-    let found = if in_lines {
-        let at = text.part_from(begin).unwrap_or(begin);
-        let root = Spot { value: &value, at };
-        match refusal.part {
-            Part::Flow => text.member(root, "flow")?,
-            Part::Head | Part::Call(_) => Some(root),
-        }
-    } else {
-        part_in_whole(text, &value, refusal.part)?
-    };
-    match found {
+    let at = text.part_from(begin).unwrap_or(begin);
+    let root = Spot { value: &value, at };
+    match part_in(text, root, refusal.part, in_lines)? {
         Some(object) => report.tell(refusal, object),
         None => report.add(&["the record is refused"]),
     }

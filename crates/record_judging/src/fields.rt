@@ -1,8 +1,9 @@
 //! The values of the keys of an object.
 use crate::refusal::{Part, Refusal, Unread, Wrong, missing, unfit};
+use crate::words::is_one_of;
 use serde_json::Value;
 
-pub const WHOLE: &str = "a whole number below 2^64";
+const WHOLE: &str = "a whole number below 2^64";
 
 const SMALL: &str = "a whole number below 2^32";
 
@@ -27,7 +28,7 @@ impl<'a> Fields<'a> {
             }));
         };
         for (name, _value) in members {
-            if !keys.iter().any(|key| *key == name.as_str()) {
+            if !is_one_of(name.as_str(), keys) {
                 return Err(Unread::Refused(Refusal {
                     part: self.part,
                     key: None,

@@ -21,7 +21,7 @@ const LAST_LOOKS: usize = 8;
 const MOST_CHANGES: usize = 8;
 
 /// What is asked of a call.
-#[derive(Clone, Copy, Debug, PartialEq, Eq)]
+#[derive(Clone, Copy, PartialEq, Eq)]
 enum Role {
     Needed,
     /// It is left out.
@@ -50,6 +50,14 @@ fn is_change_of_any(call: WrittenCall) -> bool {
         | CallWord::Emit
         | CallWord::ResetReplayCache => !is_look(call),
         _ => false,
+    }
+}
+
+/// Returns the end of a call that was over by a moment.
+fn end_by(call: WrittenCall, moment: u64) -> Option<u64> {
+    match call.end {
+        Some(end) if end <= moment => Some(end),
+        _ => None,
     }
 }
 
@@ -101,7 +109,7 @@ impl Roles {
         let mut row = Vec::new(alloc);
         for call in calls {
             if call.begin <= self.moment && self.needs(call.number) {
-                let end = call.end.filter(|end| *end <= self.moment);
+                let end = end_by(*call, self.moment);
                 row.push(WrittenCall { end, ..*call })?;
             }
         }
@@ -125,13 +133,23 @@ impl Roles {
         Ok(())
     }
 
-    /// Returns whether it is sure that no order explains the calls.
-    fn are_illegal(&self, alloc: Global, sheet: &Sheet) -> Result<bool, AllocError> {
+    /// Returns the calls that are asked of.
+    fn asked_rows(
+        &self,
+        alloc: Global,
+        sheet: &Sheet,
+    ) -> Result<Vec<Vec<WrittenCall>>, AllocError> {
         let mut rows = Vec::new(alloc);
         for calls in sheet.rows.as_slice() {
             rows.push(self.needed_row(alloc, calls.as_slice())?)?;
             self.add_free(alloc, &mut rows, calls.as_slice())?;
         }
+        Ok(rows)
+    }
+
+    /// Returns whether it is sure that no order explains the calls.
+    fn are_illegal(&self, alloc: Global, sheet: &Sheet) -> Result<bool, AllocError> {
+        let rows = self.asked_rows(alloc, sheet)?;
         match judge(alloc, sheet, rows.as_slice())? {
             Outcome::Judged(Verdict::Illegal) => Ok(true),
             Outcome::Judged(_) | Outcome::Faulty(_, _) => Ok(false),
@@ -256,7 +274,7 @@ fn changes_within(
     let mut changes = Vec::new(alloc);
     for calls in sheet.rows.as_slice() {
         for call in calls {
-            let is_within = call.end.is_some_and(|end| from < end && end <= moment);
+            let is_within = matches!(call.end, Some(end) if from < end && end <= moment);
             if is_within && is_change_of_any(*call) {
                 changes.push(call.number)?;
             }

@@ -14,6 +14,7 @@ mod judging;
 mod left_out;
 mod order;
 mod reading;
+mod reading_answer;
 mod reading_flow;
 mod refusal;
 mod shared_rows;

@@ -12,6 +12,23 @@ struct Cursor {
     part: usize,
 }
 
+impl Cursor {
+    /// Returns the caller's call here.
+    fn call_in(self, sheet: &Sheet, caller: usize) -> Option<WrittenCall> {
+        let calls = sheet.rows.get(caller)?;
+        calls.get(self.call).copied()
+    }
+
+    /// Passes a part of a call that has so many.
+    fn pass(&mut self, parts: usize) {
+        self.part = self.part.saturating_add(1);
+        if self.part >= parts {
+            self.call = self.call.saturating_add(1);
+            self.part = 0;
+        }
+    }
+}
+
 /// Returns a call's name in words.
 pub fn word_of(call: CallWord) -> &'static str {
     match call {
@@ -51,9 +68,8 @@ fn write_answer<W: Write>(out: &mut W, lists: &[u64], call: WrittenCall) -> io::
         WrittenAnswer::Done => write!(out, "done"),
         WrittenAnswer::Cancelled => write!(out, "cancelled"),
         WrittenAnswer::Empty => write!(out, "empty"),
-        WrittenAnswer::Value(value) => write!(out, "{value}"),
+        WrittenAnswer::Value(number) | WrittenAnswer::Number(number) => write!(out, "{number}"),
         WrittenAnswer::Truth(truth) => write!(out, "{truth}"),
-        WrittenAnswer::Number(number) => write!(out, "{number}"),
         WrittenAnswer::Values(range) => write_list(out, lists, range),
         WrittenAnswer::Exchange(old, new) => write!(out, "{old} to {new}"),
     }
@@ -75,6 +91,18 @@ pub fn write_call<W: Write>(out: &mut W, sheet: &Sheet, call: WrittenCall) -> io
     write_answer(out, sheet.lists.as_slice(), call)
 }
 
+/// Writes the number of a caller's call, the caller, and the call.
+fn write_numbered<W: Write>(
+    out: &mut W,
+    sheet: &Sheet,
+    caller: usize,
+    call: WrittenCall,
+) -> io::Result<()> {
+    let name = sheet.name(caller);
+    write!(out, "{}  {name} ", call.number)?;
+    write_call(out, sheet, call)
+}
+
 /// Writes the number of a caller's call, the caller, the call, and its moments.
 pub fn write_line<W: Write>(
     out: &mut W,
@@ -82,12 +110,7 @@ pub fn write_line<W: Write>(
     caller: usize,
     call: WrittenCall,
 ) -> io::Result<()> {
-    let Some(name) = sheet.names.get(caller) else {
-        return Ok(());
-    };
-    let name = name.as_str();
-    write!(out, "{}  {name} ", call.number)?;
-    write_call(out, sheet, call)?;
+    write_numbered(out, sheet, caller, call)?;
     write_moments(out, call)
 }
 
@@ -119,21 +142,13 @@ fn write_turn<W: Write>(
     caller: usize,
     cursor: &mut Cursor,
 ) -> io::Result<()> {
-    let (Some(name), Some(row)) = (sheet.names.get(caller), sheet.rows.get(caller)) else {
+    let Some(call) = cursor.call_in(sheet, caller) else {
         return Ok(());
     };
-    let Some(call) = row.get(cursor.call).copied() else {
-        return Ok(());
-    };
-    let name = name.as_str();
-    write!(out, "  {}  {name} ", call.number)?;
-    write_call(out, sheet, call)?;
+    write!(out, "  ")?;
+    write_numbered(out, sheet, caller, call)?;
     writeln!(out, "{}", part_words(call, cursor.part))?;
-    cursor.part = cursor.part.saturating_add(1);
-    if cursor.part >= parts_of(call, sheet.flow.is_state()) {
-        cursor.call = cursor.call.saturating_add(1);
-        cursor.part = 0;
-    }
+    cursor.pass(parts_of(call, sheet.flow.is_state()));
     Ok(())
 }
 

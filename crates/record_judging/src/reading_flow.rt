@@ -26,6 +26,26 @@ fn overflow_of(flow: Fields<'_>) -> Result<Overflow, Unread> {
     }
 }
 
+/// Asks that the buffer is not too large, and that there is one unless emitters wait.
+fn ask_buffer(replay: u32, extra: u32, overflow: Overflow) -> Result<(), Unread> {
+    let capacity = replay as u64 + extra as u64;
+    if capacity > MOST_CAPACITY {
+        return unfit(Part::Flow, "extra", A_CAPACITY, &[]);
+    }
+    if capacity == 0 && overflow != Overflow::Suspend {
+        return unfit(Part::Flow, "overflow", NO_BUFFER, &[]);
+    }
+    Ok(())
+}
+
+fn config_of(flow: Fields<'_>) -> Result<Config, Unread> {
+    let replay = flow.small("replay")?;
+    let extra = flow.small("extra")?;
+    let overflow = overflow_of(flow)?;
+    ask_buffer(replay, extra, overflow)?;
+    Ok(Config::new().replay(replay).extra(extra).overflow(overflow))
+}
+
 /// Reads the value of `flow`.
 pub fn flow_of(value: &Value) -> Result<WrittenFlow, Unread> {
     let flow = Fields {
@@ -40,17 +60,7 @@ pub fn flow_of(value: &Value) -> Result<WrittenFlow, Unread> {
         }
         "shared" => {
             flow.has_only(SHARED_KEYS)?;
-            let replay = flow.small("replay")?;
-            let extra = flow.small("extra")?;
-            let overflow = overflow_of(flow)?;
-            let capacity = replay as u64 + extra as u64;
-            if capacity > MOST_CAPACITY {
-                return unfit(Part::Flow, "extra", A_CAPACITY, &[]);
-            }
-            if capacity == 0 && overflow != Overflow::Suspend {
-                return unfit(Part::Flow, "overflow", NO_BUFFER, &[]);
-            }
-            let config = Config::new().replay(replay).extra(extra).overflow(overflow);
+            let config = config_of(flow)?;
             Ok(WrittenFlow::Shared(config))
         }
         _ => unfit(Part::Flow, "kind", A_KIND, KINDS),

@@ -2,7 +2,7 @@
 use std::alloc::AllocError;
 
 /// A part of a record.
-#[derive(Clone, Copy, Debug, PartialEq, Eq)]
+#[derive(Clone, Copy)]
 pub enum Part {
     /// The object with `flow` and `calls`, or the first line.
     Head,
@@ -13,7 +13,7 @@ pub enum Part {
 }
 
 /// What is wrong there.
-#[derive(Clone, Copy, Debug)]
+#[derive(Clone, Copy)]
 pub enum Wrong {
     /// The value is not as expected. It may be one of these words.
     Value(&'static [&'static str]),
@@ -26,7 +26,7 @@ pub enum Wrong {
 }
 
 /// Why a record is refused: in the value of `key` of this part, or in the part itself.
-#[derive(Clone, Copy, Debug)]
+#[derive(Clone, Copy)]
 pub struct Refusal {
     pub part: Part,
     pub key: Option<&'static str>,
@@ -36,7 +36,7 @@ pub struct Refusal {
 }
 
 /// Why no sheet was read.
-#[derive(Clone, Copy, Debug)]
+#[derive(Clone, Copy)]
 pub enum Unread {
     Refused(Refusal),
     NotJson,

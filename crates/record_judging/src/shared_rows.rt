@@ -65,6 +65,29 @@ fn push_part(
     push_shared(row, call, operation, answer)
 }
 
+/// Adds a call with its answer, if one is known.
+fn push_call<'a>(
+    row: &mut Vec<Timed<SharedEntry<'a>>>,
+    call: WrittenCall,
+    lists: &'a [u64],
+) -> Result<(), AllocError> {
+    let answer = match call.answer {
+        Some(answer) => Some(shared_answer(answer, lists)),
+        None => None,
+    };
+    push_shared(row, call, shared_operation(call, lists), answer)
+}
+
+/// Returns the last part of a call that has several.
+fn last_part(call: WrittenCall) -> Option<SharedOperation<'static>> {
+    match (call.call, call.answer) {
+        (CallWord::First, _) => Some(SharedOperation::Unsubscribe),
+        (CallWord::Emit, Some(WrittenAnswer::Cancelled)) => Some(SharedOperation::EmitCancelled),
+        (CallWord::Emit, Some(_)) => Some(SharedOperation::EmitReturned),
+        _ => None,
+    }
+}
+
 fn shared_row<'a>(
     alloc: Global,
     calls: &[WrittenCall],
@@ -72,26 +95,12 @@ fn shared_row<'a>(
 ) -> Result<Vec<Timed<SharedEntry<'a>>>, AllocError> {
     let mut row = Vec::new(alloc);
     for call in calls {
-        let is_first = call.call == CallWord::First;
-        if is_first {
+        if call.call == CallWord::First {
             push_part(&mut row, *call, SharedOperation::Subscribe(&[]))?;
         }
-        let answer = match call.answer {
-            Some(answer) => Some(shared_answer(answer, lists)),
-            None => None,
-        };
-        push_shared(&mut row, *call, shared_operation(*call, lists), answer)?;
-        if is_first {
-            push_part(&mut row, *call, SharedOperation::Unsubscribe)?;
-        }
-        if call.call == CallWord::Emit {
-            match call.answer {
-                Some(WrittenAnswer::Cancelled) => {
-                    push_part(&mut row, *call, SharedOperation::EmitCancelled)?
-                }
-                Some(_) => push_part(&mut row, *call, SharedOperation::EmitReturned)?,
-                None => {}
-            }
+        push_call(&mut row, *call, lists)?;
+        if let Some(operation) = last_part(*call) {
+            push_part(&mut row, *call, operation)?;
         }
     }
     Ok(row)

@@ -38,15 +38,23 @@ text{fill:#e6edf3}
 }
 </style>";
 
+/// Returns what stands for a letter that is markup, or that no text may have.
+fn escape_of(letter: char) -> Option<&'static str> {
+    match letter {
+        '&' => Some("&amp;"),
+        '<' => Some("&lt;"),
+        '>' => Some("&gt;"),
+        _ if letter < ' ' => Some("?"),
+        _ => None,
+    }
+}
+
 /// Writes text so that it is no markup.
 fn write_escaped<W: Write>(out: &mut W, text: &str) -> io::Result<()> {
     for letter in text.chars() {
-        match letter {
-            '&' => write!(out, "&amp;")?,
-            '<' => write!(out, "&lt;")?,
-            '>' => write!(out, "&gt;")?,
-            _ if letter < ' ' => write!(out, "?")?,
-            _ => write!(out, "{letter}")?,
+        match escape_of(letter) {
+            Some(escape) => write!(out, "{escape}")?,
+            None => write!(out, "{letter}")?,
         }
     }
     Ok(())
@@ -77,19 +85,32 @@ struct Columns {
     edges: Vec<usize>,
 }
 
+/// Returns how wide each bar has to be.
+fn widths_of(alloc: Global, sheet: &Sheet, picture: &Picture) -> io::Result<Vec<usize>> {
+    let mut widths = Vec::new(alloc);
+    for bar in picture.bars.as_slice() {
+        let width = width_of(alloc, sheet, bar.call)?;
+        widths.push(width)?;
+    }
+    Ok(widths)
+}
+
+/// Returns where the first column begins, after all names.
+fn left_of(sheet: &Sheet, picture: &Picture) -> usize {
+    let mut left = MARGIN;
+    for bar in picture.bars.as_slice() {
+        left = left.max(name_width(sheet, bar.caller));
+    }
+    left
+}
+
 impl Columns {
     fn new(alloc: Global, sheet: &Sheet, picture: &Picture) -> io::Result<Columns> {
-        let mut widths = Vec::new(alloc);
-        let mut left = MARGIN;
-        for bar in picture.bars.as_slice() {
-            widths.push(width_of(alloc, sheet, bar.call)?)?;
-            left = left.max(name_width(sheet, bar.caller));
-        }
         let mut columns = Columns {
-            widths,
+            widths: widths_of(alloc, sheet, picture)?,
             edges: Vec::new(alloc),
         };
-        columns.edges.push(left)?;
+        columns.edges.push(left_of(sheet, picture))?;
         for column in 0..picture.moments.len() {
             columns.add_after(picture, column)?;
         }
@@ -121,7 +142,7 @@ impl Columns {
 
 /// Returns how much room a caller's name takes.
 fn name_width(sheet: &Sheet, caller: usize) -> usize {
-    let letters = sheet.names.get(caller).map_or(0, |name| name.len());
+    let letters = sheet.name(caller).len();
     letters.saturating_mul(LETTER).saturating_add(2 * MARGIN)
 }
 
@@ -146,10 +167,24 @@ fn write_moments<W: Write>(
 fn write_name<W: Write>(out: &mut W, sheet: &Sheet, bar: &Bar) -> io::Result<()> {
     let y = y_of(bar.lane).saturating_add(LANE / 2 + 5);
     write!(out, "<text x=\"{MARGIN}\" y=\"{y}\">")?;
-    if let Some(name) = sheet.names.get(bar.caller) {
-        write_escaped(out, name.as_str())?;
-    }
+    write_escaped(out, sheet.name(bar.caller))?;
     writeln!(out, "</text>")
+}
+
+/// Writes a box of this width, with the corner of its lane here.
+fn write_box<W: Write>(
+    out: &mut W,
+    class: &str,
+    x: usize,
+    y: usize,
+    width: usize,
+) -> io::Result<()> {
+    let top = y.saturating_add(5);
+    let height = LANE - 10;
+    write!(
+        out,
+        "<rect class=\"{class}\" x=\"{x}\" y=\"{top}\" width=\"{width}\" height=\"{height}\" rx=\"3\"/>"
+    )
 }
 
 fn write_bar<W: Write>(out: &mut W, sheet: &Sheet, columns: &Columns, bar: &Bar) -> io::Result<()> {
@@ -157,14 +192,10 @@ fn write_bar<W: Write>(out: &mut W, sheet: &Sheet, columns: &Columns, bar: &Bar)
     let width = columns.x_of(bar.to).saturating_sub(x).max(4);
     let y = y_of(bar.lane);
     let class = if bar.is_marked { "w" } else { "c" };
-    write!(
-        out,
-        "<rect class=\"{class}\" x=\"{x}\" y=\"{}\" width=\"{width}\" height=\"{}\" rx=\"3\"/><text x=\"{}\" y=\"{}\">",
-        y.saturating_add(5),
-        LANE - 10,
-        x.saturating_add(MARGIN / 2),
-        y.saturating_add(LANE / 2 + 5)
-    )?;
+    write_box(out, class, x, y, width)?;
+    let left = x.saturating_add(MARGIN / 2);
+    let bottom = y.saturating_add(LANE / 2 + 5);
+    write!(out, "<text x=\"{left}\" y=\"{bottom}\">")?;
     write_words(out, sheet, bar.call)?;
     writeln!(out, "</text>")
 }
@@ -187,6 +218,20 @@ fn write_lanes<W: Write>(
     Ok(())
 }
 
+/// Writes what is around and behind the calls.
+fn write_head<W: Write>(out: &mut W, width: usize, height: usize, word: &str) -> io::Result<()> {
+    writeln!(
+        out,
+        "<svg xmlns=\"http://www.w3.org/2000/svg\" viewBox=\"0 0 {width} {height}\" width=\"{width}\" height=\"{height}\" role=\"img\">"
+    )?;
+    writeln!(out, "<title>Recorded calls over time: {word}</title>")?;
+    writeln!(out, "{STYLE}")?;
+    writeln!(
+        out,
+        "<rect class=\"p\" width=\"100%\" height=\"100%\"/><text x=\"{MARGIN}\" y=\"24\">{word}</text>"
+    )
+}
+
 /// Writes a picture of calls of which this is the verdict.
 pub fn write_svg<W: Write>(
     alloc: Global,
@@ -198,17 +243,7 @@ pub fn write_svg<W: Write>(
     let columns = Columns::new(alloc, sheet, picture)?;
     let width = columns.right().saturating_add(MARGIN);
     let bottom = y_of(picture.lanes());
-    let height = bottom.saturating_add(MARGIN);
-    writeln!(
-        out,
-        "<svg xmlns=\"http://www.w3.org/2000/svg\" viewBox=\"0 0 {width} {height}\" width=\"{width}\" height=\"{height}\" role=\"img\">"
-    )?;
-    writeln!(out, "<title>Recorded calls over time: {word}</title>")?;
-    writeln!(out, "{STYLE}")?;
-    writeln!(
-        out,
-        "<rect class=\"p\" width=\"100%\" height=\"100%\"/><text x=\"{MARGIN}\" y=\"24\">{word}</text>"
-    )?;
+    write_head(out, width, bottom.saturating_add(MARGIN), word)?;
     write_moments(out, picture, &columns, bottom)?;
     write_lanes(out, sheet, picture, &columns)?;
     writeln!(out, "</svg>")

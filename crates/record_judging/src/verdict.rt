@@ -161,13 +161,18 @@ fn draw_verdict<W: Write>(
     alloc: Global,
     out: &mut W,
     sheet: &Sheet,
-    verdict: Verdict,
+    verdict: &Verdict,
     form: Form,
 ) -> io::Result<u8> {
-    let (word, status, conflict) = match verdict {
-        Verdict::Legal(_) => ("legal", LEGAL, None),
-        Verdict::Illegal => ("illegal", ILLEGAL, Conflict::find(alloc, sheet)?),
-        Verdict::GaveUp => ("gave up", GAVE_UP, None),
+    let (word, status) = match verdict {
+        Verdict::Legal(_) => ("legal", LEGAL),
+        Verdict::Illegal => ("illegal", ILLEGAL),
+        Verdict::GaveUp => ("gave up", GAVE_UP),
+    };
+    let conflict = if status == ILLEGAL {
+        Conflict::find(alloc, sheet)?
+    } else {
+        None
     };
     let picture = Picture::new(alloc, sheet, conflict)?;
     write_picture(alloc, out, sheet, &picture, word, form)?;
@@ -190,7 +195,7 @@ pub fn draw_record<W: Write>(
         Err(unread) => return write_refusal(alloc, out, bytes, unread),
     };
     match judge(alloc, &sheet, sheet.rows.as_slice())? {
-        Outcome::Judged(verdict) => draw_verdict(alloc, out, &sheet, verdict, form),
+        Outcome::Judged(verdict) => draw_verdict(alloc, out, &sheet, &verdict, form),
         Outcome::Faulty(fault, number) => write_refusal(alloc, out, bytes, faulty(fault, number)),
     }
 }

@@ -1,7 +1,7 @@
 //! The words of which records are made.
 
 /// A call, as records name it.
-#[derive(Clone, Copy, Debug, PartialEq, Eq)]
+#[derive(Clone, Copy, PartialEq, Eq)]
 pub enum CallWord {
     Value,
     Set,
@@ -166,6 +166,16 @@ pub const SHARED_KEYS: &[&str] = &["kind", "replay", "extra", "overflow"];
 pub const KINDS: &[&str] = &["state", "shared"];
 
 pub const OVERFLOWS: &[&str] = &["suspend", "drop_oldest", "drop_latest"];
+
+/// Returns whether a word is one of these.
+pub fn is_one_of(word: &str, words: &[&str]) -> bool {
+    for known in words {
+        if *known == word {
+            return true;
+        }
+    }
+    false
+}
 
 /// Returns the row of a call of this kind of flow.
 pub fn row_of(word: &str, is_state: bool) -> Option<CallRow> {

@@ -5,7 +5,7 @@ use std::alloc::{AllocError, Global};
 use std::collections::HashMap;
 
 /// A list among those of a sheet.
-#[derive(Clone, Copy, Debug)]
+#[derive(Clone, Copy)]
 pub struct Range {
     pub from: usize,
     pub count: usize,
@@ -19,7 +19,7 @@ impl Range {
 }
 
 /// An answer as it is written.
-#[derive(Clone, Copy, Debug)]
+#[derive(Clone, Copy)]
 pub enum WrittenAnswer {
     Done,
     Cancelled,
@@ -33,7 +33,7 @@ pub enum WrittenAnswer {
 }
 
 /// A call as it is written, with the values that its keys have.
-#[derive(Clone, Copy, Debug)]
+#[derive(Clone, Copy)]
 pub struct WrittenCall {
     /// Which call of the record it is, from 1.
     pub number: usize,
@@ -47,7 +47,7 @@ pub struct WrittenCall {
 }
 
 /// The flow of a record.
-#[derive(Clone, Copy, Debug)]
+#[derive(Clone, Copy)]
 pub enum WrittenFlow {
     State { initial: u64 },
     Shared(Config),
@@ -83,6 +83,20 @@ impl Sheet {
         }
     }
 
+    /// Returns the name of the caller at this place.
+    pub fn name(&self, caller: usize) -> &str {
+        match self.names.get(caller) {
+            Some(name) => name.as_str(),
+            None => "",
+        }
+    }
+
+    fn add_caller(&mut self, alloc: Global, name: &str) -> Result<(), AllocError> {
+        self.names.push(String::from_str(alloc, name)?)?;
+        self.rows.push(Vec::new(alloc))?;
+        Ok(())
+    }
+
     /// Returns the place of a caller, which is a new one if it has not come up yet.
     pub fn place_of(&mut self, alloc: Global, name: &str) -> Result<usize, AllocError> {
         let key = String::from_str(alloc, name)?;
@@ -90,8 +104,7 @@ impl Sheet {
             return Ok(place);
         }
         let place = self.names.len();
-        self.names.push(String::from_str(alloc, name)?)?;
-        self.rows.push(Vec::new(alloc))?;
+        self.add_caller(alloc, name)?;
         let _ = self.places.insert(key, place)?;
         Ok(place)
     }
