@@ -11,8 +11,10 @@ use std::alloc::{AllocError, Global};
 pub fn recorded<C: Copy>(callers: &[Vec<Timed<C>>], caller: usize, index: usize) -> Option<Timed<C>>
     ensures { result ≡ recorded callers.now caller index }
 {
-    let calls = callers.get(caller)?;
-    calls.as_slice().get(index).copied()
+    match callers.get(caller) {
+        None => None,
+        Some(calls) => calls.as_slice().get(index).copied(),
+    }
 }
 
 /// Returns a caller's first call that has not happened.
@@ -23,9 +25,10 @@ pub fn next_call<C: Copy>(
 ) -> Option<Timed<C>>
     ensures { result ≡ next_of callers.now placed.now.items caller }
 {
-    let index = placed.as_slice().get(caller)?;
-    let call = recorded(callers, caller, *index as usize)?;
-    Some(call)
+    match placed.as_slice().get(caller) {
+        None => None,
+        Some(index) => recorded(callers, caller, *index as usize),
+    }
 }
 
 /// Returns whether a call with this end was over before this moment.
