@@ -132,13 +132,8 @@ impl<'a> Report<'a> {
     }
 
     /// Tells of a value that its key may not have.
-    fn tell_value(
-        &mut self,
-        refusal: Refusal,
-        object: Spot<'_>,
-        words: &'static [&'static str],
-    ) -> Result<(), AllocError> {
-        let key = refusal.key.unwrap_or("");
+    fn tell_value(&mut self, refusal: Refusal, object: Spot<'_>) -> Result<(), AllocError> {
+        let key = refusal.key;
         let found = self.text.member(object, key)?.unwrap_or(object);
         self.add_place(found.at, refusal.part)?;
         self.add_value(found.at)?;
@@ -148,7 +143,7 @@ impl<'a> Report<'a> {
             "\"\n  expected: ",
             refusal.expected,
         ])?;
-        self.add_nearest(found.value.as_str().unwrap_or(""), words)
+        self.add_nearest(found.value.as_str().unwrap_or(""), refusal.words)
     }
 
     /// Tells that no object begins here.
@@ -159,23 +154,23 @@ impl<'a> Report<'a> {
     }
 
     /// Tells of a key that the object has not.
-    fn tell_missing(
-        &mut self,
-        refusal: Refusal,
-        at: usize,
-        key: &'static str,
-    ) -> Result<(), AllocError> {
+    fn tell_missing(&mut self, refusal: Refusal, at: usize) -> Result<(), AllocError> {
         self.add_place(at, refusal.part)?;
-        self.add(&["\"", key, "\" is missing\n  expected: ", refusal.expected])
+        self.add(&[
+            "\"",
+            refusal.key,
+            "\" is missing\n  expected: ",
+            refusal.expected,
+        ])
     }
 
     /// Tells why a part is refused that begins here.
     fn tell(&mut self, refusal: Refusal, object: Spot<'_>) -> Result<(), AllocError> {
         match refusal.wrong {
-            Wrong::Key(keys) => self.tell_key(object, refusal.part, keys),
+            Wrong::Key => self.tell_key(object, refusal.part, refusal.words),
             Wrong::NoObject => self.tell_no_object(refusal, object.at),
-            Wrong::Missing(key) => self.tell_missing(refusal, object.at, key),
-            Wrong::Value(words) => self.tell_value(refusal, object, words),
+            Wrong::Missing => self.tell_missing(refusal, object.at),
+            Wrong::Value => self.tell_value(refusal, object),
         }
     }
 

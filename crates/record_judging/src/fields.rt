@@ -1,5 +1,5 @@
 //! The values of the keys of an object.
-use crate::refusal::{Part, Refusal, Unread, Wrong, missing, unfit};
+use crate::refusal::{Part, Unread, missing, no_object, unfit, unknown_key};
 use crate::words::is_one_of;
 use serde_json::Value;
 
@@ -20,21 +20,11 @@ impl<'a> Fields<'a> {
     /// Asks that it is an object whose keys are all among these.
     pub fn has_only(self, keys: &'static [&'static str]) -> Result<(), Unread> {
         let Some(members) = self.value.as_object() else {
-            return Err(Unread::Refused(Refusal {
-                part: self.part,
-                key: None,
-                wrong: Wrong::NoObject,
-                expected: "an object",
-            }));
+            return no_object(self.part);
         };
         for (name, _value) in members {
             if !is_one_of(name.as_str(), keys) {
-                return Err(Unread::Refused(Refusal {
-                    part: self.part,
-                    key: None,
-                    wrong: Wrong::Key(keys),
-                    expected: "",
-                }));
+                return unknown_key(self.part, keys);
             }
         }
         Ok(())

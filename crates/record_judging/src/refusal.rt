@@ -15,24 +15,27 @@ pub enum Part {
 /// What is wrong there.
 #[derive(Clone, Copy)]
 pub enum Wrong {
-    /// The value is not as expected. It may be one of these words.
-    Value(&'static [&'static str]),
+    /// The value is not as expected.
+    Value,
     /// The object has no such key.
-    Missing(&'static str),
-    /// The object has a key that is none of these.
-    Key(&'static [&'static str]),
+    Missing,
+    /// The object has a key that is none of the words.
+    Key,
     /// It is no object.
     NoObject,
 }
 
-/// Why a record is refused: in the value of `key` of this part, or in the part itself.
+/// Why a record is refused: for the value of `key` in this part, or for the part itself.
 #[derive(Clone, Copy)]
 pub struct Refusal {
     pub part: Part,
-    pub key: Option<&'static str>,
     pub wrong: Wrong,
+    /// Empty if the part itself is wrong.
+    pub key: &'static str,
     /// What was expected.
     pub expected: &'static str,
+    /// The words that may be there, if it may be a word.
+    pub words: &'static [&'static str],
 }
 
 /// Why no sheet was read.
@@ -58,9 +61,10 @@ pub fn unfit<T>(
 ) -> Result<T, Unread> {
     Err(Unread::Refused(Refusal {
         part,
-        key: Some(key),
-        wrong: Wrong::Value(words),
+        wrong: Wrong::Value,
+        key,
         expected,
+        words,
     }))
 }
 
@@ -68,8 +72,31 @@ pub fn unfit<T>(
 pub fn missing<T>(part: Part, key: &'static str, expected: &'static str) -> Result<T, Unread> {
     Err(Unread::Refused(Refusal {
         part,
-        key: None,
-        wrong: Wrong::Missing(key),
+        wrong: Wrong::Missing,
+        key,
         expected,
+        words: &[],
+    }))
+}
+
+/// The object has a key that is none of these.
+pub fn unknown_key<T>(part: Part, keys: &'static [&'static str]) -> Result<T, Unread> {
+    Err(Unread::Refused(Refusal {
+        part,
+        wrong: Wrong::Key,
+        key: "",
+        expected: "",
+        words: keys,
+    }))
+}
+
+/// The part is no object.
+pub fn no_object<T>(part: Part) -> Result<T, Unread> {
+    Err(Unread::Refused(Refusal {
+        part,
+        wrong: Wrong::NoObject,
+        key: "",
+        expected: "an object",
+        words: &[],
     }))
 }

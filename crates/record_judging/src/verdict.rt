@@ -70,9 +70,10 @@ fn faulty(fault: Fault, number: usize) -> Unread {
     };
     Unread::Refused(Refusal {
         part: Part::Call(number),
-        key: Some(key),
-        wrong: Wrong::Value(&[]),
+        wrong: Wrong::Value,
+        key,
         expected,
+        words: &[],
     })
 }
 
