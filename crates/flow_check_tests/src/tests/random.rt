@@ -2,7 +2,7 @@
 use crate::tests::dice::Dice;
 use crate::tests::orders::{CALLERS, is_explained};
 use crate::tests::plain::PlainFlow;
-use crate::tests::records::{Outcome, judge_rows};
+use crate::tests::records::{Outcome, expect, expect_mixed, judge_rows};
 use flow_check::{StateAnswer, StateEntry, StateOperation, Timed};
 use std::alloc::{AllocError, Global};
 
@@ -108,10 +108,9 @@ fn agrees_with_a_plain_search(rt: HostRuntime) -> Result<(), AllocError> {
         } else {
             Outcome::Illegal
         };
-        let found = judge_rows(rt.alloc(), TURNS, rows)?;
-        assert_eq!(rt; found, wanted, "record {place}");
+        let found = judge_rows(rt.alloc(), TURNS, rows);
+        expect(&rt, place as usize, found, wanted)?;
     }
-    assert!(rt; legal > RECORDS / 5, "{legal} of {RECORDS} are legal");
-    assert!(rt; legal < RECORDS / 5 * 4, "{legal} of {RECORDS} are legal");
+    expect_mixed(&rt, legal, RECORDS);
     Ok(())
 }

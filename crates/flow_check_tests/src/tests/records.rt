@@ -4,6 +4,7 @@ use flow_check::{
     state_goes_wrong,
 };
 use std::alloc::{AllocError, Global};
+use std::process::Abort;
 
 /// What came of a record.
 #[derive(Clone, Copy, Debug, PartialEq)]
@@ -13,6 +14,24 @@ pub enum Outcome {
     GaveUp,
     EndsEarly,
     BeginsEarly,
+}
+
+/// Asks that this came of the record in a row of a test.
+pub fn expect(
+    rt: &impl Abort,
+    row: usize,
+    found: Result<Outcome, AllocError>,
+    wanted: Outcome,
+) -> Result<(), AllocError> {
+    let found = found?;
+    assert_eq!(rt; found, wanted, "row {row}");
+    Ok(())
+}
+
+/// Asks that of so many random records neither few nor most are legal.
+pub fn expect_mixed(rt: &impl Abort, legal: u32, records: u32) {
+    let is_mixed = records / 5 < legal && legal < records / 5 * 4;
+    assert!(rt; is_mixed, "{legal} of {records} are legal");
 }
 
 /// A call that was answered, from one moment to another.

@@ -1,5 +1,5 @@
 //! Records of shared flows. Each says in its comment why it is legal or illegal.
-use crate::tests::records::Outcome;
+use crate::tests::records::{Outcome, expect};
 use crate::tests::shared_records::{call, judge, pending};
 use flow_check::SharedAnswer::{Done, Empty, Number, Truth, Value, Values};
 use flow_check::SharedOperation::{
@@ -31,20 +31,20 @@ fn judges_a_rendezvous(rt: HostRuntime) -> Result<(), AllocError> {
                 ],
                 &[call(Subscribe(&[]), Done, 0, 1), call(Next, *answer, 5, 6)],
             ],
-        )?;
-        assert_eq!(rt; found, *wanted, "row {place}");
+        );
+        expect(&rt, place, found, *wanted)?;
     }
     // It never returned: it waits still, or the value was received.
-    for answer in [Value(3), Empty] {
+    for (place, answer) in [Value(3), Empty].iter().enumerate() {
         let found = judge(
             rt.alloc(),
             Config::new(),
             &[
                 &[pending(Emit(3), 2)],
-                &[call(Subscribe(&[]), Done, 0, 1), call(Next, answer, 5, 6)],
+                &[call(Subscribe(&[]), Done, 0, 1), call(Next, *answer, 5, 6)],
             ],
-        )?;
-        assert_eq!(rt; found, Outcome::Legal);
+        );
+        expect(&rt, place, found, Outcome::Legal)?;
     }
     Ok(())
 }
@@ -71,21 +71,21 @@ fn judges_cancelled_emits(rt: HostRuntime) -> Result<(), AllocError> {
                 ],
                 &[call(Subscribe(&[]), Done, 0, 1), call(Next, *answer, 5, 6)],
             ],
-        )?;
-        assert_eq!(rt; found, *wanted, "row {place}");
+        );
+        expect(&rt, place, found, *wanted)?;
     }
     // A flow with room takes the value at once, unless the `emit` never began.
-    for answer in [Values(&[3]), Values(&[])] {
+    for (place, answer) in [Values(&[3]), Values(&[])].iter().enumerate() {
         let found = judge(
             rt.alloc(),
             Config::new().replay(1),
             &[&[
                 call(EmitOrNot(3), Done, 0, 1),
                 call(EmitCancelled, Done, 0, 1),
-                call(ReplayCache, answer, 2, 3),
+                call(ReplayCache, *answer, 2, 3),
             ]],
-        )?;
-        assert_eq!(rt; found, Outcome::Legal);
+        );
+        expect(&rt, place, found, Outcome::Legal)?;
     }
     Ok(())
 }
@@ -117,8 +117,8 @@ fn judges_replays(rt: HostRuntime) -> Result<(), AllocError> {
                 ],
                 &[call(Subscribe(&[]), Done, 6, 7), call(Next, *first, 8, 9)],
             ],
-        )?;
-        assert_eq!(rt; found, *wanted, "row {place}");
+        );
+        expect(&rt, place, found, *wanted)?;
     }
     Ok(())
 }
@@ -166,8 +166,8 @@ fn judges_full_buffers(rt: HostRuntime) -> Result<(), AllocError> {
                     call(Next, Empty, 8, 9),
                 ],
             ],
-        )?;
-        assert_eq!(rt; found, *wanted, "row {place}");
+        );
+        expect(&rt, place, found, *wanted)?;
     }
     Ok(())
 }
@@ -200,8 +200,8 @@ fn judges_orders(rt: HostRuntime) -> Result<(), AllocError> {
                 &[call(Emit(1), Done, 2, 4), call(EmitReturned, Done, 2, 4)],
                 &[call(Emit(2), Done, 2, 4), call(EmitReturned, Done, 2, 4)],
             ],
-        )?;
-        assert_eq!(rt; found, *wanted, "row {place}");
+        );
+        expect(&rt, place, found, *wanted)?;
     }
     Ok(())
 }
@@ -233,10 +233,10 @@ fn judges_resets_and_counts(rt: HostRuntime) -> Result<(), AllocError> {
                     call(SubscriptionCount, *count, 8, 8),
                 ],
             ],
-        )?;
-        assert_eq!(rt; found, *wanted, "row {place}");
+        );
+        expect(&rt, place, found, *wanted)?;
     }
-    let without = judge(rt.alloc(), Config::new(), &[&[call(Next, Empty, 0, 1)]])?;
-    assert_eq!(rt; without, Outcome::Illegal);
+    let without = judge(rt.alloc(), Config::new(), &[&[call(Next, Empty, 0, 1)]]);
+    expect(&rt, rows.len(), without, Outcome::Illegal)?;
     Ok(())
 }

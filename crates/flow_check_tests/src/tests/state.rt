@@ -1,6 +1,6 @@
 //! Records of state flows. Each says in its comment why it is legal or illegal.
 use crate::tests::records::Outcome::{BeginsEarly, EndsEarly, GaveUp, Illegal, Legal};
-use crate::tests::records::{call, judge, order_of, pending};
+use crate::tests::records::{call, expect, judge, order_of, pending};
 use flow_check::StateAnswer::{Done, Empty, Number, Truth, Value};
 use flow_check::StateOperation;
 use flow_check::StateOperation::{
@@ -47,8 +47,8 @@ fn judges_reads(rt: HostRuntime) -> Result<(), AllocError> {
     ];
     for (place, (one, operation, answer, begin, wanted)) in rows.iter().enumerate() {
         let other = call(*operation, *answer, *begin, 3);
-        let found = judge(rt.alloc(), TURNS, &[&[*one], &[other]])?;
-        assert_eq!(rt; found, *wanted, "row {place}");
+        let found = judge(rt.alloc(), TURNS, &[&[*one], &[other]]);
+        expect(&rt, place, found, *wanted)?;
     }
     Ok(())
 }
@@ -70,8 +70,8 @@ fn judges_exchanges(rt: HostRuntime) -> Result<(), AllocError> {
                 &[call(CompareAndSet(0, 1), *one, 0, 3)],
                 &[call(CompareAndSet(0, 2), *other, 1, 2)],
             ],
-        )?;
-        assert_eq!(rt; found, *wanted, "row {place}");
+        );
+        expect(&rt, place, found, *wanted)?;
     }
     Ok(())
 }
@@ -102,8 +102,8 @@ fn judges_subscribers(rt: HostRuntime) -> Result<(), AllocError> {
                 ],
                 &[call(*first, Done, 4, 5), call(*second, Done, 6, 7)],
             ],
-        )?;
-        assert_eq!(rt; found, *wanted, "row {place}");
+        );
+        expect(&rt, place, found, *wanted)?;
     }
     Ok(())
 }
@@ -127,11 +127,11 @@ fn judges_counts(rt: HostRuntime) -> Result<(), AllocError> {
                 &[call(Subscribe, Done, 1, 2), call(Unsubscribe, Done, 4, 5)],
                 &[call(SubscriptionCount, Number(*count), *begin, *begin)],
             ],
-        )?;
-        assert_eq!(rt; found, *wanted, "row {place}");
+        );
+        expect(&rt, place, found, *wanted)?;
     }
-    let without = judge(rt.alloc(), TURNS, &[&[call(Next, Value(0), 0, 1)]])?;
-    assert_eq!(rt; without, Illegal);
+    let without = judge(rt.alloc(), TURNS, &[&[call(Next, Value(0), 0, 1)]]);
+    expect(&rt, rows.len(), without, Illegal)?;
     Ok(())
 }
 
@@ -178,8 +178,8 @@ fn refuses_records(rt: HostRuntime) -> Result<(), AllocError> {
         ),
     ];
     for (place, (one, other, budget, wanted)) in rows.iter().enumerate() {
-        let found = judge(rt.alloc(), *budget, &[&[*one, *other]])?;
-        assert_eq!(rt; found, *wanted, "row {place}");
+        let found = judge(rt.alloc(), *budget, &[&[*one, *other]]);
+        expect(&rt, place, found, *wanted)?;
     }
     Ok(())
 }
