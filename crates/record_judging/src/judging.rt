@@ -50,40 +50,8 @@ pub fn number_at(sheet: &Sheet, caller: usize, index: usize) -> usize {
     0
 }
 
-fn faulty(sheet: &Sheet, fault: Fault) -> Outcome {
-    Outcome::Faulty(fault, number_at(sheet, fault.caller, fault.index))
-}
-
-fn judge_state(
-    alloc: Global,
-    sheet: &Sheet,
-    rows: &[Vec<WrittenCall>],
-    initial: u64,
-) -> Result<Outcome, AllocError> {
-    let callers = state_callers(alloc, rows, sheet.lists.as_slice())?;
-    match Record::new(callers) {
-        Ok(record) => {
-            let verdict = check_state(alloc, initial, &record, turns(sheet.count))?;
-            Ok(Outcome::Judged(verdict))
-        }
-        Err(fault) => Ok(faulty(sheet, fault)),
-    }
-}
-
-fn judge_shared(
-    alloc: Global,
-    sheet: &Sheet,
-    rows: &[Vec<WrittenCall>],
-    config: Config,
-) -> Result<Outcome, AllocError> {
-    let callers = shared_callers(alloc, rows, sheet.lists.as_slice())?;
-    match Record::new(callers) {
-        Ok(record) => {
-            let verdict = check_shared(alloc, config, &record, turns(sheet.count))?;
-            Ok(Outcome::Judged(verdict))
-        }
-        Err(fault) => Ok(faulty(sheet, fault)),
-    }
+fn number_of(sheet: &Sheet, fault: Fault) -> usize {
+    number_at(sheet, fault.caller, fault.index)
 }
 
 /// Judges these calls of the callers of a record.
@@ -92,9 +60,21 @@ pub fn judge(
     sheet: &Sheet,
     rows: &[Vec<WrittenCall>],
 ) -> Result<Outcome, AllocError> {
-    match sheet.flow {
-        WrittenFlow::State { initial } => judge_state(alloc, sheet, rows, initial),
-        WrittenFlow::Shared(config) => judge_shared(alloc, sheet, rows, config),
+    let lists = sheet.lists.as_slice();
+    let budget = turns(sheet.count);
+    let judged = match sheet.flow {
+        WrittenFlow::State { initial } => match Record::new(state_callers(alloc, rows, lists)?) {
+            Ok(record) => Ok(check_state(alloc, initial, &record, budget)?),
+            Err(fault) => Err(fault),
+        },
+        WrittenFlow::Shared(config) => match Record::new(shared_callers(alloc, rows, lists)?) {
+            Ok(record) => Ok(check_shared(alloc, config, &record, budget)?),
+            Err(fault) => Err(fault),
+        },
+    };
+    match judged {
+        Ok(verdict) => Ok(Outcome::Judged(verdict)),
+        Err(fault) => Ok(Outcome::Faulty(fault, number_of(sheet, fault))),
     }
 }
 
