@@ -38,7 +38,7 @@ text{fill:#e6edf3}
 }
 </style>";
 
-/// Returns what stands for a letter that is markup, or that no text may have.
+/// Returns what is written for a letter that is markup, or that no text may have.
 fn escape_of(letter: char) -> Option<&'static str> {
     match letter {
         '&' => Some("&amp;"),
