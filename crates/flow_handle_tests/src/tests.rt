@@ -7,7 +7,6 @@ mod errors;
 mod first;
 mod flows;
 mod leaving;
-mod many_threads;
 mod refusals;
 mod shared;
 mod state;

@@ -1,104 +1,164 @@
-//! Several emitters and readers that wait for each other, with little room or none.
+//! Emitters and readers, each on a thread of its own, that sleep while they wait for each other and give way now and then: a few
+//! with little room or none, and many more threads than cores.
 use crate::tests::compare::compare;
 use flow_law::{Config, OutOfMemory};
 use flow_shared::{Emitter, Reader, SharedFlow};
 use std::alloc::Global;
 use std::sync::Wait;
-use std::thread::{Threads, join};
+use std::thread::{Threads, for_each_mut, yield_now};
 
-/// How many values each emitter sends.
-const COUNT: i64 = 2000;
+/// How many emitters and readers there are, and how many values each emitter sends.
+#[derive(Clone, Copy)]
+struct Crowd {
+    emitters: u32,
+    readers: u32,
+    count: u32,
+}
 
-/// What a reader has received: the last value of each of the two emitters, and whether each value was the next one of its
-/// emitter.
+/// What one thread does: it sends the values of one emitter, or receives those of all.
+#[derive(Drop)]
+enum Part<'a> {
+    Send(Emitter<'a, i64>),
+    Receive(Reader<'a, i64>),
+}
+
+#[derive(Drop)]
+struct Worker<'a> {
+    part: Part<'a>,
+    number: u32,
+    is_right: bool,
+}
+
+/// How many values a reader has received of each emitter, and whether they came in order. A value is 32 times its place among
+/// the values of its emitter, plus that emitter's number.
 #[derive(Drop)]
 struct Heard {
-    first: i64,
-    second: i64,
+    counts: [i64; 32],
     in_order: bool,
 }
 
 impl Heard {
     fn new() -> Heard {
         Heard {
-            first: 0,
-            second: 0,
+            counts: [0; 32],
             in_order: true,
         }
     }
 
-    /// The first emitter sends positive values, the second one negative values.
     fn add(&mut self, value: i64) {
-        if value > 0 {
-            self.in_order = self.in_order && value.wrapping_sub(self.first) == 1;
-            self.first = value;
-        } else {
-            self.in_order = self.in_order && self.second.wrapping_sub(value) == 1;
-            self.second = value;
-        }
-    }
-
-    fn is_all(&self) -> bool {
-        self.in_order && self.first == COUNT && self.second.wrapping_add(COUNT) == 0
+        let count = &mut self.counts[(value & 31) as usize];
+        self.in_order = self.in_order && value >> 5 == *count;
+        *count = count.wrapping_add(1);
     }
 }
 
-/// Sends the values from 1 to 2,000, each times the sign. Returns whether all were taken.
-fn send_signed<R: Wait>(rt: &R, emitter: &mut Emitter<'_, i64>, sign: i64) -> bool {
-    for value in 1..=COUNT {
-        if emitter.send(rt, value.wrapping_mul(sign)).is_err() {
+/// Sends the values of the emitter of this number. Returns whether all were taken.
+fn send_all<R: Wait>(rt: &R, emitter: &mut Emitter<'_, i64>, number: u32, count: u32) -> bool {
+    for place in 0..count {
+        let value = i64::from(place)
+            .wrapping_mul(32)
+            .wrapping_add(i64::from(number));
+        if emitter.send(rt, value).is_err() {
             return false;
+        }
+        if place.wrapping_rem(7) == 0 {
+            yield_now();
         }
     }
     true
 }
 
-/// Receives as many values as the two emitters send. Returns whether each value of each emitter came, in order.
-fn receive_all<R: Wait>(rt: &R, reader: &mut Reader<'_, i64>) -> Result<bool, OutOfMemory> {
+/// Receives so many values. Returns whether those of each emitter came in order, so that none was left out.
+fn receive_all<R: Wait>(
+    rt: &R,
+    reader: &mut Reader<'_, i64>,
+    count: u32,
+) -> Result<bool, OutOfMemory> {
     let mut heard = Heard::new();
-    for _ in 0..4000u32 {
+    for place in 0..count {
         heard.add(reader.receive(rt)?);
+        if place.wrapping_rem(5) == 0 {
+            yield_now();
+        }
     }
-    Ok(heard.is_all())
+    Ok(heard.in_order)
 }
 
-/// Two threads send, and three receive.
-fn crowd<R: Wait + Threads + Sync>(rt: &R, alloc: Global, extra: u32) -> Option<[bool; 5]> {
+impl<'a> Worker<'a> {
+    fn new(part: Part<'a>, number: u32) -> Worker<'a> {
+        Worker {
+            part,
+            number,
+            is_right: false,
+        }
+    }
+
+    fn run<R: Wait>(&mut self, rt: &R, crowd: Crowd) {
+        let all = crowd.emitters.wrapping_mul(crowd.count);
+        self.is_right = match &mut self.part {
+            Part::Send(emitter) => send_all(rt, emitter, self.number, crowd.count),
+            Part::Receive(reader) => receive_all(rt, reader, all) == Ok(true),
+        };
+    }
+}
+
+/// The workers of a flow: all readers, and then all emitters.
+fn workers<'a, R: Wait>(
+    rt: &R,
+    alloc: Global,
+    emitter: &mut Emitter<'a, i64>,
+    crowd: Crowd,
+) -> Option<Vec<Worker<'a>>> {
+    let mut workers = Vec::new(alloc);
+    for number in 0..crowd.readers {
+        let part = Part::Receive(emitter.subscribe(rt).ok()?);
+        workers.push(Worker::new(part, number)).ok()?;
+    }
+    for number in 0..crowd.emitters {
+        let part = Part::Send(emitter.another());
+        workers.push(Worker::new(part, number)).ok()?;
+    }
+    Some(workers)
+}
+
+/// Runs each worker in a thread of its own. Returns how many were wrong.
+fn run_all<R: Wait + Threads + Sync>(
+    rt: &R,
+    alloc: Global,
+    crowd: Crowd,
+    extra: u32,
+) -> Option<usize> {
     let (flow, seat) = SharedFlow::new(alloc, Config::new().extra(extra)).ok()?;
-    let mut one = flow.emitter(seat);
-    let mut other = one.another();
-    let mut a = one.subscribe(rt).ok()?;
-    let mut b = one.subscribe(rt).ok()?;
-    let mut c = one.subscribe(rt).ok()?;
-    let send = || {
-        join(
-            rt,
-            || send_signed(rt, &mut one, 1),
-            || send_signed(rt, &mut other, -1),
-        )
+    let mut emitter = flow.emitter(seat);
+    let mut workers = workers(rt, alloc, &mut emitter, crowd)?;
+    let threads = workers.len().max(1);
+    for_each_mut(
+        rt,
+        &mut workers,
+        threads,
+        &|_, worker| worker.run(rt, crowd),
+    );
+    Some(workers.iter().filter(|worker| !worker.is_right).count())
+}
+
+#[test]
+fn sixty_four_threads_with_room_for_four(rt: HostRuntime) {
+    let crowd = Crowd {
+        emitters: 32,
+        readers: 32,
+        count: 50,
     };
-    let receive_two = || join(rt, || receive_all(rt, &mut a), || receive_all(rt, &mut b));
-    let receive = || join(rt, receive_two, || receive_all(rt, &mut c));
-    let ((first, second), ((a, b), c)) = join(rt, send, receive);
-    Some([first, second, a == Ok(true), b == Ok(true), c == Ok(true)])
+    compare(&rt, 0, run_all(&rt, rt.alloc(), crowd, 4), Some(0));
 }
 
 #[test]
-fn two_emitters_and_three_readers_without_room(rt: HostRuntime) {
-    compare(&rt, 0, crowd(&rt, rt.alloc(), 0), Some([true; 5]));
-}
-
-#[test]
-fn two_emitters_and_three_readers_with_room_for_one(rt: HostRuntime) {
-    compare(&rt, 0, crowd(&rt, rt.alloc(), 1), Some([true; 5]));
-}
-
-#[test]
-fn two_emitters_and_three_readers_with_room_for_four(rt: HostRuntime) {
-    compare(&rt, 0, crowd(&rt, rt.alloc(), 4), Some([true; 5]));
-}
-
-#[test]
-fn two_emitters_and_three_readers_with_room_for_sixteen(rt: HostRuntime) {
-    compare(&rt, 0, crowd(&rt, rt.alloc(), 16), Some([true; 5]));
+fn two_emitters_and_three_readers_with_room_for_16_at_most(rt: HostRuntime) {
+    let crowd = Crowd {
+        emitters: 2,
+        readers: 3,
+        count: 2000,
+    };
+    for (place, extra) in [0, 1, 4, 16].iter().enumerate() {
+        compare(&rt, place, run_all(&rt, rt.alloc(), crowd, *extra), Some(0));
+    }
 }
