@@ -14,6 +14,7 @@ mod streams;
 mod threads;
 mod timeouts;
 mod turns;
+mod two_threads;
 mod waits;
 mod word;
 mod word_waits;

@@ -2,82 +2,87 @@
 ghost use Rattle.std.specs.Prelude.{◌≡◌};
 
 use crate::tests::compare::compare;
+use crate::tests::flows::lend_shared;
 use flow_law::{Config, EmitNowError, NumberError, Rejected};
 use flow_shared::{BoundEmission, EmitAnswer, Emitter, PollAnswer, Reader, Seat, SharedFlow};
+use std::process::Abort;
 use std::sync::Wait;
 
-fn queued<'a, E: Drop>(answer: EmitAnswer<'a, i64, E>) -> Option<BoundEmission<'a, i64>> {
+/// Returns the emission, which has to wait.
+pub fn queued<'a, R: Abort, E: Drop>(
+    rt: &R,
+    answer: EmitAnswer<'a, i64, E>,
+) -> BoundEmission<'a, i64> {
     match answer {
-        EmitAnswer::Queued(emission) => Some(emission),
-        EmitAnswer::Done(_emitter) => None,
-        EmitAnswer::Refused(_emitter, _rejected) => None,
+        EmitAnswer::Queued(emission) => emission,
+        EmitAnswer::Done(_emitter) => panic!(rt; "it waits"),
+        EmitAnswer::Refused(_emitter, _rejected) => panic!(rt; "it waits"),
     }
 }
 
-fn rejected<'a, E: Drop>(
-    answer: EmitAnswer<'a, i64, E>,
-) -> Option<(Emitter<'a, i64>, Rejected<i64, E>)> {
+fn rejected<E: Drop>(answer: EmitAnswer<'_, i64, E>) -> Option<Rejected<i64, E>> {
     match answer {
-        EmitAnswer::Refused(emitter, rejected) => Some((emitter, rejected)),
+        EmitAnswer::Refused(_emitter, rejected) => Some(rejected),
         EmitAnswer::Done(_emitter) => None,
         EmitAnswer::Queued(_emission) => None,
     }
 }
 
-fn waiting<'a>(answer: PollAnswer<'a, i64>) -> Option<BoundEmission<'a, i64>> {
+/// Returns the emission, which still waits.
+fn waiting<'a, R: Abort>(rt: &R, answer: PollAnswer<'a, i64>) -> BoundEmission<'a, i64> {
     match answer {
-        PollAnswer::Waiting(emission) => Some(emission),
-        PollAnswer::Done(_emitter) => None,
+        PollAnswer::Waiting(emission) => emission,
+        PollAnswer::Done(_emitter) => panic!(rt; "it waits"),
     }
 }
 
-fn done<'a>(answer: PollAnswer<'a, i64>) -> Option<Emitter<'a, i64>> {
+fn is_done(answer: PollAnswer<'_, i64>) -> bool {
     match answer {
-        PollAnswer::Done(emitter) => Some(emitter),
-        PollAnswer::Waiting(_emission) => None,
+        PollAnswer::Done(_emitter) => true,
+        PollAnswer::Waiting(_emission) => false,
     }
 }
 
 /// A flow without a buffer: an emission waits until the subscriber has its value.
-fn waits_and_ends<'a, R: Wait>(
+fn waits_and_ends<R: Wait + Abort>(
     rt: &R,
-    emitter: Emitter<'a, i64>,
+    emitter: &mut Emitter<'_, i64>,
     reader: &mut Reader<'_, i64>,
-) -> Option<Emitter<'a, i64>> {
-    let emission = queued(emitter.emit(rt, 1))?;
-    let emission = waiting(emission.poll(rt))?;
-    let emission = waiting(emission.try_poll().ok()?)?;
-    if reader.next(rt) != Ok(Some(1)) {
-        return None;
-    }
-    done(emission.poll(rt))
+) {
+    let emission = queued(rt, emitter.another().emit(rt, 1));
+    let emission = waiting(rt, emission.poll(rt));
+    let polled = emission.try_poll().ok().expect(rt, "no other caller");
+    let emission = waiting(rt, polled);
+    compare(rt, 0, reader.next(rt), Ok(Some(1)));
+    compare(rt, 1, is_done(emission.poll(rt)), true);
 }
 
-/// A cancelled emission is received by nobody.
-fn is_cancelled<'a, R: Wait>(
+/// No reader receives the value of a cancelled emission.
+fn is_cancelled<R: Wait + Abort>(
     rt: &R,
-    emitter: Emitter<'a, i64>,
+    emitter: &mut Emitter<'_, i64>,
     reader: &mut Reader<'_, i64>,
-) -> Option<Emitter<'a, i64>> {
-    let emission = queued(emitter.emit_now(2))?;
-    let (emitter, first) = emission.cancel(rt);
-    let emission = queued(emitter.emit(rt, 3))?;
-    let (emitter, second) = emission.try_cancel().ok()?;
-    if first && second && reader.next(rt) == Ok(None) {
-        Some(emitter)
-    } else {
-        None
-    }
+) {
+    let emission = queued(rt, emitter.another().emit_now(2));
+    compare(rt, 0, emission.cancel(rt).1, true);
+    let emission = queued(rt, emitter.another().emit(rt, 3));
+    let cancelled = emission.try_cancel().ok().expect(rt, "no other caller");
+    compare(rt, 1, cancelled.1, true);
+    compare(rt, 2, reader.next(rt), Ok(None));
+}
+
+fn ends_or_is_cancelled<R: Wait + Abort>(
+    rt: &R,
+    emitter: &mut Emitter<'_, i64>,
+    reader: &mut Reader<'_, i64>,
+) {
+    waits_and_ends(rt, emitter, reader);
+    is_cancelled(rt, emitter, reader);
 }
 
 #[test]
 fn an_emission_waits_until_it_is_received_or_cancelled(rt: HostRuntime) {
-    let (flow, seat) = SharedFlow::new(rt.alloc(), Config::new()).expect(&rt, "a flow");
-    let mut emitter = flow.emitter(seat);
-    let mut reader = emitter.subscribe(&rt).expect(&rt, "a reader");
-    let emitter = waits_and_ends(&rt, emitter, &mut reader).expect(&rt, "an emission that ended");
-    let emitter = is_cancelled(&rt, emitter, &mut reader).expect(&rt, "two that were cancelled");
-    compare(&rt, 0, queued(emitter.emit(&rt, 4)).is_some(), true);
+    lend_shared(&rt, Config::new(), ends_or_is_cancelled);
 }
 
 /// Whether the emission of 4 waited that was taken out of its handle and bound again.
@@ -98,20 +103,27 @@ fn an_emission_gives_its_token_back(rt: HostRuntime) {
     compare(&rt, 0, is_bound_again(&rt, &flow, seat), true);
 }
 
-/// What two emissions of 8 and 9 are refused with, where the flow has issued its only number.
-fn refused<'a, R: Wait>(
+/// The reader has the only number, so that none is left for an emission.
+fn is_refused<R: Wait + Abort>(
     rt: &R,
-    emitter: Emitter<'a, i64>,
-) -> Option<(i64, NumberError, i64, EmitNowError)> {
-    let (emitter, first) = rejected(emitter.emit(rt, 8))?;
-    let (_emitter, second) = rejected(emitter.emit_now(9))?;
-    Some((first.value, first.error, second.value, second.error))
+    emitter: &mut Emitter<'_, i64>,
+    _reader: &mut Reader<'_, i64>,
+) {
+    let first = rejected(emitter.another().emit(rt, 8));
+    let wanted = Rejected {
+        value: 8,
+        error: NumberError::Exhausted,
+    };
+    compare(rt, 0, first, Some(wanted));
+    let second = rejected(emitter.another().emit_now(9));
+    let wanted = Rejected {
+        value: 9,
+        error: EmitNowError::Exhausted,
+    };
+    compare(rt, 1, second, Some(wanted));
 }
 
 #[test]
 fn a_refused_emission_hands_the_value_back(rt: HostRuntime) {
-    let made = SharedFlow::new(rt.alloc(), Config::new().limit(0));
-    let (flow, seat) = made.expect(&rt, "a flow");
-    let wanted = (8, NumberError::Exhausted, 9, EmitNowError::Exhausted);
-    compare(&rt, 0, refused(&rt, flow.emitter(seat)), Some(wanted));
+    lend_shared(&rt, Config::new().limit(1), is_refused);
 }

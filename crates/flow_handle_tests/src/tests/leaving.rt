@@ -1,9 +1,11 @@
 //! Callers that leave while others sleep: a cancel, an unsubscribe or a drop wakes the emitter that waited for it, and no reader
 //! misses a value by it. A sleeper that is not woken wakes at its limit, an hour, which no test has.
 use crate::tests::compare::compare;
+use crate::tests::emissions::queued;
+use crate::tests::flows::lend_shared;
+use crate::tests::two_threads::emit_and_read;
 use flow_law::Config;
-use flow_shared::{BoundEmission, EmitAnswer, Emitter, Reader, SendEnd, SharedFlow};
-use std::process::Abort;
+use flow_shared::{BoundEmission, Emitter, Reader, SendEnd};
 use std::sync::Wait;
 use std::thread::{join, sleep};
 use std::time::{Clock, Duration};
@@ -22,6 +24,12 @@ fn send<R: Wait + Clock>(rt: &R, emitter: &mut Emitter<'_, i64>, value: i64) -> 
     emitter.send_timeout(rt, value, an_hour()).ok() == Some(SendEnd::Done)
 }
 
+/// Sends 7. Returns whether the emission was done, and how many subscribers there are then.
+fn send_and_count<R: Wait + Clock>(rt: &R, emitter: &mut Emitter<'_, i64>) -> (bool, u64) {
+    let is_done = send(rt, emitter, 7);
+    (is_done, emitter.subscription_count(rt))
+}
+
 fn leave<R: Wait + Clock>(rt: &R, reader: Reader<'_, i64>) -> u64 {
     pause(rt);
     reader.unsubscribe(rt).subscription_count(rt)
@@ -30,11 +38,9 @@ fn leave<R: Wait + Clock>(rt: &R, reader: Reader<'_, i64>) -> u64 {
 /// Without a buffer `emit` suspends until each subscriber has received the value, or has left.
 #[test]
 fn an_unsubscribe_wakes_an_emitter(rt: HostRuntime) {
-    let (flow, seat) = SharedFlow::new(rt.alloc(), Config::new()).expect(&rt, "a flow");
-    let mut emitter = flow.emitter(seat);
-    let reader = emitter.subscribe(&rt).expect(&rt, "a reader");
-    let (sent, left) = join(&rt, || send(&rt, &mut emitter, 7), || leave(&rt, reader));
-    compare(&rt, 0, (sent, left), (true, 0));
+    let (sent, left) = emit_and_read(&rt, Config::new(), send_and_count, leave);
+    compare(&rt, 0, sent, (true, 0));
+    compare(&rt, 1, left, 0);
 }
 
 fn drop_late<R: Wait + Clock>(rt: &R, reader: Reader<'_, i64>) {
@@ -44,25 +50,8 @@ fn drop_late<R: Wait + Clock>(rt: &R, reader: Reader<'_, i64>) {
 
 #[test]
 fn a_dropped_reader_wakes_an_emitter(rt: HostRuntime) {
-    let (flow, seat) = SharedFlow::new(rt.alloc(), Config::new()).expect(&rt, "a flow");
-    let mut emitter = flow.emitter(seat);
-    let reader = emitter.subscribe(&rt).expect(&rt, "a reader");
-    let (sent, _dropped) = join(
-        &rt,
-        || send(&rt, &mut emitter, 7),
-        || drop_late(&rt, reader),
-    );
-    compare(&rt, 0, sent, true);
-    compare(&rt, 1, emitter.subscription_count(&rt), 0);
-}
-
-/// Emits a value that has to wait.
-fn emit_waiting<'a, R: Wait + Abort>(rt: &R, emitter: Emitter<'a, i64>) -> BoundEmission<'a, i64> {
-    match emitter.emit(rt, 1) {
-        EmitAnswer::Queued(emission) => emission,
-        EmitAnswer::Done(_emitter) => panic!(rt; "it waits"),
-        EmitAnswer::Refused(_emitter, _rejected) => panic!(rt; "it waits"),
-    }
+    let (sent, ()) = emit_and_read(&rt, Config::new(), send_and_count, drop_late);
+    compare(&rt, 0, sent, (true, 0));
 }
 
 /// Cancels the emission, and receives the next value. Returns whether it waited, and the value.
@@ -72,60 +61,56 @@ fn cancel_then_receive<R: Wait + Clock>(
     reader: &mut Reader<'_, i64>,
 ) -> (bool, Option<i64>) {
     pause(rt);
-    let (_emitter, was_waiting) = emission.cancel(rt);
+    let was_waiting = emission.cancel(rt).1;
     let received = reader.receive_timeout(rt, an_hour());
     (was_waiting, received.unwrap_or(None))
 }
 
 /// The value 1 is offered, and 2 waits behind it. The subscriber gets 2 only, after 1 was cancelled.
+fn lets_the_next_in(
+    rt: &HostRuntime,
+    emitter: &mut Emitter<'_, i64>,
+    reader: &mut Reader<'_, i64>,
+) {
+    let emission = queued(rt, emitter.another().emit(rt, 1));
+    let (sent, received) = join(
+        rt,
+        || send(rt, emitter, 2),
+        || cancel_then_receive(rt, emission, reader),
+    );
+    compare(rt, 0, sent, true);
+    compare(rt, 1, received, (true, Some(2)));
+}
+
 #[test]
 fn a_cancel_lets_the_next_emission_in(rt: HostRuntime) {
-    let (flow, seat) = SharedFlow::new(rt.alloc(), Config::new()).expect(&rt, "a flow");
-    let mut emitter = flow.emitter(seat);
-    let mut reader = emitter.subscribe(&rt).expect(&rt, "a reader");
-    let emission = emit_waiting(&rt, emitter.another());
-    let (sent, received) = join(
-        &rt,
-        || send(&rt, &mut emitter, 2),
-        || cancel_then_receive(&rt, emission, &mut reader),
-    );
-    compare(&rt, 0, sent, true);
-    compare(&rt, 1, received, (true, Some(2)));
+    lend_shared(&rt, Config::new(), lets_the_next_in);
 }
 
 /// Another subscriber leaves, an emission is dropped while it waits, and then a value is sent.
-fn leave_then_send<R: Wait + Clock>(
-    rt: &R,
-    other: Reader<'_, i64>,
-    emitter: &mut Emitter<'_, i64>,
-) -> bool {
+fn leave_then_send<R: Wait + Clock>(rt: &R, emitter: &mut Emitter<'_, i64>) -> bool {
+    let Ok(other) = emitter.subscribe(rt) else {
+        return false;
+    };
     pause(rt);
     let left = other.unsubscribe(rt);
     drop(left.emit(rt, 6));
     send(rt, emitter, 7)
 }
 
-/// A reader that sleeps gets the next value, 6 or 7, since a subscriber that is there may receive an offered value before it is
-/// withdrawn.
-#[test]
-fn a_sleeper_outlasts_others_that_leave(rt: HostRuntime) {
-    let (flow, seat) = SharedFlow::new(rt.alloc(), Config::new()).expect(&rt, "a flow");
-    let mut emitter = flow.emitter(seat);
-    let mut reader = emitter.subscribe(&rt).expect(&rt, "a reader");
-    let other = emitter.subscribe(&rt).expect(&rt, "a reader");
-    let (received, sent) = join(
-        &rt,
-        || receive_up_to_seven(&rt, &mut reader),
-        || leave_then_send(&rt, other, &mut emitter),
-    );
-    compare(&rt, 0, (received, sent), (true, true));
-}
-
 /// Returns whether 7 came, as the first value or after 6.
-fn receive_up_to_seven<R: Wait + Clock>(rt: &R, reader: &mut Reader<'_, i64>) -> bool {
+fn receive_up_to_seven<R: Wait + Clock>(rt: &R, mut reader: Reader<'_, i64>) -> bool {
     let first = reader.receive_timeout(rt, an_hour()).unwrap_or(None);
     if first != Some(6) {
         return first == Some(7);
     }
     reader.receive_timeout(rt, an_hour()).unwrap_or(None) == Some(7)
+}
+
+/// A reader that sleeps gets the next value, 6 or 7, since a subscriber that is there may receive an offered value before it is
+/// withdrawn.
+#[test]
+fn a_sleeper_outlasts_others_that_leave(rt: HostRuntime) {
+    let done = emit_and_read(&rt, Config::new(), leave_then_send, receive_up_to_seven);
+    compare(&rt, 0, done, (true, true));
 }

@@ -67,5 +67,5 @@ fn sets_and_reads<R: Wait + Abort + AllocGlobal>(
 
 #[test]
 fn a_setter_sets_what_its_reader_reads(rt: HostRuntime) {
-    lend_state(&rt, 7, 8, sets_and_reads);
+    lend_state(&rt, 8, sets_and_reads);
 }

@@ -1,17 +1,20 @@
 //! Readers as streams, and handles as futures: their tasks sleep in an executor until the flow wakes them.
 use crate::tests::compare::compare;
+use crate::tests::flows::{lend_shared, lend_state};
+use crate::tests::two_threads::{emit_and_read, set_and_read};
 use flow_law::{Config, OutOfMemory};
-use flow_shared::{Emitter, Reader, Setter, SharedFlow, StateFlow};
-use futures::StreamExt;
+use flow_shared::{Emitter, Reader, Setter, StateReader};
 use futures::executor::block_on;
+use futures::{Stream, StreamExt};
 use std::alloc::AllocGlobal;
+use std::process::Abort;
 use std::random::RandomSource;
 use std::sync::Wait;
-use std::thread::{join, sleep};
+use std::thread::sleep;
 use std::time::{Clock, Duration};
 
 /// Sends 1 and 2, and lets the reader sleep before each of them.
-fn send_slowly<R: Wait + Clock>(rt: &R, emitter: &mut Emitter<'_, i64>) -> bool {
+pub fn send_slowly<R: Wait + Clock>(rt: &R, emitter: &mut Emitter<'_, i64>) -> bool {
     for value in 1..=2i64 {
         sleep(rt, Duration::from_millis(2));
         if emitter.send(rt, value).is_err() {
@@ -21,85 +24,98 @@ fn send_slowly<R: Wait + Clock>(rt: &R, emitter: &mut Emitter<'_, i64>) -> bool 
     true
 }
 
-/// The two values that the reader receives next, by way of a stream.
+/// Returns the next `count` values of a stream.
+pub fn next_of<R: Wait + RandomSource + AllocGlobal, S: Stream<Item: Drop>>(
+    rt: &R,
+    stream: S,
+    count: usize,
+) -> Option<Vec<S::Item>>
+    requires { S.can_poll stream }
+{
+    let given = block_on(rt, stream.take(count).collect(rt.alloc())).ok()?;
+    given.ok()
+}
+
 fn next_two<R: Wait + RandomSource + AllocGlobal>(
     rt: &R,
     reader: Reader<'_, i64>,
 ) -> Option<Vec<Result<i64, OutOfMemory>>> {
-    let two = reader.into_stream().take(2);
-    let given = block_on(rt, two.collect(rt.alloc())).ok()?;
-    given.ok()
+    next_of(rt, reader.into_stream(), 2)
 }
 
 /// `take(2).toList()` of a flow that emits 1 and 2 is `[1, 2]`.
 #[test]
 fn a_stream_of_a_reader_serves_combinators(rt: HostRuntime) {
-    let made = SharedFlow::new(rt.alloc(), Config::new().extra(2));
-    let (flow, seat) = made.expect(&rt, "a flow");
-    let mut emitter = flow.emitter(seat);
-    let reader = emitter.subscribe(&rt).expect(&rt, "a reader");
-    let (given, sent) = join(
-        &rt,
-        || next_two(&rt, reader),
-        || send_slowly(&rt, &mut emitter),
-    );
+    let config = Config::new().extra(2);
+    let (sent, given) = emit_and_read(&rt, config, send_slowly, next_two);
     let values = given.expect(&rt, "two values");
     compare(&rt, 0, values.as_slice(), [Ok(1), Ok(2)].as_slice());
     compare(&rt, 1, sent, true);
 }
 
+/// A new reader gets the state, which is 7.
+fn streams_its_value<R: Wait + RandomSource + Abort + AllocGlobal>(
+    rt: &R,
+    setter: &mut Setter<'_, i64>,
+    _reader: &mut StateReader<'_, i64>,
+) {
+    let reader = setter.subscribe(rt).expect(rt, "a reader");
+    let values = next_of(rt, reader.into_stream(), 1).expect(rt, "a value");
+    compare(rt, 0, values.as_slice(), [Ok(7)].as_slice());
+}
+
 /// `take(1).toList()` of a state that is 7 is `[7]`.
 #[test]
 fn a_stream_of_a_state_begins_with_its_value(rt: HostRuntime) {
-    let (flow, seat) = StateFlow::new(rt.alloc(), 7, 1).expect(&rt, "a flow");
-    let mut setter = flow.setter(seat);
-    let reader = setter.subscribe(&rt).expect(&rt, "a reader");
-    let one = reader.into_stream().take(1);
-    let given = block_on(&rt, one.collect(rt.alloc())).expect(&rt, "an executor");
-    let values = given.expect(&rt, "memory");
-    compare(&rt, 0, values.as_slice(), [Ok(7)].as_slice());
+    lend_state(&rt, 2, streams_its_value);
 }
 
 /// A value that is sent by a future is received by another.
-#[test]
-fn a_value_goes_from_future_to_future(rt: HostRuntime) {
-    let made = SharedFlow::new(rt.alloc(), Config::new().extra(1));
-    let (flow, seat) = made.expect(&rt, "a flow");
-    let mut emitter = flow.emitter(seat);
-    let reader = emitter.subscribe(&rt).expect(&rt, "a reader");
-    let _sent = block_on(&rt, emitter.into_send(7)).expect(&rt, "an executor");
-    let given = block_on(&rt, reader.into_receive()).expect(&rt, "an executor");
-    compare(&rt, 0, given.1, Ok(7));
+fn sends_and_receives<R: Wait + RandomSource + Abort + AllocGlobal>(
+    rt: &R,
+    emitter: &mut Emitter<'_, i64>,
+    _reader: &mut Reader<'_, i64>,
+) {
+    let reader = emitter.subscribe(rt).expect(rt, "a reader");
+    let sent = block_on(rt, emitter.another().into_send(7));
+    compare(rt, 0, sent.is_ok(), true);
+    let given = block_on(rt, reader.into_receive()).expect(rt, "an executor");
+    compare(rt, 1, given.1, Ok(7));
 }
 
-fn set_late<R: Wait + Clock>(rt: &R, setter: &mut Setter<'_, i64>) {
-    sleep(rt, Duration::from_millis(2));
-    setter.set(rt, 1);
+#[test]
+fn a_value_goes_from_future_to_future(rt: HostRuntime) {
+    lend_shared(&rt, Config::new().extra(1), sends_and_receives);
+}
+
+/// Awaits a change, and looks for another one, which does not come.
+fn change_and_next<R: Wait + RandomSource + AllocGlobal>(
+    rt: &R,
+    reader: StateReader<'_, i64>,
+) -> Option<(Result<i64, OutOfMemory>, Result<Option<i64>, OutOfMemory>)> {
+    let (mut reader, value) = block_on(rt, reader.into_changed()).ok()?;
+    Some((value, reader.next(rt)))
 }
 
 /// The reader has got 0. Its task sleeps until 1 is set.
 #[test]
 fn a_future_of_a_state_waits_for_a_change(rt: HostRuntime) {
-    let (flow, seat) = StateFlow::new(rt.alloc(), 0, 1).expect(&rt, "a flow");
-    let mut setter = flow.setter(seat);
-    let mut reader = setter.subscribe(&rt).expect(&rt, "a reader");
-    compare(&rt, 0, reader.next(&rt), Ok(Some(0)));
-    let (given, _set) = join(
-        &rt,
-        || block_on(&rt, reader.into_changed()),
-        || set_late(&rt, &mut setter),
-    );
-    let (mut reader, value) = given.expect(&rt, "an executor");
-    compare(&rt, 1, value, Ok(1));
-    compare(&rt, 2, reader.next(&rt), Ok(None));
+    let found = set_and_read(&rt, 1, Duration::from_millis(2), change_and_next);
+    compare(&rt, 1, found, Some((Ok(1), Ok(None))));
 }
 
 /// A future that is not polled has received nothing, and gives its reader back.
+fn gives_its_reader_back<R: Wait + Abort>(
+    rt: &R,
+    setter: &mut Setter<'_, i64>,
+    _reader: &mut StateReader<'_, i64>,
+) {
+    let future = setter.subscribe(rt).expect(rt, "a reader").into_changed();
+    let mut reader = future.into_reader().expect(rt, "a reader");
+    compare(rt, 0, reader.next(rt), Ok(Some(7)));
+}
+
 #[test]
 fn a_future_of_a_state_gives_its_reader_back(rt: HostRuntime) {
-    let (flow, seat) = StateFlow::new(rt.alloc(), 7, 1).expect(&rt, "a flow");
-    let mut setter = flow.setter(seat);
-    let reader = setter.subscribe(&rt).expect(&rt, "a reader");
-    let mut reader = reader.into_changed().into_reader().expect(&rt, "a reader");
-    compare(&rt, 0, reader.next(&rt), Ok(Some(7)));
+    lend_state(&rt, 2, gives_its_reader_back);
 }

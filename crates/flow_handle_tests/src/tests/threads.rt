@@ -1,9 +1,11 @@
 //! Handles on several threads. What these tests count is only tested: `run_count` of flow_count proves of a state flow without
 //! a lock that no update is lost.
 use crate::tests::compare::compare;
+use crate::tests::flows::lend_state;
 use crate::tests::state::one_more;
+use crate::tests::two_threads::emit_and_read;
 use flow_law::{Config, OutOfMemory};
-use flow_shared::{Emitter, Reader, Setter, SharedFlow, StateFlow};
+use flow_shared::{Emitter, Reader, Setter, StateReader};
 use std::sync::Wait;
 use std::thread::{join, yield_now};
 
@@ -14,39 +16,36 @@ fn count_up<R: Wait>(rt: &R, setter: &mut Setter<'_, i64>) -> Result<(), OutOfMe
     Ok(())
 }
 
+/// Each of two threads adds 1,000 to the state, which was 7.
+fn count_on_two_threads(
+    rt: &HostRuntime,
+    one: &mut Setter<'_, i64>,
+    _reader: &mut StateReader<'_, i64>,
+) {
+    let mut other = one.another();
+    let counted = join(rt, || count_up(rt, one), || count_up(rt, &mut other));
+    compare(rt, 0, counted, (Ok(()), Ok(())));
+    compare(rt, 1, one.value(rt), Ok(2007));
+}
+
 /// No update of two threads is lost.
 #[test]
 fn two_threads_update_one_value(rt: HostRuntime) {
-    let (flow, seat) = StateFlow::new(rt.alloc(), 0, 0).expect(&rt, "a flow");
-    let mut one = flow.setter(seat);
-    let mut other = one.another();
-    let (first, second) = join(
-        &rt,
-        || count_up(&rt, &mut one),
-        || count_up(&rt, &mut other),
-    );
-    compare(&rt, 0, (first, second), (Ok(()), Ok(())));
-    compare(&rt, 1, one.value(&rt), Ok(2000));
+    lend_state(&rt, 1, count_on_two_threads);
 }
 
-/// Emits the numbers from 1 to 1,000, each as soon as there is room. The number of those that were taken.
-fn emit_all<R: Wait>(rt: &R, emitter: &mut Emitter<'_, i64>) -> i64 {
-    let mut value = 1i64;
-    for _ in rt.forever() {
-        if value > 1000 {
-            return 1000;
-        }
-        match emitter.try_emit(rt, value) {
-            Ok(true) => value = value.wrapping_add(1),
-            Ok(false) => yield_now(),
-            Err(_exhausted) => return value,
+/// Emits the numbers from 1 to 1,000, for which there is room. Returns whether all were taken.
+fn emit_all<R: Wait>(rt: &R, emitter: &mut Emitter<'_, i64>) -> bool {
+    for value in 1..=1000i64 {
+        if emitter.try_emit(rt, value) != Ok(true) {
+            return false;
         }
     }
-    unreachable!()
+    true
 }
 
 /// Adds up what came, until 1,000 came.
-fn read_all<R: Wait>(rt: &R, reader: &mut Reader<'_, i64>) -> Result<i64, OutOfMemory> {
+fn read_all<R: Wait>(rt: &R, mut reader: Reader<'_, i64>) -> Result<i64, OutOfMemory> {
     let mut sum = 0i64;
     for _ in rt.forever() {
         match reader.next(rt)? {
@@ -62,14 +61,7 @@ fn read_all<R: Wait>(rt: &R, reader: &mut Reader<'_, i64>) -> Result<i64, OutOfM
 
 #[test]
 fn a_reader_gets_all_that_another_thread_emits(rt: HostRuntime) {
-    let made = SharedFlow::new(rt.alloc(), Config::new().extra(4096));
-    let (flow, seat) = made.expect(&rt, "a flow");
-    let mut emitter = flow.emitter(seat);
-    let mut reader = emitter.subscribe(&rt).expect(&rt, "a reader");
-    let (sum, taken) = join(
-        &rt,
-        || read_all(&rt, &mut reader),
-        || emit_all(&rt, &mut emitter),
-    );
-    compare(&rt, 0, (sum, taken), (Ok(500_500), 1000));
+    let config = Config::new().extra(4096);
+    let (taken, sum) = emit_and_read(&rt, config, emit_all, read_all);
+    compare(&rt, 0, (taken, sum), (true, Ok(500_500)));
 }

@@ -2,6 +2,7 @@
 ghost use Rattle.std.specs.Prelude.{◌≡◌};
 
 use crate::tests::compare::compare;
+use crate::tests::flows::lend_shared;
 use flow_law::{Config, OutOfMemory};
 use flow_shared::{Emitter, Reader, Seat, SharedFlow};
 use std::process::Abort;
@@ -49,13 +50,13 @@ fn a_seat_goes_to_two_threads_in_turn(rt: HostRuntime) {
 
 /// An emitter and a reader of one flow.
 #[derive(Drop)]
-struct Pair<'a, 'b> {
+struct Pair<'a> {
     emitter: Emitter<'a, i64>,
-    reader: Reader<'b, i64>,
+    reader: Reader<'a, i64>,
     ghost one_flow: { reader.flow.table_id ≡ emitter.flow.table_id },
 }
 
-impl<'a, 'b> Pair<'a, 'b> {
+impl<'a> Pair<'a> {
     fn emit<R: Wait>(&mut self, rt: &R, value: i64) -> bool {
         self.emitter.try_emit(rt, value) == Ok(true)
     }
@@ -68,19 +69,25 @@ impl<'a, 'b> Pair<'a, 'b> {
 }
 
 /// The emitter of the pair emits 8 on a thread of its own, which has ended afterwards.
-fn emit_eight_on_a_thread<R: Wait + Threads + Sync>(rt: &R, pair: &mut Pair<'_, '_>) -> bool {
+fn emit_eight_on_a_thread<R: Wait + Threads + Sync>(rt: &R, pair: &mut Pair<'_>) -> bool {
     let (taken, ()) = join(rt, || pair.emit(rt, 8), || ());
     taken
 }
 
-/// The reader has then seen what the other thread emitted, and receives it.
+/// A second reader has then seen what the other thread emitted, and receives it.
+fn meets_after_a_thread(
+    rt: &HostRuntime,
+    emitter: &mut Emitter<'_, i64>,
+    _reader: &mut Reader<'_, i64>,
+) {
+    let reader = emitter.subscribe(rt).expect(rt, "a reader");
+    let emitter = emitter.another();
+    let mut pair = Pair { emitter, reader };
+    compare(rt, 0, emit_eight_on_a_thread(rt, &mut pair), true);
+    compare(rt, 1, pair.meet_and_read(rt), Ok(Some(8)));
+}
+
 #[test]
 fn a_reader_meets_an_emitter_that_was_on_a_thread(rt: HostRuntime) {
-    let made = SharedFlow::new(rt.alloc(), Config::new().extra(4));
-    let (flow, seat) = made.expect(&rt, "a flow");
-    let mut emitter = flow.emitter(seat);
-    let reader = emitter.subscribe(&rt).expect(&rt, "a reader");
-    let mut pair = Pair { emitter, reader };
-    compare(&rt, 0, emit_eight_on_a_thread(&rt, &mut pair), true);
-    compare(&rt, 1, pair.meet_and_read(&rt), Ok(Some(8)));
+    lend_shared(&rt, Config::new().extra(4), meets_after_a_thread);
 }

@@ -1,8 +1,10 @@
 //! Setters and readers of a word state, on one thread.
+ghost use Rattle.std.specs.Prelude.{◌≡◌};
+
 use crate::tests::compare::compare;
 use crate::tests::flows::lend_word;
 use flow_law::Exhausted;
-use flow_word::{WordReader, WordSetter, WordState};
+use flow_word::{WordReader, WordSeat, WordSetter, WordState};
 use std::process::Abort;
 use std::sync::Wait;
 
@@ -41,20 +43,35 @@ fn sets_and_reads<R: Wait + Abort>(
 
 #[test]
 fn a_word_setter_sets_what_its_reader_reads(rt: HostRuntime) {
-    lend_word(&rt, sets_and_reads);
+    lend_word(&rt, 1, sets_and_reads);
+}
+
+/// Two setters and a reader meet, and the reader leaves beside another one.
+fn meets_others<R: Wait + Abort>(rt: &R, setter: &mut WordSetter<'_, i64>) {
+    let mut other = setter.another();
+    setter.meet(&mut other);
+    let mut reader = setter.subscribe(rt).expect(rt, "a reader");
+    setter.meet_reader(&mut reader);
+    let mut left = reader.unsubscribe();
+    compare(rt, 0, left.subscription_count(), 1);
+}
+
+/// What is taken out of handles makes them again.
+fn are_bound_again<R: Wait + Abort>(rt: &R, flow: &WordState<i64>, seat: WordSeat<i64>)
+    requires { seat.table_id ≡ flow.now.table_id }
+{
+    let mut setter = flow.setter(seat);
+    let reader = setter.subscribe(rt).expect(rt, "a reader");
+    let subscription = reader.into_subscription();
+    let mut setter = flow.setter(setter.into_seat());
+    compare(rt, 0, setter.value(), 7);
+    meets_others(rt, &mut setter);
+    let mut left = flow.reader(subscription).unsubscribe();
+    compare(rt, 1, left.subscription_count(), 0);
 }
 
 #[test]
 fn each_word_handle_gives_its_token_back(rt: HostRuntime) {
-    let (flow, seat) = WordState::new(rt.alloc(), 7, 1).expect(&rt, "a flow");
-    let mut setter = flow.setter(seat);
-    let mut reader = setter.subscribe(&rt).expect(&rt, "a reader");
-    let mut other = setter.another();
-    setter.meet(&mut other);
-    setter.meet_reader(&mut reader);
-    let reader = flow.reader(reader.into_subscription());
-    let mut third = reader.unsubscribe();
-    compare(&rt, 0, third.subscription_count(), 0);
-    let mut setter = flow.setter(setter.into_seat());
-    compare(&rt, 1, setter.value(), 7);
+    let (flow, seat) = WordState::new(rt.alloc(), 7, 2).expect(&rt, "a flow");
+    are_bound_again(&rt, &flow, seat);
 }

@@ -1,6 +1,8 @@
 //! Readers of a word state that sleep until there is a value.
 use crate::tests::compare::compare;
+use crate::tests::first::{exceeds_eight, exceeds_three};
 use crate::tests::flows::lend_word;
+use crate::tests::streams::next_of;
 use flow_word::{WordReader, WordSetter, WordState};
 use futures::StreamExt;
 use futures::executor::block_on;
@@ -68,8 +70,7 @@ where
 }
 
 /// Adds up what changed, up to the value 5, which is the last.
-fn sum_up_to_five<R: Wait>(rt: &R, reader: WordReader<'_, i64>) -> i64 {
-    let mut reader = reader;
+fn sum_up_to_five<R: Wait>(rt: &R, mut reader: WordReader<'_, i64>) -> i64 {
     let mut sum = 0i64;
     for _ in rt.forever() {
         let value = reader.changed(rt);
@@ -89,9 +90,8 @@ fn a_word_reader_sleeps_until_the_value_changes(rt: HostRuntime) {
     assert!(rt; sum <= 15 && sum >= 5, "the sum is {sum}");
 }
 
-fn wait_for_four<R: Wait>(rt: &R, reader: WordReader<'_, i64>) -> i64 {
-    let mut reader = reader;
-    reader.wait_for(rt, |value| *value > 3)
+fn wait_for_four<R: Wait>(rt: &R, mut reader: WordReader<'_, i64>) -> i64 {
+    reader.wait_for(rt, exceeds_three)
 }
 
 /// `StateFlow.first { it > 3 }` is 4 if the values are set one after the other, and slowly.
@@ -106,28 +106,21 @@ fn waits_in_time<R: Wait + Clock + Abort>(
     setter: &mut WordSetter<'_, i64>,
     reader: &mut WordReader<'_, i64>,
 ) {
-    compare(rt, 0, reader.changed_timeout(rt, milliseconds(1)), Some(7));
-    compare(rt, 1, reader.changed_timeout(rt, milliseconds(1)), None);
+    let limit = milliseconds(1);
+    compare(rt, 0, reader.changed_timeout(rt, limit), Some(7));
+    compare(rt, 1, reader.changed_timeout(rt, limit), None);
     setter.set(8);
-    compare(
-        rt,
-        2,
-        reader.wait_for_timeout(rt, milliseconds(1), |v| *v > 8),
-        None,
-    );
+    let found = reader.wait_for_timeout(rt, limit, exceeds_eight);
+    compare(rt, 2, found, None);
     setter.set(9);
-    compare(
-        rt,
-        3,
-        reader.wait_for_timeout(rt, milliseconds(1), |v| *v > 8),
-        Some(9),
-    );
+    let found = reader.wait_for_timeout(rt, limit, exceeds_eight);
+    compare(rt, 3, found, Some(9));
     compare(rt, 4, reader.changed_timeout(rt, Duration::ZERO), None);
 }
 
 #[test]
 fn a_wait_of_a_word_reader_ends_in_time(rt: HostRuntime) {
-    lend_word(&rt, waits_in_time);
+    lend_word(&rt, 1, waits_in_time);
 }
 
 /// Awaits a change, and looks for another one, which does not come.
@@ -146,18 +139,16 @@ fn a_task_is_woken_by_a_change(rt: HostRuntime) {
     compare(&rt, 1, found, Some((1, None)));
 }
 
-/// The value that the reader receives next, by way of a stream and its operators.
+/// Returns ten times the value that the reader receives next, by way of a stream and its operators.
 fn next_ten_times<R: Wait + RandomSource + AllocGlobal>(
     rt: &R,
     reader: WordReader<'_, i64>,
 ) -> Option<i64> {
-    let tens = reader.into_stream().take(1).map(ten_times);
-    let given = block_on(rt, tens.collect(rt.alloc())).ok()?;
-    let values = given.ok()?;
+    let values = next_of(rt, reader.into_stream().map(ten_times), 1)?;
     values.first().copied()
 }
 
-/// `drop(1).take(1).map { 10 * it }` of a state that begins with 0 and is set to 1 gives 10.
+/// `drop(1).map { 10 * it }.take(1)` of a state that begins with 0 and is set to 1 gives 10.
 #[test]
 fn a_stream_of_a_word_reader_serves_combinators(rt: HostRuntime) {
     let given = read_and_set(&rt, true, 1, next_ten_times);
