@@ -1,6 +1,7 @@
 //! Waits whose requests for memory are refused, each in turn. A thread without memory for its waker lets other threads go
 //! first and asks again, so the answer is the one that it has with memory.
 use crate::tests::compare::compare;
+use crate::tests::first::exceeds_eight;
 use flow_law::{Config, Rejected};
 use flow_shared::{Emitter, Reader, SendEnd, Setter, SharedFlow, StateFlow, StateReader};
 use flow_testing::Refusing;
@@ -44,16 +45,21 @@ fn waits_in_vain<R: Wait + Clock + Abort, A: Allocator + Copy>(
     compare(rt, 1, sent, Some(SendEnd::Cancelled));
 }
 
+/// Makes a flow, which is not refused memory, and refuses one request of each wait.
+fn refuse_waits<R: Wait + Clock + Abort>(rt: &R, memory: &Refusing<Global>, number: u64) {
+    memory.refuse(0);
+    let made = SharedFlow::<i64, _>::new(memory, Config::new());
+    let (flow, seat) = made.expect(rt, "a flow");
+    let mut emitter = flow.emitter(seat);
+    let mut reader = emitter.subscribe(rt).expect(rt, "a reader");
+    waits_in_vain(rt, &mut emitter, &mut reader, memory, number);
+}
+
 #[test]
 fn refused_waits_end_in_time(rt: HostRuntime) {
     let memory = Refusing::new(rt.alloc());
     for number in 1..=REQUESTS {
-        memory.refuse(0);
-        let made = SharedFlow::<i64, _>::new(&memory, Config::new());
-        let (flow, seat) = made.expect(&rt, "a flow");
-        let mut emitter = flow.emitter(seat);
-        let mut reader = emitter.subscribe(&rt).expect(&rt, "a reader");
-        waits_in_vain(&rt, &mut emitter, &mut reader, &memory, number);
+        refuse_waits(&rt, &memory, number);
     }
     compare(&rt, 2, memory.is_waiting(), true);
 }
@@ -72,19 +78,24 @@ fn changes_in_vain<R: Wait + Clock + Abort, A: Allocator + Copy>(
     refusing.refuse(number);
     compare(rt, 1, reader.changed_timeout(rt, limit), Ok(None));
     refusing.refuse(number);
-    let found = reader.wait_for_timeout(rt, limit, |v| *v > 7);
+    let found = reader.wait_for_timeout(rt, limit, exceeds_eight);
     compare(rt, 2, found, Ok(None));
+}
+
+/// Makes a state flow, which is not refused memory, and refuses one request of each wait.
+fn refuse_state_waits<R: Wait + Clock + Abort>(rt: &R, memory: &Refusing<Global>, number: u64) {
+    memory.refuse(0);
+    let (flow, seat) = StateFlow::<i64, _>::new(memory, 0, 1).expect(rt, "a flow");
+    let mut setter = flow.setter(seat);
+    let mut reader = setter.subscribe(rt).expect(rt, "a reader");
+    changes_in_vain(rt, &mut setter, &mut reader, memory, number);
 }
 
 #[test]
 fn refused_waits_for_a_state_end_in_time(rt: HostRuntime) {
     let memory = Refusing::new(rt.alloc());
     for number in 1..=REQUESTS {
-        memory.refuse(0);
-        let (flow, seat) = StateFlow::<i64, _>::new(&memory, 0, 1).expect(&rt, "a flow");
-        let mut setter = flow.setter(seat);
-        let mut reader = setter.subscribe(&rt).expect(&rt, "a reader");
-        changes_in_vain(&rt, &mut setter, &mut reader, &memory, number);
+        refuse_state_waits(&rt, &memory, number);
     }
     compare(&rt, 3, memory.is_waiting(), true);
 }
