@@ -2,12 +2,12 @@
 //! misses a value by it. A sleeper that is not woken wakes at its limit, an hour, which no test has.
 use crate::tests::compare::compare;
 use crate::tests::emissions::queued;
-use crate::tests::flows::lend_shared;
 use crate::tests::two_threads::emit_and_read;
 use flow_law::Config;
-use flow_shared::{BoundEmission, Emitter, Reader, SendEnd};
+use flow_shared::{Emitter, Reader, SendEnd};
+use std::process::Abort;
 use std::sync::Wait;
-use std::thread::{join, sleep};
+use std::thread::sleep;
 use std::time::{Clock, Duration};
 
 fn an_hour() -> Duration {
@@ -54,37 +54,30 @@ fn a_dropped_reader_wakes_an_emitter(rt: HostRuntime) {
     compare(&rt, 0, sent, (true, 0));
 }
 
-/// Cancels the emission, and receives the next value. Returns whether it waited, and the value.
-fn cancel_then_receive<R: Wait + Clock>(
+/// Sends 2 when the other thread has offered 1.
+fn send_late<R: Wait + Clock>(rt: &R, emitter: &mut Emitter<'_, i64>) -> bool {
+    pause(rt);
+    send(rt, emitter, 2)
+}
+
+/// Offers 1, and cancels it when 2 waits behind it. Returns whether 1 waited, and the value that is received then.
+fn cancel_then_receive<R: Wait + Clock + Abort>(
     rt: &R,
-    emission: BoundEmission<'_, i64>,
-    reader: &mut Reader<'_, i64>,
+    mut reader: Reader<'_, i64>,
 ) -> (bool, Option<i64>) {
+    let emission = queued(rt, reader.another().emit(rt, 1));
+    pause(rt);
     pause(rt);
     let was_waiting = emission.cancel(rt).1;
     let received = reader.receive_timeout(rt, an_hour());
     (was_waiting, received.unwrap_or(None))
 }
 
-/// The value 1 is offered, and 2 waits behind it. The subscriber gets 2 only, after 1 was cancelled.
-fn lets_the_next_in(
-    rt: &HostRuntime,
-    emitter: &mut Emitter<'_, i64>,
-    reader: &mut Reader<'_, i64>,
-) {
-    let emission = queued(rt, emitter.another().emit(rt, 1));
-    let (sent, received) = join(
-        rt,
-        || send(rt, emitter, 2),
-        || cancel_then_receive(rt, emission, reader),
-    );
-    compare(rt, 0, sent, true);
-    compare(rt, 1, received, (true, Some(2)));
-}
-
+/// The subscriber gets 2 only, after 1 was cancelled.
 #[test]
 fn a_cancel_lets_the_next_emission_in(rt: HostRuntime) {
-    lend_shared(&rt, Config::new(), lets_the_next_in);
+    let done = emit_and_read(&rt, Config::new(), send_late, cancel_then_receive);
+    compare(&rt, 0, done, (true, (true, Some(2))));
 }
 
 /// Another subscriber leaves, an emission is dropped while it waits, and then a value is sent.

@@ -1,13 +1,15 @@
 //! Handles on several threads. What these tests count is only tested: `run_count` of flow_count proves of a state flow without
 //! a lock that no update is lost.
+ghost use Rattle.std.specs.Prelude.{◌≡◌};
+
 use crate::tests::compare::compare;
-use crate::tests::flows::lend_state;
 use crate::tests::state::one_more;
 use crate::tests::two_threads::emit_and_read;
 use flow_law::{Config, OutOfMemory};
-use flow_shared::{Emitter, Reader, Setter, StateReader};
+use flow_shared::{Emitter, Reader, Setter, StateFlow, StateSeat};
+use std::process::Abort;
 use std::sync::Wait;
-use std::thread::{join, yield_now};
+use std::thread::{Threads, join, yield_now};
 
 fn count_up<R: Wait>(rt: &R, setter: &mut Setter<'_, i64>) -> Result<(), OutOfMemory> {
     for _ in 0..1000 {
@@ -16,22 +18,26 @@ fn count_up<R: Wait>(rt: &R, setter: &mut Setter<'_, i64>) -> Result<(), OutOfMe
     Ok(())
 }
 
-/// Each of two threads adds 1,000 to the state, which was 7.
-fn count_on_two_threads(
-    rt: &HostRuntime,
-    one: &mut Setter<'_, i64>,
-    _reader: &mut StateReader<'_, i64>,
-) {
+/// Each of two threads adds 1,000 to the state, which was 0.
+fn count_on_two_threads<R: Wait + Threads + Abort + Sync>(
+    rt: &R,
+    flow: &StateFlow<i64>,
+    seat: StateSeat<i64>,
+)
+    requires { seat.table_id ≡ flow.now.table_id }
+{
+    let mut one = flow.setter(seat);
     let mut other = one.another();
-    let counted = join(rt, || count_up(rt, one), || count_up(rt, &mut other));
+    let counted = join(rt, || count_up(rt, &mut one), || count_up(rt, &mut other));
     compare(rt, 0, counted, (Ok(()), Ok(())));
-    compare(rt, 1, one.value(rt), Ok(2007));
+    compare(rt, 1, one.value(rt), Ok(2000));
 }
 
 /// No update of two threads is lost.
 #[test]
 fn two_threads_update_one_value(rt: HostRuntime) {
-    lend_state(&rt, 1, count_on_two_threads);
+    let (flow, seat) = StateFlow::new(rt.alloc(), 0, 0).expect(&rt, "a flow");
+    count_on_two_threads(&rt, &flow, seat);
 }
 
 /// Emits the numbers from 1 to 1,000, for which there is room. Returns whether all were taken.

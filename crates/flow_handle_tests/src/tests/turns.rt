@@ -2,7 +2,6 @@
 ghost use Rattle.std.specs.Prelude.{◌≡◌};
 
 use crate::tests::compare::compare;
-use crate::tests::flows::lend_shared;
 use flow_law::{Config, OutOfMemory};
 use flow_shared::{Emitter, Reader, Seat, SharedFlow};
 use std::process::Abort;
@@ -74,14 +73,16 @@ fn emit_eight_on_a_thread<R: Wait + Threads + Sync>(rt: &R, pair: &mut Pair<'_>)
     taken
 }
 
-/// A second reader has then seen what the other thread emitted, and receives it.
-fn meets_after_a_thread(
-    rt: &HostRuntime,
-    emitter: &mut Emitter<'_, i64>,
-    _reader: &mut Reader<'_, i64>,
-) {
+/// The reader has then seen what the other thread emitted, and receives it.
+fn meets_after_a_thread<R: Wait + Threads + Abort + Sync>(
+    rt: &R,
+    flow: &SharedFlow<i64>,
+    seat: Seat<i64>,
+)
+    requires { seat.table_id ≡ flow.now.table_id }
+{
+    let mut emitter = flow.emitter(seat);
     let reader = emitter.subscribe(rt).expect(rt, "a reader");
-    let emitter = emitter.another();
     let mut pair = Pair { emitter, reader };
     compare(rt, 0, emit_eight_on_a_thread(rt, &mut pair), true);
     compare(rt, 1, pair.meet_and_read(rt), Ok(Some(8)));
@@ -89,5 +90,7 @@ fn meets_after_a_thread(
 
 #[test]
 fn a_reader_meets_an_emitter_that_was_on_a_thread(rt: HostRuntime) {
-    lend_shared(&rt, Config::new().extra(4), meets_after_a_thread);
+    let made = SharedFlow::new(rt.alloc(), Config::new().extra(4));
+    let (flow, seat) = made.expect(&rt, "a flow");
+    meets_after_a_thread(&rt, &flow, seat);
 }
