@@ -13,7 +13,7 @@ use flow_shared::{
 use flow_word::{WordReader, WordSetter};
 use futures::Future;
 use futures::executor::block_on;
-use futures::future::{Either, ready, select};
+use futures::future::{Either, select};
 use futures::test::MockTask;
 use std::alloc::AllocGlobal;
 use std::process::Abort;
@@ -146,23 +146,30 @@ fn a_dropped_future_ends_its_subscription(rt: HostRuntime) {
     lend_shared(&rt, Config::new().extra(1), drops_two_futures);
 }
 
-/// Has this reader, which waits, lose against a future that is ready.
-fn lose<R: Wait + RandomSource + AllocGlobal>(rt: &R, reader: Reader<'_, i64>) -> Option<i64> {
-    match block_on(rt, select(reader.into_receive(), ready(7))).ok()? {
-        Either::Left((_received, _ready)) => None,
-        Either::Right((value, _loser)) => Some(value),
+/// What the one of two readers receives that has something; the other one is dropped.
+fn receive_first<R: Wait + RandomSource + AllocGlobal>(
+    rt: &R,
+    one: Reader<'_, i64>,
+    other: Reader<'_, i64>,
+) -> Option<i64> {
+    match block_on(rt, select(one.into_receive(), other.into_receive())).ok()? {
+        Either::Left(((_subscription, received), _loser)) => received.ok(),
+        Either::Right(((_subscription, received), _loser)) => received.ok(),
     }
 }
 
-/// The reader that loses a `select` leaves no subscription, so no emitter waits for it.
+/// A reader that subscribed after the value waits, and loses a `select`. It leaves no subscription, so no emitter waits for it;
+/// that of the winner stays, since its token is dropped without its flow.
 fn loses_a_select<R: Wait + Abort + RandomSource + AllocGlobal>(
     rt: &R,
     emitter: &mut Emitter<'_, i64>,
     _reader: &mut Reader<'_, i64>,
 ) {
+    let winner = emitter.subscribe(rt).expect(rt, "a reader");
+    compare(rt, 0, emitter.try_emit(rt, 7), Ok(true));
     let loser = emitter.subscribe(rt).expect(rt, "a reader");
-    compare(rt, 0, lose(rt, loser), Some(7));
-    compare(rt, 1, emitter.subscription_count(rt), 1);
+    compare(rt, 1, receive_first(rt, loser, winner), Some(7));
+    compare(rt, 2, emitter.subscription_count(rt), 2);
 }
 
 #[test]
