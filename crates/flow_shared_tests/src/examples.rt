@@ -12,6 +12,7 @@ mod lent;
 mod meetings;
 mod met;
 mod own_values;
+mod polling;
 mod state;
 mod subscribers;
 mod threads;

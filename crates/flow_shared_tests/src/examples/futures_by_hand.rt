@@ -2,53 +2,35 @@
 ghost use Rattle.std.specs.Prelude.{◌≡◌};
 
 use crate::compare::compare;
-use crate::examples::asleep::two_subscribers;
-use flow_law::{Config, FlowFault};
-use flow_shared::{EmitFuture, NextFuture, Sent, SharedFlow, Subscription};
-use futures::Future;
-use futures::task::Poll;
+use crate::examples::polling::{ASKS_AGAIN, is_done, new_task, pends, received};
+use flow_law::Config;
+use flow_shared::{EmitFuture, NextFuture, Seat, SharedFlow, Subscription};
 use futures::test::MockTask;
+use std::alloc::Global;
 use std::process::Abort;
 use std::sync::Wait;
 
-/// A poll that is pending, and has asked for another.
-fn pends<F>(rt: &impl Abort, task: &MockTask, future: &mut F)
-where
-    F: Future<Output: Drop>,
-    requires { F.can_poll future.old }
-    ensures { F.can_poll future.new }
-{
-    assert!(rt; task.poll(future).is_pending() && task.is_woken());
-}
-
-/// What a poll gives; `None` where it is pending.
-fn received(task: &MockTask, next: &mut NextFuture<'_, i64>) -> Option<Result<i64, FlowFault>> {
-    match task.poll(next) {
-        Poll::Ready((_subscription, received)) => Some(received),
-        Poll::Pending => None,
-    }
-}
-
-/// A value comes with the first poll, if there is one. Then a poll is pending, and the subscription is to be had from the
-/// future only where there was none.
-fn receives(
-    rt: &impl Abort,
-    task: &MockTask,
-    flow: &SharedFlow<i64>,
-    subscription: Subscription<i64>,
-    value: Option<i64>,
+/// A flow without a buffer, a seat, and two subscribers.
+fn two_subscribers<R: Wait + Abort>(
+    rt: &R,
+    alloc: Global,
+) -> (
+    SharedFlow<i64>,
+    Seat<i64>,
+    Subscription<i64>,
+    Subscription<i64>,
 )
-    requires { subscription.token.table_id ≡ flow.now.table_id }
+    ensures { (result.1.table_id ≡ result.0.table_id) × (result.2.token.table_id ≡ result.0.table_id)
+        × (result.3.token.table_id ≡ result.0.table_id) }
 {
-    let mut next = NextFuture::new(flow, subscription);
-    if let Some(value) = value {
-        compare(rt, 1, received(task, &mut next), Some(Ok(value)));
-    }
-    pends(rt, task, &mut next);
-    compare(rt, 2, next.into_subscription().is_some(), value.is_none());
+    let (flow, mut seat) = SharedFlow::new(alloc, Config::new()).expect(rt, "a flow");
+    let first = flow.subscribe(rt, &mut seat).expect(rt, "a subscription");
+    let second = flow.subscribe(rt, &mut seat).expect(rt, "a subscription");
+    (flow, seat, first, second)
 }
 
-/// The emission is pending, and then a subscriber receives 7.
+/// The emission is pending, and then a subscriber receives 7 by its first poll. After that a poll is pending, and the future
+/// has no subscription any more.
 fn pends_and_is_received(
     rt: &impl Abort,
     task: &MockTask,
@@ -58,16 +40,14 @@ fn pends_and_is_received(
 )
     requires { subscription.token.table_id ≡ flow.now.table_id }
 {
-    pends(rt, task, emit);
-    receives(rt, task, flow, subscription, Some(7));
+    compare(rt, 1, pends(task, emit), ASKS_AGAIN);
+    let mut next = NextFuture::new(flow, subscription);
+    compare(rt, 2, received(task, &mut next), Some(Ok(7)));
+    compare(rt, 3, pends(task, &mut next), ASKS_AGAIN);
+    compare(rt, 4, next.into_subscription().is_none(), true);
 }
 
-/// Whether a poll tells that the emission is done.
-fn is_done(task: &MockTask, emit: &mut EmitFuture<'_, i64>) -> bool {
-    matches!(task.poll(emit), Poll::Ready(Sent::Done(_)))
-}
-
-/// Whether the value was still on its way; `None` where there was nothing to cancel.
+/// Returns whether the value was still on its way; `None` if there was nothing to cancel.
 fn cancelled<R: Wait>(rt: &R, emit: EmitFuture<'_, i64>) -> Option<bool> {
     match emit.cancel(rt) {
         Some((_seat, was_waiting)) => Some(was_waiting),
@@ -78,29 +58,30 @@ fn cancelled<R: Wait>(rt: &R, emit: EmitFuture<'_, i64>) -> Option<bool> {
 /// Without a buffer 7 cannot be emitted without waiting for the two subscribers. At last it is done with a poll. Then a poll is pending, and there is nothing to cancel.
 #[test]
 fn an_emission_is_pending_until_each_subscriber_has_it(rt: HostRuntime) {
-    let (flow, mut seat, first, second) = two_subscribers(&rt, rt.alloc(), Config::new());
+    let (flow, mut seat, first, second) = two_subscribers(&rt, rt.alloc());
     compare(&rt, 0, flow.try_emit(&rt, &mut seat, 7), Ok(false));
-    let task = MockTask::new(&rt).expect(&rt, "a task");
+    let task = new_task(&rt);
     let mut emit = EmitFuture::new(&flow, seat, 7);
     pends_and_is_received(&rt, &task, &mut emit, &flow, first);
     pends_and_is_received(&rt, &task, &mut emit, &flow, second);
-    compare(&rt, 3, is_done(&task, &mut emit), true);
-    pends(&rt, &task, &mut emit);
-    compare(&rt, 4, cancelled(&rt, emit), None);
+    compare(&rt, 5, is_done(&task, &mut emit), true);
+    compare(&rt, 6, pends(&task, &mut emit), ASKS_AGAIN);
+    compare(&rt, 7, cancelled(&rt, emit), None);
 }
 
-/// It is pending at each poll until it is cancelled. One that is cancelled before a poll was never made.
+/// It is pending at each poll until it is cancelled. One that is cancelled before a poll was never made. A future that has
+/// received nothing gives its subscription back.
 #[test]
 fn a_cancelled_emission_is_not_received(rt: HostRuntime) {
-    let (flow, mut seat, first, second) = two_subscribers(&rt, rt.alloc(), Config::new());
-    compare(&rt, 0, flow.try_emit(&rt, &mut seat, 7), Ok(false));
-    let task = MockTask::new(&rt).expect(&rt, "a task");
-    let other = flow.seat(&mut seat);
+    let (flow, mut seat, first, second) = two_subscribers(&rt, rt.alloc());
+    let task = new_task(&rt);
+    let never_made = EmitFuture::new(&flow, flow.seat(&mut seat), 7);
     let mut emit = EmitFuture::new(&flow, seat, 7);
     pends_and_is_received(&rt, &task, &mut emit, &flow, first);
-    pends(&rt, &task, &mut emit);
-    compare(&rt, 3, cancelled(&rt, emit), Some(true));
-    let never_made = EmitFuture::new(&flow, other, 7);
-    compare(&rt, 4, cancelled(&rt, never_made), Some(true));
-    receives(&rt, &task, &flow, second, None);
+    compare(&rt, 5, pends(&task, &mut emit), ASKS_AGAIN);
+    compare(&rt, 6, cancelled(&rt, emit), Some(true));
+    compare(&rt, 7, cancelled(&rt, never_made), Some(true));
+    let mut next = NextFuture::new(&flow, second);
+    compare(&rt, 8, pends(&task, &mut next), ASKS_AGAIN);
+    compare(&rt, 9, next.into_subscription().is_some(), true);
 }
