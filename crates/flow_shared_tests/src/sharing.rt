@@ -14,6 +14,7 @@ mod refused_reset;
 mod runs;
 mod sharing_steps;
 mod sharings;
+mod state_runs;
 mod subscribers;
 mod test_hub;
 mod two_chains;
