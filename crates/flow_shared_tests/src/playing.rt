@@ -12,4 +12,4 @@ mod tokens;
 pub use on_cores::subscriber_step;
 pub use on_flows::{FlowPlayer, Played, take_all};
 pub use runs::{Callers, MANY, play, refuse_each};
-pub use tokens::{Reader, Waiting, token};
+pub use tokens::{Reader, Waiting, put, token};

@@ -1,8 +1,10 @@
 //! Several threads at a shared flow: whichever comes first, what is documented of the flow comes of all of them. Where all
 //! have ended the flow is closed, and its core has what all calls led to.
+ghost use Rattle.std.specs.Prelude.{◌≡◌};
+
 use crate::compare::compare;
+use crate::examples::worker::Outcome;
 use crate::examples::worker::Role::{self, Cancel, Emit, Leave, Read, Receive, Send};
-use crate::examples::worker::Worker;
 use crate::playing::{FlowPlayer, take_all};
 use crate::steps::Step::{self, Cache, Next, Subscribe, TryEmit};
 use crate::steps::{self, TAKEN, UNBUFFERED, WAITS};
@@ -10,7 +12,7 @@ use crate::work::run_all;
 use flow_core::SharedCore;
 use flow_law::Config;
 use flow_law::Next::{Empty, Value};
-use flow_shared::SharedFlow;
+use flow_shared::{Seat, SharedFlow};
 use std::alloc::{AllocGlobal, Global};
 use std::process::Abort;
 use std::random::RandomSource;
@@ -138,37 +140,6 @@ const RACES: &[Meeting] = &[
     },
 ];
 
-/// The outcome of a round of threads.
-#[derive(Clone, Copy)]
-struct Outcome {
-    /// Whether no cancel came too late.
-    all_done: bool,
-    /// Whether each reader received the first of the values that it may receive.
-    all_first: bool,
-}
-
-impl Outcome {
-    /// Adds the outcome of one thread, and takes its subscriber back. Only a cancel may come too late.
-    fn with<'a>(
-        self,
-        rt: &impl Abort,
-        player: &mut FlowPlayer<'a, i64, SharedCore<i64>>,
-        worker: &mut Worker<'a>,
-    ) -> Outcome {
-        let (is_done, is_first) = (worker.is_done, worker.is_first);
-        compare(rt, 100, is_done || matches!(worker.role, Cancel), true);
-        if let Some(place) = player.readers.get_mut(0) {
-            if place.is_none() {
-                *place = worker.reader.take();
-            }
-        }
-        Outcome {
-            all_done: self.all_done && is_done,
-            all_first: self.all_first && is_first,
-        }
-    }
-}
-
 /// Delays the first thread in every second of four runs, and the second thread in every fourth.
 fn pause_of(run: u32, place: usize) -> u32 {
     match (run % 4, place) {
@@ -242,6 +213,21 @@ fn is_left(rt: &impl Abort, core: SharedCore<i64>, meeting: &Meeting) {
     compare(rt, 302, is_one_of_them, true);
 }
 
+/// The threads meet at a new flow.
+fn meet_at<R: Threads + Wait + Abort + RandomSource + AllocGlobal + Sync>(
+    rt: &R,
+    alloc: Global,
+    flow: &SharedFlow<i64>,
+    seat: Seat<i64>,
+    meeting: &Meeting,
+    run: u32,
+) -> Outcome
+    requires { seat.table_id ≡ flow.now.table_id }
+{
+    let mut player = FlowPlayer::new(alloc, alloc, flow, seat);
+    meet(rt, alloc, &mut player, meeting, run)
+}
+
 /// The threads meet at a new flow, which is closed at last.
 fn hold<R: Threads + Wait + Abort + RandomSource + AllocGlobal + Sync>(
     rt: &R,
@@ -251,9 +237,7 @@ fn hold<R: Threads + Wait + Abort + RandomSource + AllocGlobal + Sync>(
 ) -> Outcome {
     let (flow, mut seat) = SharedFlow::new(alloc, meeting.config).expect(rt, "a flow");
     let own = flow.seat(&mut seat);
-    let mut player = FlowPlayer::new(alloc, alloc, &flow, own);
-    let outcome = meet(rt, alloc, &mut player, meeting, run);
-    drop(player);
+    let outcome = meet_at(rt, alloc, &flow, own, meeting, run);
     match flow.close(seat) {
         Some(core) => is_left(rt, core, meeting),
         None => panic!(rt; "somebody is inside"),

@@ -1,8 +1,9 @@
 //! What a thread does at a shared flow.
 ghost use Rattle.std.specs.Prelude.{◌≡◌};
 
+use crate::compare::compare;
 use crate::examples::futures_awaited::{receive_all, send_all};
-use crate::playing::{FlowPlayer, Reader, Waiting, token};
+use crate::playing::{FlowPlayer, Reader, Waiting, put, token};
 use crate::work::Work;
 use flow_core::SharedCore;
 use flow_law::Next;
@@ -73,30 +74,57 @@ impl<'a> FlowPlayer<'a, i64, SharedCore<i64>> {
             emission,
             pause: 0,
             is_done: false,
-            is_first: false,
+            is_first: true,
         }
     }
 }
 
 impl<'a> Worker<'a> {
-    /// What it does of its own. It is done, or not.
-    fn call<R: Wait + RandomSource + AllocGlobal>(&mut self, rt: &R) -> bool {
-        let flow = self.flow;
-        match self.role {
-            Role::Emit(value) => {
-                let seat = flow.seat(&mut self.seat);
-                match Waiting::emit(rt, flow, seat, value) {
-                    Ok(emission) => is_emitted(rt, emission),
-                    Err(_refused) => false,
-                }
+    /// Emits the value, and polls the emission until it is done.
+    fn emit<R: Wait>(&mut self, rt: &R, value: i64) -> bool {
+        let seat = self.flow.seat(&mut self.seat);
+        match Waiting::emit(rt, self.flow, seat, value) {
+            Ok(emission) => is_emitted(rt, emission),
+            Err(_refused) => false,
+        }
+    }
+
+    /// Receives what is next. Returns whether it is one of these.
+    fn read<R: Wait>(&mut self, rt: &R, wanted: &[Next<i64>]) -> bool {
+        let Some(reader) = &mut self.reader else {
+            return false;
+        };
+        let Ok(next) = reader.flow.next(rt, &mut reader.subscription) else {
+            return false;
+        };
+        self.is_first = wanted.first() == Some(&next);
+        wanted.contains(&next)
+    }
+
+    fn leave<R: Wait>(&mut self, rt: &R) -> bool {
+        match self.reader.take() {
+            Some(reader) => {
+                reader.leave(rt);
+                true
             }
-            Role::Count(count) => flow.subscription_count(rt, &mut self.seat) == count,
-            Role::Send(count) => send_all(rt, flow, flow.seat(&mut self.seat), count) == count,
-            Role::Cancel => match self.emission.take() {
-                Some(emission) => emission.cancel(rt),
-                None => false,
-            },
-            _ => false,
+            None => false,
+        }
+    }
+
+    /// Returns whether the emission waited until now.
+    fn cancel<R: Wait>(&mut self, rt: &R) -> bool {
+        match self.emission.take() {
+            Some(emission) => emission.cancel(rt),
+            None => false,
+        }
+    }
+
+    fn receive<R: Wait + RandomSource + AllocGlobal>(&mut self, rt: &R, count: i64) -> bool {
+        match self.reader.take() {
+            Some(Reader { flow, subscription }) => {
+                receive_all(rt, flow, subscription, count) == count
+            }
+            None => false,
         }
     }
 }
@@ -119,28 +147,44 @@ impl<'a> Work for Worker<'a> {
         for _ in 0..self.pause {
             yield_now();
         }
-        self.is_first = true;
-        self.is_done = match (self.role, self.reader.take()) {
-            (Role::Read(wanted), Some(reader)) => {
-                let mut reader = reader;
-                let received = reader.flow.next(rt, &mut reader.subscription);
-                self.reader = Some(reader);
-                let (is_first, is_wanted) = match received {
-                    Ok(next) => (wanted.first() == Some(&next), wanted.contains(&next)),
-                    Err(_fault) => (false, false),
-                };
-                self.is_first = is_first;
-                is_wanted
-            }
-            (Role::Leave, Some(reader)) => {
-                reader.leave(rt);
-                true
-            }
-            (Role::Receive(count), Some(reader)) => {
-                let Reader { flow, subscription } = reader;
-                receive_all(rt, flow, subscription, count) == count
-            }
-            (_, _) => self.call(rt),
+        let flow = self.flow;
+        self.is_done = match self.role {
+            Role::Emit(value) => self.emit(rt, value),
+            Role::Count(count) => flow.subscription_count(rt, &mut self.seat) == count,
+            Role::Read(wanted) => self.read(rt, wanted),
+            Role::Leave => self.leave(rt),
+            Role::Cancel => self.cancel(rt),
+            Role::Send(count) => send_all(rt, flow, flow.seat(&mut self.seat), count) == count,
+            Role::Receive(count) => self.receive(rt, count),
         };
+    }
+}
+
+/// The outcome of a round of threads.
+#[derive(Clone, Copy)]
+pub struct Outcome {
+    /// Whether no cancel came too late.
+    pub all_done: bool,
+    /// Whether each reader received the first of the values that it may receive.
+    pub all_first: bool,
+}
+
+impl Outcome {
+    /// Adds the outcome of one thread, and takes its subscriber back. Only a cancel may come too late.
+    pub fn with<'a>(
+        self,
+        rt: &impl Abort,
+        player: &mut FlowPlayer<'a, i64, SharedCore<i64>>,
+        worker: &mut Worker<'a>,
+    ) -> Outcome {
+        let may_be_late = matches!(worker.role, Role::Cancel);
+        compare(rt, 100, worker.is_done || may_be_late, true);
+        if worker.reader.is_some() {
+            put(&mut player.readers, 0, worker.reader.take());
+        }
+        Outcome {
+            all_done: self.all_done && worker.is_done,
+            all_first: self.all_first && worker.is_first,
+        }
     }
 }

@@ -58,21 +58,11 @@ impl<'a, T: Numbered<Memory = A>, S: FlowCore<Item = T> + Drop, A: Allocator + C
         }
     }
 
-    /// Subscribes. A refusal leaves the count of subscribers as it was.
-    fn subscribe<R: Wait + Abort>(&mut self, rt: &R, place: usize) -> Result<(), FlowFault> {
+    fn subscribe<R: Wait + Abort>(&mut self, rt: &R) -> Result<(), FlowFault> {
         let flow = self.flow;
-        let count = flow.subscription_count(rt, &mut self.seat);
-        match flow.subscribe(rt, &mut self.seat) {
-            Ok(subscription) => {
-                let reader = Reader { flow, subscription };
-                Ok(self.readers.push(Some(reader)).expect(rt, "memory"))
-            }
-            Err(fault) => {
-                let left = flow.subscription_count(rt, &mut self.seat);
-                compare(rt, place, left, count);
-                Err(fault)
-            }
-        }
+        let subscription = flow.subscribe(rt, &mut self.seat)?;
+        let reader = Reader { flow, subscription };
+        Ok(self.readers.push(Some(reader)).expect(rt, "memory"))
     }
 
     /// Takes a step that flows of either kind have.
@@ -83,9 +73,9 @@ impl<'a, T: Numbered<Memory = A>, S: FlowCore<Item = T> + Drop, A: Allocator + C
         step: Step,
     ) -> Result<(), FlowFault> {
         match step {
-            Step::Subscribe => self.subscribe(rt, place),
+            Step::Subscribe => self.subscribe(rt),
             Step::SubscribeRefused(fault) => {
-                Ok(compare(rt, place, self.subscribe(rt, place), Err(fault)))
+                Ok(compare(rt, place, self.subscribe(rt), Err(fault)))
             }
             Step::Next(index, wanted) => at(rt, &mut self.readers, index).next(rt, place, wanted),
             Step::Drain(index, most, ended, numbers) => {

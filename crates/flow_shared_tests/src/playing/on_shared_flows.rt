@@ -1,7 +1,7 @@
 //! Steps on shared flows for several threads.
 use crate::compare::compare;
 use crate::playing::on_flows::{FlowPlayer, Played};
-use crate::playing::tokens::{Reader, Waiting, token};
+use crate::playing::tokens::{Reader, Waiting, put, token};
 use crate::steps::Step;
 use crate::values::{Numbered, are, list_of};
 use flow_core::SharedCore;
@@ -37,9 +37,7 @@ impl<'a, T: Numbered<Memory = A>, A: Allocator + Copy> FlowPlayer<'a, T, SharedC
     fn poll<R: Wait + Abort>(&mut self, rt: &R, index: usize) -> bool {
         let left = token(rt, &mut self.emissions, index).poll(rt);
         let waits = left.is_some();
-        if let Some(place) = self.emissions.get_mut(index) {
-            *place = left;
-        }
+        put(&mut self.emissions, index, left);
         waits
     }
 
@@ -67,7 +65,7 @@ impl<'a, T: Numbered<Memory = A>, A: Allocator + Copy> FlowPlayer<'a, T, SharedC
         Ok(compare(rt, place, answer, wanted))
     }
 
-    /// Subscribes with own first values. A refusal hands them back, and leaves the count of subscribers as it was.
+    /// Subscribes with own first values. A refusal hands them back.
     fn subscribe_with<R: Wait + Abort>(
         &mut self,
         rt: &R,
@@ -75,7 +73,6 @@ impl<'a, T: Numbered<Memory = A>, A: Allocator + Copy> FlowPlayer<'a, T, SharedC
         first: &[i64],
     ) -> Result<(), FlowFault> {
         let flow = self.flow;
-        let count = flow.subscription_count(rt, &mut self.seat);
         let values = list_of(rt, self.memory, first);
         match flow.subscribe_with(rt, &mut self.seat, values) {
             Ok(subscription) => {
@@ -84,8 +81,6 @@ impl<'a, T: Numbered<Memory = A>, A: Allocator + Copy> FlowPlayer<'a, T, SharedC
             }
             Err(refused) => {
                 are(rt, place, refused.value.as_slice(), first);
-                let left = flow.subscription_count(rt, &mut self.seat);
-                compare(rt, place, left, count);
                 Err(refused.fault)
             }
         }

@@ -117,3 +117,10 @@ pub fn token<X>(rt: &impl Abort, tokens: &mut Vec<Option<X>>, index: usize) -> X
     };
     place.take().expect(rt, "a token")
 }
+
+/// Puts a token into its place, or leaves that empty.
+pub fn put<X: Drop>(tokens: &mut Vec<Option<X>>, index: usize, token: Option<X>) {
+    if let Some(place) = tokens.get_mut(index) {
+        *place = token;
+    }
+}
