@@ -2,7 +2,6 @@
 //! `MutableSharedFlow` and `BufferOverflow`.
 
 mod asleep;
-mod closed;
 mod drains;
 mod emissions;
 mod futures_awaited;

@@ -4,7 +4,6 @@
 
 mod awaiting;
 mod chains;
-mod copies;
 mod flows;
 mod gates;
 mod sharings;

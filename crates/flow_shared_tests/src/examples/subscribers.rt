@@ -1,16 +1,13 @@
 //! What subscribers receive, and what is refused.
-use crate::compare::compare;
 use crate::examples::{drains, emissions, own_values, state};
 use crate::playing::Callers::{OneThread, SeveralThreads};
 use crate::playing::play;
 use crate::steps::Kind::Shared;
 use crate::steps::Step::{Cache, Count, Emit, Next, Reset, Subscribe, SubscribeRefused, TryEmit};
 use crate::steps::{DONE, Example, UNBUFFERED};
-use flow_law::FlowFault::{self, Exhausted, NeedsBuffer, TooLarge};
+use flow_law::FlowFault::Exhausted;
 use flow_law::Next::{Empty, Value};
 use flow_law::{Config, Overflow};
-use flow_shared::SharedFlow;
-use std::alloc::Global;
 
 pub const EXAMPLES: &[Example] = &[
     // Nobody receives what was emitted before.
@@ -121,17 +118,4 @@ fn flows_are_as_documented(rt: HostRuntime) {
     play(&rt, rt.alloc(), SeveralThreads, 30_000, drains::EXAMPLES);
     play(&rt, rt.alloc(), SeveralThreads, 40_000, state::EXAMPLES);
     play(&rt, rt.alloc(), OneThread, 50_000, own_values::EXAMPLES);
-}
-
-/// Why a flow of this configuration is refused, if it is.
-fn refusal(alloc: Global, config: Config) -> Option<FlowFault> {
-    SharedFlow::<i64>::new(alloc, config).err()
-}
-
-#[test]
-fn a_flow_is_refused_by_name(rt: HostRuntime) {
-    let dropping = Config::new().overflow(Overflow::DropOldest);
-    compare(&rt, 0, refusal(rt.alloc(), dropping), Some(NeedsBuffer));
-    let large = Config::new().replay(65_536).extra(1);
-    compare(&rt, 1, refusal(rt.alloc(), large), Some(TooLarge));
 }

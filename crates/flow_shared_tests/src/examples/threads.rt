@@ -25,9 +25,8 @@ pub fn one_subscriber<R: Wait + Abort>(
     (flow, seat, subscription)
 }
 
-/// A value is emitted and received, twice, at once.
-fn round<R: Wait>(
-    rt: &R,
+/// A value is emitted and received, at once.
+fn round(
     flow: &SharedFlow<i64>,
     seat: Seat<i64>,
     subscription: &mut Subscription<i64>,
@@ -37,31 +36,22 @@ fn round<R: Wait>(
     ensures seat { IfSome result (λ seat. seat.table_id ≡ flow.entry.now.table_id) }
     ensures subscription { subscription.new.token.table_id ≡ flow.entry.now.table_id }
 {
-    let Emitted::Done(mut seat) = flow.emit_now(seat, value) else {
+    let Emitted::Done(seat) = flow.emit_now(seat, value) else {
         return None;
     };
-    let is_first = flow.next_now(subscription) == Ok(Next::Value(value));
-    let is_emitted = flow.try_emit(rt, &mut seat, value) == Ok(true);
-    let is_second = flow.next(rt, subscription) == Ok(Next::Value(value));
-    if is_first && is_emitted && is_second {
-        Some(seat)
-    } else {
-        None
+    match flow.next_now(subscription) {
+        Ok(Next::Value(received)) if received == value => Some(seat),
+        _ => None,
     }
 }
 
 /// How many of 10,000 rounds a caller did who was alone.
-fn rounds<R: Wait>(
-    rt: &R,
-    flow: &SharedFlow<i64>,
-    seat: Seat<i64>,
-    subscription: &mut Subscription<i64>,
-) -> i64
+fn rounds(flow: &SharedFlow<i64>, seat: Seat<i64>, subscription: &mut Subscription<i64>) -> i64
     requires { (seat.table_id ≡ flow.now.table_id) × (subscription.old.token.table_id ≡ flow.now.table_id) }
 {
     let mut seat = seat;
     for value in 0..10_000 {
-        match round(rt, flow, seat, subscription, value) {
+        match round(flow, seat, subscription, value) {
             Some(back) => seat = back,
             None => return value,
         }
@@ -91,7 +81,7 @@ fn alone_no_call_is_busy(rt: HostRuntime) {
     let config = Config::new().extra(1);
     let (flow, mut seat, mut subscription) = one_subscriber(&rt, rt.alloc(), config);
     let own = flow.seat(&mut seat);
-    compare(&rt, 0, rounds(&rt, &flow, own, &mut subscription), 10_000);
+    compare(&rt, 0, rounds(&flow, own, &mut subscription), 10_000);
     compare(&rt, 1, flow.count_now(&mut seat), Ok(1));
     compare(&rt, 2, flow.reset_now(&mut seat), Ok(()));
     compare(&rt, 3, flow.try_emit(&rt, &mut seat, 6).ok(), Some(true));
@@ -133,20 +123,13 @@ fn one_who_sets<'a>(flow: &'a StateFlow<i64>, seat: &mut StateSeat<i64>, value: 
 /// Two set 9 and 4 at once, and each reads one of these.
 fn set_from_two_threads<R: Threads + Wait + RandomSource + AllocGlobal + Abort + Sync>(
     rt: &R,
-    alloc: Global,
     flow: &StateFlow<i64>,
     seat: &mut StateSeat<i64>,
 )
     requires { seat.old.table_id ≡ flow.now.table_id }
     ensures { seat.new.table_id ≡ flow.entry.now.table_id }
 {
-    let mut setters = Vec::new(alloc);
-    setters
-        .push(one_who_sets(flow, seat, 9))
-        .expect(rt, "memory");
-    setters
-        .push(one_who_sets(flow, seat, 4))
-        .expect(rt, "memory");
+    let mut setters = [one_who_sets(flow, seat, 9), one_who_sets(flow, seat, 4)];
     run_all(rt, setters.as_mut_slice());
     for setter in &setters {
         compare(rt, 0, setter.found == 9 || setter.found == 4, true);
@@ -157,35 +140,8 @@ fn set_from_two_threads<R: Threads + Wait + RandomSource + AllocGlobal + Abort +
 #[test]
 fn a_thread_reads_what_it_set_or_what_another_set(rt: HostRuntime) {
     let (flow, mut seat) = StateFlow::new(rt.alloc(), 0, u64::MAX).expect(&rt, "a flow");
-    set_from_two_threads(&rt, rt.alloc(), &flow, &mut seat);
+    set_from_two_threads(&rt, &flow, &mut seat);
     let core = flow.close(seat).expect(&rt, "nobody is inside");
     let value = core.value().expect(&rt, "a value");
     compare(&rt, 1, value == 9 || value == 4, true);
-}
-
-/// Sets a value at once, which the subscriber of another seat receives that has met this one.
-fn set_now_and_receive<R: Wait + Abort>(
-    rt: &R,
-    flow: &StateFlow<i64>,
-    seat: &mut StateSeat<i64>,
-    other: &mut StateSeat<i64>,
-)
-    requires { (seat.old.table_id ≡ flow.now.table_id) × (other.old.table_id ≡ flow.now.table_id) }
-{
-    compare(rt, 0, flow.set_now(other, 5), Ok(()));
-    compare(rt, 1, flow.count_now(other), Ok(0));
-    flow.meet(seat, other);
-    let mut subscription = flow.subscribe(rt, seat).expect(rt, "a subscription");
-    flow.meet_subscription(&mut subscription, other);
-    compare(rt, 2, flow.next(rt, &mut subscription), Ok(Next::Value(5)));
-    flow.seen(seat);
-    flow.seen_by_subscription(&mut subscription);
-    compare(rt, 3, flow.next(rt, &mut subscription), Ok(Next::Empty));
-}
-
-#[test]
-fn a_state_flow_is_set_at_once(rt: HostRuntime) {
-    let (flow, mut seat) = StateFlow::new(rt.alloc(), 0, u64::MAX).expect(&rt, "a flow");
-    let mut other = flow.seat(&mut seat);
-    set_now_and_receive(&rt, &flow, &mut seat, &mut other);
 }

@@ -1,5 +1,5 @@
 //! Worked examples of flows, each with the places of the steps that take memory: each of them is refused in some run, and no
-//! other step is.
+//! other step is. The values are boxed, so each copy takes memory.
 use crate::compare::compare;
 use crate::playing::{Callers, refuse_each};
 use crate::steps::Kind::{Shared, State};
