@@ -2,14 +2,12 @@
 //! A step that is refused is taken again. Whatever is refused, the answers are those of the documentation; and where memory
 //! refuses nothing no step is refused.
 
-mod on_cores;
 mod on_flows;
 mod on_shared_flows;
 mod on_state_flows;
 mod runs;
 mod tokens;
 
-pub use on_cores::subscriber_step;
 pub use on_flows::{FlowPlayer, Played, take_all};
-pub use runs::{Callers, MANY, play, refuse_each};
+pub use runs::{MANY, play, refuse_each};
 pub use tokens::{Reader, Waiting, put, token};

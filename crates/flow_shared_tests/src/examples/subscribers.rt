@@ -1,6 +1,5 @@
 //! What subscribers receive, and what is refused.
 use crate::examples::{drains, emissions, own_values, state};
-use crate::playing::Callers::{OneThread, SeveralThreads};
 use crate::playing::play;
 use crate::steps::Kind::Shared;
 use crate::steps::Step::{Cache, Count, Emit, Next, Reset, Subscribe, SubscribeRefused, TryEmit};
@@ -106,16 +105,9 @@ pub const EXAMPLES: &[Example] = &[
 
 #[test]
 fn flows_are_as_documented(rt: HostRuntime) {
-    play(&rt, rt.alloc(), SeveralThreads, 0, EXAMPLES);
-    play(&rt, rt.alloc(), SeveralThreads, 10_000, emissions::EXAMPLES);
-    play(
-        &rt,
-        rt.alloc(),
-        SeveralThreads,
-        20_000,
-        own_values::EXAMPLES,
-    );
-    play(&rt, rt.alloc(), SeveralThreads, 30_000, drains::EXAMPLES);
-    play(&rt, rt.alloc(), SeveralThreads, 40_000, state::EXAMPLES);
-    play(&rt, rt.alloc(), OneThread, 50_000, own_values::EXAMPLES);
+    play(&rt, rt.alloc(), 0, EXAMPLES);
+    play(&rt, rt.alloc(), 10_000, emissions::EXAMPLES);
+    play(&rt, rt.alloc(), 20_000, own_values::EXAMPLES);
+    play(&rt, rt.alloc(), 30_000, drains::EXAMPLES);
+    play(&rt, rt.alloc(), 40_000, state::EXAMPLES);
 }

@@ -2,11 +2,9 @@
 ghost use Rattle.std.specs.Prelude.{◌≡◌};
 
 use crate::compare::compare;
-use crate::playing::on_cores::{CorePlayer, take_core_again};
 use crate::playing::on_flows::{FlowPlayer, Played, take_again};
 use crate::steps::{Example, Kind, Step};
 use crate::values::Numbered;
-use flow_core::{SharedCore, StateCore};
 use flow_law::{Boxed, FlowFault};
 use flow_shared::{Flow, FlowSeat, SharedFlow, StateFlow};
 use flow_testing::Refusing;
@@ -56,79 +54,24 @@ fn play_once<R: Wait + Abort, A: Allocator + Copy>(
     }
 }
 
-/// Plays the example on a new flow for one thread. `Err` where the flow is refused.
-fn play_core_once<A: Allocator + Copy>(
-    rt: &impl Abort,
-    alloc: Global,
-    memory: A,
-    first: usize,
-    example: &Example,
-    refused: &mut Vec<usize>,
-) -> Result<(), FlowFault> {
-    let steps = example.steps;
-    match example.kind {
-        Kind::Shared(config) => {
-            let core = SharedCore::<Boxed<i64, A>, A>::new(memory, config)?;
-            let mut player = CorePlayer::new(alloc, memory, core);
-            Ok(take_core_again(rt, &mut player, first, steps, refused))
-        }
-        Kind::State(limit) => {
-            let core = StateCore::new(memory, Boxed::of(rt, memory, 0), limit);
-            let mut player = CorePlayer::new(alloc, memory, core);
-            Ok(take_core_again(rt, &mut player, first, steps, refused))
-        }
-    }
-}
-
-/// For whom a flow is.
-#[derive(Clone, Copy, PartialEq)]
-pub enum Callers {
-    OneThread,
-    SeveralThreads,
-}
-
-impl Callers {
-    /// Plays the example on a new flow. `Err` where the flow is refused.
-    fn play<R: Wait + Abort, A: Allocator + Copy>(
-        self,
-        rt: &R,
-        alloc: Global,
-        memory: A,
-        first: usize,
-        example: &Example,
-        refused: &mut Vec<usize>,
-    ) -> Result<(), FlowFault> {
-        match self {
-            Callers::OneThread => play_core_once(rt, alloc, memory, first, example, refused),
-            Callers::SeveralThreads => play_once(rt, alloc, memory, first, example, refused),
-        }
-    }
-
-    /// Whether a new flow takes memory. A state flow for one thread takes none.
-    fn takes_memory(self, kind: &Kind) -> bool {
-        self == Callers::SeveralThreads || matches!(kind, Kind::Shared(_))
-    }
-}
-
 /// Plays the example with this allocation refused. Where that does not come no call is refused, and else one at most. Whether
 /// the flow was refused, which is made again then.
 fn refuse_one<R: Wait + Abort>(
     rt: &R,
     alloc: Global,
-    callers: Callers,
     memory: &Refusing<Global>,
     first: usize,
     example: &Example,
     refused: &mut Vec<usize>,
 ) -> bool {
     let before = refused.len();
-    let played = callers.play(rt, alloc, memory, first, example, refused);
+    let played = play_once(rt, alloc, memory, first, example, refused);
     let flow_is_refused = played == Err(FlowFault::OutOfMemory);
     compare(rt, first, played.is_ok() || flow_is_refused, true);
     let most = before.saturating_add(if memory.is_waiting() { 0 } else { 1 });
     if flow_is_refused {
         compare(rt, first, before < most, true);
-        let again = callers.play(rt, alloc, memory, first, example, refused);
+        let again = play_once(rt, alloc, memory, first, example, refused);
         compare(rt, first, again, Ok(()));
         compare(rt, first, refused.len(), before);
     }
@@ -136,12 +79,11 @@ fn refuse_one<R: Wait + Abort>(
     flow_is_refused
 }
 
-/// Plays the example with each allocation refused in turn, until none is. In some run the flow is refused, where a new one takes
-/// memory. The places of the steps that were refused.
+/// Plays the example with each allocation refused in turn, until none is. In some run the flow is refused. The places of the
+/// steps that were refused.
 pub fn refuse_each<R: Wait + Abort>(
     rt: &R,
     alloc: Global,
-    callers: Callers,
     first: usize,
     example: &Example,
 ) -> Vec<usize> {
@@ -150,31 +92,20 @@ pub fn refuse_each<R: Wait + Abort>(
     let mut flow_is_refused = false;
     for number in 1..MANY {
         memory.refuse(number);
-        flow_is_refused |= refuse_one(rt, alloc, callers, &memory, first, example, &mut refused);
+        flow_is_refused |= refuse_one(rt, alloc, &memory, first, example, &mut refused);
         if memory.is_waiting() {
             break;
         }
     }
     compare(rt, first, memory.is_waiting(), true);
-    compare(
-        rt,
-        first,
-        flow_is_refused,
-        callers.takes_memory(&example.kind),
-    );
+    compare(rt, first, flow_is_refused, true);
     refused
 }
 
-/// Plays the examples on flows for these callers. Step 7 of the example 3 has the place 307, from this one on.
-pub fn play<R: Wait + Abort>(
-    rt: &R,
-    alloc: Global,
-    callers: Callers,
-    first: usize,
-    examples: &[Example],
-) {
+/// Plays the examples. Step 7 of the example 3 has the place 307, from this one on.
+pub fn play<R: Wait + Abort>(rt: &R, alloc: Global, first: usize, examples: &[Example]) {
     for (number, example) in examples.iter().enumerate() {
         let place = first.saturating_add(number.saturating_mul(100));
-        let _refused = refuse_each(rt, alloc, callers, place, example);
+        let _refused = refuse_each(rt, alloc, place, example);
     }
 }

@@ -1,7 +1,7 @@
 //! Worked examples of flows, each with the places of the steps that take memory: each of them is refused in some run, and no
 //! other step is. The values are boxed, so each copy takes memory.
 use crate::compare::compare;
-use crate::playing::{Callers, refuse_each};
+use crate::playing::refuse_each;
 use crate::steps::Kind::{Shared, State};
 use crate::steps::Step::{
     Cache, Count, Current, Emit, Next, Set, Subscribe, SubscribeWith, TryEmit,
@@ -123,9 +123,9 @@ pub const EXAMPLES: &[(Example, &[usize])] = &[
 ];
 
 /// Each step at one of these places was refused in some run, and no other one was.
-fn refuse_all(rt: &(impl Wait + Abort), alloc: Global, callers: Callers) {
+fn refuse_all(rt: &(impl Wait + Abort), alloc: Global) {
     for (example, places) in EXAMPLES {
-        let refused = refuse_each(rt, alloc, callers, 0, example);
+        let refused = refuse_each(rt, alloc, 0, example);
         for place in 0..example.steps.len() {
             let is_refused = refused.contains(&place);
             compare(rt, place, is_refused, places.contains(&place));
@@ -135,6 +135,5 @@ fn refuse_all(rt: &(impl Wait + Abort), alloc: Global, callers: Callers) {
 
 #[test]
 fn each_growth_of_a_flow_is_refused(rt: HostRuntime) {
-    refuse_all(&rt, rt.alloc(), Callers::OneThread);
-    refuse_all(&rt, rt.alloc(), Callers::SeveralThreads);
+    refuse_all(&rt, rt.alloc());
 }

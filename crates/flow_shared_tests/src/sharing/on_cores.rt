@@ -1,11 +1,10 @@
 //! Worked examples of `shareIn` and `stateIn`, as calls, over flows for one thread.
 use crate::compare::compare;
-use crate::playing::subscriber_step;
 use crate::sharing::playing::{Example, FlowKind};
 use crate::sharing::sharing_steps::{Step, turn};
 use crate::steps::Step as FlowStep;
 use flow_cold::Scripted;
-use flow_core::SubId;
+use flow_core::{FlowCore, SubId};
 use flow_sharing::{CoreHub, Hub, Sharing, StateHub, share_in, state_in};
 use std::alloc::Global;
 use std::process::Abort;
@@ -18,23 +17,53 @@ trait Played: Hub<Item = i64> {
 
 impl Played for CoreHub<i64> {
     fn take(&mut self, rt: &impl Abort, ids: &mut Vec<SubId>, place: usize, step: FlowStep) {
-        if let FlowStep::Cache(values) = step {
-            let cache = self.core().replay_cache().expect(rt, "memory");
-            compare(rt, place, cache.as_slice(), values);
-            return;
+        match step {
+            FlowStep::Cache(values) => {
+                let cache = self.core().replay_cache().expect(rt, "memory");
+                compare(rt, place, cache.as_slice(), values)
+            }
+            _ => subscriber_step(rt, self.core_mut(), ids, place, step),
         }
-        let taken = subscriber_step(rt, self.core_mut(), ids, place, step);
-        compare(rt, place, taken, Ok(()));
     }
 }
 
 impl Played for StateHub<i64> {
     fn take(&mut self, rt: &impl Abort, ids: &mut Vec<SubId>, place: usize, step: FlowStep) {
-        if let FlowStep::Current(value) = step {
-            return compare(rt, place, self.core().value(), Ok(value));
+        match step {
+            FlowStep::Current(value) => compare(rt, place, self.core().value(), Ok(value)),
+            _ => subscriber_step(rt, self.core_mut(), ids, place, step),
         }
-        let taken = subscriber_step(rt, self.core_mut(), ids, place, step);
-        compare(rt, place, taken, Ok(()));
+    }
+}
+
+/// The subscriber of this number, from 0.
+fn id_at(rt: &impl Abort, ids: &[SubId], index: usize) -> SubId {
+    *ids.get(index).expect(rt, "a subscriber")
+}
+
+fn subscribe<S: FlowCore>(rt: &impl Abort, core: &mut S, ids: &mut Vec<SubId>) {
+    let id = core.subscribe().expect(rt, "a subscription");
+    ids.push(id).expect(rt, "memory")
+}
+
+/// Takes a step of a subscriber.
+fn subscriber_step<S: FlowCore<Item = i64>>(
+    rt: &impl Abort,
+    core: &mut S,
+    ids: &mut Vec<SubId>,
+    place: usize,
+    step: FlowStep,
+) {
+    match step {
+        FlowStep::Subscribe => subscribe(rt, core, ids),
+        FlowStep::Next(index, wanted) => {
+            let next = core.next(id_at(rt, ids, index)).expect(rt, "memory");
+            compare(rt, place, &next, wanted)
+        }
+        FlowStep::Unsubscribe(index) => {
+            compare(rt, place, core.unsubscribe(id_at(rt, ids, index)), true)
+        }
+        _ => panic!(rt; "step {place}: not on this flow"),
     }
 }
 
