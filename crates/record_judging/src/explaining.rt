@@ -131,46 +131,53 @@ impl<'a> Report<'a> {
         self.add_nearest(name, keys)
     }
 
-    /// Tells of a value that its key may not have.
-    fn tell_value(&mut self, refusal: Refusal, object: Spot<'_>) -> Result<(), AllocError> {
-        let key = refusal.key;
+    /// Tells of the value of this key, which is not what is expected. It may be one of these words.
+    fn tell_value(
+        &mut self,
+        object: Spot<'_>,
+        part: Part,
+        key: &'static str,
+        expected: &'static str,
+        words: &'static [&'static str],
+    ) -> Result<(), AllocError> {
         let found = self.text.member(object, key)?.unwrap_or(object);
-        self.add_place(found.at, refusal.part)?;
+        self.add_place(found.at, part)?;
         self.add_value(found.at)?;
-        self.add(&[
-            " is no value of \"",
-            key,
-            "\"\n  expected: ",
-            refusal.expected,
-        ])?;
-        self.add_nearest(found.value.as_str().unwrap_or(""), refusal.words)
+        self.add(&[" is no value of \"", key, "\"\n  expected: ", expected])?;
+        self.add_nearest(found.value.as_str().unwrap_or(""), words)
     }
 
     /// Tells that no object begins here.
-    fn tell_no_object(&mut self, refusal: Refusal, at: usize) -> Result<(), AllocError> {
-        self.add_place(at, refusal.part)?;
+    fn tell_no_object(&mut self, at: usize, part: Part) -> Result<(), AllocError> {
+        self.add_place(at, part)?;
         self.add_value(at)?;
-        self.add(&[" is no object\n  expected: ", refusal.expected])
+        self.add(&[" is no object\n  expected: an object"])
     }
 
     /// Tells of a key that the object has not.
-    fn tell_missing(&mut self, refusal: Refusal, at: usize) -> Result<(), AllocError> {
-        self.add_place(at, refusal.part)?;
-        self.add(&[
-            "\"",
-            refusal.key,
-            "\" is missing\n  expected: ",
-            refusal.expected,
-        ])
+    fn tell_missing(
+        &mut self,
+        at: usize,
+        part: Part,
+        key: &'static str,
+        expected: &'static str,
+    ) -> Result<(), AllocError> {
+        self.add_place(at, part)?;
+        self.add(&["\"", key, "\" is missing\n  expected: ", expected])
     }
 
     /// Tells why a part is refused that begins here.
     fn tell(&mut self, refusal: Refusal, object: Spot<'_>) -> Result<(), AllocError> {
+        let part = refusal.part;
         match refusal.wrong {
-            Wrong::Key => self.tell_key(object, refusal.part, refusal.words),
-            Wrong::NoObject => self.tell_no_object(refusal, object.at),
-            Wrong::Missing => self.tell_missing(refusal, object.at),
-            Wrong::Value => self.tell_value(refusal, object),
+            Wrong::Key { known } => self.tell_key(object, part, known),
+            Wrong::NoObject => self.tell_no_object(object.at, part),
+            Wrong::Missing { key, expected } => self.tell_missing(object.at, part, key, expected),
+            Wrong::Value {
+                key,
+                expected,
+                words,
+            } => self.tell_value(object, part, key, expected, words),
         }
     }
 

@@ -15,27 +15,30 @@ pub enum Part {
 /// What is wrong there.
 #[derive(Clone, Copy)]
 pub enum Wrong {
-    /// The value is not as expected.
-    Value,
+    /// The value of a key is not as expected. It may be one of these words.
+    Value {
+        key: &'static str,
+        expected: &'static str,
+        words: &'static [&'static str],
+    },
     /// The object has no such key.
-    Missing,
-    /// The object has a key that is none of the words.
-    Key,
+    Missing {
+        key: &'static str,
+        expected: &'static str,
+    },
+    /// The object has a key that is none of these.
+    Key {
+        known: &'static [&'static str],
+    },
     /// It is no object.
     NoObject,
 }
 
-/// Why a record is refused: for the value of `key` in this part, or for the part itself.
+/// Why a record is refused.
 #[derive(Clone, Copy)]
 pub struct Refusal {
     pub part: Part,
     pub wrong: Wrong,
-    /// Empty if the part itself is wrong.
-    pub key: &'static str,
-    /// What was expected.
-    pub expected: &'static str,
-    /// The words that may be there, if it may be a word.
-    pub words: &'static [&'static str],
 }
 
 /// Why no sheet was read.
@@ -52,6 +55,10 @@ impl From<AllocError> for Unread {
     }
 }
 
+fn refused<T>(part: Part, wrong: Wrong) -> Result<T, Unread> {
+    Err(Unread::Refused(Refusal { part, wrong }))
+}
+
 /// The value of a key is not what is expected.
 pub fn unfit<T>(
     part: Part,
@@ -59,44 +66,25 @@ pub fn unfit<T>(
     expected: &'static str,
     words: &'static [&'static str],
 ) -> Result<T, Unread> {
-    Err(Unread::Refused(Refusal {
-        part,
-        wrong: Wrong::Value,
+    let wrong = Wrong::Value {
         key,
         expected,
         words,
-    }))
+    };
+    refused(part, wrong)
 }
 
 /// The object has no such key.
 pub fn missing<T>(part: Part, key: &'static str, expected: &'static str) -> Result<T, Unread> {
-    Err(Unread::Refused(Refusal {
-        part,
-        wrong: Wrong::Missing,
-        key,
-        expected,
-        words: &[],
-    }))
+    refused(part, Wrong::Missing { key, expected })
 }
 
 /// The object has a key that is none of these.
-pub fn unknown_key<T>(part: Part, keys: &'static [&'static str]) -> Result<T, Unread> {
-    Err(Unread::Refused(Refusal {
-        part,
-        wrong: Wrong::Key,
-        key: "",
-        expected: "",
-        words: keys,
-    }))
+pub fn unknown_key<T>(part: Part, known: &'static [&'static str]) -> Result<T, Unread> {
+    refused(part, Wrong::Key { known })
 }
 
 /// The part is no object.
 pub fn no_object<T>(part: Part) -> Result<T, Unread> {
-    Err(Unread::Refused(Refusal {
-        part,
-        wrong: Wrong::NoObject,
-        key: "",
-        expected: "an object",
-        words: &[],
-    }))
+    refused(part, Wrong::NoObject)
 }

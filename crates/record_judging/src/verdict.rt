@@ -68,13 +68,13 @@ fn faulty(fault: Fault, number: usize) -> Unread {
             "a moment from the end of the caller's call before on",
         ),
     };
-    Unread::Refused(Refusal {
-        part: Part::Call(number),
-        wrong: Wrong::Value,
+    let part = Part::Call(number);
+    let wrong = Wrong::Value {
         key,
         expected,
         words: &[],
-    })
+    };
+    Unread::Refused(Refusal { part, wrong })
 }
 
 /// Tells that a record is legal, and in which order of its calls, if that is wanted.
