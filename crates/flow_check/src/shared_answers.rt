@@ -91,7 +91,8 @@ impl SharedMachine {
 
     fn is_next(&self, caller: usize, recorded: Option<SharedAnswer<'_>>) -> bool
         ensures { result ≡ agrees
-            (next_answer (own_left caller self.now.owns) (kept_of caller self.now.lags) self.now.values)
+            (next_answer (own_left caller self.now.owns)
+            (kept_of caller self.now.lags) self.now.values)
             recorded.entry }
     {
         match self.lag(caller) {

@@ -48,8 +48,10 @@ fn key_of<R: Drop, A: Allocator>(
     number: u64,
     hint: usize,
 ) -> Option<usize>
-    ensures found { IfSome result (λ key. IsSomeAnd (get slab.now key) (λ member. member.number ≡ number)) }
-    ensures absent { IfNone result ((key : ℕ) (member : Member R) → get slab.now key ≡ Some member → member.number ≡ number → ⊥) }
+    ensures found { IfSome result (λ key.
+        IsSomeAnd (get slab.now key) (λ member. member.number ≡ number)) }
+    ensures absent { IfNone result ((key : ℕ) (member : Member R) →
+        get slab.now key ≡ Some member → member.number ≡ number → ⊥) }
 {
     if let Some(member) = slab.get(hint)
         && member.number == number
@@ -104,7 +106,8 @@ impl<R: Drop, A: Allocator> Members<R, A> {
         requires { self.old.last < number }
         ensures key { IfOk result (λ key. EntersAt number key self.old.by_key self.new.by_key) }
         ensures added { MatchResult result
-            (λ _key. (self.new.members ≡ self.old.members ++ record { number = number; row = row } ∷ [])
+            (λ _key. (self.new.members ≡
+            self.old.members ++ record { number = number; row = row } ∷ [])
             × (self.new.last ≡ number))
             (λ refused. (refused ≡ row) × (self.new ≡ self.old)) }
     {

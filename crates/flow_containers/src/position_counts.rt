@@ -162,7 +162,8 @@ impl<A: Allocator> PositionCounts<A> {
         requires past { position < self.old.emitted }
         requires near { self.old.emitted < position + length self.old.row }
         requires some { 0 < get_or self.old.row (position % length self.old.row) 0 }
-        requires room { get_or (left_at self.old.row position) ((position + 1) % length (left_at self.old.row position)) 0 + 1 < 2 ^ 64 }
+        requires room { get_or (left_at self.old.row position)
+            ((position + 1) % length (left_at self.old.row position)) 0 + 1 < 2 ^ 64 }
         ensures others { result ≡ get_or self.old.row (position % length self.old.row) 0 - 1 }
         ensures row { self.new.row ≡ entered (left_at self.old.row position) (position + 1) }
         ensures emitted { self.new.emitted ≡ self.old.emitted }
@@ -182,7 +183,8 @@ impl<A: Allocator> PositionCounts<A> {
         requires room { get_or self.old.row (position % length self.old.row) 0
             + get_or self.old.row ((position + 1) % length self.old.row) 0 < 2 ^ 64 }
         ensures row { self.new.row ≡ set (set self.old.row ((position + 1) % length self.old.row)
-            (get_or self.old.row (position % length self.old.row) 0 + get_or self.old.row ((position + 1) % length self.old.row) 0))
+            (get_or self.old.row (position % length self.old.row) 0 +
+            get_or self.old.row ((position + 1) % length self.old.row) 0))
             (position % length self.old.row) 0 }
         ensures emitted { self.new.emitted ≡ self.old.emitted }
     {

@@ -42,7 +42,15 @@ impl<T: Drop, A: Allocator> Subscribers<T, A> {
         A: Copy,
         requires some { 0 < window }
         requires room { window + 1 < 2 ^ 64 }
-        ensures { IfOk result (λ s. s ≡ record { list = []; emitted = 0; window = window; floor = 0; last = 0; by_key = [] }) }
+        ensures { IfOk result (λ s.
+            s ≡ record {
+              list = [];
+              emitted = 0;
+              window = window;
+              floor = 0;
+              last = 0;
+              by_key = [];
+            }) }
     {
         let counts = PositionCounts::new(alloc, window + 1)?;
         Ok(Subscribers {
@@ -85,7 +93,8 @@ impl<T: Drop, A: Allocator> Subscribers<T, A> {
     /// Returns the least of `first` and all positions. No position is below `start`.
     pub fn least(&self, start: u64, first: u64) -> u64
         requires below { start ≤ least_position first self.now.list }
-        requires within { (first ≤ self.now.emitted) × (self.now.emitted ≤ start + self.now.window) }
+        requires within { (first ≤ self.now.emitted) ×
+            (self.now.emitted ≤ start + self.now.window) }
         ensures { result ≡ least_position first self.now.list }
     {
         self.counts.least(start, first)
@@ -135,11 +144,13 @@ impl<T: Drop, A: Allocator> Subscribers<T, A> {
     pub fn push(&mut self, number: u64, first: Vec<T, A>, position: u64) -> Result<usize, Vec<T, A>>
         requires later { self.old.last < number }
         requires above { self.old.floor ≤ position }
-        requires within { (position ≤ self.old.emitted) × (self.old.emitted ≤ position + self.old.window) }
+        requires within { (position ≤ self.old.emitted) ×
+            (self.old.emitted ≤ position + self.old.window) }
         ensures key { IfOk result (λ key. EntersAt number key self.old.by_key self.new.by_key) }
         ensures added { MatchResult result
             (λ _key. self.new ≡ record self.old {
-              list = self.old.list ++ record { number = number; own = first.items; position = position } ∷ [];
+              list = self.old.list ++
+                  record { number = number; own = first.items; position = position } ∷ [];
               last = number;
               by_key = self.new.by_key;
             })

@@ -64,7 +64,8 @@ pub trait FlowCore: Guarded<Said = Said<Self::Call, Self::Reply>> {
             (λ old answer new. Documents kind stands_as old (kind.take_next (number_of id))
             (replied kind kind.received answer) new)
             result self.old values.old.items (Ok Most) values.new.items self.new }
-        ensures room { (vec_len values.new ≡ vec_len values.old + result) × (vec_capacity values.old ≤ vec_capacity values.new) };
+        ensures room { (vec_len values.new ≡ vec_len values.old + result) ×
+            (vec_capacity values.old ≤ vec_capacity values.new) };
 
     /// Removes a subscriber, and returns whether it was there.
     fn unsubscribe(&mut self, id: SubId) -> bool

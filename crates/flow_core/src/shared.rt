@@ -147,7 +147,8 @@ impl<T: FlowValue, A: Allocator + Copy> SharedCore<T, A> {
 
     /// Returns whether the last value is being offered to a subscriber.
     fn is_offering(&self) -> bool
-        ensures own { OnTrue result ((self.now.config.replay + self.now.config.extra ≡ 0) × kept_full self.now ≡ true) }
+        ensures own { OnTrue result
+            ((self.now.config.replay + self.now.config.extra ≡ 0) × kept_full self.now ≡ true) }
         ensures shown { Shows self.now flow.is_offering result }
     {
         self.capacity() == 0 && self.subscribers.is_blocked()
@@ -181,7 +182,8 @@ impl<T: FlowValue, A: Allocator + Copy> SharedCore<T, A> {
     /// Drops values after an emission, if the replay cache decided how many are held.
     #[inline]
     fn trim_after(&mut self, by_cache: bool)
-        ensures { (s : SharedFlowState T) → Covers self.old s → OnFalse by_cache (StandsFor self.old s)
+        ensures { (s : SharedFlowState T) →
+            Covers self.old s → OnFalse by_cache (StandsFor self.old s)
             → StandsFor self.new s }
     {
         if !by_cache {
@@ -215,7 +217,8 @@ impl<T: FlowValue, A: Allocator + Copy> SharedCore<T, A> {
     /// Emits the first queued value, if there is one and the flow is not blocked.
     fn admit(&mut self) -> bool
         ensures admitted { OnTrue result (Admits self.old self.new) }
-        ensures settled { OnFalse result ((self.new ≡ self.old) × Leads self.old step.settle self.new) }
+        ensures settled { OnFalse result
+            ((self.new ≡ self.old) × Leads self.old step.settle self.new) }
     {
         if self.queue.len() == 0 {
             return false;
@@ -244,7 +247,8 @@ impl<T: FlowValue, A: Allocator + Copy> SharedCore<T, A> {
     /// value, or if a queued value may be emitted.
     #[inline]
     fn settle_after(&mut self, was_last: bool)
-        ensures { (s : SharedFlowState T) → Covers self.old s → OnFalse was_last (StandsFor self.old s)
+        ensures { (s : SharedFlowState T) →
+            Covers self.old s → OnFalse was_last (StandsFor self.old s)
             → StandsFor self.new (step.settle s) }
     {
         if !was_last && !self.may_admit() {
@@ -256,7 +260,8 @@ impl<T: FlowValue, A: Allocator + Copy> SharedCore<T, A> {
     /// Returns the position at which the replay cache begins.
     fn cache_start(&self) -> u64
         ensures start { result ≡ kept_start self.now }
-        ensures within { (self.now.appended - length self.now.held ≤ result) × (result ≤ self.now.appended) }
+        ensures within { (self.now.appended - length self.now.held ≤ result) ×
+            (result ≤ self.now.appended) }
     {
         self.subscribers
             .emitted()
@@ -284,7 +289,8 @@ impl<T: FlowValue, A: Allocator + Copy> SharedCore<T, A> {
     /// `OutOfMemory` if the value could not be copied; a later call returns it.
     #[inline]
     pub fn next(&mut self, id: SubId) -> Result<Next<T>, FlowFault>
-        ensures documented { Conforms self.old (call.TakeNext (number_of id)) (next_reply result) self.new }
+        ensures documented { Conforms self.old
+            (call.TakeNext (number_of id)) (next_reply result) self.new }
         ensures given { T.IsAlwaysCopied → IsOk result }
     {
         match self.subscribers.receive(id.number, id.key, &self.values) {

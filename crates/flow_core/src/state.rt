@@ -109,7 +109,8 @@ impl<T: FlowValue, A: Allocator + Copy> StateCore<T, A> {
 
     /// Does the same as `set`, and returns `true`: a state flow always has room.
     pub fn try_emit(&mut self, value: T) -> bool
-        ensures documented { StateConforms self.old (call.TryEmit value) (reply.Answered result) self.new }
+        ensures documented { StateConforms self.old
+            (call.TryEmit value) (reply.Answered result) self.new }
     {
         self.set(value);
         true
@@ -198,14 +199,16 @@ impl<T: FlowValue, A: Allocator + Copy> StateCore<T, A> {
 
     /// Fails with `Unsupported`, always: a state flow has a value at any time.
     pub fn reset_replay_cache(&mut self) -> Result<(), FlowFault>
-        ensures documented { StateConforms self.old call.ResetReplayCache (reset_reply result) self.new }
+        ensures documented { StateConforms self.old call.ResetReplayCache
+            (reset_reply result) self.new }
     {
         Err(FlowFault::Unsupported)
     }
 
     /// Returns the number of subscribers.
     pub fn subscription_count(&self) -> u64
-        ensures documented { StateConforms self.now call.SubscriptionCount (reply.Counted result) self.now }
+        ensures documented { StateConforms self.now call.SubscriptionCount
+            (reply.Counted result) self.now }
     {
         self.subscribers.len() as u64
     }

@@ -61,7 +61,8 @@ pub fn start_emitter<'s, E, R: Wait + Sync>(
 ) -> Option<Emitting>
     requires table { seat.table_id ≡ flow.now.table_id }
     requires fits { first + count ≤ 2 ^ 64 }
-    ensures { IfSome result (λ thread. WillEmit flow.entry.now.table_id seat first count thread.promise) }
+    ensures { IfSome result (λ thread.
+        WillEmit flow.entry.now.table_id seat first count thread.promise) }
 {
     let promise = EmitsAll {
         seat: Snapshot::of(&seat),
@@ -88,7 +89,8 @@ pub fn start_emitters<'s, E, R: Wait + Sync>(
     requires values { values < 2 ^ 32 }
     ensures count { IfSome result (λ threads. vec_len threads ≡ vec_len emitters.entry) }
     ensures promised { IfSome result (λ threads. (i : ℕ) (d e : _) → i < vec_len emitters.entry →
-        WillEmit flow.entry.now.table_id (slice_index_or emitters.entry.items i e).token (i * values) values
+        WillEmit flow.entry.now.table_id
+        (slice_index_or emitters.entry.items i e).token (i * values) values
         (slice_index_or threads.items i d).promise) }
 {
     let mut threads = Vec::with_capacity(alloc, emitters.len()).ok()?;
@@ -110,7 +112,8 @@ pub fn emitters_of<'a>(
     requires { All (λ s. s.table_id ≡ flow.now.table_id) seats.items }
     ensures count { IfSome result (λ emitters. vec_len emitters ≡ vec_len seats) }
     ensures bound { IfSome result (λ emitters. (i : ℕ) (d e : _) → i < vec_len seats →
-        slice_index_or emitters.items i d ≡ called_by flow.entry.now (slice_index_or seats.items i e)) }
+        slice_index_or emitters.items i d ≡
+        called_by flow.entry.now (slice_index_or seats.items i e)) }
 {
     let mut emitters = Vec::with_capacity(alloc, seats.len()).ok()?;
     for seat in seats {

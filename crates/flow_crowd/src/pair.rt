@@ -66,7 +66,8 @@ fn in_two_threads<R: Threads + Wait + Sync>(
             requires tokens { AreAt flow.now.table_id tokens }
             requires empty { list.items ≡ [] }
             requires room { count ≤ vec_capacity list }
-            ensures { IfSome result (λ r. HandsOver flow.entry.now.table_id count tokens r.0 r.1.items) }
+            ensures { IfSome result (λ r.
+                HandsOver flow.entry.now.table_id count tokens r.0 r.1.items) }
         { send_and_receive(rt, scope, flow, tokens, list, count) },
     )
 }

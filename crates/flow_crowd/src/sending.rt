@@ -25,7 +25,8 @@ fn send<R: Wait>(rt: &R, emitter: &mut Emitter<'_, u64>, value: u64)
 pub fn send_all<R: Wait>(rt: &R, emitter: &mut Emitter<'_, u64>, first: u64, count: u64)
     requires { first + count ≤ 2 ^ 64 }
     ensures flow { emitter.new.flow ≡ emitter.old.flow }
-    ensures sent { Emits (numbers_from first count) emitter.old.token.knows emitter.new.token.knows }
+    ensures sent { Emits
+        (numbers_from first count) emitter.old.token.knows emitter.new.token.knows }
 {
     for sent in 0..count {
         send(rt, emitter, first + sent);

@@ -54,7 +54,8 @@ impl Promise<(Subscription<u64>, Vec<u64>)> for ReadsAll {
 
     ghost kept_by = { λ p ended. (ended.0.token.table_id ≡ p.subscription.value.token.table_id)
         × (ended.0.number ≡ p.subscription.value.number)
-        × Reads p.subscription.value.number ended.1.items p.subscription.value.token.knows ended.0.token.knows
+        × Reads p.subscription.value.number ended.1.items
+        p.subscription.value.token.knows ended.0.token.knows
         × (length ended.1.items ≡ p.count) };
 }
 
@@ -74,7 +75,8 @@ fn read_all<R: Wait>(
     requires room { count ≤ vec_capacity list }
     ensures table { result.0.token.table_id ≡ flow.entry.now.table_id }
     ensures number { result.0.number ≡ subscription.number }
-    ensures received { Reads subscription.number result.1.items subscription.token.knows result.0.token.knows }
+    ensures received { Reads subscription.number
+        result.1.items subscription.token.knows result.0.token.knows }
     ensures count { length result.1.items ≡ count }
 {
     let mut reader = flow.reader(subscription);
@@ -92,7 +94,8 @@ fn start_subscriber<'s, E, R: Wait + Sync>(
     count: u64,
 ) -> Option<Reading>
     requires { subscription.token.table_id ≡ flow.now.table_id }
-    ensures { IfSome result (λ thread. WillRead flow.entry.now.table_id subscription count thread.promise) }
+    ensures { IfSome result (λ thread.
+        WillRead flow.entry.now.table_id subscription count thread.promise) }
 {
     let list = Vec::with_capacity(alloc, count as usize).ok()?;
     let promise = ReadsAll {
@@ -148,7 +151,8 @@ pub fn apart<'a>(
     ensures readers { IfSome result (λ r. vec_len r.readers ≡ vec_len ended) }
     ensures got { IfSome result (λ r. vec_len r.got ≡ vec_len ended) }
     ensures reader { IfSome result (λ r. (i : ℕ) (d e : _) → i < vec_len ended →
-        slice_index_or r.readers.items i d ≡ read_by flow.entry.now (slice_index_or ended.items i e).0) }
+        slice_index_or r.readers.items i d ≡
+        read_by flow.entry.now (slice_index_or ended.items i e).0) }
     ensures list { IfSome result (λ r. (i : ℕ) (d e : _) → i < vec_len ended →
         slice_index_or r.got.items i d ≡ (slice_index_or ended.items i e).1) }
 {

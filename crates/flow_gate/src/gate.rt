@@ -31,7 +31,8 @@ impl<S: Guarded, A: Allocator> Model for Gate<S, A> {
 
     ghost view = { λ g. origin g.table.shared.table_id g.table.shared.key.value };
 
-    ghost invariant = { λ g. (g.table.shared.table_id.words ≡ 1) × (g.table.shared.table_id.slots ≡ 1) };
+    ghost invariant = { λ g.
+        (g.table.shared.table_id.words ≡ 1) × (g.table.shared.table_id.slots ≡ 1) };
 }
 
 impl<S: Guarded + Drop, A: Allocator + Copy> Gate<S, A> {

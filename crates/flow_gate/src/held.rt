@@ -40,7 +40,8 @@ impl<'a, S: Guarded, A: Allocator> Held<'a, S, A> {
     /// Lends the state, which may be changed.
     #[inline]
     pub fn state(&mut self) -> &mut S
-        ensures* writes_back { sem 𝓛 (LendsState S.row A.row S.Said.row S.Guarded A.Allocator self.entry result) }
+        ensures* writes_back { sem 𝓛
+            (LendsState S.row A.row S.Said.row S.Guarded A.Allocator self.entry result) }
         ensures value { result.now ≡ self.old.state }
     {
         &mut *self.state

@@ -28,7 +28,13 @@ pub struct Config {
 impl Config {
     /// Returns the defaults of `MutableSharedFlow()`: replay 0, no extra buffer, emitters wait, and no limit.
     pub const fn new() -> Self
-        ensures { result ≡ record { replay = 0; extra = 0; overflow = Overflow.Suspend; limit = 18446744073709551615 } }
+        ensures { result ≡
+            record {
+              replay = 0;
+              extra = 0;
+              overflow = Overflow.Suspend;
+              limit = 18446744073709551615;
+            } }
     {
         Config {
             replay: 0,
@@ -70,7 +76,13 @@ impl Config {
 impl Default for Config {
     ghost use Rattle.flow_law.specs.declared.config.Overflow.TheVariants.{Suspend};
 
-    ghost is_default = { λ config. config ≡ record { replay = 0; extra = 0; overflow = Suspend; limit = 18446744073709551615 } };
+    ghost is_default = { λ config.
+        config ≡ record {
+          replay = 0;
+          extra = 0;
+          overflow = Suspend;
+          limit = 18446744073709551615;
+        } };
 
     fn default() -> Self {
         Config::new()

@@ -40,7 +40,8 @@ fn hear<'a, F: OneFlow, R: Wait>(
     from: Receiver<Message<'a, F>, Global>,
 ) -> Option<Heard<'a>>
     requires { F.id ≡ Some reader.flow.table_id }
-    ensures { IfSome result (λ heard. ∥ ReadsAfterSet heard.value heard.found heard.reader.token.knows ∥₁) }
+    ensures { IfSome result (λ heard.
+        ∥ ReadsAfterSet heard.value heard.found heard.reader.token.knows ∥₁) }
 {
     let mut reader = reader;
     let message = from.recv(rt).ok()?;
@@ -61,7 +62,8 @@ fn pass_between<'a, F: OneFlow + Send, R: Threads + Wait + Sync>(
     value: u64,
 ) -> Option<Heard<'a>>
     requires { (F.id ≡ Some setter.flow.table_id) × (F.id ≡ Some reader.flow.table_id) }
-    ensures { IfSome result (λ heard. ∥ ReadsAfterSet heard.value heard.found heard.reader.token.knows ∥₁) }
+    ensures { IfSome result (λ heard.
+        ∥ ReadsAfterSet heard.value heard.found heard.reader.token.knows ∥₁) }
 {
     let (to, from) = unbounded::<Message<'a, F>, Global>(alloc).ok()?;
     let (heard, ()) = join(
@@ -84,7 +86,8 @@ pub fn pass_on<'a, R: Threads + Wait + Sync>(
     value: u64,
 ) -> Option<Heard<'a>>
     requires { setter.flow ≡ reader.flow }
-    ensures { IfSome result (λ heard. ∥ ReadsAfterSet heard.value heard.found heard.reader.token.knows ∥₁) }
+    ensures { IfSome result (λ heard.
+        ∥ ReadsAfterSet heard.value heard.found heard.reader.token.knows ∥₁) }
 {
     pass_between::<Brand, R>(rt, alloc, setter, reader, value)
 }

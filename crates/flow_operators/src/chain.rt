@@ -34,7 +34,8 @@ pub trait Chain: Cold {
         ensures whole { (m : Self.Reading) (f : Self.Item → Result U ChainFault)
             → ⟦<Map<Self, F> as Cold>⟧.whole result (m, f) ≡ runs.map_run f (Self.whole self m) }
         ensures meaning { (m : Self.Reading) (f : Self.Item → Result U ChainFault)
-            → meaning_of (⟦<Map<Self, F> as Cold>⟧.whole result (m, f)) ≡ means.map_meaning f (meaning_of (Self.whole self m)) }
+            → meaning_of (⟦<Map<Self, F> as Cold>⟧.whole result (m, f)) ≡
+            means.map_meaning f (meaning_of (Self.whole self m)) }
         ensures rest { (m : Self.Reading) (f : Self.Item → Result U ChainFault)
             → ⟦<Map<Self, F> as Cold>⟧.rest result (m, f) ≡ runs.map_run f (Self.rest self m) }
     {
@@ -53,11 +54,14 @@ pub trait Chain: Cold {
         ensures reads { (m : Self.Reading) (f : Self.Item → U) → Self.Reads self m
             → Makes (F.post closure) f → ⟦<MapValue<Self, F> as Cold>⟧.Reads result (m, f) }
         ensures whole { (m : Self.Reading) (f : Self.Item → U)
-            → ⟦<MapValue<Self, F> as Cold>⟧.whole result (m, f) ≡ runs.map_run (λ x. Ok (f x)) (Self.whole self m) }
+            → ⟦<MapValue<Self, F> as Cold>⟧.whole result (m, f)
+            ≡ runs.map_run (λ x. Ok (f x)) (Self.whole self m) }
         ensures meaning { (m : Self.Reading) (f : Self.Item → U)
-            → meaning_of (⟦<MapValue<Self, F> as Cold>⟧.whole result (m, f)) ≡ means.map_meaning (λ x. Ok (f x)) (meaning_of (Self.whole self m)) }
+            → meaning_of (⟦<MapValue<Self, F> as Cold>⟧.whole result (m, f)) ≡
+            means.map_meaning (λ x. Ok (f x)) (meaning_of (Self.whole self m)) }
         ensures rest { (m : Self.Reading) (f : Self.Item → U)
-            → ⟦<MapValue<Self, F> as Cold>⟧.rest result (m, f) ≡ runs.map_run (λ x. Ok (f x)) (Self.rest self m) }
+            → ⟦<MapValue<Self, F> as Cold>⟧.rest result (m, f)
+            ≡ runs.map_run (λ x. Ok (f x)) (Self.rest self m) }
     {
         MapValue::new(self, closure)
     }
@@ -71,14 +75,17 @@ pub trait Chain: Cold {
         requires callable { F.IsAlwaysCallable test }
         ensures callable { ⟦<Filter<Self, F> as Cold>⟧.CanAsk result }
         ensures reads { (m : Self.Reading) (p : Self.Item → Bool) → Self.Reads self m
-            → Decides (λ x b. FnReturnsAt F.Fn test x b) p → ⟦<Filter<Self, F> as Cold>⟧.Reads result (m, p) }
+            → Decides (λ x b. FnReturnsAt F.Fn test x b) p
+            → ⟦<Filter<Self, F> as Cold>⟧.Reads result (m, p) }
         ensures whole { (m : Self.Reading) (p : Self.Item → Bool)
-            → ⟦<Filter<Self, F> as Cold>⟧.whole result (m, p) ≡ runs.filter_run p (Self.whole self m) }
+            → ⟦<Filter<Self, F> as Cold>⟧.whole result (m, p)
+            ≡ runs.filter_run p (Self.whole self m) }
         ensures meaning { (m : Self.Reading) (p : Self.Item → Bool)
             → meaning_of (⟦<Filter<Self, F> as Cold>⟧.whole result (m, p))
             ≡ means.filter_meaning p (meaning_of (Self.whole self m)) }
         ensures rest { (m : Self.Reading) (p : Self.Item → Bool)
-            → ⟦<Filter<Self, F> as Cold>⟧.rest result (m, p) ≡ runs.filter_run p (Self.rest self m) }
+            → ⟦<Filter<Self, F> as Cold>⟧.rest result (m, p)
+            ≡ runs.filter_run p (Self.rest self m) }
     {
         Filter::new(self, test)
     }
@@ -89,13 +96,15 @@ pub trait Chain: Cold {
         Self: Sized,
         requires { Self.CanAsk self }
         ensures callable { IfOk result ⟦<Take<Self> as Cold>⟧.CanAsk }
-        ensures reads { IfOk result (λ t. (m : Self.Reading) → Self.Reads self m → ⟦<Take<Self> as Cold>⟧.Reads t m) }
-        ensures whole { IfOk result (λ t. (m : Self.Reading) →
-            ⟦<Take<Self> as Cold>⟧.whole t m ≡ runs.take_run count (Self.whole self m)) }
+        ensures reads { IfOk result (λ t.
+            (m : Self.Reading) → Self.Reads self m → ⟦<Take<Self> as Cold>⟧.Reads t m) }
+        ensures whole { IfOk result (λ t. (m : Self.Reading)
+            → ⟦<Take<Self> as Cold>⟧.whole t m ≡ runs.take_run count (Self.whole self m)) }
         ensures meaning { IfOk result (λ t. (m : Self.Reading) →
-            meaning_of (⟦<Take<Self> as Cold>⟧.whole t m) ≡ means.take_meaning count (meaning_of (Self.whole self m))) }
-        ensures rest { IfOk result (λ t. (m : Self.Reading) →
-            ⟦<Take<Self> as Cold>⟧.rest t m ≡ runs.take_run count (Self.rest self m)) }
+            meaning_of (⟦<Take<Self> as Cold>⟧.whole t m) ≡
+            means.take_meaning count (meaning_of (Self.whole self m))) }
+        ensures rest { IfOk result (λ t. (m : Self.Reading)
+            → ⟦<Take<Self> as Cold>⟧.rest t m ≡ runs.take_run count (Self.rest self m)) }
         ensures left { IfOk result (λ t. items_left t ≡ count) }
         ensures refused { (result ≡ Err ChainFault.NotPositive) ↔ (count ≡ 0) }
         ensures otherwise { IfErr result (λ fault. fault ≡ ChainFault.NotPositive) }
@@ -109,10 +118,12 @@ pub trait Chain: Cold {
         Self: Sized,
         requires { Self.CanAsk self }
         ensures callable { ⟦<DropFirst<Self> as Cold>⟧.CanAsk result }
-        ensures reads { (m : Self.Reading) → Self.Reads self m → ⟦<DropFirst<Self> as Cold>⟧.Reads result m }
+        ensures reads { (m : Self.Reading) →
+            Self.Reads self m → ⟦<DropFirst<Self> as Cold>⟧.Reads result m }
         ensures whole { (m : Self.Reading) → ⟦<DropFirst<Self> as Cold>⟧.whole result m
             ≡ runs.drop_run (Self.whole self m) count }
-        ensures meaning { (m : Self.Reading) → meaning_of (⟦<DropFirst<Self> as Cold>⟧.whole result m)
+        ensures meaning { (m : Self.Reading) →
+            meaning_of (⟦<DropFirst<Self> as Cold>⟧.whole result m)
             ≡ means.drop_meaning count (meaning_of (Self.whole self m)) }
         ensures rest { (m : Self.Reading) → ⟦<DropFirst<Self> as Cold>⟧.rest result m
             ≡ runs.drop_run (Self.rest self m) count }
@@ -129,14 +140,17 @@ pub trait Chain: Cold {
         requires callable { F.IsAlwaysCallable test }
         ensures callable { ⟦<TakeWhile<Self, F> as Cold>⟧.CanAsk result }
         ensures reads { (m : Self.Reading) (p : Self.Item → Bool) → Self.Reads self m
-            → Decides (λ x b. FnReturnsAt F.Fn test x b) p → ⟦<TakeWhile<Self, F> as Cold>⟧.Reads result (m, p) }
+            → Decides (λ x b. FnReturnsAt F.Fn test x b) p
+            → ⟦<TakeWhile<Self, F> as Cold>⟧.Reads result (m, p) }
         ensures whole { (m : Self.Reading) (p : Self.Item → Bool)
-            → ⟦<TakeWhile<Self, F> as Cold>⟧.whole result (m, p) ≡ runs.take_while_run p (Self.whole self m) }
+            → ⟦<TakeWhile<Self, F> as Cold>⟧.whole result (m, p)
+            ≡ runs.take_while_run p (Self.whole self m) }
         ensures meaning { (m : Self.Reading) (p : Self.Item → Bool)
             → meaning_of (⟦<TakeWhile<Self, F> as Cold>⟧.whole result (m, p))
             ≡ means.take_while_meaning p (meaning_of (Self.whole self m)) }
         ensures rest { (m : Self.Reading) (p : Self.Item → Bool)
-            → ⟦<TakeWhile<Self, F> as Cold>⟧.rest result (m, p) ≡ runs.take_while_run p (Self.rest self m) }
+            → ⟦<TakeWhile<Self, F> as Cold>⟧.rest result (m, p)
+            ≡ runs.take_while_run p (Self.rest self m) }
     {
         TakeWhile::new(self, test)
     }
@@ -150,14 +164,17 @@ pub trait Chain: Cold {
         requires callable { F.IsAlwaysCallable test }
         ensures callable { ⟦<DropWhile<Self, F> as Cold>⟧.CanAsk result }
         ensures reads { (m : Self.Reading) (p : Self.Item → Bool) → Self.Reads self m
-            → Decides (λ x b. FnReturnsAt F.Fn test x b) p → ⟦<DropWhile<Self, F> as Cold>⟧.Reads result (m, p) }
+            → Decides (λ x b. FnReturnsAt F.Fn test x b) p
+            → ⟦<DropWhile<Self, F> as Cold>⟧.Reads result (m, p) }
         ensures whole { (m : Self.Reading) (p : Self.Item → Bool)
-            → ⟦<DropWhile<Self, F> as Cold>⟧.whole result (m, p) ≡ runs.drop_while_run p (Self.whole self m) }
+            → ⟦<DropWhile<Self, F> as Cold>⟧.whole result (m, p)
+            ≡ runs.drop_while_run p (Self.whole self m) }
         ensures meaning { (m : Self.Reading) (p : Self.Item → Bool)
             → meaning_of (⟦<DropWhile<Self, F> as Cold>⟧.whole result (m, p))
             ≡ means.drop_while_meaning p (meaning_of (Self.whole self m)) }
         ensures rest { (m : Self.Reading) (p : Self.Item → Bool)
-            → ⟦<DropWhile<Self, F> as Cold>⟧.rest result (m, p) ≡ runs.drop_while_run p (Self.rest self m) }
+            → ⟦<DropWhile<Self, F> as Cold>⟧.rest result (m, p)
+            ≡ runs.drop_while_run p (Self.rest self m) }
     {
         DropWhile::new(self, test)
     }
@@ -171,15 +188,18 @@ pub trait Chain: Cold {
         requires upstream { Self.CanAsk self }
         requires callable { F.IsAlwaysCallable closure }
         ensures callable { ⟦<Scan<Self, U, F> as Cold>⟧.CanAsk result }
-        ensures reads { (m : Self.Reading) (f : U × Self.Item → Result U ChainFault) → Self.Reads self m
+        ensures reads { (m : Self.Reading) (f : U × Self.Item → Result U ChainFault) →
+            Self.Reads self m
             → ComputesPairs (F.post closure) f → ⟦<Scan<Self, U, F> as Cold>⟧.Reads result (m, f) }
         ensures whole { (m : Self.Reading) (f : U × Self.Item → Result U ChainFault)
-            → ⟦<Scan<Self, U, F> as Cold>⟧.whole result (m, f) ≡ gives initial (runs.scan_run f initial (Self.whole self m)) }
+            → ⟦<Scan<Self, U, F> as Cold>⟧.whole result (m, f) ≡
+            gives initial (runs.scan_run f initial (Self.whole self m)) }
         ensures meaning { (m : Self.Reading) (f : U × Self.Item → Result U ChainFault)
             → meaning_of (⟦<Scan<Self, U, F> as Cold>⟧.whole result (m, f))
             ≡ means.scan_meaning f initial (meaning_of (Self.whole self m)) }
         ensures rest { (m : Self.Reading) (f : U × Self.Item → Result U ChainFault)
-            → ⟦<Scan<Self, U, F> as Cold>⟧.rest result (m, f) ≡ gives initial (runs.scan_run f initial (Self.rest self m)) }
+            → ⟦<Scan<Self, U, F> as Cold>⟧.rest result (m, f) ≡
+            gives initial (runs.scan_run f initial (Self.rest self m)) }
     {
         Scan::new(self, initial, closure)
     }
@@ -193,15 +213,20 @@ pub trait Chain: Cold {
         requires upstream { Self.CanAsk self }
         requires callable { F.IsAlwaysCallable closure }
         ensures callable { ⟦<RunningReduce<Self, F> as Cold>⟧.CanAsk result }
-        ensures reads { (m : Self.Reading) (f : Self.Item × Self.Item → Result Self.Item ChainFault) → Self.Reads self m
-            → ComputesPairs (F.post closure) f → ⟦<RunningReduce<Self, F> as Cold>⟧.Reads result (m, f) }
+        ensures reads { (m : Self.Reading)
+            (f : Self.Item × Self.Item → Result Self.Item ChainFault) → Self.Reads self m
+            → ComputesPairs (F.post closure) f
+            → ⟦<RunningReduce<Self, F> as Cold>⟧.Reads result (m, f) }
         ensures whole { (m : Self.Reading) (f : Self.Item × Self.Item → Result Self.Item ChainFault)
-            → ⟦<RunningReduce<Self, F> as Cold>⟧.whole result (m, f) ≡ runs.running_reduce_run f None (Self.whole self m) }
-        ensures meaning { (m : Self.Reading) (f : Self.Item × Self.Item → Result Self.Item ChainFault)
+            → ⟦<RunningReduce<Self, F> as Cold>⟧.whole result (m, f)
+            ≡ runs.running_reduce_run f None (Self.whole self m) }
+        ensures meaning { (m : Self.Reading)
+            (f : Self.Item × Self.Item → Result Self.Item ChainFault)
             → meaning_of (⟦<RunningReduce<Self, F> as Cold>⟧.whole result (m, f))
             ≡ means.running_reduce_meaning f (meaning_of (Self.whole self m)) }
         ensures rest { (m : Self.Reading) (f : Self.Item × Self.Item → Result Self.Item ChainFault)
-            → ⟦<RunningReduce<Self, F> as Cold>⟧.rest result (m, f) ≡ runs.running_reduce_run f None (Self.rest self m) }
+            → ⟦<RunningReduce<Self, F> as Cold>⟧.rest result (m, f)
+            ≡ runs.running_reduce_run f None (Self.rest self m) }
     {
         RunningReduce::new(self, closure)
     }
@@ -212,10 +237,12 @@ pub trait Chain: Cold {
         Self: Sized,
         requires { Self.CanAsk self }
         ensures callable { ⟦<Distinct<Self> as Cold>⟧.CanAsk result }
-        ensures reads { (m : Self.Reading) → Self.Reads self m → ⟦<Distinct<Self> as Cold>⟧.Reads result m }
+        ensures reads { (m : Self.Reading) →
+            Self.Reads self m → ⟦<Distinct<Self> as Cold>⟧.Reads result m }
         ensures whole { (m : Self.Reading) → ⟦<Distinct<Self> as Cold>⟧.whole result m
             ≡ runs.distinct_run Self.Item.is_same None (Self.whole self m) }
-        ensures meaning { (m : Self.Reading) → meaning_of (⟦<Distinct<Self> as Cold>⟧.whole result m)
+        ensures meaning { (m : Self.Reading) →
+            meaning_of (⟦<Distinct<Self> as Cold>⟧.whole result m)
             ≡ means.distinct_meaning Self.Item.is_same (meaning_of (Self.whole self m)) }
         ensures rest { (m : Self.Reading) → ⟦<Distinct<Self> as Cold>⟧.rest result m
             ≡ runs.distinct_run Self.Item.is_same None (Self.rest self m) }
@@ -232,15 +259,19 @@ pub trait Chain: Cold {
         requires upstream { Self.CanAsk self }
         requires callable { F.IsAlwaysCallable closure }
         ensures callable { ⟦<Transform<Self, U, F> as Cold>⟧.CanAsk result }
-        ensures reads { (m : Self.Reading) (f : Self.Item → Result (List U) ChainFault) → Self.Reads self m
-            → ComputesBy (λ v. v.items) (F.post closure) f → ⟦<Transform<Self, U, F> as Cold>⟧.Reads result (m, f) }
+        ensures reads { (m : Self.Reading) (f : Self.Item → Result (List U) ChainFault) →
+            Self.Reads self m
+            → ComputesBy (λ v. v.items) (F.post closure) f
+            → ⟦<Transform<Self, U, F> as Cold>⟧.Reads result (m, f) }
         ensures whole { (m : Self.Reading) (f : Self.Item → Result (List U) ChainFault)
-            → ⟦<Transform<Self, U, F> as Cold>⟧.whole result (m, f) ≡ runs.transform_run f (Self.whole self m) }
+            → ⟦<Transform<Self, U, F> as Cold>⟧.whole result (m, f)
+            ≡ runs.transform_run f (Self.whole self m) }
         ensures meaning { (m : Self.Reading) (f : Self.Item → Result (List U) ChainFault)
             → meaning_of (⟦<Transform<Self, U, F> as Cold>⟧.whole result (m, f))
             ≡ means.transform_meaning f (meaning_of (Self.whole self m)) }
         ensures rest { (m : Self.Reading) (f : Self.Item → Result (List U) ChainFault)
-            → ⟦<Transform<Self, U, F> as Cold>⟧.rest result (m, f) ≡ runs.transform_run f (Self.rest self m) }
+            → ⟦<Transform<Self, U, F> as Cold>⟧.rest result (m, f)
+            ≡ runs.transform_run f (Self.rest self m) }
     {
         Transform::new(self, closure)
     }
@@ -257,16 +288,22 @@ pub trait Chain: Cold {
         requires opens { OpensCallable D.CanAsk (F.post closure) }
         requires limited { D.IsLimited }
         ensures callable { ⟦<FlatMapConcat<Self, D, F> as Cold>⟧.CanAsk result }
-        ensures reads { (m : Self.Reading) (n : D.Reading) (f : Self.Item → Result (ChainRun D.Item) ChainFault)
+        ensures reads { (m : Self.Reading) (n : D.Reading)
+            (f : Self.Item → Result (ChainRun D.Item) ChainFault)
             → Self.Reads self m → Opens (λ d. D.Reads d n) (λ d. D.whole d n) (F.post closure) f
             → ⟦<FlatMapConcat<Self, D, F> as Cold>⟧.Reads result ((m, n), f) }
-        ensures whole { (m : Self.Reading) (n : D.Reading) (f : Self.Item → Result (ChainRun D.Item) ChainFault)
-            → ⟦<FlatMapConcat<Self, D, F> as Cold>⟧.whole result ((m, n), f) ≡ runs.flat_map_run f (Self.whole self m) }
-        ensures meaning { (m : Self.Reading) (n : D.Reading) (f : Self.Item → Result (ChainRun D.Item) ChainFault)
+        ensures whole { (m : Self.Reading) (n : D.Reading)
+            (f : Self.Item → Result (ChainRun D.Item) ChainFault)
+            → ⟦<FlatMapConcat<Self, D, F> as Cold>⟧.whole result ((m, n), f)
+            ≡ runs.flat_map_run f (Self.whole self m) }
+        ensures meaning { (m : Self.Reading) (n : D.Reading)
+            (f : Self.Item → Result (ChainRun D.Item) ChainFault)
             → meaning_of (⟦<FlatMapConcat<Self, D, F> as Cold>⟧.whole result ((m, n), f))
             ≡ means.flat_map_meaning f (meaning_of (Self.whole self m)) }
-        ensures rest { (m : Self.Reading) (n : D.Reading) (f : Self.Item → Result (ChainRun D.Item) ChainFault)
-            → ⟦<FlatMapConcat<Self, D, F> as Cold>⟧.rest result ((m, n), f) ≡ runs.flat_map_run f (Self.rest self m) }
+        ensures rest { (m : Self.Reading) (n : D.Reading)
+            (f : Self.Item → Result (ChainRun D.Item) ChainFault)
+            → ⟦<FlatMapConcat<Self, D, F> as Cold>⟧.rest result ((m, n), f)
+            ≡ runs.flat_map_run f (Self.rest self m) }
     {
         FlatMapConcat::new(self, closure)
     }
@@ -282,15 +319,22 @@ pub trait Chain: Cold {
         requires right { R.CanAsk right }
         requires callable { F.IsAlwaysCallable closure }
         ensures callable { ⟦<Zip<Self, R, F> as Cold>⟧.CanAsk result }
-        ensures reads { (m : Self.Reading) (n : R.Reading) (f : Self.Item × R.Item → Result U ChainFault) → Self.Reads self m
-            → R.Reads right n → ComputesPairs (F.post closure) f → ⟦<Zip<Self, R, F> as Cold>⟧.Reads result ((m, n), f) }
-        ensures whole { (m : Self.Reading) (n : R.Reading) (f : Self.Item × R.Item → Result U ChainFault)
-            → ⟦<Zip<Self, R, F> as Cold>⟧.whole result ((m, n), f) ≡ runs.zip_run f (Self.whole self m) (R.whole right n) }
-        ensures meaning { (m : Self.Reading) (n : R.Reading) (f : Self.Item × R.Item → Result U ChainFault)
+        ensures reads { (m : Self.Reading) (n : R.Reading)
+            (f : Self.Item × R.Item → Result U ChainFault) → Self.Reads self m
+            → R.Reads right n → ComputesPairs (F.post closure) f
+            → ⟦<Zip<Self, R, F> as Cold>⟧.Reads result ((m, n), f) }
+        ensures whole { (m : Self.Reading) (n : R.Reading)
+            (f : Self.Item × R.Item → Result U ChainFault)
+            → ⟦<Zip<Self, R, F> as Cold>⟧.whole result ((m, n), f)
+            ≡ runs.zip_run f (Self.whole self m) (R.whole right n) }
+        ensures meaning { (m : Self.Reading) (n : R.Reading)
+            (f : Self.Item × R.Item → Result U ChainFault)
             → meaning_of (⟦<Zip<Self, R, F> as Cold>⟧.whole result ((m, n), f))
             ≡ means.zip_meaning f (meaning_of (Self.whole self m)) (meaning_of (R.whole right n)) }
-        ensures rest { (m : Self.Reading) (n : R.Reading) (f : Self.Item × R.Item → Result U ChainFault)
-            → ⟦<Zip<Self, R, F> as Cold>⟧.rest result ((m, n), f) ≡ runs.zip_run f (Self.rest self m) (R.rest right n) }
+        ensures rest { (m : Self.Reading) (n : R.Reading)
+            (f : Self.Item × R.Item → Result U ChainFault)
+            → ⟦<Zip<Self, R, F> as Cold>⟧.rest result ((m, n), f)
+            ≡ runs.zip_run f (Self.rest self m) (R.rest right n) }
     {
         Zip::new(self, right, closure)
     }

@@ -69,7 +69,8 @@ pub trait Cold: Drop {
         ensures callable { CanAsk self.new }
         ensures reads { (m : Reading) → Reads self.old m → Reads self.new m }
         ensures whole { (m : Reading) → whole self.new m ≡ whole self.old m }
-        ensures gives { (m : Reading) → Reads self.old m → AskGives (rest self.old m) result (rest self.new m) }
+        ensures gives { (m : Reading) → Reads self.old m →
+            AskGives (rest self.old m) result (rest self.new m) }
         ensures fewer { IsFinal result ⊎ most_asks self.new < most_asks self.old }
         ensures over { IsFinal result → IsOver self.new }
         ensures answered { OnEnd result (HasAnswered self.new) }

@@ -18,8 +18,10 @@ pub(crate) fn next_item<C: Cold>(chain: &mut C) -> Result<Option<C::Item>, Chain
     ensures callable { C.CanAsk chain.new }
     ensures reads { (m : C.Reading) → C.Reads chain.old m → C.Reads chain.new m }
     ensures whole { (m : C.Reading) → C.whole chain.new m ≡ C.whole chain.old m }
-    ensures gives { (m : C.Reading) → C.Reads chain.old m → GivesItem (C.rest chain.old m) result (C.rest chain.new m) }
-    ensures fewer { IfOk result (λ found. IfSome found (λ _. C.most_asks chain.new < C.most_asks chain.old)) }
+    ensures gives { (m : C.Reading) → C.Reads chain.old m →
+        GivesItem (C.rest chain.old m) result (C.rest chain.new m) }
+    ensures fewer { IfOk result (λ found.
+        IfSome found (λ _. C.most_asks chain.new < C.most_asks chain.old)) }
     ensures over { OnNoItem result (C.IsOver chain.new) }
     ensures answered { IfErr result (λ fault. C.HasAnswered chain.new (End.Failed fault)) }
 {
@@ -58,10 +60,12 @@ where
     ensures whole { (m : C.Reading) → C.whole chain.new m ≡ C.whole chain.old m }
     ensures folds { (m : C.Reading) (f : U × C.Item → Result U ChainFault) → C.Reads chain.old m
         → ComputesPairs (F.post closure.now) f
-        → Follows (folded f initial (items (C.rest chain.old m)) (ending (C.rest chain.old m))) result }
+        → Follows (folded f initial (items (C.rest chain.old m)) (ending (C.rest chain.old m)))
+        result }
     ensures over { IfOk result (λ _. C.IsOver chain.new) }
     ensures stands { IfErr result (λ _. C.IsOver chain.new
-        ⊎ ((m : C.Reading) → C.Reads chain.old m → StandsAfterItem (C.rest chain.old m) (C.rest chain.new m))) }
+        ⊎ ((m : C.Reading) → C.Reads chain.old m →
+        StandsAfterItem (C.rest chain.old m) (C.rest chain.new m))) }
     ensures answered { IfErr result (λ fault.
         C.HasAnswered chain.new (End.Failed fault) ⊎ CallFails (F.post closure.now) fault) }
 {
@@ -90,9 +94,11 @@ where
     ensures whole { (m : C.Reading) → C.whole chain.new m ≡ C.whole chain.old m }
     ensures finds { (m : C.Reading) (p : C.Item → Bool) → C.Reads chain.old m
         → Decides (λ x b. FnReturnsAt F.Fn test.now x b) p
-        → Follows (first_of (filter (sought wanted p) (items (C.rest chain.old m))) (ending (C.rest chain.old m))) result }
+        → Follows (first_of (filter (sought wanted p) (items (C.rest chain.old m)))
+        (ending (C.rest chain.old m))) result }
     ensures over { OnNoItem result (C.IsOver chain.new) }
-    ensures stands { IfOk result (λ found. IfSome found (λ item. (m : C.Reading) → C.Reads chain.old m
+    ensures stands { IfOk result (λ found.
+        IfSome found (λ item. (m : C.Reading) → C.Reads chain.old m
         → StandsAfter item (C.rest chain.old m) (C.rest chain.new m))) }
     ensures answered { IfErr result (λ fault. C.HasAnswered chain.new (End.Failed fault)) }
 {

@@ -23,7 +23,8 @@ impl<C: Cold> Streamed<C> {
     pub fn new(mut chain: C) -> Self
         requires { C.CanAsk chain }
         ensures callable { ⟦<Streamed<C> as Stream>⟧.can_poll result }
-        ensures yields { (xs : List (Result C.Item ChainFault)) (last : Option (Result C.Item ChainFault))
+        ensures yields { (xs : List (Result C.Item ChainFault))
+            (last : Option (Result C.Item ChainFault))
             → ⟦<Streamed<C> as Stream>⟧.yields result xs last
             → (m : C.Reading) → C.Reads chain m → Streams (C.whole chain m) xs last }
     {
@@ -48,12 +49,16 @@ impl<C: Cold> Stream for Streamed<C> {
         requires { ⟦<Streamed<C> as Stream>⟧.can_poll self.old }
         ensures value { IfReady result (⟦<Streamed<C> as Stream>⟧.yields self.old []) }
         ensures rest { IfReady result (λ o. IfSome o (λ x.
-            After (⟦<Streamed<C> as Stream>⟧.yields self.old) x (⟦<Streamed<C> as Stream>⟧.yields self.new))) }
-        ensures goes { IfReady result (λ o. OnSome o (⟦<Streamed<C> as Stream>⟧.can_poll self.new)) }
+            After (⟦<Streamed<C> as Stream>⟧.yields self.old) x
+            (⟦<Streamed<C> as Stream>⟧.yields self.new))) }
+        ensures goes { IfReady result (λ o.
+            OnSome o (⟦<Streamed<C> as Stream>⟧.can_poll self.new)) }
         ensures again { OnPending result (⟦<Streamed<C> as Stream>⟧.can_poll self.new) }
         ensures same { OnPending result
-            (Within (⟦<Streamed<C> as Stream>⟧.yields self.old) (⟦<Streamed<C> as Stream>⟧.yields self.new)) }
-        ensures registered { OnPending result (Covers cx.new (⟦<Streamed<C> as Stream>⟧.needs self.new)) }
+            (Within (⟦<Streamed<C> as Stream>⟧.yields self.old)
+            (⟦<Streamed<C> as Stream>⟧.yields self.new)) }
+        ensures registered { OnPending result
+            (Covers cx.new (⟦<Streamed<C> as Stream>⟧.needs self.new)) }
         ensures kept { Keeps cx.old cx.new }
         ensures answered { OnFault result
             (λ fault. C.HasAnswered (streamed_chain self.new) (End.Failed fault)) }

@@ -29,12 +29,15 @@ pub trait Terminal: Cold {
         ensures callable { Self.CanAsk self.new }
         ensures reads { (m : Self.Reading) → Self.Reads self.old m → Self.Reads self.new m }
         ensures whole { (m : Self.Reading) → Self.whole self.new m ≡ Self.whole self.old m }
-        ensures folds { (m : Self.Reading) (f : U × Self.Item → Result U ChainFault) → Self.Reads self.old m
-            → ComputesPairs (F.post closure) f → FollowsRun (folded f initial) (Self.whole self.old m) result }
+        ensures folds { (m : Self.Reading) (f : U × Self.Item → Result U ChainFault) →
+            Self.Reads self.old m
+            → ComputesPairs (F.post closure) f →
+            FollowsRun (folded f initial) (Self.whole self.old m) result }
         ensures over { IfOk result (λ _. Self.IsOver self.new) }
         // After a fault of the closure the chain is just after the item at which it was answered.
         ensures stands { IfErr result (λ _. Self.IsOver self.new
-            ⊎ ((m : Self.Reading) → Self.Reads self.old m → StandsAfterItem (Self.whole self.old m) (Self.rest self.new m))) }
+            ⊎ ((m : Self.Reading) → Self.Reads self.old m →
+            StandsAfterItem (Self.whole self.old m) (Self.rest self.new m))) }
         // A fault is the chain's own last answer, or the answer of a call of the closure. So is `OutOfMemory`.
         ensures answered { IfErr result (λ fault.
             Self.HasAnswered self.new (End.Failed fault) ⊎ CallFails (F.post closure) fault) }
@@ -53,12 +56,15 @@ pub trait Terminal: Cold {
         ensures callable { Self.CanAsk self.new }
         ensures reads { (m : Self.Reading) → Self.Reads self.old m → Self.Reads self.new m }
         ensures whole { (m : Self.Reading) → Self.whole self.new m ≡ Self.whole self.old m }
-        ensures reduces { (m : Self.Reading) (f : Self.Item × Self.Item → Result Self.Item ChainFault) → Self.Reads self.old m
-            → ComputesPairs (F.post closure) f → FollowsRun (reduced_to f) (Self.whole self.old m) result }
+        ensures reduces { (m : Self.Reading)
+            (f : Self.Item × Self.Item → Result Self.Item ChainFault) → Self.Reads self.old m
+            → ComputesPairs (F.post closure) f →
+            FollowsRun (reduced_to f) (Self.whole self.old m) result }
         ensures over { IfOk result (λ _. Self.IsOver self.new) }
         // After a fault of the closure the chain is just after the item at which it was answered.
         ensures stands { IfErr result (λ _. Self.IsOver self.new
-            ⊎ ((m : Self.Reading) → Self.Reads self.old m → StandsAfterItem (Self.whole self.old m) (Self.rest self.new m))) }
+            ⊎ ((m : Self.Reading) → Self.Reads self.old m →
+            StandsAfterItem (Self.whole self.old m) (Self.rest self.new m))) }
         // A fault is the chain's own last answer, or the answer of a call of the closure. So is `OutOfMemory`.
         ensures answered { IfErr result (λ fault.
             Self.HasAnswered self.new (End.Failed fault) ⊎ CallFails (F.post closure) fault) }
@@ -82,7 +88,8 @@ pub trait Terminal: Cold {
         ensures first { (m : Self.Reading) → Self.Reads self.old m
             → FollowsRun first_of (Self.whole self.old m) result }
         ensures over { OnNoItem result (Self.IsOver self.new) }
-        ensures stands { IfOk result (λ found. IfSome found (λ item. (m : Self.Reading) → Self.Reads self.old m
+        ensures stands { IfOk result (λ found.
+            IfSome found (λ item. (m : Self.Reading) → Self.Reads self.old m
             → StandsAfter item (Self.whole self.old m) (Self.rest self.new m))) }
         // A fault is the chain's own last answer. So is `OutOfMemory`.
         ensures answered { IfErr result (λ fault. Self.HasAnswered self.new (End.Failed fault)) }
@@ -105,7 +112,8 @@ pub trait Terminal: Cold {
             → Decides (λ x b. FnReturnsAt F.Fn test x b) p
             → FollowsRun (λ xs e. first_of (filter p xs) e) (Self.whole self.old m) result }
         ensures over { OnNoItem result (Self.IsOver self.new) }
-        ensures stands { IfOk result (λ found. IfSome found (λ item. (m : Self.Reading) → Self.Reads self.old m
+        ensures stands { IfOk result (λ found.
+            IfSome found (λ item. (m : Self.Reading) → Self.Reads self.old m
             → StandsAfter item (Self.whole self.old m) (Self.rest self.new m))) }
         // A fault is the chain's own last answer. So is `OutOfMemory`.
         ensures answered { IfErr result (λ fault. Self.HasAnswered self.new (End.Failed fault)) }
@@ -122,9 +130,11 @@ pub trait Terminal: Cold {
         ensures reads { (m : Self.Reading) → Self.Reads self.old m → Self.Reads self.new m }
         ensures whole { (m : Self.Reading) → Self.whole self.new m ≡ Self.whole self.old m }
         ensures tells { (m : Self.Reading) (p : Self.Item → Bool) → Self.Reads self.old m
-            → Decides (λ x b. FnReturnsAt F.Fn test x b) p → FollowsRun (any_of p) (Self.whole self.old m) result }
+            → Decides (λ x b. FnReturnsAt F.Fn test x b) p →
+            FollowsRun (any_of p) (Self.whole self.old m) result }
         ensures stands { IfOk result (λ _. Self.IsOver self.new
-            ⊎ ((m : Self.Reading) → Self.Reads self.old m → StandsAfterItem (Self.whole self.old m) (Self.rest self.new m))) }
+            ⊎ ((m : Self.Reading) → Self.Reads self.old m →
+            StandsAfterItem (Self.whole self.old m) (Self.rest self.new m))) }
         // A fault is the chain's own last answer. So is `OutOfMemory`.
         ensures over { IfErr result (λ _. Self.IsOver self.new) }
         ensures answered { IfErr result (λ fault. Self.HasAnswered self.new (End.Failed fault)) }
@@ -145,9 +155,11 @@ pub trait Terminal: Cold {
         ensures reads { (m : Self.Reading) → Self.Reads self.old m → Self.Reads self.new m }
         ensures whole { (m : Self.Reading) → Self.whole self.new m ≡ Self.whole self.old m }
         ensures tells { (m : Self.Reading) (p : Self.Item → Bool) → Self.Reads self.old m
-            → Decides (λ x b. FnReturnsAt F.Fn test x b) p → FollowsRun (all_of p) (Self.whole self.old m) result }
+            → Decides (λ x b. FnReturnsAt F.Fn test x b) p →
+            FollowsRun (all_of p) (Self.whole self.old m) result }
         ensures stands { IfOk result (λ _. Self.IsOver self.new
-            ⊎ ((m : Self.Reading) → Self.Reads self.old m → StandsAfterItem (Self.whole self.old m) (Self.rest self.new m))) }
+            ⊎ ((m : Self.Reading) → Self.Reads self.old m →
+            StandsAfterItem (Self.whole self.old m) (Self.rest self.new m))) }
         // A fault is the chain's own last answer. So is `OutOfMemory`.
         ensures over { IfErr result (λ _. Self.IsOver self.new) }
         ensures answered { IfErr result (λ fault. Self.HasAnswered self.new (End.Failed fault)) }
@@ -191,7 +203,8 @@ pub trait Terminal: Cold {
         ensures single { (m : Self.Reading) → Self.Reads self.old m
             → FollowsRun single_of (Self.whole self.old m) result }
         ensures stands { IfOk result (λ _. Self.IsOver self.new
-            ⊎ ((m : Self.Reading) → Self.Reads self.old m → StandsAfterItem (Self.whole self.old m) (Self.rest self.new m))) }
+            ⊎ ((m : Self.Reading) → Self.Reads self.old m →
+            StandsAfterItem (Self.whole self.old m) (Self.rest self.new m))) }
         // A fault is the chain's own last answer. So is `OutOfMemory`.
         ensures over { IfErr result (λ _. Self.IsOver self.new) }
         ensures answered { IfErr result (λ fault. Self.HasAnswered self.new (End.Failed fault)) }
@@ -217,7 +230,8 @@ pub trait Terminal: Cold {
         ensures over { IfOk result (λ _. Self.IsOver self.new) }
         // After a count that is too large the chain is just after the item that made it so.
         ensures stands { IfErr result (λ _. Self.IsOver self.new
-            ⊎ ((m : Self.Reading) → Self.Reads self.old m → StandsAfterItem (Self.whole self.old m) (Self.rest self.new m))) }
+            ⊎ ((m : Self.Reading) → Self.Reads self.old m →
+            StandsAfterItem (Self.whole self.old m) (Self.rest self.new m))) }
         // A fault is the chain's own last answer, unless the count is too large. So is `OutOfMemory`.
         ensures answered { IfErr result (λ fault.
             (fault ≡ ChainFault.Overflow) ⊎ Self.HasAnswered self.new (End.Failed fault)) }
@@ -244,12 +258,14 @@ pub trait Terminal: Cold {
         ensures callable { Self.CanAsk self.new }
         ensures reads { (m : Self.Reading) → Self.Reads self.old m → Self.Reads self.new m }
         ensures whole { (m : Self.Reading) → Self.whole self.new m ≡ Self.whole self.old m }
-        ensures visits { (m : Self.Reading) → Self.Reads self.old m → Visits (λ f x r g. F.step f x r g) visit
+        ensures visits { (m : Self.Reading) →
+            Self.Reads self.old m → Visits (λ f x r g. F.step f x r g) visit
             (items (Self.whole self.old m)) (ending (Self.whole self.old m)) result }
         ensures over { IfOk result (λ _. Self.IsOver self.new) }
         // After a fault of the closure the chain is just after the item at which it was answered.
         ensures stands { IfErr result (λ _. Self.IsOver self.new
-            ⊎ ((m : Self.Reading) → Self.Reads self.old m → StandsAfterItem (Self.whole self.old m) (Self.rest self.new m))) }
+            ⊎ ((m : Self.Reading) → Self.Reads self.old m →
+            StandsAfterItem (Self.whole self.old m) (Self.rest self.new m))) }
         // A fault is the chain's own last answer, or the answer of a call of the closure. So is `OutOfMemory`.
         ensures answered { IfErr result (λ fault. Self.HasAnswered self.new (End.Failed fault)
             ⊎ VisitFails (λ f x r g. F.step f x r g) fault) }

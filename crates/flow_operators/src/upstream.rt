@@ -28,17 +28,23 @@ impl<C: Cold> Upstream<C> {
     pub(crate) fn next<U>(&mut self) -> Result<C::Item, Asked<U>>
         requires { C.CanAsk (chain_of self.old) }
         ensures callable { C.CanAsk (chain_of self.new) }
-        ensures reads { (m : C.Reading) → C.Reads (chain_of self.old) m → C.Reads (chain_of self.new) m }
-        ensures whole { (m : C.Reading) → C.whole (chain_of self.new) m ≡ C.whole (chain_of self.old) m }
+        ensures reads { (m : C.Reading) →
+            C.Reads (chain_of self.old) m → C.Reads (chain_of self.new) m }
+        ensures whole { (m : C.Reading) →
+            C.whole (chain_of self.new) m ≡ C.whole (chain_of self.old) m }
         ensures gives { (m : C.Reading) → C.Reads (chain_of self.old) m
-            → NextGives (left_of (λ c. C.rest c m) self.old) result (left_of (λ c. C.rest c m) self.new) }
-        ensures behind { (¬ (is_ended self.old ≡ true)) → (m : C.Reading) → C.Reads (chain_of self.old) m
+            → NextGives (left_of (λ c. C.rest c m) self.old) result
+            (left_of (λ c. C.rest c m) self.new) }
+        ensures behind { (¬ (is_ended self.old ≡ true)) →
+            (m : C.Reading) → C.Reads (chain_of self.old) m
             → NextGives (C.rest (chain_of self.old) m) result (C.rest (chain_of self.new) m) }
-        ensures fewer { IfOk result (λ _. C.most_asks (chain_of self.new) < C.most_asks (chain_of self.old)) }
+        ensures fewer { IfOk result (λ _.
+            C.most_asks (chain_of self.new) < C.most_asks (chain_of self.old)) }
         ensures pends { IfErr result (λ asked. IsFinal asked
             ⊎ C.most_asks (chain_of self.new) < C.most_asks (chain_of self.old)) }
         ensures no_item { IfErr result (λ asked. ¬ IsItem asked) }
-        ensures runs { IfOk result (λ _. (is_ended self.old ≡ false) × (is_ended self.new ≡ false)) }
+        ensures runs { IfOk result (λ _.
+            (is_ended self.old ≡ false) × (is_ended self.new ≡ false)) }
         ensures over { IfErr result (λ asked. IsFinal asked → is_ended self.new ≡ true) }
         ensures end { is_ended self.old ≡ true → (result ≡ Err Asked.End) × self.new ≡ self.old }
     {
@@ -90,9 +96,12 @@ impl<C: Cold> Upstream<C> {
     pub(crate) fn rewind(&mut self)
         requires { C.CanAsk (chain_of self.old) }
         ensures callable { C.CanAsk (chain_of self.new) }
-        ensures reads { (m : C.Reading) → C.Reads (chain_of self.old) m → C.Reads (chain_of self.new) m }
-        ensures whole { (m : C.Reading) → C.whole (chain_of self.new) m ≡ C.whole (chain_of self.old) m }
-        ensures rest { (m : C.Reading) → C.rest (chain_of self.new) m ≡ C.whole (chain_of self.old) m }
+        ensures reads { (m : C.Reading) →
+            C.Reads (chain_of self.old) m → C.Reads (chain_of self.new) m }
+        ensures whole { (m : C.Reading) →
+            C.whole (chain_of self.new) m ≡ C.whole (chain_of self.old) m }
+        ensures rest { (m : C.Reading) →
+            C.rest (chain_of self.new) m ≡ C.whole (chain_of self.old) m }
         ensures ended { is_ended self.new ≡ false }
     {
         self.ended = false;

@@ -34,7 +34,8 @@ pub fn count_of(args: &[String]) -> Option<CountSize>
 }
 
 fn crowd_sized(emitters: &str, subscribers: &str, values: &str) -> Option<CrowdSize>
-    ensures { result ≡ crowd_sized (number_in emitters.now) (number_in subscribers.now) (number_in values.now) }
+    ensures { result ≡
+        crowd_sized (number_in emitters.now) (number_in subscribers.now) (number_in values.now) }
 {
     let emitters = number_in(emitters)?;
     let subscribers = number_in(subscribers)?;

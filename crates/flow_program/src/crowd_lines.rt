@@ -23,7 +23,8 @@ pub fn crowd_text(alloc: Global, got: &[Vec<u64>], size: CrowdSize) -> Result<St
 fn add_subscribers(text: &mut String, got: &[Vec<u64>], size: CrowdSize) -> Result<(), AllocError>
     requires { All (λ list. GotAll size list.items) got.now }
     ensures { OnOk result (string_bytes text.new
-        ≡ string_bytes text.old ++ subscriber_lines 1 (length got.now) (size.emitters * size.values)) }
+        ≡ string_bytes text.old ++
+        subscriber_lines 1 (length got.now) (size.emitters * size.values)) }
 {
     for index in 0..got.len() {
         add_subscriber(text, index + 1, got[index].len())?;
@@ -32,7 +33,8 @@ fn add_subscribers(text: &mut String, got: &[Vec<u64>], size: CrowdSize) -> Resu
 }
 
 fn add_subscriber(text: &mut String, number: usize, count: usize) -> Result<(), AllocError>
-    ensures { OnOk result (string_bytes text.new ≡ string_bytes text.old ++ subscriber_line number count) }
+    ensures { OnOk result
+        (string_bytes text.new ≡ string_bytes text.old ++ subscriber_line number count) }
 {
     writeln!(text, "subscriber {number} got {count} in order")
 }

@@ -11,7 +11,8 @@ use std::alloc::Global;
 
 /// Collects a chain. A chain that was out of memory ends the script.
 fn collected(alloc: Global, mut chain: ScriptChain) -> Result<Answer, ScriptFault>
-    ensures answer { IfOk result (λ answer. answer_of answer ≡ collection_answer (Ok (built_of chain))) }
+    ensures answer { IfOk result (λ answer.
+        answer_of answer ≡ collection_answer (Ok (built_of chain))) }
     ensures fault { IfErr result (λ fault. fault ≡ ScriptFault.OutOfMemory) }
 {
     let Ok(collected) = collect_all(alloc, &mut chain) else {

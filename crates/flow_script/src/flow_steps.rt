@@ -29,7 +29,8 @@ fn try_emit<F: ScriptCore>(
     numbers: &Numbers,
     value: i64,
 ) -> Result<Answer, ScriptFault>
-    ensures plays { IfOk result (Follows F.stands_as (flow_turn F.kind F.played (FlowStep.TryEmit value))
+    ensures plays { IfOk result
+        (Follows F.stands_as (flow_turn F.kind F.played (FlowStep.TryEmit value))
         core.old core.new numbers.now numbers.now) }
     ensures fault { IfErr result (λ fault. fault ≡ ScriptFault.OutOfMemory) }
 {
@@ -59,7 +60,8 @@ fn subscribe<F: ScriptCore>(core: &mut F, numbers: &mut Numbers) -> Result<Answe
 }
 
 fn next<F: ScriptCore>(core: &mut F, numbers: &Numbers, place: usize) -> Result<Answer, ScriptFault>
-    ensures plays { IfOk result (Follows F.stands_as (flow_turn F.kind F.played (FlowStep.Next place))
+    ensures plays { IfOk result
+        (Follows F.stands_as (flow_turn F.kind F.played (FlowStep.Next place))
         core.old core.new numbers.now numbers.now) }
     ensures fault { IfErr result (λ fault. fault ≡ ScriptFault.OutOfMemory) }
 {

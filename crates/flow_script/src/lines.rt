@@ -110,7 +110,8 @@ pub fn add_with_flow_fault(
     before: &str,
     fault: FlowFault,
 ) -> Result<(), AllocError>
-    ensures { OnOk result (lines.AddsLine (before.now ++ lines.flow_fault_text fault) text.old text.new) }
+    ensures { OnOk result
+        (lines.AddsLine (before.now ++ lines.flow_fault_text fault) text.old text.new) }
 {
     text.push_str(before)?;
     add_line(text, flow_fault_text(fault))

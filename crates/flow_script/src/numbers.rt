@@ -46,7 +46,8 @@ impl Numbers {
 
     /// Adds the next name of an emission, and its number where it waits.
     pub fn add_emission(&mut self, number: Option<u64>) -> Result<(), ScriptFault>
-        ensures added { OnOk result (numbers_of self.new ≡ with_emission number (numbers_of self.old)) }
+        ensures added { OnOk result
+            (numbers_of self.new ≡ with_emission number (numbers_of self.old)) }
         ensures fault { IfErr result (λ fault. fault ≡ ScriptFault.OutOfMemory) }
     {
         self.emissions

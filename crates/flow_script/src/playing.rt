@@ -24,7 +24,8 @@ fn play_steps(
     row: &mut Vec<Option<PlayedFlow>>,
     steps: Vec<Step>,
 ) -> Result<Vec<Told>, ScriptFault>
-    ensures plays { IfOk result (λ told. FollowsSteps (actions_of steps.items) row.old.items told.items) }
+    ensures plays { IfOk result (λ told.
+        FollowsSteps (actions_of steps.items) row.old.items told.items) }
     ensures fault { IfErr result (λ fault. fault ≡ ScriptFault.OutOfMemory) }
 {
     let mut told = Vec::new(alloc);
@@ -98,7 +99,8 @@ pub fn play<R: Read, W: Write>(
     requires writes { has_failed output.old ≡ false }
     ensures plays { Plays (R.remaining (inner_of input.old)) (W.contents (inner_of output.old))
         (W.contents (inner_of output.new)) result }
-    ensures taken { TakesWithin (R.remaining (inner_of input.old)) (R.remaining (inner_of input.new)) }
+    ensures taken { TakesWithin (R.remaining (inner_of input.old))
+        (R.remaining (inner_of input.new)) }
     ensures read_failed { has_failed input.new ≡ is_read_failed result }
     ensures write_failed { has_failed output.new ≡ is_write_failed result }
 {

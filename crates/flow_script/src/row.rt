@@ -27,7 +27,8 @@ pub struct PlayedFlow {
 impl PlayedFlow {
     /// Before the first step on it.
     fn new(alloc: Global, player: Player) -> Self
-        ensures { (p : meaning.Player) → Shows player p → ShowsFlow result (meaning.first_played p) }
+        ensures { (p : meaning.Player) → Shows player p →
+            ShowsFlow result (meaning.first_played p) }
     {
         PlayedFlow {
             player,
@@ -84,8 +85,10 @@ fn add_made(
     row: &mut Vec<Option<PlayedFlow>>,
     player: Player,
 ) -> Result<bool, ScriptFault>
-    ensures adds { (named : NamedHead) (refused : List meaning.NotMade) → Makes named.flow (Ok player)
-        → IfOk result (λ goes_on. AddsFlow named goes_on row.old.items row.new.items refused refused) }
+    ensures adds { (named : NamedHead) (refused : List meaning.NotMade) →
+        Makes named.flow (Ok player)
+        → IfOk result (λ goes_on.
+        AddsFlow named goes_on row.old.items row.new.items refused refused) }
     ensures fault { IfErr result (λ fault. fault ≡ ScriptFault.OutOfMemory) }
 {
     add_place(row, Some(PlayedFlow::new(alloc, player)))?;
@@ -129,7 +132,8 @@ fn add_flow(
     not_made: &mut Vec<NotMade>,
     named: NamedFlow,
 ) -> Result<bool, ScriptFault>
-    ensures adds { IfOk result (λ goes_on. AddsFlow (named_head named) goes_on row.old.items row.new.items
+    ensures adds { IfOk result (λ goes_on.
+        AddsFlow (named_head named) goes_on row.old.items row.new.items
         (all_not_made not_made.old.items) (all_not_made not_made.new.items)) }
     ensures fault { IfErr result (λ fault. fault ≡ ScriptFault.OutOfMemory) }
 {

@@ -15,7 +15,8 @@ use std::alloc::{AllocError, Global};
 
 /// Adds the line of an answer.
 pub fn add_answer(text: &mut String, answer: &Answer) -> Result<(), AllocError>
-    ensures { OnOk result (lines.AddsLine (lines.line_of (answer_of answer.now)) text.old text.new) }
+    ensures { OnOk result
+        (lines.AddsLine (lines.line_of (answer_of answer.now)) text.old text.new) }
 {
     match answer {
         Answer::Tested(test) => add_test(text, *test),
@@ -49,7 +50,8 @@ fn add_name(text: &mut String, name: &str) -> Result<(), AllocError>
 
 /// Adds the line of a flow that was refused when it was made.
 fn add_not_made(text: &mut String, flow: &NotMade) -> Result<(), AllocError>
-    ensures { OnOk result (lines.AddsLine (meaning.not_made_line (not_made_of flow.now)) text.old text.new) }
+    ensures { OnOk result
+        (lines.AddsLine (meaning.not_made_line (not_made_of flow.now)) text.old text.new) }
 {
     if let Some(name) = &flow.name {
         add_name(text, name.as_str())?;
@@ -58,7 +60,8 @@ fn add_not_made(text: &mut String, flow: &NotMade) -> Result<(), AllocError>
 }
 
 fn add_all_not_made(text: &mut String, flows: &[NotMade]) -> Result<(), AllocError>
-    ensures { OnOk result (lines.Adds (meaning.not_made_lines (map not_made_of flows.now)) text.old text.new) }
+    ensures { OnOk result
+        (lines.Adds (meaning.not_made_lines (map not_made_of flows.now)) text.old text.new) }
 {
     for flow in flows {
         add_not_made(text, flow)?;

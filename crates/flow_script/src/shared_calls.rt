@@ -20,7 +20,8 @@ fn emit(
     numbers: &mut Numbers,
     value: i64,
 ) -> Result<Answer, ScriptFault>
-    ensures plays { IfOk result (Follows StandsFor (own_turn shared_flow plays_shared (FlowStep.Emit value))
+    ensures plays { IfOk result
+        (Follows StandsFor (own_turn shared_flow plays_shared (FlowStep.Emit value))
         core.old core.new numbers.old numbers.new) }
     ensures fault { IfErr result (λ fault. fault ≡ ScriptFault.OutOfMemory) }
 {
@@ -41,7 +42,8 @@ fn emit(
 }
 
 fn poll(core: &SharedCore<i64>, numbers: &Numbers, place: usize) -> Result<Answer, ScriptFault>
-    ensures plays { IfOk result (Follows StandsFor (own_turn shared_flow plays_shared (FlowStep.Poll place))
+    ensures plays { IfOk result
+        (Follows StandsFor (own_turn shared_flow plays_shared (FlowStep.Poll place))
         core.now core.now numbers.now numbers.now) }
     ensures fault { IfErr result (λ fault. fault ≡ ScriptFault.OutOfMemory) }
 {
@@ -56,7 +58,8 @@ fn cancel(
     numbers: &Numbers,
     place: usize,
 ) -> Result<Answer, ScriptFault>
-    ensures plays { IfOk result (Follows StandsFor (own_turn shared_flow plays_shared (FlowStep.Cancel place))
+    ensures plays { IfOk result
+        (Follows StandsFor (own_turn shared_flow plays_shared (FlowStep.Cancel place))
         core.old core.new numbers.now numbers.now) }
     ensures fault { IfErr result (λ fault. fault ≡ ScriptFault.OutOfMemory) }
 {
@@ -67,7 +70,8 @@ fn cancel(
 }
 
 fn reset(core: &mut SharedCore<i64>, numbers: &Numbers) -> Result<Answer, ScriptFault>
-    ensures plays { IfOk result (Follows StandsFor (own_turn shared_flow plays_shared FlowStep.Reset)
+    ensures plays { IfOk result
+        (Follows StandsFor (own_turn shared_flow plays_shared FlowStep.Reset)
         core.old core.new numbers.now numbers.now) }
     ensures fault { IfErr result (λ fault. fault ≡ ScriptFault.OutOfMemory) }
 {

@@ -68,7 +68,8 @@ pub fn sharing_step<H: ScriptHub>(
     numbers: &mut Numbers,
     step: FlowStep,
 ) -> Result<Answer, ScriptFault>
-    ensures plays { IfOk result (Follows (ShowsSharing H.stands) (documented_step H.flow H.reply step)
+    ensures plays { IfOk result
+        (Follows (ShowsSharing H.stands) (documented_step H.flow H.reply step)
         sharing.old sharing.new numbers.old numbers.new) }
     ensures fault { IfErr result (λ fault. fault ≡ ScriptFault.OutOfMemory) }
 {

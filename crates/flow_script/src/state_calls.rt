@@ -26,7 +26,8 @@ fn value(core: &StateCore<i64>, numbers: &Numbers) -> Result<Answer, ScriptFault
 }
 
 fn set(core: &mut StateCore<i64>, numbers: &Numbers, value: i64) -> Result<Answer, ScriptFault>
-    ensures plays { IfOk result (Follows IsState (own_turn state_flow plays_state (FlowStep.Set value))
+    ensures plays { IfOk result
+        (Follows IsState (own_turn state_flow plays_state (FlowStep.Set value))
         core.old core.new numbers.now numbers.now) }
     ensures fault { IfErr result (λ fault. fault ≡ ScriptFault.OutOfMemory) }
 {

@@ -21,7 +21,8 @@ pub const OUT_OF_MEMORY: u8 = 4;
 pub fn tell<W: Write>(output: &mut Watched<W>, line: &str, status: u8) -> u8
     requires { has_failed output.old ≡ false }
     ensures { Tells (has_failed output.new)
-        (W.contents (inner_of output.old)) (W.contents (inner_of output.new)) line.now status result }
+        (W.contents (inner_of output.old))
+        (W.contents (inner_of output.new)) line.now status result }
 {
     match write_all(output, line.as_bytes()) {
         Ok(()) => status,
@@ -87,7 +88,8 @@ fn refuse<W: Write>(alloc: Global, output: &mut Watched<W>, fault: ScriptFault) 
     ensures { Tells (has_failed output.new) (W.contents (inner_of output.old))
         (W.contents (inner_of output.new))
         (fault_line fault) 2 result
-        ⊎ Tells (has_failed output.new) (W.contents (inner_of output.old)) (W.contents (inner_of output.new))
+        ⊎ Tells (has_failed output.new)
+        (W.contents (inner_of output.old)) (W.contents (inner_of output.new))
         memory_line 4 result }
 {
     match line_of(alloc, fault) {
@@ -100,7 +102,8 @@ fn refuse<W: Write>(alloc: Global, output: &mut Watched<W>, fault: ScriptFault) 
 /// printed.
 pub fn tell_fault<W: Write>(alloc: Global, output: &mut Watched<W>, fault: ScriptFault) -> u8
     requires { has_failed output.old ≡ write_failed fault }
-    ensures { (told : ScriptFault) × ((told ≡ fault) ⊎ (IsRefusal fault × (told ≡ ScriptFault.OutOfMemory)))
+    ensures { (told : ScriptFault) ×
+        ((told ≡ fault) ⊎ (IsRefusal fault × (told ≡ ScriptFault.OutOfMemory)))
         × TellsFault told (has_failed output.new)
         (W.contents (inner_of output.old)) (W.contents (inner_of output.new)) result }
 {

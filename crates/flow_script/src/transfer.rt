@@ -18,7 +18,8 @@ fn read_some<R: Read>(input: &mut Watched<R>, bytes: &mut Vec<u8>) -> Result<usi
     requires { vec_len bytes.old ≤ most_bytes }
     ensures grows { IfOk result (λ count. (vec_len bytes.new ≡ vec_len bytes.old + count)
         × (vec_len bytes.new ≤ most_bytes + 1)) }
-    ensures bytes { IfOk result (λ count. (more : List ℕ) × (bytes.new.items ≡ bytes.old.items ++ more)
+    ensures bytes { IfOk result (λ count.
+        (more : List ℕ) × (bytes.new.items ≡ bytes.old.items ++ more)
         × Consumes (R.remaining (inner_of input.old)) (R.remaining (inner_of input.new)) more) }
     ensures end { IfOk result (λ count. count ≡ 0 → IsAtEnd (R.remaining (inner_of input.new))) }
     ensures taken { (more : List ℕ) × Consumes (R.remaining (inner_of input.old))
@@ -45,7 +46,8 @@ pub fn read_all<R: Read>(alloc: Global, input: &mut Watched<R>) -> Result<Vec<u8
         (R.remaining (inner_of input.new)) bytes.items) }
     ensures end { IfOk result (λ bytes. length bytes.items ≤ most_bytes
         → IsAtEnd (R.remaining (inner_of input.new))) }
-    ensures taken { TakesWithin (R.remaining (inner_of input.old)) (R.remaining (inner_of input.new)) }
+    ensures taken { TakesWithin (R.remaining (inner_of input.old))
+        (R.remaining (inner_of input.new)) }
     ensures fault { IfErr result IsReadFault }
     ensures failed { has_failed input.new ≡ (has_failed input.old || is_read_failed result) }
 {

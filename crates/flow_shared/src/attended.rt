@@ -159,7 +159,8 @@ impl<S: FlowCore, A: Allocator + Copy> Attended<S, A> {
     /// Removes all readers if they have something now: if the value was set, or if the core's mark has changed.
     fn wake_readers_if_due(&mut self, is_set: bool, mark: u64)
         ensures core { self.new.core ≡ self.old.core }
-        ensures readers { Rests S.sleeping S.stands_as self.old.core is_set mark self.old.readers self.new.readers }
+        ensures readers { Rests S.sleeping S.stands_as
+            self.old.core is_set mark self.old.readers self.new.readers }
         ensures emitters { self.new.emitters ≡ self.old.emitters }
     {
         if is_set || self.core.mark() != mark {
@@ -171,7 +172,8 @@ impl<S: FlowCore, A: Allocator + Copy> Attended<S, A> {
     fn wake_emitters_if_due(&mut self, first: Option<u64>)
         ensures core { self.new.core ≡ self.old.core }
         ensures readers { self.new.readers ≡ self.old.readers }
-        ensures emitters { Lasts S.sleeping S.stands_as self.old.core first self.old.emitters self.new.emitters }
+        ensures emitters { Lasts S.sleeping S.stands_as
+            self.old.core first self.old.emitters self.new.emitters }
     {
         if self.emitters.is_empty() {
             return;
@@ -205,7 +207,8 @@ impl<S: FlowCore, A: Allocator + Copy> Attended<S, A> {
         ensures core { self.new.core ≡ self.old.core }
         ensures readers { self.new.readers ≡ self.old.readers }
         ensures emitters { self.new.emitters ≡ self.old.emitters }
-        ensures watchers { Watches S.sleeping S.stands_as self.old.core self.new.watchers self.new.watched }
+        ensures watchers { Watches S.sleeping S.stands_as
+            self.old.core self.new.watchers self.new.watched }
     {
         if self.watchers.is_empty() {
             return;
@@ -218,7 +221,8 @@ impl<S: FlowCore, A: Allocator + Copy> Attended<S, A> {
 
     /// Returns whether no caller sleeps.
     fn is_alone(&self) -> bool
-        ensures { OnTrue result ((self.now.readers ≡ []) × (self.now.emitters ≡ []) × (self.now.watchers ≡ [])) }
+        ensures { OnTrue result
+            ((self.now.readers ≡ []) × (self.now.emitters ≡ []) × (self.now.watchers ≡ [])) }
     {
         self.readers.is_empty() && self.emitters.is_empty() && self.watchers.is_empty()
     }
@@ -262,7 +266,8 @@ impl<S: FlowCore, A: Allocator + Copy> Attended<S, A> {
         id: SubId,
     ) -> Result<Next<S::Item>, FlowFault>
         ensures documented { Documents S.kind (AttendedAs S.sleeping S.stands_as)
-            self.old (S.kind.take_next (number_of id)) (replied S.kind S.kind.received result) self.new }
+            self.old (S.kind.take_next (number_of id))
+            (replied S.kind S.kind.received result) self.new }
         ensures given { S.Item.IsAlwaysCopied → IsOk result }
         ensures armed { IsWait result → W.is_armed waiter.new }
         ensures kept { W.keeps waiter.old waiter.new }
@@ -333,9 +338,11 @@ impl<S: FlowCore, A: Allocator + Copy> Attended<S, A> {
         values: &mut Vec<S::Item, B>,
     ) -> usize
         ensures most { result ≤ most }
-        ensures taken { DrainsBy (CoreNexts S.kind (number_of id) (AttendedAs S.sleeping S.stands_as)) result
+        ensures taken { DrainsBy
+            (CoreNexts S.kind (number_of id) (AttendedAs S.sleeping S.stands_as)) result
             self.old values.old.items (Ok Most) values.new.items self.new }
-        ensures room { (vec_len values.new ≡ vec_len values.old + result) × (vec_capacity values.old ≤ vec_capacity values.new) }
+        ensures room { (vec_len values.new ≡ vec_len values.old + result) ×
+            (vec_capacity values.old ≤ vec_capacity values.new) }
     {
         if self.is_alone() {
             return self.core.take_held(id, most, values);

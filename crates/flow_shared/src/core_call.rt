@@ -45,7 +45,8 @@ pub(crate) trait CoreCall<S: FlowCore> {
 
     /// Returns whether the call set the value that all subscribers see.
     fn is_set(answer: &Self::Answer) -> bool
-        ensures { (c : Self) (name : List ℕ) → result ≡ S.sleeping.is_set (call c name) (reply answer.now) };
+        ensures { (c : Self) (name : List ℕ) →
+            result ≡ S.sleeping.is_set (call c name) (reply answer.now) };
 }
 
 /// Leaves the gate, and then wakes the callers that have something.
@@ -106,7 +107,8 @@ pub(crate) fn call_core_or_sleep<
     call: C,
     waiter: &mut W,
 ) -> (Seat<Attended<S, A>, A>, C::Answer)
-    requires stood { attended_stands S.sleeping S.first S.stands_as held.first held.state held.token.knows.seen }
+    requires stood { attended_stands S.sleeping S.first
+        S.stands_as held.first held.state held.token.knows.seen }
     requires may { MayCall S.kind (C.call call (subscription_name held.token.knows))
         held.token.knows.name held.token.knows.seen }
     ensures said { SaysIn S.kind (S.first held.entry.first.core) held.entry
@@ -127,7 +129,8 @@ pub(crate) fn call_core<S: FlowCore, A: Allocator + Copy, C: CoreCall<S>>(
     held: Held<'_, Attended<S, A>, A>,
     call: C,
 ) -> (Seat<Attended<S, A>, A>, C::Answer)
-    requires stood { attended_stands S.sleeping S.first S.stands_as held.first held.state held.token.knows.seen }
+    requires stood { attended_stands S.sleeping S.first S.stands_as
+        held.first held.state held.token.knows.seen }
     requires may { MayCall S.kind (C.call call (subscription_name held.token.knows))
         held.token.knows.name held.token.knows.seen }
     ensures said { SaysIn S.kind (S.first held.entry.first.core) held.entry

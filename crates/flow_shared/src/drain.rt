@@ -34,7 +34,8 @@ fn take_values<S: FlowCore, A: Allocator + Copy, B: Allocator>(
     values: &mut Vec<S::Item, B>,
 ) -> Result<Drained, FlowFault>
     requires { vec_len values.old + most ≤ vec_capacity values.old }
-    ensures takes { TakesBy (CoreNexts S.kind (number_of id) (AttendedAs S.sleeping S.stands_as)) most
+    ensures takes { TakesBy
+        (CoreNexts S.kind (number_of id) (AttendedAs S.sleeping S.stands_as)) most
         state.old values.old.items result values.new.items state.new }
     ensures given { S.Item.IsAlwaysCopied → IsOk result }
 {
@@ -56,9 +57,11 @@ fn take_inside<S: FlowCore, A: Allocator + Copy, B: Allocator>(
     most: usize,
     values: &mut Vec<S::Item, B>,
 ) -> (Seat<Attended<S, A>, A>, Result<Drained, FlowFault>)
-    requires stood { attended_stands S.sleeping S.first S.stands_as held.first held.state held.token.knows.seen }
+    requires stood { attended_stands S.sleeping S.first
+        S.stands_as held.first held.state held.token.knows.seen }
     requires subscribed { IsSubscription S.kind held.token.knows (number_of id) }
-    requires names { NamesOnlyMade held.token.knows.name held.token.knows.made held.token.knows.seen }
+    requires names { NamesOnlyMade held.token.knows.name
+        held.token.knows.made held.token.knows.seen }
     requires some { most ≢ 0 }
     requires room { vec_len values.old + most ≤ vec_capacity values.old }
     ensures takes { TakesInside S.kind (number_of id) (AttendedAs S.sleeping S.stands_as) most

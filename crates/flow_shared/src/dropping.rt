@@ -44,7 +44,8 @@ impl<S: FlowCore + Drop, A: Allocator + Copy> Flow<S, A> {
     ) -> Result<FlowSeat<S, A>, FlowSubscription<S, A>>
         requires { subscription.token.table_id ≡ self.now.table_id }
         ensures ended { IfOk result (Unsubscribes S.kind self.now subscription) }
-        ensures tried { IfErr result (λ back. back.token.knows.lost ≡ subscription.token.knows.lost + tries) }
+        ensures tried { IfErr result (λ back.
+            back.token.knows.lost ≡ subscription.token.knows.lost + tries) }
     {
         let mut subscription = subscription;
         for _ in 0..tries {
@@ -67,7 +68,8 @@ impl<T: FlowValue, A: Allocator + Copy> Flow<SharedCore<T, A>, A> {
     ) -> Result<(Seat<T, A>, bool), Emission<T, A>>
         requires { emission.token.table_id ≡ self.now.table_id }
         ensures ended { IfOk result (Cancels self.now emission) }
-        ensures tried { IfErr result (λ back. back.token.knows.lost ≡ emission.token.knows.lost + tries) }
+        ensures tried { IfErr result (λ back.
+            back.token.knows.lost ≡ emission.token.knows.lost + tries) }
     {
         let mut emission = emission;
         for _ in 0..tries {

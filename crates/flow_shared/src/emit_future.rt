@@ -107,7 +107,8 @@ impl<'a, T: FlowValue, A: Allocator + Copy> Future for EmitFuture<'a, T, A> {
     fn poll(&mut self, cx: &mut Context<'_>) -> Poll<Sent<T, A>>
         ensures flow { self.new.flow ≡ self.old.flow }
         ensures polls { EmitPolls self.old.flow self.old.stage result self.new.stage }
-        ensures one { OneEach Says self.old.flow (held self.old.stage) result (token_after result self.new.stage) }
+        ensures one { OneEach Says self.old.flow
+            (held self.old.stage) result (token_after result self.new.stage) }
         ensures asked { OnPending result (cx.new.is_woken ≡ true) }
         ensures count { KeepsCount self.old.stage result self.new.stage }
         ensures refused { IfReady result IsRefusedIfDue }
@@ -190,7 +191,8 @@ impl<'a, T: FlowValue, A: Allocator + Copy> EmitFuture<'a, T, A> {
         ensures kept { W.keeps waiter.old waiter.new }
         ensures flow { self.new.flow ≡ self.old.flow }
         ensures polls { EmitPolls self.old.flow self.old.stage result self.new.stage }
-        ensures one { OneEach Says self.old.flow (held self.old.stage) result (token_after result self.new.stage) }
+        ensures one { OneEach Says self.old.flow
+            (held self.old.stage) result (token_after result self.new.stage) }
         ensures count { KeepsCount self.old.stage result self.new.stage }
         ensures refused { IfReady result IsRefusedIfDue }
     {

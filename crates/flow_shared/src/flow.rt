@@ -95,7 +95,8 @@ impl<S: FlowCore + Drop, A: Allocator + Copy> Flow<S, A> {
         requires may { MayCall S.kind (C.call call (subscription_name seat.knows))
             seat.knows.name seat.knows.seen }
         ensures called { IfOk result (λ done. CallsAtOnce S.kind self.now seat
-            (C.call call (subscription_name seat.knows)) (C.reply done.1) done.0 × C.also call done.1) }
+            (C.call call (subscription_name seat.knows)) (C.reply done.1) done.0 ×
+            C.also call done.1) }
         ensures busy { IfErr result (λ back. IsBusy seat back.0 × (back.1 ≡ call)) }
     {
         match self.gate.try_enter(seat) {
@@ -115,10 +116,12 @@ impl<S: FlowCore + Drop, A: Allocator + Copy> Flow<S, A> {
         requires flow { seat.table_id ≡ self.now.table_id }
         requires may { MayCall S.kind (C.call call (subscription_name seat.knows))
             seat.knows.name seat.knows.seen }
-        ensures called { IfOk result (λ done. CallsAtOnce S.kind self.now seat
-            (C.call call (subscription_name seat.knows)) (C.reply done.1) done.0 × C.also call done.1) }
+        ensures called { IfOk result (λ done.
+            CallsAtOnce S.kind self.now seat (C.call call (subscription_name seat.knows))
+            (C.reply done.1) done.0 × C.also call done.1) }
         ensures busy { IfErr result (λ back. IsBusy seat back.0 × (back.1 ≡ call)) }
-        ensures armed { MatchResult result (λ done. C.is_wait done.1 → W.is_armed waiter.new) (λ back. W.is_armed waiter.new) }
+        ensures armed { MatchResult result (λ done. C.is_wait done.1 → W.is_armed waiter.new)
+            (λ back. W.is_armed waiter.new) }
         ensures kept { W.keeps waiter.old waiter.new }
     {
         match self.gate.try_enter(seat) {
@@ -161,8 +164,8 @@ impl<S: FlowCore + Drop, A: Allocator + Copy> Flow<S, A> {
         requires flow { seat.old.table_id ≡ self.now.table_id }
         requires may { MayCall S.kind (C.call call (subscription_name seat.old.knows))
             seat.old.knows.name seat.old.knows.seen }
-        ensures called { Calls S.kind self.now seat.old (C.call call (subscription_name seat.old.knows))
-            (C.reply result) seat.new }
+        ensures called { Calls S.kind self.now seat.old
+            (C.call call (subscription_name seat.old.knows)) (C.reply result) seat.new }
         ensures also { C.also call result }
     {
         let own = seat.seat.take().unwrap();
@@ -182,8 +185,8 @@ impl<S: FlowCore + Drop, A: Allocator + Copy> Flow<S, A> {
         requires flow { seat.old.table_id ≡ self.now.table_id }
         requires may { MayCall S.kind (C.call call (subscription_name seat.old.knows))
             seat.old.knows.name seat.old.knows.seen }
-        ensures called { Calls S.kind self.now seat.old (C.call call (subscription_name seat.old.knows))
-            (C.reply result) seat.new }
+        ensures called { Calls S.kind self.now
+            seat.old (C.call call (subscription_name seat.old.knows)) (C.reply result) seat.new }
         ensures also { C.also call result }
         ensures armed { C.is_wait result → W.is_armed waiter.new }
     {
@@ -203,7 +206,8 @@ impl<S: FlowCore + Drop, A: Allocator + Copy> Flow<S, A> {
         requires may { MayCall S.kind (C.call call (subscription_name seat.old.knows))
             seat.old.knows.name seat.old.knows.seen }
         ensures called { IfOk result (λ answer. CallsAtOnce S.kind self.now seat.old
-            (C.call call (subscription_name seat.old.knows)) (C.reply answer) seat.new × C.also call answer) }
+            (C.call call (subscription_name seat.old.knows)) (C.reply answer) seat.new ×
+            C.also call answer) }
         ensures busy { IfErr result (λ back. IsBusy seat.old seat.new × (back ≡ call)) }
     {
         let own = seat.seat.take().unwrap();
@@ -231,9 +235,11 @@ impl<S: FlowCore + Drop, A: Allocator + Copy> Flow<S, A> {
         requires may { MayCall S.kind (C.call call (subscription_name seat.old.knows))
             seat.old.knows.name seat.old.knows.seen }
         ensures called { IfOk result (λ answer. CallsAtOnce S.kind self.now seat.old
-            (C.call call (subscription_name seat.old.knows)) (C.reply answer) seat.new × C.also call answer) }
+            (C.call call (subscription_name seat.old.knows)) (C.reply answer) seat.new ×
+            C.also call answer) }
         ensures busy { IfErr result (λ back. IsBusy seat.old seat.new × (back ≡ call)) }
-        ensures armed { MatchResult result (λ answer. C.is_wait answer → W.is_armed waiter.new) (λ back. W.is_armed waiter.new) }
+        ensures armed { MatchResult result (λ answer. C.is_wait answer → W.is_armed waiter.new)
+            (λ back. W.is_armed waiter.new) }
         ensures kept { W.keeps waiter.old waiter.new }
     {
         let own = seat.seat.take().unwrap();

@@ -151,12 +151,14 @@ impl<'a, T: FlowValue, A: Allocator + Copy> Future for NextFuture<'a, T, A> {
         ensures flow { self.new.flow ≡ self.old.flow }
         ensures polls { NextPolls self.old.flow self.old.subscription result self.new.subscription }
         ensures asked { OnPending result (cx.new.is_woken ≡ true) }
-        ensures one { OneEach Says self.old.flow (held self.old.subscription) result (token_after result self.new.subscription) }
+        ensures one { OneEach Says self.old.flow (held self.old.subscription) result
+            (token_after result self.new.subscription) }
         ensures refused { IfReady result IsRefusedIfDue }
         // The trait's own clauses.
         ensures value { IfReady result (GivesReceived self.old) }
         ensures again { OnPending result ⊤ }
-        ensures same { OnPending result ((x : _) → GivesReceived self.new x → GivesReceived self.old x) }
+        ensures same { OnPending result
+            ((x : _) → GivesReceived self.new x → GivesReceived self.old x) }
         ensures registered { OnPending result (Covers cx.new (λ _. ⊥)) }
         ensures kept { Keeps cx.old cx.new }
     {

@@ -67,7 +67,8 @@ impl<'a, T: FlowValue, A: Allocator + Copy> Future for SendFuture<'a, T, A> {
     fn poll(&mut self, cx: &mut Context<'_>) -> Poll<Sent<T, A>>
         ensures flow { self.new.flow ≡ self.old.flow }
         ensures polls { EmitPolls self.old.flow self.old.stage result self.new.stage }
-        ensures one { OneEach Says self.old.flow (held self.old.stage) result (token_after result self.new.stage) }
+        ensures one { OneEach Says self.old.flow (held self.old.stage) result
+            (token_after result self.new.stage) }
         ensures count { KeepsCount self.old.stage result self.new.stage }
         ensures refused { IfReady result IsRefusedIfDue }
         // The trait's own clauses. A pending poll has left its waker, or asked to be polled again (`registered`).

@@ -59,7 +59,8 @@ impl<T: FlowValue, A: Allocator + Copy> Flow<StateCore<T, A>, A> {
         seat: &mut StateSeat<T, A>,
     ) -> Result<Vec<T, A>, FlowFault>
         requires { seat.old.table_id ≡ self.now.table_id }
-        ensures called { StateCalls self.now seat.old call.ReplayCache (cache_reply result) seat.new }
+        ensures called { StateCalls self.now seat.old call.ReplayCache
+            (cache_reply result) seat.new }
         ensures refused { IfErr result (λ fault. fault ≡ OutOfMemory) }
     {
         self.call(rt, seat, ReplayCache)
@@ -72,7 +73,8 @@ impl<T: FlowValue, A: Allocator + Copy> Flow<StateCore<T, A>, A> {
         seat: &mut StateSeat<T, A>,
     ) -> Result<(), FlowFault>
         requires { seat.old.table_id ≡ self.now.table_id }
-        ensures called { StateCalls self.now seat.old call.ResetReplayCache (reset_reply result) seat.new }
+        ensures called { StateCalls self.now seat.old call.ResetReplayCache
+            (reset_reply result) seat.new }
         ensures refused { result ≡ Err Unsupported }
     {
         self.call(rt, seat, ResetReplayCache)

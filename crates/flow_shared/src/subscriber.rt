@@ -254,7 +254,8 @@ impl<S: FlowCore + Drop, A: Allocator + Copy> Flow<S, A> {
     /// Call it if a caller relies on what the other one did, for instance after a thread has ended and returned its
     /// seat.
     pub fn meet(&self, one: &mut FlowSeat<S, A>, other: &mut FlowSeat<S, A>)
-        requires { (one.old.table_id ≡ self.now.table_id) × (other.old.table_id ≡ self.now.table_id) }
+        requires { (one.old.table_id ≡ self.now.table_id) ×
+            (other.old.table_id ≡ self.now.table_id) }
         ensures { Meets S.kind self.now one.old other.old one.new other.new }
     {
         let first = one.seat.take().unwrap();
@@ -272,7 +273,8 @@ impl<S: FlowCore + Drop, A: Allocator + Copy> Flow<S, A> {
     )
         requires { (subscription.old.token.table_id ≡ self.now.table_id)
             × (seat.old.table_id ≡ self.now.table_id) }
-        ensures met { Meets S.kind self.now subscription.old.token seat.old subscription.new.token seat.new }
+        ensures met { Meets S.kind self.now
+            subscription.old.token seat.old subscription.new.token seat.new }
         ensures number { subscription.new.number ≡ subscription.old.number }
     {
         self.meet(&mut subscription.seat, seat);

@@ -51,7 +51,8 @@ pub fn exchange<R: Wait + RandomSource + AllocGlobal, T: FlowValue>(
     value: T,
     subscription: Subscription<T>,
 ) -> io::Result<Exchange<T>>
-    requires { (seat.table_id ≡ flow.now.table_id) × (subscription.token.table_id ≡ flow.now.table_id) }
+    requires { (seat.table_id ≡ flow.now.table_id) ×
+        (subscription.token.table_id ≡ flow.now.table_id) }
     ensures table { IfOk result (λ both. ((sent_token both.0).table_id ≡ flow.entry.now.table_id)
         × (both.1.0.token.table_id ≡ flow.entry.now.table_id)) }
     ensures emits { IfOk result (λ both. EmitsOne seat both.0) }

@@ -36,7 +36,8 @@ pub fn next_in_order<R: Wait, T: FlowValue>(
 ) -> Result<Next<T>, FlowFault>
     requires { subscription.old.token.table_id ≡ flow.now.table_id }
     ensures table { subscription.new.token.table_id ≡ flow.now.table_id }
-    ensures in_order { ReadsInOrder subscription.new.number flow.now.first.config subscription.new.token.knows.seen }
+    ensures in_order { ReadsInOrder subscription.new.number
+        flow.now.first.config subscription.new.token.knows.seen }
     ensures all { result ≡ Ok Empty
         → HasAll subscription.new.number flow.now.first.config subscription.new.token.knows.seen }
 {

@@ -22,7 +22,8 @@ impl<T: FlowValue, A: Allocator + Copy> Sender<T, A> {
     pub(crate) fn put(self, call: (&SharedFlow<T, A>, T)) -> (Self, Result<bool, Refused<T>>)
         requires flow { (token_of self).table_id ≡ call.0.now.table_id }
         requires idle { emission_of self ≡ None }
-        ensures puts { PutBy call.entry.0.now.first call.entry.1 (token_of self) (put_answer result.1)
+        ensures puts { PutBy call.entry.0.now.first call.entry.1
+            (token_of self) (put_answer result.1)
             (token_of result.0) (emission_of result.0) }
         ensures waits { is_some (emission_of result.0)
             ≡ waits_after (calls.puts call.entry.1) (put_answer result.1) false }

@@ -32,7 +32,8 @@ impl<'a, T: Packed> Model for WordHub<'a, T> {
 
     ghost view = { λ h. state_seats h.flow.now h.watching h.sending (T.value_of h.initial) };
 
-    ghost invariant = { λ h. IsOf h.watching h.flow.now × IsOf h.sending h.flow.now × T.packs h.initial };
+    ghost invariant = { λ h.
+        IsOf h.watching h.flow.now × IsOf h.sending h.flow.now × T.packs h.initial };
 }
 
 impl<'a, T: Packed> WordHub<'a, T> {

@@ -19,7 +19,8 @@ fn ask_chain<C: Cold>(chain: &mut C) -> Asked<C::Item>
     ensures callable { C.CanAsk chain.new }
     ensures reads { KeepsReadings C.Reads chain.old chain.new }
     ensures whole { (m : C.Reading) → C.whole chain.new m ≡ C.whole chain.old m }
-    ensures gives { (m : C.Reading) → C.Reads chain.old m → AskGives (C.rest chain.old m) result (C.rest chain.new m) }
+    ensures gives { (m : C.Reading) → C.Reads chain.old m →
+        AskGives (C.rest chain.old m) result (C.rest chain.new m) }
     ensures answered { OnEnd result (C.HasAnswered chain.new) }
 {
     chain.ask()
@@ -95,7 +96,9 @@ impl<C: Cold, H: Hub<Item = C::Item>> Sharing<C, H> {
         ensures reads { KeepsReadings C.Reads (chain_of self.old) (chain_of self.new) }
         ensures policy { self.new.policy ≡ self.old.policy }
         ensures state { state_of self.new ≡ state_of self.old }
-        ensures polls { (m : C.Reading) → CallsHub (λ c. C.whole c m) (λ c. C.rest c m) H.does H.waits polls self.old result self.new }
+        ensures polls { (m : C.Reading) →
+            CallsHub (λ c. C.whole c m)
+            (λ c. C.rest c m) H.does H.waits polls self.old result self.new }
         ensures waits { MatchResult result
             (λ waits. H.waits self.new.hub ≡ waits)
             (λ _. H.waits self.new.hub ≡ H.waits self.old.hub) }

@@ -19,7 +19,8 @@ impl<C: Cold, H: Hub<Item = C::Item>> Sharing<C, H> {
         ensures policy { self.new.policy ≡ self.old.policy }
         ensures ended { has_ended self.new ≡ has_ended self.old }
         ensures steps { (m : C.Reading) → C.Reads (chain_of self.old) m
-            → CommandLeads (λ c. C.whole c m) (λ c. C.rest c m) H.does H.waits command self.old self.new }
+            → CommandLeads (λ c. C.whole c m)
+            (λ c. C.rest c m) H.does H.waits command self.old self.new }
     {
         match command {
             Command::Start => {

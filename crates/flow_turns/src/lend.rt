@@ -41,7 +41,8 @@ impl<C: Cold, H: Hub<Item = C::Item>> Sharing<C, H> {
 impl<T: FlowValue, A: Allocator + Copy> CoreHub<T, A> {
     /// Lends the core, to subscribe and to receive.
     pub fn core_mut(&mut self) -> &mut SharedCore<T, A>
-        ensures* writes_back { sem 𝓛 (LendsCore T.row A.row T.FlowValue A.Allocator self.entry result) }
+        ensures* writes_back { sem 𝓛
+            (LendsCore T.row A.row T.FlowValue A.Allocator self.entry result) }
         ensures core { result.now ≡ core_of self.old }
     {
         &mut self.core
@@ -51,7 +52,8 @@ impl<T: FlowValue, A: Allocator + Copy> CoreHub<T, A> {
 impl<T: FlowValue, A: Allocator + Copy> StateHub<T, A> {
     /// Lends the core, to subscribe and to receive.
     pub fn core_mut(&mut self) -> &mut StateCore<T, A>
-        ensures* writes_back { sem 𝓛 (LendsStateCore T.row A.row T.FlowValue A.Allocator self.entry result) }
+        ensures* writes_back { sem 𝓛
+            (LendsStateCore T.row A.row T.FlowValue A.Allocator self.entry result) }
         ensures core { result.now ≡ state_core_of self.old }
     {
         &mut self.core

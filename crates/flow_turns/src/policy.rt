@@ -163,7 +163,8 @@ impl Policy {
     /// last one is refused, and changes nothing.
     pub fn observe(&mut self, now: u64, count: u64) -> Result<Command, Backwards>
         // For all earlier observations that lead here, the command is the one of those observations and the new one.
-        ensures observes { Observes self.old (record { moment = now; count = count }) result self.new }
+        ensures observes { Observes self.old
+            (record { moment = now; count = count }) result self.new }
         ensures runs { IfOk result (λ command. runs self.new ≡ runs_after command (runs self.old)) }
         ensures unchanged { OnErr result (self.new ≡ self.old) }
     {

@@ -115,7 +115,8 @@ impl<C: Cold, H: WatchedHub<Item = C::Item>> Sharing<C, H> {
         ensures callable { CanRun C.CanAsk self.new }
         ensures reads { KeepsReadings C.Reads (chain_of self.old) (chain_of self.new) }
         ensures turn { (m : C.Reading) → C.Reads (chain_of self.old) m → (now : ℕ)
-            × TakesTurn (λ c. C.whole c m) (λ c. C.rest c m) H.does H.waits now self.old result self.new }
+            × TakesTurn (λ c. C.whole c m)
+            (λ c. C.rest c m) H.does H.waits now self.old result self.new }
     {
         let now = moment_of(rt, self.policy.last());
         match self.turn(now) {
@@ -180,7 +181,8 @@ impl<C: Cold, H: WatchedHub<Item = C::Item>> Sharing<C, H> {
         ensures callable { CanRun C.CanAsk self.new }
         ensures reads { KeepsReadings C.Reads (chain_of self.old) (chain_of self.new) }
         ensures turns { (m : C.Reading) → C.Reads (chain_of self.old) m
-            → RunsToEnd (λ c. C.whole c m) (λ c. C.rest c m) H.does H.waits self.old result self.new }
+            → RunsToEnd (λ c. C.whole c m)
+            (λ c. C.rest c m) H.does H.waits self.old result self.new }
     {
         let mut watches = false;
         for _ in rt.forever() {

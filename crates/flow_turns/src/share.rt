@@ -74,7 +74,8 @@ pub fn state_in<C: Cold, A: Allocator + Copy>(
 ) -> Result<Sharing<C, StateHub<C::Item, A>>, ShareFault>
     requires { C.CanAsk chain }
     ensures refused { IfErr result (λ fault. fault ≡ ShareFault.Flow FlowFault.OutOfMemory) }
-    ensures flow { IfOk result (λ sharing. state_core_of (hub_of sharing) ≡ first_state_flow limit initial) }
+    ensures flow { IfOk result (λ sharing.
+        state_core_of (hub_of sharing) ≡ first_state_flow limit initial) }
     ensures initial { IfOk result (λ sharing. initial_of (hub_of sharing) ≡ initial) }
     ensures nothing { IfOk result (λ sharing. HasObserved started sharing []) }
     ensures callable { IfOk result (λ sharing. CanRun C.CanAsk sharing) }

@@ -23,7 +23,8 @@ impl<C: Cold, A: Allocator + Copy> Sharing<C, StateHub<C::Item, A>> {
     /// `Exhausted` if the flow has issued as many numbers as its limit allows, and `OutOfMemory`.
     pub fn subscribe(&mut self) -> Result<SubId, FlowFault>
         ensures documented { (name : List ℕ)
-            → StateConforms (state_core_of (hub_of self.old)) (call.Subscribe name) (subscribe_reply result)
+            → StateConforms (state_core_of (hub_of self.old))
+            (call.Subscribe name) (subscribe_reply result)
             (state_core_of (hub_of self.new)) }
         ensures rest { self.new ≡ with_state_core self.old (state_core_of (hub_of self.new)) }
     {
@@ -35,7 +36,8 @@ impl<C: Cold, A: Allocator + Copy> Sharing<C, StateHub<C::Item, A>> {
     /// # Errors
     /// `OutOfMemory` if the value could not be copied: a later call gives it.
     pub fn next(&mut self, id: SubId) -> Result<Next<C::Item>, FlowFault>
-        ensures documented { StateConforms (state_core_of (hub_of self.old)) (call.TakeNext (number_of id))
+        ensures documented { StateConforms
+            (state_core_of (hub_of self.old)) (call.TakeNext (number_of id))
             (next_reply result) (state_core_of (hub_of self.new)) }
         ensures given { C.Item.IsAlwaysCopied → IsOk result }
         ensures rest { self.new ≡ with_state_core self.old (state_core_of (hub_of self.new)) }
@@ -46,7 +48,8 @@ impl<C: Cold, A: Allocator + Copy> Sharing<C, StateHub<C::Item, A>> {
     /// Ends a subscription of a `StateHub`, as `StateCore::unsubscribe`. Returns whether it was there. The next turn does not
     /// count it.
     pub fn unsubscribe(&mut self, id: SubId) -> bool
-        ensures documented { StateConforms (state_core_of (hub_of self.old)) (call.Unsubscribe (number_of id))
+        ensures documented { StateConforms
+            (state_core_of (hub_of self.old)) (call.Unsubscribe (number_of id))
             (reply.Answered result) (state_core_of (hub_of self.new)) }
         ensures rest { self.new ≡ with_state_core self.old (state_core_of (hub_of self.new)) }
     {

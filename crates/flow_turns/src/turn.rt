@@ -49,7 +49,9 @@ impl<C: Cold, H: Hub<Item = C::Item>> Sharing<C, H> {
         ensures reads { KeepsReadings C.Reads (chain_of self.old) (chain_of self.new) }
         ensures policy { self.new.policy ≡ self.old.policy }
         ensures state { state_of self.new ≡ state_of self.old }
-        ensures counts { (m : C.Reading) → CallsHub (λ c. C.whole c m) (λ c. C.rest c m) H.does H.waits counts self.old result self.new }
+        ensures counts { (m : C.Reading) →
+            CallsHub (λ c. C.whole c m) (λ c. C.rest c m)
+            H.does H.waits counts self.old result self.new }
     {
         self.hub.count()
     }
@@ -58,7 +60,8 @@ impl<C: Cold, H: Hub<Item = C::Item>> Sharing<C, H> {
     fn carry_out(&mut self, command: Command) -> Result<Event, ShareFault>
         requires { CanRun C.CanAsk self.old }
         ensures steps { (m : C.Reading) → C.Reads (chain_of self.old) m
-            → CommandComesTo (λ c. C.whole c m) (λ c. C.rest c m) H.does H.waits command self.old result self.new }
+            → CommandComesTo (λ c. C.whole c m)
+            (λ c. C.rest c m) H.does H.waits command self.old result self.new }
         ensures callable { CanRun C.CanAsk self.new }
         ensures reads { KeepsReadings C.Reads (chain_of self.old) (chain_of self.new) }
         ensures policy { self.new.policy ≡ self.old.policy }
@@ -92,7 +95,8 @@ impl<C: Cold, H: Hub<Item = C::Item>> Sharing<C, H> {
 
         // The steps of the turn, and what was observed after it.
         ensures turn { (m : C.Reading) → C.Reads (chain_of self.old) m
-            → TakesTurn (λ c. C.whole c m) (λ c. C.rest c m) H.does H.waits now self.old result self.new }
+            → TakesTurn (λ c. C.whole c m)
+            (λ c. C.rest c m) H.does H.waits now self.old result self.new }
 
         // The sharing has ended once a turn has answered a fault of the chain, and every later turn says so.
         ensures ended { has_ended self.new ≡ ended_after result (has_ended self.old) }
@@ -103,7 +107,8 @@ impl<C: Cold, H: Hub<Item = C::Item>> Sharing<C, H> {
 
         // What the report means for the items that the flow has accepted since the last start.
         ensures means { (m : C.Reading) → C.Reads (chain_of self.old) m
-            → MeansAnswer (λ c. C.whole c m) (λ c. C.rest c m) H.does H.waits self.old result self.new }
+            → MeansAnswer (λ c. C.whole c m)
+            (λ c. C.rest c m) H.does H.waits self.old result self.new }
         ensures resets { (m : C.Reading) → C.Reads (chain_of self.old) m
             → HandlesReset H.does H.waits self.old result self.new }
         ensures between { (m : C.Reading) → C.Reads (chain_of self.old) m

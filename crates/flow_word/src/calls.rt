@@ -77,7 +77,8 @@ impl<T: Packed> WordState<T> {
         requires flow { seat.old.table_id ≡ self.now.table_id }
         requires packs { T.packs expect × T.packs update }
         ensures { CallsAtOnceIn state_flow self.now.first seat.old
-            (call.CompareAndSet (T.value_of expect) (T.value_of update)) (reply.Answered result) seat.new }
+            (call.CompareAndSet (T.value_of expect) (T.value_of update))
+            (reply.Answered result) seat.new }
     {
         let found = self
             .table
@@ -96,7 +97,8 @@ impl<T: Packed> WordState<T> {
     /// the current one.
     pub fn value(&self, seat: &mut WordSeat<T>) -> T
         requires { seat.old.table_id ≡ self.now.table_id }
-        ensures { CallsAtOnceIn state_flow self.now.first seat.old call.GetValue (reply.Got result) seat.new }
+        ensures { CallsAtOnceIn state_flow self.now.first seat.old call.GetValue
+            (reply.Got result) seat.new }
     {
         T::unpack(self.word(seat))
     }
@@ -107,7 +109,8 @@ impl<T: Packed> WordState<T> {
     /// A slow subscriber skips values and gets the most recent one.
     pub fn set(&self, seat: &mut WordSeat<T>, value: T)
         requires { seat.old.table_id ≡ self.now.table_id }
-        ensures { CallsAtOnceIn state_flow self.now.first seat.old (call.Set value) reply.Done seat.new }
+        ensures { CallsAtOnceIn state_flow self.now.first seat.old
+            (call.Set value) reply.Done seat.new }
     {
         let word = value.pack();
         let old = self.table.shared.swap::<Put>(&mut seat.seat, 0, word);
@@ -122,7 +125,8 @@ impl<T: Packed> WordState<T> {
     /// value was another one: read it and try again, as `update` does.
     pub fn compare_and_set(&self, seat: &mut WordSeat<T>, expect: T, update: T) -> bool
         requires { seat.old.table_id ≡ self.now.table_id }
-        ensures { CallsAtOnceIn state_flow self.now.first seat.old (call.CompareAndSet expect update)
+        ensures { CallsAtOnceIn state_flow self.now.first seat.old
+            (call.CompareAndSet expect update)
             (reply.Answered result) seat.new }
     {
         self.exchange(seat, expect.pack(), update.pack())

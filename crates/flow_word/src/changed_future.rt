@@ -34,7 +34,8 @@ impl<'a, T: Packed> Model for ChangedFuture<'a, T> {
     ghost use Rattle.flow_law.specs.Handles.{ReaderOf};
     ghost use Rattle.flow_word.specs.Tokens.{WordId};
 
-    ghost Value = { Option (ReaderOf WordId (StateFlowState T) (Said (StateCall T) (StateReply T))) };
+    ghost Value = { Option
+        (ReaderOf WordId (StateFlowState T) (Said (StateCall T) (StateReply T))) };
 
     ghost view = { λ f. f.reader };
 }

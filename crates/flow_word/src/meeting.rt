@@ -41,7 +41,8 @@ impl<T: Packed> WordState<T> {
     /// Call it if a caller relies on what the other one did, for instance after a thread has ended and returned its
     /// seat.
     pub fn meet(&self, one: &mut WordSeat<T>, other: &mut WordSeat<T>)
-        requires { (one.old.table_id ≡ self.now.table_id) × (other.old.table_id ≡ self.now.table_id) }
+        requires { (one.old.table_id ≡ self.now.table_id) ×
+            (other.old.table_id ≡ self.now.table_id) }
         ensures { MeetsIn state_flow self.now.first one.old other.old one.new other.new }
     {
         self.meet_by(&mut one.seat, &mut other.seat);

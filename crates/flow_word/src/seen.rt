@@ -47,7 +47,8 @@ impl<T: Packed> WordState<T> {
         ensures conflated { Conflates self.now.first.value subscription.new.token.knows.seen }
         ensures current { (u : ℕ) → Converges u self.now.first subscription.new.token.knows.seen }
         // Its subscriber is there.
-        ensures subscribed { IsThereAfter self.now.first subscription.new.token.knows.seen subscription.new.number }
+        ensures subscribed { IsThereAfter self.now.first
+            subscription.new.token.knows.seen subscription.new.number }
     {
         self.look(&mut subscription.seat);
     }

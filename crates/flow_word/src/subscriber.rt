@@ -61,7 +61,8 @@ impl<T: Packed> WordState<T> {
         seat: &mut WordSeat<T>,
     ) -> Result<WordSubscription<T>, FlowFault>
         requires { seat.old.table_id ≡ self.now.table_id }
-        ensures subscribed { SubscribesIn state_flow self.now.first call.Subscribe seat.old result seat.new }
+        ensures subscribed { SubscribesIn state_flow
+            self.now.first call.Subscribe seat.old result seat.new }
         ensures refused { IfErr result (λ fault. fault ≡ Exhausted) }
     {
         for _ in rt.forever() {
@@ -78,7 +79,8 @@ impl<T: Packed> WordState<T> {
     /// A slow subscriber skips values and gets the most recent one.
     pub fn next(&self, subscription: &mut WordSubscription<T>) -> Next<T>
         requires { subscription.old.token.table_id ≡ self.now.table_id }
-        ensures called { NextsIn state_flow self.now.first subscription.old (Ok result) subscription.new }
+        ensures called { NextsIn state_flow self.now.first subscription.old
+            (Ok result) subscription.new }
         ensures number { subscription.new.number ≡ subscription.old.number }
         ensures live { result ≢ Gone }
     {
@@ -94,7 +96,8 @@ impl<T: Packed> WordState<T> {
     /// Does the same as `value`, through the seat of a subscription. The subscriber does not receive the value by it.
     pub(crate) fn value_by(&self, subscription: &mut WordSubscription<T>) -> T
         requires { subscription.old.token.table_id ≡ self.now.table_id }
-        ensures called { CallsAtOnceIn state_flow self.now.first subscription.old.token call.GetValue
+        ensures called { CallsAtOnceIn state_flow
+            self.now.first subscription.old.token call.GetValue
             (reply.Got result) subscription.new.token }
         ensures number { subscription.new.number ≡ subscription.old.number }
     {

@@ -49,7 +49,8 @@ impl<T: Packed> Model for WordState<T> {
     ghost view = { λ w. origin (word_id w.table.shared.table_id w.table.shared.key)
         (begun T.value_of w.table.shared.key) };
 
-    ghost invariant = { λ w. (w.table.shared.table_id.words ≡ 2) × (w.table.shared.key.limit ≡ w.limit) };
+    ghost invariant = { λ w.
+        (w.table.shared.table_id.words ≡ 2) × (w.table.shared.key.limit ≡ w.limit) };
 }
 
 /// A seat at a word state, by which a caller calls the flow. Contracts see the history that it has seen.

@@ -48,7 +48,8 @@ impl<T: Packed> WordState<T> {
         requires flow { seat.old.table_id ≡ self.now.table_id }
         requires callable { F.IsAlwaysCallable f }
         ensures flow { seat.new.table_id ≡ seat.old.table_id }
-        ensures updates { (set : _) × Updates self.now.first (F.post f) seat.old result set seat.new }
+        ensures updates { (set : _) ×
+            Updates self.now.first (F.post f) seat.old result set seat.new }
     {
         T::unpack(self.rounds(rt, seat, f).0)
     }
@@ -58,7 +59,8 @@ impl<T: Packed> WordState<T> {
         requires flow { seat.old.table_id ≡ self.now.table_id }
         requires callable { F.IsAlwaysCallable f }
         ensures flow { seat.new.table_id ≡ seat.old.table_id }
-        ensures updates { (read : _) × Updates self.now.first (F.post f) seat.old read result seat.new }
+        ensures updates { (read : _) ×
+            Updates self.now.first (F.post f) seat.old read result seat.new }
     {
         T::unpack(self.rounds(rt, seat, f).1)
     }

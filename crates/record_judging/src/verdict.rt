@@ -37,7 +37,8 @@ struct Told {
 impl Told {
     /// Joins two parts of the words.
     fn new(alloc: Global, front: &str, rest: &[u8], status: u8) -> Result<Told, AllocError>
-        ensures { IfOk result (λ told. (told.words.items ≡ front.now ++ rest.now) × (told.status ≡ status)) }
+        ensures { IfOk result (λ told.
+            (told.words.items ≡ front.now ++ rest.now) × (told.status ≡ status)) }
     {
         let mut words = Vec::new(alloc);
         words.extend_from_slice(front.as_bytes())?;

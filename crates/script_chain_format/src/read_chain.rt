@@ -72,7 +72,8 @@ fn plain(op: Result<Op, ScriptFault>) -> Result<Result<Op, ChainFault>, ScriptFa
 
 /// Returns the chain with one more operator.
 fn with_operator(alloc: Global, chain: ScriptChain, op: Op) -> Result<Build, ScriptFault>
-    ensures { Gives (Ok (chains.with_operator (operator_of op) (built_of chain))) (build_result result) }
+    ensures { Gives (Ok (chains.with_operator (operator_of op) (built_of chain)))
+        (build_result result) }
 {
     match chain.then(alloc, op) {
         Ok(chain) => Ok(Ok(chain)),
@@ -93,7 +94,8 @@ fn refused(fault: ChainFault) -> Result<Build, ScriptFault>
 
 /// Returns what was built, with one more operator.
 fn built_on(alloc: Global, chain: Build, op: Result<Op, ChainFault>) -> Result<Build, ScriptFault>
-    ensures { Gives (Ok (chains.built_on (build_of chain) (operator_build op))) (build_result result) }
+    ensures { Gives (Ok (chains.built_on (build_of chain) (operator_build op)))
+        (build_result result) }
 {
     match chain {
         Ok(chain) => match op {
@@ -130,7 +132,8 @@ fn operator_at(
     levels: u32,
     op: &Value,
 ) -> Result<Result<Op, ChainFault>, ScriptFault>
-    ensures { Gives (chains.operator_at version levels at (view op.now)) (operator_build_result result) }
+    ensures { Gives (chains.operator_at version levels at (view op.now))
+        (operator_build_result result) }
 {
     match zip_parts(version, op) {
         Some((by, with)) => zipped(by, chain_at(alloc, version, at, levels, with)),

@@ -187,7 +187,8 @@ fn zip_of(op: &Value) -> Option<(Joining, &Value)>
 
 /// Returns the same, of an operator that is a zip.
 pub fn zip_parts(version: Version, op: &Value) -> Option<(Joining, &Value)>
-    ensures { option_map (λ zip. (zip.0, view zip.1.now)) result ≡ chains.zip_parts version (view op.now) }
+    ensures { option_map (λ zip. (zip.0, view zip.1.now)) result ≡
+        chains.zip_parts version (view op.now) }
 {
     let name = op_name_of(version, op)?;
     match name {

@@ -62,7 +62,8 @@ pub fn are_whole_numbers(values: &[Value]) -> bool
 }
 
 fn whole_numbers(alloc: Global, at: u64, values: &[Value]) -> Result<Vec<i64>, ScriptFault>
-    ensures { Gives (or_fault (ScriptFault.BadShape at) (sources.whole_numbers (items_view values.now)))
+    ensures { Gives
+        (or_fault (ScriptFault.BadShape at) (sources.whole_numbers (items_view values.now)))
         (numbers_result result) }
 {
     let mut numbers = Vec::new(alloc);
@@ -96,7 +97,8 @@ fn entry_of(value: &Value) -> Option<Entry<i64>>
 }
 
 fn entries_of(alloc: Global, at: u64, values: &[Value]) -> Result<Vec<Entry<i64>>, ScriptFault>
-    ensures { Gives (or_fault (ScriptFault.BadShape at) (sources.entries_of (items_view values.now)))
+    ensures { Gives
+        (or_fault (ScriptFault.BadShape at) (sources.entries_of (items_view values.now)))
         (entries_result result) }
 {
     let mut entries = Vec::new(alloc);

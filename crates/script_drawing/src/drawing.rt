@@ -42,7 +42,8 @@ fn framed(
     played: Played<'_>,
     rules: &[String],
 ) -> Result<String, AllocError>
-    ensures { IfOk result (λ drawn. TellsInOrder (told played.entry.lines.now) (string_bytes drawn)) }
+    ensures { IfOk result (λ drawn.
+        TellsInOrder (told played.entry.lines.now) (string_bytes drawn)) }
 {
     let mut listing = String::new(alloc);
     add_listing(alloc, &mut listing, played, rules)?;

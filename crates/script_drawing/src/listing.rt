@@ -16,7 +16,8 @@ fn rule_before<'a>(rules: &'a [String], played: Played<'_>, place: usize) -> &'a
 
 /// A line of the script, after what stands before it.
 fn add_entry(listing: &mut String, words: &str, line: &str) -> Result<(), AllocError>
-    ensures { OnOk result (AddsLast line.now (string_bytes listing.old) (string_bytes listing.new)) }
+    ensures { OnOk result
+        (AddsLast line.now (string_bytes listing.old) (string_bytes listing.new)) }
 {
     listing.push_str(words)?;
     listing.push_str(line)

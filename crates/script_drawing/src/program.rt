@@ -80,7 +80,8 @@ fn draw<R: Read, W: Write, E: Write>(
     requires writes { has_failed output.old ≡ false }
     ensures draws { Draws (R.remaining (inner_of input.old)) (W.contents (inner_of output.old))
         (W.contents (inner_of output.new)) result }
-    ensures taken { TakesWithin (R.remaining (inner_of input.old)) (R.remaining (inner_of input.new)) }
+    ensures taken { TakesWithin
+        (R.remaining (inner_of input.old)) (R.remaining (inner_of input.new)) }
     ensures read_failed { has_failed input.new ≡ is_read_failed result }
     ensures write_failed { has_failed output.new ≡ is_write_failed result }
 {

@@ -11,7 +11,9 @@ use std::alloc::Global;
 
 /// Returns the place of a name among those of its kind, where it was introduced for the flow.
 fn place_in(names: &IndexSet<&str>, at: u64, name: &str) -> Result<usize, ScriptFault>
-    ensures { Gives (or_fault (ScriptFault.UnknownName at) (checks.place_of name.now (map (λ k. k.now) names.now.keys))) result }
+    ensures { Gives
+        (or_fault (ScriptFault.UnknownName at)
+        (checks.place_of name.now (map (λ k. k.now) names.now.keys))) result }
 {
     match names.get_index_of(name) {
         Some(place) => Ok(place),
@@ -44,7 +46,8 @@ impl<'a> FlowNames<'a> {
 
     fn add_emission(&mut self, name: &'a str) -> Result<(), ScriptFault>
         requires { checks.is_known name.now (lists_of self.old) ≡ false }
-        ensures added { OnOk result (lists_of self.new ≡ checks.with_emission name.now (lists_of self.old)) }
+        ensures added { OnOk result
+            (lists_of self.new ≡ checks.with_emission name.now (lists_of self.old)) }
         ensures fault { IfErr result (λ fault. fault ≡ ScriptFault.OutOfMemory) }
     {
         self.emissions.insert(name)?;
@@ -53,7 +56,8 @@ impl<'a> FlowNames<'a> {
 
     fn add_subscriber(&mut self, name: &'a str) -> Result<(), ScriptFault>
         requires { checks.is_known name.now (lists_of self.old) ≡ false }
-        ensures added { OnOk result (lists_of self.new ≡ checks.with_subscriber name.now (lists_of self.old)) }
+        ensures added { OnOk result
+            (lists_of self.new ≡ checks.with_subscriber name.now (lists_of self.old)) }
         ensures fault { IfErr result (λ fault. fault ≡ ScriptFault.OutOfMemory) }
     {
         self.subscribers.insert(name)?;

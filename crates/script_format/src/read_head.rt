@@ -38,7 +38,8 @@ fn shared_of(flow: &Value) -> Option<ScriptFlow>
 
 /// Returns the flow, if the form is right.
 fn formed(flow: Option<ScriptFlow>) -> Result<ScriptFlow, ScriptFault>
-    ensures { Gives (or_fault (ScriptFault.BadShape 0) (option_map head_of_flow flow)) (flow_result result) }
+    ensures { Gives (or_fault (ScriptFault.BadShape 0) (option_map head_of_flow flow))
+        (flow_result result) }
 {
     flow.ok_or(ScriptFault::BadShape(0))
 }

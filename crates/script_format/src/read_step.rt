@@ -99,7 +99,8 @@ fn flow_step<'a>(
     step: &'a Value,
 ) -> Result<Step, ScriptFault>
     ensures { Gives
-        (checks.flow_step_by version (heads_of flows.now) verb at (row_of names.old) (view step.now))
+        (checks.flow_step_by version
+        (heads_of flows.now) verb at (row_of names.old) (view step.now))
         (checks.named_result result (row_of names.new)) }
 {
     let Some(written) = written_by(verb, step) else {
@@ -136,7 +137,8 @@ pub fn step_of<'a>(
     at: u64,
     step: &'a Value,
 ) -> Result<Step, ScriptFault>
-    ensures { Gives (checks.step_of version (heads_of flows.now) at (row_of names.old) (view step.now))
+    ensures { Gives
+        (checks.step_of version (heads_of flows.now) at (row_of names.old) (view step.now))
         (checks.named_result result (row_of names.new)) }
 {
     let Some(verb) = verb_of(version, step) else {

@@ -35,7 +35,8 @@ fn emit_of(step: &Value) -> Option<Written<'_>>
 
 /// Returns the subscriber's own first values.
 fn first_at(step: &Value) -> Option<&[Value]>
-    ensures { option_map (λ values. items_view values.now) result ≡ checks.first_at (view step.now) }
+    ensures { option_map (λ values. items_view values.now) result
+        ≡ checks.first_at (view step.now) }
 {
     let values = step.get("first")?.as_array()?;
     if are_whole_numbers(values.as_slice()) {
@@ -46,7 +47,8 @@ fn first_at(step: &Value) -> Option<&[Value]>
 }
 
 fn subscribe_with_of(step: &Value) -> Option<Written<'_>>
-    ensures { option_map written_of result ≡ checks.written_by FlowVerb.SubscribeWith (view step.now) }
+    ensures { option_map written_of result ≡
+        checks.written_by FlowVerb.SubscribeWith (view step.now) }
 {
     let values = first_at(step)?;
     let name = name_at(step, "name")?;
@@ -63,7 +65,8 @@ fn pair_of(step: &Value) -> Option<(i64, i64)>
 }
 
 fn compare_and_set_of(step: &Value) -> Option<Written<'_>>
-    ensures { option_map written_of result ≡ checks.written_by FlowVerb.CompareAndSet (view step.now) }
+    ensures { option_map written_of result ≡
+        checks.written_by FlowVerb.CompareAndSet (view step.now) }
 {
     let (expect, update) = pair_of(step)?;
     Some(Written::Plain(FlowStep::CompareAndSet(expect, update)))

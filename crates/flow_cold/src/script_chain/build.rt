@@ -92,9 +92,12 @@ impl Op {
 impl Part {
     /// Returns the tree with the upstream below this part.
     fn joined(self, alloc: Global, upstream: Box<Node>) -> Result<Node, ChainFault>
-        ensures whole { IfOk result (λ node. node_whole node ≡ part_whole self (node_whole upstream.value)) }
-        ensures rest { IfOk result (λ node. node_rest node ≡ part_rest self (node_rest upstream.value)) }
-        ensures depth { IfOk result (λ node. node_depth node ≡ part_depth self (node_depth upstream.value)) }
+        ensures whole { IfOk result (λ node.
+            node_whole node ≡ part_whole self (node_whole upstream.value)) }
+        ensures rest { IfOk result (λ node.
+            node_rest node ≡ part_rest self (node_rest upstream.value)) }
+        ensures depth { IfOk result (λ node.
+            node_depth node ≡ part_depth self (node_depth upstream.value)) }
         ensures refused { IfErr result (λ fault. fault ≡ ChainFault.OutOfMemory) }
     {
         match self {

@@ -22,10 +22,12 @@ impl DroppingWhile {
     pub fn on_item(&mut self, item: i64) -> Step
         ensures test { self.new.test ≡ self.old.test }
         ensures gives { (r : ChainRun ℤ)
-            → StepGives (drop_while_rest (passes self.old.test) self.old.dropping (gives item r)) result
+            → StepGives (drop_while_rest (passes self.old.test) self.old.dropping (gives item r))
+            result
             (drop_while_rest (passes self.new.test) self.new.dropping r) }
         ensures behind { (r : ChainRun ℤ)
-            → StepLeaves (after_drop_while (passes self.old.test) self.old.dropping (gives item r)) result r
+            → StepLeaves
+            (after_drop_while (passes self.old.test) self.old.dropping (gives item r)) result r
             (after_drop_while (passes self.new.test) self.new.dropping r) }
         ensures held { (r q : ChainRun ℤ) → after_step result r q ≡ q }
     {

@@ -63,11 +63,13 @@ impl Following {
     pub fn on_item(&mut self, item: i64) -> Step
         ensures count { self.new.count ≡ self.old.count }
         ensures gives { (r : ChainRun ℤ)
-            → StepGives (flat_map_run (spread_run spread.Range self.old.count) (gives item r)) result
+            → StepGives (flat_map_run (spread_run spread.Range self.old.count) (gives item r))
+            result
             (after_step result (following_rest self.new r)
             (flat_map_run (spread_run spread.Range self.new.count) r)) }
         ensures behind { (r : ChainRun ℤ)
-            → StepLeaves (after_flat_map (spread_run spread.Range self.old.count) (gives item r)) result r
+            → StepLeaves
+            (after_flat_map (spread_run spread.Range self.old.count) (gives item r)) result r
             (after_step result (after_following self.new r)
             (after_flat_map (spread_run spread.Range self.new.count) r)) }
     {
@@ -115,10 +117,12 @@ impl Repeating {
     pub fn on_item(&mut self, item: i64) -> Step
         ensures count { self.new.count ≡ self.old.count }
         ensures gives { (r : ChainRun ℤ)
-            → StepGives (flat_map_run (spread_run spread.Repeat self.old.count) (gives item r)) result
+            → StepGives (flat_map_run (spread_run spread.Repeat self.old.count) (gives item r))
+            result
             (repeating_rest self.new r) }
         ensures behind { (r : ChainRun ℤ)
-            → StepLeaves (after_flat_map (spread_run spread.Repeat self.old.count) (gives item r)) result r
+            → StepLeaves
+            (after_flat_map (spread_run spread.Repeat self.old.count) (gives item r)) result r
             (after_repeating self.new r) }
         ensures held { (r q : ChainRun ℤ) → after_step result r q ≡ r }
     {

@@ -108,10 +108,12 @@ fn ask_pair(left: &mut Node, right: &mut Node, pairing: &mut Pairing) -> Answer
     ensures behind_left { pairing.old.ended ≢ true
         → AsksLeft pairing.old.kept (node_rest left.old) (asked_of result) (node_rest left.new) }
     ensures behind_right { pairing.old.ended ≢ true
-        → AsksRight (with_kept pairing.old.kept (node_rest left.old)) (node_rest right.old) (asked_of result)
+        → AsksRight (with_kept pairing.old.kept (node_rest left.old))
+        (node_rest right.old) (asked_of result)
         (node_rest right.new) }
     ensures end { pairing.old.ended ≡ true
-        → (result ≡ Answer.End) × left.new ≡ left.old × right.new ≡ right.old × pairing.new ≡ pairing.old }
+        → (result ≡ Answer.End) × left.new ≡ left.old ×
+        right.new ≡ right.old × pairing.new ≡ pairing.old }
     ensures left_depth { node_depth left.new ≡ node_depth left.old }
     ensures right_depth { node_depth right.new ≡ node_depth right.old }
     ensures left_size { size-Node left.new ≤ size-Node left.old }
@@ -136,7 +138,8 @@ fn ask_right(right: &mut Node, pairing: &mut Pairing, first: i64) -> Answer
     ensures whole { node_whole right.new ≡ node_whole right.old }
     ensures by { pairing.new.by ≡ pairing.old.by }
     ensures gives { (left : ChainRun ℤ)
-        → AskGives (zip_run (joined pairing.old.by) (gives first left) (node_rest right.old)) (asked_of result)
+        → AskGives (zip_run (joined pairing.old.by) (gives first left) (node_rest right.old))
+        (asked_of result)
         (pairing_rest pairing.new left (node_rest right.new)) }
     ensures over { IsFinal (asked_of result) → pairing.new.ended ≡ true }
     ensures behind { AsksOnce (node_rest right.old) (asked_of result) (node_rest right.new) }

@@ -115,7 +115,8 @@ impl Operator {
     /// Starts from the beginning.
     pub fn rewind(&mut self)
         ensures whole { (r : ChainRun ℤ) → operator_whole self.new r ≡ operator_whole self.old r }
-        ensures rest { (r : ChainRun ℤ) → rest_in (first_phase self.new) self.new r ≡ operator_whole self.old r }
+        ensures rest { (r : ChainRun ℤ) →
+            rest_in (first_phase self.new) self.new r ≡ operator_whole self.old r }
     {
         match self {
             Operator::Take(state) => state.left = state.more,

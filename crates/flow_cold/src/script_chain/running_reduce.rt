@@ -21,7 +21,8 @@ impl Reducing {
     pub fn on_item(&mut self, item: i64) -> Step
         ensures by { self.new.by ≡ self.old.by }
         ensures gives { (r : ChainRun ℤ)
-            → StepGives (running_reduce_run (computed self.old.by) self.old.last (gives item r)) result
+            → StepGives (running_reduce_run (computed self.old.by) self.old.last (gives item r))
+            result
             (running_reduce_run (computed self.new.by) self.new.last r) }
         ensures leaves { (r further : ChainRun ℤ) → StepLeaves r result r further }
         ensures held { (r q : ChainRun ℤ) → after_step result r q ≡ q }

@@ -25,7 +25,8 @@ impl Stage {
     pub fn next_alone(&mut self) -> Option<Answer>
         ensures whole { (r : ChainRun ℤ) → operator_whole self.new.operator r
             ≡ operator_whole self.old.operator r }
-        ensures gives { (r : ChainRun ℤ) → MatchOption result (stage_rest self.new r ≡ stage_rest self.old r)
+        ensures gives { (r : ChainRun ℤ) →
+            MatchOption result (stage_rest self.new r ≡ stage_rest self.old r)
             (λ given. AskGives (stage_rest self.old r) (asked_of given) (stage_rest self.new r)) }
         ensures behind { (r : ChainRun ℤ)
             → MatchOption result (after_stage self.old r ≡ after_stage self.new r)
@@ -59,7 +60,8 @@ impl Stage {
             ≡ operator_whole self.old.operator r }
         ensures gives { (before after : ChainRun ℤ) → AskGives before (asked_of answer) after
             → MatchOption result (stage_rest self.old before ≡ stage_rest self.new after)
-            (λ given. AskGives (stage_rest self.old before) (asked_of given) (stage_rest self.new after)) }
+            (λ given. AskGives (stage_rest self.old before)
+            (asked_of given) (stage_rest self.new after)) }
         ensures behind { (before after : ChainRun ℤ) → AskGives before (asked_of answer) after
             → MatchOption result (after_stage self.old before ≡ after_stage self.new after)
             (λ given. Leaves (after_stage self.old before) (asked_of given) after) }
@@ -105,7 +107,8 @@ impl Stage {
             (λ given. AskGives before (asked_of given) (stage_rest self.new r)) }
         ensures behind { (due r after : ChainRun ℤ)
             → StepLeaves due step r
-            (after_step step (after_held self.old.operator after) (after_ready self.old.operator after))
+            (after_step step (after_held self.old.operator after)
+            (after_ready self.old.operator after))
             → MatchOption result (due ≡ after_stage self.new after) (λ _. due ≡ r) }
         ensures runs { result ≡ None → ¬ IsStageOver self.new }
         ensures over { IfSome result (λ given. IsFinal (asked_of given) → IsStageOver self.new) }
@@ -136,7 +139,8 @@ impl Stage {
     pub fn rewind(&mut self)
         ensures whole { (r : ChainRun ℤ) → operator_whole self.new.operator r
             ≡ operator_whole self.old.operator r }
-        ensures rest { (r : ChainRun ℤ) → stage_rest self.new r ≡ operator_whole self.old.operator r }
+        ensures rest { (r : ChainRun ℤ) →
+            stage_rest self.new r ≡ operator_whole self.old.operator r }
     {
         self.operator.rewind();
         self.phase = self.operator.first_phase();

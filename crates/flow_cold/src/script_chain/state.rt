@@ -41,7 +41,8 @@ impl Taking {
     /// Returns the item, as the last one if no other may follow.
     pub fn on_item(&mut self, item: i64) -> Step
         ensures more { self.new.more ≡ self.old.more }
-        ensures gives { (r : ChainRun ℤ) → StepGives (take_run (suc self.old.left) (gives item r)) result
+        ensures gives { (r : ChainRun ℤ) →
+            StepGives (take_run (suc self.old.left) (gives item r)) result
             (take_run (suc self.new.left) r) }
         ensures leaves { (r further : ChainRun ℤ) → StepLeaves r result r further }
         ensures held { (r q : ChainRun ℤ) → after_step result r q ≡ q }
@@ -68,7 +69,8 @@ impl Dropping {
         ensures gives { (r : ChainRun ℤ) → StepGives (drop_run (gives item r) self.old.left) result
             (drop_run r self.new.left) }
         ensures behind { (r : ChainRun ℤ)
-            → StepLeaves (after_drop (gives item r) self.old.left) result r (after_drop r self.new.left) }
+            → StepLeaves (after_drop (gives item r) self.old.left) result r
+            (after_drop r self.new.left) }
         ensures held { (r q : ChainRun ℤ) → after_step result r q ≡ q }
     {
         if self.left == 0 {
@@ -103,9 +105,11 @@ impl Adding {
     pub fn next_held(&mut self) -> Option<Result<i64, ChainFault>>
         ensures entries { self.new.entries ≡ self.old.entries }
         ensures gives { (r : ChainRun ℤ) → HeldGives (adding_rest self.old r) result
-            (after_number result (adding_rest self.new r) (transform_run (sums self.new.entries.items) r)) }
+            (after_number result (adding_rest self.new r)
+            (transform_run (sums self.new.entries.items) r)) }
         ensures behind { (r : ChainRun ℤ)
-            → HeldLeaves (after_adding self.old r) result r (after_transform (sums self.new.entries.items) r) }
+            → HeldLeaves (after_adding self.old r) result r
+            (after_transform (sums self.new.entries.items) r) }
     {
         if self.at >= self.entries.len() {
             return None;
@@ -123,10 +127,12 @@ impl Adding {
         ensures entries { self.new.entries ≡ self.old.entries }
         ensures gives { (r : ChainRun ℤ)
             → StepGives (transform_run (sums self.old.entries.items) (gives item r)) result
-            (after_step result (adding_rest self.new r) (transform_run (sums self.new.entries.items) r)) }
+            (after_step result (adding_rest self.new r)
+            (transform_run (sums self.new.entries.items) r)) }
         ensures behind { (r : ChainRun ℤ)
             → StepLeaves (after_transform (sums self.old.entries.items) (gives item r)) result r
-            (after_step result (after_adding self.new r) (after_transform (sums self.new.entries.items) r)) }
+            (after_step result (after_adding self.new r)
+            (after_transform (sums self.new.entries.items) r)) }
     {
         if !all_sums_fit(&self.entries, item) {
             return Step::Fault(ChainFault::Overflow);
@@ -152,8 +158,10 @@ impl Scanning {
         ensures by { self.new.by ≡ self.old.by }
         ensures initial { self.new.initial ≡ self.old.initial }
         ensures gives { (r : ChainRun ℤ) → HeldGives (scanning_rest self.old r) result
-            (after_number result (scanning_rest self.new r) (scan_run (computed self.new.by) self.new.last r)) }
-        ensures behind { (r : ChainRun ℤ) → HeldLeaves (after_scan self.old.begun r) result r (after_ask r) }
+            (after_number result (scanning_rest self.new r)
+            (scan_run (computed self.new.by) self.new.last r)) }
+        ensures behind { (r : ChainRun ℤ) →
+            HeldLeaves (after_scan self.old.begun r) result r (after_ask r) }
     {
         if self.begun {
             return None;
@@ -193,7 +201,8 @@ impl Comparing {
     /// Returns the item, unless it is the same as the one before.
     pub fn on_item(&mut self, item: i64) -> Step
         ensures gives { (r : ChainRun ℤ) → StepGives
-            (distinct_run int_eq self.old.last (gives item r)) result (distinct_run int_eq self.new.last r) }
+            (distinct_run int_eq self.old.last (gives item r)) result
+            (distinct_run int_eq self.new.last r) }
         ensures behind { (r : ChainRun ℤ)
             → StepLeaves (after_distinct int_eq self.old.last (gives item r)) result r
             (after_distinct int_eq self.new.last r) }

@@ -24,7 +24,12 @@ impl<T: Drop, A: Allocator> Members<Row<T, A>, A> {
         requires { self.old.last < number }
         ensures key { IfOk result (λ key. EntersAt number key self.old.by_key self.new.by_key) }
         ensures added { MatchResult result
-            (λ _key. (self.new.members ≡ self.old.members ++ record { number = number; row = record { own = first.items; position = position } } ∷ [])
+            (λ _key. (self.new.members ≡
+            self.old.members ++
+            record {
+              number = number;
+              row = record { own = first.items; position = position };
+            } ∷ [])
             × (self.new.last ≡ number))
             (λ refused. (refused ≡ first) × (self.new ≡ self.old)) }
     {

@@ -21,7 +21,8 @@ fn copy_to<T: FlowValue, A: Allocator, B: Allocator>(
     ensures most { result ≤ most }
     ensures within { from + result ≤ length values.now.items }
     ensures copied { list.new.items ≡ list.old.items ++ take result (drop from values.now.items) }
-    ensures room { (vec_len list.new ≡ vec_len list.old + result) × (vec_capacity list.old ≤ vec_capacity list.new) }
+    ensures room { (vec_len list.new ≡ vec_len list.old + result) ×
+        (vec_capacity list.old ≤ vec_capacity list.new) }
 {
     let count = most.min(values.len() - from);
     if list.reserve(count).is_err() {
@@ -56,8 +57,11 @@ impl<T: FlowValue, A: Allocator> Subscribers<T, A> {
             (λ position. self.old.emitted - length values.now.items ≤ position) }
         ensures most { result ≤ most }
         ensures none { result ≡ 0 → (list.new.items ≡ list.old.items) × (self.new ≡ self.old) }
-        ensures some { 0 < result → TakesSome number values.now.items self.old list.old.items result list.new.items self.new }
-        ensures room { (vec_len list.new ≡ vec_len list.old + result) × (vec_capacity list.old ≤ vec_capacity list.new) }
+        ensures some { 0 < result →
+            TakesSome number values.now.items self.old
+            list.old.items result list.new.items self.new }
+        ensures room { (vec_len list.new ≡ vec_len list.old + result) ×
+            (vec_capacity list.old ≤ vec_capacity list.new) }
     {
         let Some(row) = self.members.get_mut(number, key) else {
             return 0;

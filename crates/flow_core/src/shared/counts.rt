@@ -15,7 +15,8 @@ use std::alloc::Allocator;
 impl<T: FlowValue, A: Allocator + Copy> SharedCore<T, A> {
     /// Returns the number of subscribers.
     pub fn subscription_count(&self) -> u64
-        ensures documented { Conforms self.now call.SubscriptionCount (reply.Counted result) self.now }
+        ensures documented { Conforms self.now call.SubscriptionCount
+            (reply.Counted result) self.now }
     {
         self.subscribers.len() as u64
     }
@@ -35,7 +36,8 @@ impl<T: FlowValue, A: Allocator + Copy> SharedCore<T, A> {
     /// Returns how many values were emitted since the flow was made. Queued values, values that were dropped instead of
     /// being emitted, and own first values do not count.
     pub fn emission_count(&self) -> u64
-        ensures emitted { (s : SharedFlowState T) → StandsFor self.now s → result ≡ length s.emitted }
+        ensures emitted { (s : SharedFlowState T) →
+            StandsFor self.now s → result ≡ length s.emitted }
     {
         self.subscribers.emitted()
     }
@@ -46,7 +48,8 @@ impl<T: FlowValue, A: Allocator + Copy> SharedCore<T, A> {
     /// It is at most `replay + extra`, or 1 where both are 0. A subscriber that is so far behind makes emitters wait,
     /// or loses values, or has new ones dropped: as `overflow` says.
     pub fn lag(&self, id: SubId) -> Option<u64>
-        ensures lag { (s : SharedFlowState T) → StandsFor self.now s → result ≡ lag_of (number_of id) s }
+        ensures lag { (s : SharedFlowState T) →
+            StandsFor self.now s → result ≡ lag_of (number_of id) s }
     {
         self.subscribers.lag(id.number, id.key)
     }

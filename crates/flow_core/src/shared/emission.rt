@@ -51,8 +51,10 @@ impl<T: FlowValue, A: Allocator + Copy> SharedCore<T, A> {
     fn append(&mut self, value: T) -> Result<u64, Refused<T>>
         requires free { kept_full self.old ≡ false }
         ensures { MatchResult result
-            (λ number. (number ≡ self.old.issued + 1) × (self.old.issued ≢ self.old.config.limit) × Keeps self.old (rule.append value) self.new)
-            (λ refused. (refused.value ≡ value) × (self.new ≡ self.old) × IsExhausted refused.fault self.old) }
+            (λ number. (number ≡ self.old.issued + 1) × (self.old.issued ≢ self.old.config.limit) ×
+            Keeps self.old (rule.append value) self.new)
+            (λ refused. (refused.value ≡ value) ×
+            (self.new ≡ self.old) × IsExhausted refused.fault self.old) }
     {
         if self.issued == self.config.limit {
             return Err(Refused {
@@ -70,10 +72,13 @@ impl<T: FlowValue, A: Allocator + Copy> SharedCore<T, A> {
 
     /// Emits a value; slow subscribers lose what exceeds a buffer. Returns its number.
     fn append_dropping(&mut self, value: T) -> Result<u64, Refused<T>>
-        requires full { (kept_full self.old ≡ true) × (self.old.config.overflow ≡ Overflow.DropOldest) }
+        requires full { (kept_full self.old ≡ true) ×
+            (self.old.config.overflow ≡ Overflow.DropOldest) }
         ensures { MatchResult result
-            (λ number. (number ≡ self.old.issued + 1) × (self.old.issued ≢ self.old.config.limit) × Reaches self.old (λ s. rule.drop_oldest (rule.append value s)) self.new)
-            (λ refused. (refused.value ≡ value) × (self.new ≡ self.old) × IsExhausted refused.fault self.old) }
+            (λ number. (number ≡ self.old.issued + 1) × (self.old.issued ≢ self.old.config.limit) ×
+            Reaches self.old (λ s. rule.drop_oldest (rule.append value s)) self.new)
+            (λ refused. (refused.value ≡ value) ×
+            (self.new ≡ self.old) × IsExhausted refused.fault self.old) }
     {
         if self.issued == self.config.limit {
             return Err(Refused {
@@ -90,7 +95,8 @@ impl<T: FlowValue, A: Allocator + Copy> SharedCore<T, A> {
 
     /// Appends a value; slow subscribers lose what exceeds a buffer.
     fn push_dropping(&mut self, value: T, number: u64)
-        requires full { (kept_full self.old ≡ true) × (self.old.config.overflow ≡ Overflow.DropOldest) }
+        requires full { (kept_full self.old ≡ true) ×
+            (self.old.config.overflow ≡ Overflow.DropOldest) }
         requires issued { self.old.appended + length self.old.queue < self.old.issued }
         ensures { self.new ≡ dropped (pushed value number self.old) }
     {
@@ -102,8 +108,10 @@ impl<T: FlowValue, A: Allocator + Copy> SharedCore<T, A> {
     /// Queues a value, and returns its number.
     fn suspend(&mut self, value: T) -> Result<u64, Refused<T>>
         ensures { MatchResult result
-            (λ number. (number ≡ self.old.issued + 1) × (self.old.issued ≢ self.old.config.limit) × Keeps self.old (rule.suspend value) self.new)
-            (λ refused. (refused.value ≡ value) × (self.new ≡ self.old) × RefusedFor refused.fault self.old) }
+            (λ number. (number ≡ self.old.issued + 1) × (self.old.issued ≢ self.old.config.limit) ×
+            Keeps self.old (rule.suspend value) self.new)
+            (λ refused. (refused.value ≡ value) ×
+            (self.new ≡ self.old) × RefusedFor refused.fault self.old) }
     {
         if self.issued == self.config.limit {
             return Err(Refused {
@@ -130,7 +138,8 @@ impl<T: FlowValue, A: Allocator + Copy> SharedCore<T, A> {
     /// only error is `Exhausted`, which returns the value.
     #[inline]
     pub fn try_emit(&mut self, value: T) -> Result<bool, Refused<T>>
-        ensures documented { Conforms self.old (call.TryEmit value) (try_emit_reply result) self.new }
+        ensures documented { Conforms self.old
+            (call.TryEmit value) (try_emit_reply result) self.new }
         ensures handed_back { IfErr result (λ refused. refused.value ≡ value) }
     {
         match self.emit_case() {

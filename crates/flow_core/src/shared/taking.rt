@@ -25,7 +25,8 @@ impl<T: FlowValue, A: Allocator + Copy> SharedCore<T, A> {
         ensures most { result ≤ most }
         ensures taken { DrainsBy (Nexts (number_of id)) result
             self.old values.old.items (Ok Most) values.new.items self.new }
-        ensures room { (vec_len values.new ≡ vec_len values.old + result) × (vec_capacity values.old ≤ vec_capacity values.new) }
+        ensures room { (vec_len values.new ≡ vec_len values.old + result) ×
+            (vec_capacity values.old ≤ vec_capacity values.new) }
     {
         if self.queue.len() > 0 {
             return 0;

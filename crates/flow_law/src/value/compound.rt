@@ -83,5 +83,6 @@ impl<A: FlowValue, B: FlowValue, C: FlowValue> FlowValue for (A, B, C) {
         self.0.same(&other.0) && self.1.same(&other.1) && self.2.same(&other.2)
     }
 
-    ghost is_same_exact = { triple_exact A.is_same B.is_same C.is_same A.is_same_exact B.is_same_exact C.is_same_exact };
+    ghost is_same_exact = { triple_exact A.is_same B.is_same
+        C.is_same A.is_same_exact B.is_same_exact C.is_same_exact };
 }

@@ -125,7 +125,8 @@ impl<T: FlowValue, A: Allocator + Copy> Eq for Items<T, A> {
 impl<T: FlowValue + Hash, A: Allocator + Copy> Hash for Items<T, A> {
     ghost hash_input = { fed.slice T.hash_input };
 
-    ghost respects_eq = { exact_hash (list_exact T.is_same T.is_same_exact) (fed.slice T.hash_input) };
+    ghost respects_eq = { exact_hash
+        (list_exact T.is_same T.is_same_exact) (fed.slice T.hash_input) };
 
     fn hash<H: Hasher>(&self, state: &mut H) {
         self.values.as_slice().hash(state);

@@ -28,7 +28,8 @@ impl<C: Cold> Cold for Distinct<C> {
 
     ghost whole = { λ s m. distinct_run C.Item.is_same None (C.whole (chain_of s.upstream) m) };
 
-    ghost rest = { λ s m. distinct_run C.Item.is_same s.last (left_of (λ c. C.rest c m) s.upstream) };
+    ghost rest = { λ s m.
+        distinct_run C.Item.is_same s.last (left_of (λ c. C.rest c m) s.upstream) };
 
     ghost most_asks = { λ s. C.most_asks (chain_of s.upstream) };
 
@@ -79,7 +80,8 @@ impl<C: Cold> Distinct<C> {
     pub fn new(upstream: C) -> Self
         requires { C.CanAsk upstream }
         ensures callable { ⟦<Distinct<C> as Cold>⟧.CanAsk result }
-        ensures reads { (m : C.Reading) → C.Reads upstream m → ⟦<Distinct<C> as Cold>⟧.Reads result m }
+        ensures reads { (m : C.Reading) →
+            C.Reads upstream m → ⟦<Distinct<C> as Cold>⟧.Reads result m }
         ensures whole { (m : C.Reading) → ⟦<Distinct<C> as Cold>⟧.whole result m
             ≡ distinct_run C.Item.is_same None (C.whole upstream m) }
         ensures meaning { (m : C.Reading) → meaning_of (⟦<Distinct<C> as Cold>⟧.whole result m)

@@ -68,7 +68,8 @@ impl<C: Cold> DropFirst<C> {
     pub fn new(upstream: C, count: u64) -> Self
         requires { C.CanAsk upstream }
         ensures callable { ⟦<DropFirst<C> as Cold>⟧.CanAsk result }
-        ensures reads { (m : C.Reading) → C.Reads upstream m → ⟦<DropFirst<C> as Cold>⟧.Reads result m }
+        ensures reads { (m : C.Reading) →
+            C.Reads upstream m → ⟦<DropFirst<C> as Cold>⟧.Reads result m }
         ensures whole { (m : C.Reading) → ⟦<DropFirst<C> as Cold>⟧.whole result m
             ≡ drop_run (C.whole upstream m) count }
         ensures meaning { (m : C.Reading) → meaning_of (⟦<DropFirst<C> as Cold>⟧.whole result m)

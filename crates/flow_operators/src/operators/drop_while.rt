@@ -78,14 +78,17 @@ impl<C: Cold, F: Fn(&C::Item) -> bool> DropWhile<C, F> {
         requires callable { F.IsAlwaysCallable test }
         ensures callable { ⟦<DropWhile<C, F> as Cold>⟧.CanAsk result }
         ensures reads { (m : C.Reading) (p : C.Item → Bool) → C.Reads upstream m
-            → Decides (λ x b. FnReturnsAt F.Fn test x b) p → ⟦<DropWhile<C, F> as Cold>⟧.Reads result (m, p) }
+            → Decides (λ x b. FnReturnsAt F.Fn test x b) p →
+            ⟦<DropWhile<C, F> as Cold>⟧.Reads result (m, p) }
         ensures whole { (m : C.Reading) (p : C.Item → Bool)
-            → ⟦<DropWhile<C, F> as Cold>⟧.whole result (m, p) ≡ drop_while_run p (C.whole upstream m) }
+            → ⟦<DropWhile<C, F> as Cold>⟧.whole result (m, p) ≡
+            drop_while_run p (C.whole upstream m) }
         ensures meaning { (m : C.Reading) (p : C.Item → Bool)
             → meaning_of (⟦<DropWhile<C, F> as Cold>⟧.whole result (m, p))
             ≡ drop_while_meaning p (meaning_of (C.whole upstream m)) }
         ensures rest { (m : C.Reading) (p : C.Item → Bool)
-            → ⟦<DropWhile<C, F> as Cold>⟧.rest result (m, p) ≡ drop_while_run p (C.rest upstream m) }
+            → ⟦<DropWhile<C, F> as Cold>⟧.rest result (m, p) ≡
+            drop_while_run p (C.rest upstream m) }
     {
         DropWhile {
             upstream: Upstream::new(upstream),

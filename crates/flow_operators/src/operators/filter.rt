@@ -65,7 +65,8 @@ impl<C: Cold, F: Fn(&C::Item) -> bool> Filter<C, F> {
         requires callable { F.IsAlwaysCallable test }
         ensures callable { ⟦<Filter<C, F> as Cold>⟧.CanAsk result }
         ensures reads { (m : C.Reading) (p : C.Item → Bool) → C.Reads upstream m
-            → Decides (λ x b. FnReturnsAt F.Fn test x b) p → ⟦<Filter<C, F> as Cold>⟧.Reads result (m, p) }
+            → Decides (λ x b. FnReturnsAt F.Fn test x b) p →
+            ⟦<Filter<C, F> as Cold>⟧.Reads result (m, p) }
         ensures whole { (m : C.Reading) (p : C.Item → Bool)
             → ⟦<Filter<C, F> as Cold>⟧.whole result (m, p) ≡ filter_run p (C.whole upstream m) }
         ensures meaning { (m : C.Reading) (p : C.Item → Bool)

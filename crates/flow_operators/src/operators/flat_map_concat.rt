@@ -40,7 +40,8 @@ where
     ghost CanAsk = { λ s. C.CanAsk (chain_of s.upstream) × IfSome s.inner D.CanAsk
         × F.IsAlwaysCallable s.closure × OpensCallable D.CanAsk (F.post s.closure) × D.IsLimited };
 
-    ghost Reads = { λ s m. (C.Reads (chain_of s.upstream) m.0.0 × IfSome s.inner (λ d. D.Reads d m.0.1))
+    ghost Reads = { λ s m.
+        (C.Reads (chain_of s.upstream) m.0.0 × IfSome s.inner (λ d. D.Reads d m.0.1))
         × Opens (λ d. D.Reads d m.0.1) (λ d. D.whole d m.0.1) (F.post s.closure) m.1 };
 
     ghost whole = { λ s m. flat_map_run m.1 (C.whole (chain_of s.upstream) m.0.0) };
@@ -90,17 +91,21 @@ where
         self.upstream.rewind();
     }
 
-    ghost limited = { λ l s. Prim.grind (arith, common_steps, C.limited l.0 (chain_of s.upstream), D.limited l.1) };
+    ghost limited = { λ l s.
+        Prim.grind (arith, common_steps, C.limited l.0 (chain_of s.upstream), D.limited l.1) };
 }
 
 /// Asks the open inner chain, and closes it at its end. If none is open, answers the end.
 fn ask_inner<D: Cold>(inner: &mut Option<D>) -> Asked<D::Item>
     requires { IfSome inner.old D.CanAsk }
     ensures callable { IfSome inner.new D.CanAsk }
-    ensures reads { (n : D.Reading) → IfSome inner.old (λ d. D.Reads d n) → IfSome inner.new (λ d. D.Reads d n) }
+    ensures reads { (n : D.Reading) →
+        IfSome inner.old (λ d. D.Reads d n) → IfSome inner.new (λ d. D.Reads d n) }
     ensures gives { (n : D.Reading) → IfSome inner.old (λ d. D.Reads d n)
-        → AskGives (inner_left (λ d. D.rest d n) inner.old) result (inner_left (λ d. D.rest d n) inner.new) }
-    ensures fewer { IsFinal result ⊎ most_inner D.most_asks inner.new < most_inner D.most_asks inner.old }
+        → AskGives (inner_left (λ d. D.rest d n) inner.old) result
+        (inner_left (λ d. D.rest d n) inner.new) }
+    ensures fewer { IsFinal result ⊎
+        most_inner D.most_asks inner.new < most_inner D.most_asks inner.old }
     ensures closed { IsFinal result → inner.new ≡ None }
 {
     let Some(mut open) = inner.take() else {
@@ -157,16 +162,22 @@ where
         requires opens { OpensCallable D.CanAsk (F.post closure) }
         requires limited { D.IsLimited }
         ensures callable { ⟦<FlatMapConcat<C, D, F> as Cold>⟧.CanAsk result }
-        ensures reads { (m : C.Reading) (n : D.Reading) (f : C.Item → Result (ChainRun D.Item) ChainFault)
+        ensures reads { (m : C.Reading) (n : D.Reading)
+            (f : C.Item → Result (ChainRun D.Item) ChainFault)
             → C.Reads upstream m → Opens (λ d. D.Reads d n) (λ d. D.whole d n) (F.post closure) f
             → ⟦<FlatMapConcat<C, D, F> as Cold>⟧.Reads result ((m, n), f) }
-        ensures whole { (m : C.Reading) (n : D.Reading) (f : C.Item → Result (ChainRun D.Item) ChainFault)
-            → ⟦<FlatMapConcat<C, D, F> as Cold>⟧.whole result ((m, n), f) ≡ flat_map_run f (C.whole upstream m) }
-        ensures meaning { (m : C.Reading) (n : D.Reading) (f : C.Item → Result (ChainRun D.Item) ChainFault)
+        ensures whole { (m : C.Reading) (n : D.Reading)
+            (f : C.Item → Result (ChainRun D.Item) ChainFault)
+            → ⟦<FlatMapConcat<C, D, F> as Cold>⟧.whole result ((m, n), f) ≡
+            flat_map_run f (C.whole upstream m) }
+        ensures meaning { (m : C.Reading) (n : D.Reading)
+            (f : C.Item → Result (ChainRun D.Item) ChainFault)
             → meaning_of (⟦<FlatMapConcat<C, D, F> as Cold>⟧.whole result ((m, n), f))
             ≡ flat_map_meaning f (meaning_of (C.whole upstream m)) }
-        ensures rest { (m : C.Reading) (n : D.Reading) (f : C.Item → Result (ChainRun D.Item) ChainFault)
-            → ⟦<FlatMapConcat<C, D, F> as Cold>⟧.rest result ((m, n), f) ≡ flat_map_run f (C.rest upstream m) }
+        ensures rest { (m : C.Reading) (n : D.Reading)
+            (f : C.Item → Result (ChainRun D.Item) ChainFault)
+            → ⟦<FlatMapConcat<C, D, F> as Cold>⟧.rest result ((m, n), f) ≡
+            flat_map_run f (C.rest upstream m) }
     {
         FlatMapConcat {
             upstream: Upstream::new(upstream),

@@ -43,7 +43,8 @@ where
 
     ghost IsOver = { λ s. is_ended s.upstream ≡ true };
 
-    ghost AsksBehind = { λ old m result new. AsksUpstream (λ c. C.rest c m.0) old.upstream result new.upstream };
+    ghost AsksBehind = { λ old m result new.
+        AsksUpstream (λ c. C.rest c m.0) old.upstream result new.upstream };
 
     fn ask(&mut self) -> Asked<U> {
         match self.upstream.next() {
@@ -78,7 +79,8 @@ where
         ensures whole { (m : C.Reading) (f : C.Item → Result U ChainFault)
             → ⟦<Map<C, F> as Cold>⟧.whole result (m, f) ≡ map_run f (C.whole upstream m) }
         ensures meaning { (m : C.Reading) (f : C.Item → Result U ChainFault)
-            → meaning_of (⟦<Map<C, F> as Cold>⟧.whole result (m, f)) ≡ map_meaning f (meaning_of (C.whole upstream m)) }
+            → meaning_of (⟦<Map<C, F> as Cold>⟧.whole result (m, f)) ≡
+            map_meaning f (meaning_of (C.whole upstream m)) }
         ensures rest { (m : C.Reading) (f : C.Item → Result U ChainFault)
             → ⟦<Map<C, F> as Cold>⟧.rest result (m, f) ≡ map_run f (C.rest upstream m) }
     {

@@ -42,7 +42,8 @@ where
 
     ghost IsOver = { λ s. is_ended s.upstream ≡ true };
 
-    ghost AsksBehind = { λ old m result new. AsksUpstream (λ c. C.rest c m.0) old.upstream result new.upstream };
+    ghost AsksBehind = { λ old m result new. AsksUpstream (λ c. C.rest c m.0)
+        old.upstream result new.upstream };
 
     fn ask(&mut self) -> Asked<U> {
         match self.upstream.next() {
@@ -72,11 +73,14 @@ where
         ensures reads { (m : C.Reading) (f : C.Item → U) → C.Reads upstream m
             → Makes (F.post closure) f → ⟦<MapValue<C, F> as Cold>⟧.Reads result (m, f) }
         ensures whole { (m : C.Reading) (f : C.Item → U)
-            → ⟦<MapValue<C, F> as Cold>⟧.whole result (m, f) ≡ map_run (λ x. Ok (f x)) (C.whole upstream m) }
+            → ⟦<MapValue<C, F> as Cold>⟧.whole result (m, f) ≡
+            map_run (λ x. Ok (f x)) (C.whole upstream m) }
         ensures meaning { (m : C.Reading) (f : C.Item → U)
-            → meaning_of (⟦<MapValue<C, F> as Cold>⟧.whole result (m, f)) ≡ map_meaning (λ x. Ok (f x)) (meaning_of (C.whole upstream m)) }
+            → meaning_of (⟦<MapValue<C, F> as Cold>⟧.whole result (m, f)) ≡
+            map_meaning (λ x. Ok (f x)) (meaning_of (C.whole upstream m)) }
         ensures rest { (m : C.Reading) (f : C.Item → U)
-            → ⟦<MapValue<C, F> as Cold>⟧.rest result (m, f) ≡ map_run (λ x. Ok (f x)) (C.rest upstream m) }
+            → ⟦<MapValue<C, F> as Cold>⟧.rest result (m, f) ≡
+            map_run (λ x. Ok (f x)) (C.rest upstream m) }
     {
         MapValue {
             upstream: Upstream::new(upstream),

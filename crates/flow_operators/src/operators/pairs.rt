@@ -23,21 +23,28 @@ impl<L: Cold, R: Cold> Pairs<L, R, L::Item> {
         requires right { R.CanAsk (right_chain self.old) }
         ensures left { L.CanAsk (left_chain self.new) }
         ensures right { R.CanAsk (right_chain self.new) }
-        ensures left_reads { (m : L.Reading) → L.Reads (left_chain self.old) m → L.Reads (left_chain self.new) m }
-        ensures right_reads { (n : R.Reading) → R.Reads (right_chain self.old) n → R.Reads (right_chain self.new) n }
-        ensures left_whole { (m : L.Reading) → L.whole (left_chain self.new) m ≡ L.whole (left_chain self.old) m }
-        ensures right_whole { (n : R.Reading) → R.whole (right_chain self.new) n ≡ R.whole (right_chain self.old) n }
-        ensures gives { (m : L.Reading) (n : R.Reading) → L.Reads (left_chain self.old) m → R.Reads (right_chain self.old) n
+        ensures left_reads { (m : L.Reading) →
+            L.Reads (left_chain self.old) m → L.Reads (left_chain self.new) m }
+        ensures right_reads { (n : R.Reading) →
+            R.Reads (right_chain self.old) n → R.Reads (right_chain self.new) n }
+        ensures left_whole { (m : L.Reading) →
+            L.whole (left_chain self.new) m ≡ L.whole (left_chain self.old) m }
+        ensures right_whole { (n : R.Reading) →
+            R.whole (right_chain self.new) n ≡ R.whole (right_chain self.old) n }
+        ensures gives { (m : L.Reading) (n : R.Reading) →
+            L.Reads (left_chain self.old) m → R.Reads (right_chain self.old) n
             → PairGives (λ c. L.rest c m) (λ c. R.rest c n) self.old result self.new }
         ensures runs { IfOk result (λ _. is_over self.new ≡ false) }
         ensures fewer { IfOk result (λ _. most_pairs L.most_asks R.most_asks self.new
             < most_pairs L.most_asks R.most_asks self.old) }
-        ensures pends { IfErr result (λ asked. IsFinal asked ⊎ most_pairs L.most_asks R.most_asks self.new
+        ensures pends { IfErr result (λ asked.
+            IsFinal asked ⊎ most_pairs L.most_asks R.most_asks self.new
             < most_pairs L.most_asks R.most_asks self.old) }
         ensures over { IfErr result (λ asked. IsFinal asked → is_over self.new ≡ true) }
         ensures behind { (¬ (is_over self.old ≡ true)) → (m : L.Reading) (n : R.Reading)
             → L.Reads (left_chain self.old) m → R.Reads (right_chain self.old) n
-            → WithAnswer result (λ asked. AsksSides (λ c. L.rest c m) (λ c. R.rest c n) self.old asked self.new) }
+            → WithAnswer result (λ asked.
+            AsksSides (λ c. L.rest c m) (λ c. R.rest c n) self.old asked self.new) }
         ensures end { is_over self.old ≡ true → (result ≡ Err Asked.End) × self.new ≡ self.old }
     {
         if self.left.ended {

@@ -13,7 +13,8 @@ use crate::upstream::Upstream;
 /// Returns whether the item passes the test, as each function that the test computes says.
 pub(crate) fn passes<T, F: Fn(&T) -> bool>(test: &F, item: &T) -> bool
     requires { F.IsAlwaysCallable test.now }
-    ensures { (p : T → Bool) → Decides (λ x b. FnReturnsAt F.Fn test.now x b) p → result ≡ p item.now }
+    ensures { (p : T → Bool) →
+        Decides (λ x b. FnReturnsAt F.Fn test.now x b) p → result ≡ p item.now }
 {
     test(item)
 }
@@ -27,8 +28,10 @@ pub(crate) fn next_where<C: Cold, U, F: Fn(&C::Item) -> bool>(
     requires upstream { C.CanAsk (chain_of upstream.old) }
     requires callable { F.IsAlwaysCallable test.now }
     ensures callable { C.CanAsk (chain_of upstream.new) }
-    ensures reads { (m : C.Reading) → C.Reads (chain_of upstream.old) m → C.Reads (chain_of upstream.new) m }
-    ensures whole { (m : C.Reading) → C.whole (chain_of upstream.new) m ≡ C.whole (chain_of upstream.old) m }
+    ensures reads { (m : C.Reading) →
+        C.Reads (chain_of upstream.old) m → C.Reads (chain_of upstream.new) m }
+    ensures whole { (m : C.Reading) →
+        C.whole (chain_of upstream.new) m ≡ C.whole (chain_of upstream.old) m }
     ensures gives { (m : C.Reading) (p : C.Item → Bool) → C.Reads (chain_of upstream.old) m
         → Decides (λ x b. FnReturnsAt F.Fn test.now x b) p
         → NextGives (from_passing (sought wanted p) (left_of (λ c. C.rest c m) upstream.old)) result
@@ -37,11 +40,13 @@ pub(crate) fn next_where<C: Cold, U, F: Fn(&C::Item) -> bool>(
         → C.Reads (chain_of upstream.old) m → Decides (λ x b. FnReturnsAt F.Fn test.now x b) p
         → NextGives (from_passing (sought wanted p) (C.rest (chain_of upstream.old) m)) result
         (C.rest (chain_of upstream.new) m) }
-    ensures fewer { IfOk result (λ _. C.most_asks (chain_of upstream.new) < C.most_asks (chain_of upstream.old)) }
+    ensures fewer { IfOk result (λ _.
+        C.most_asks (chain_of upstream.new) < C.most_asks (chain_of upstream.old)) }
     ensures pends { IfErr result (λ asked. IsFinal asked
         ⊎ C.most_asks (chain_of upstream.new) < C.most_asks (chain_of upstream.old)) }
     ensures over { IfErr result (λ asked. IsFinal asked → is_ended upstream.new ≡ true) }
-    ensures end { is_ended upstream.old ≡ true → (result ≡ Err Asked.End) × upstream.new ≡ upstream.old }
+    ensures end { is_ended upstream.old ≡ true →
+        (result ≡ Err Asked.End) × upstream.new ≡ upstream.old }
 {
     loop {
         let item = upstream.next()?;

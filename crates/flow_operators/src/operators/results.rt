@@ -36,17 +36,21 @@ impl<C: Cold, U: FlowValue> Results<C, U> {
     pub(crate) fn next(&mut self) -> Result<(U, C::Item), Asked<U>>
         requires { C.CanAsk (scanned self.old) }
         ensures callable { C.CanAsk (scanned self.new) }
-        ensures reads { (m : C.Reading) → C.Reads (scanned self.old) m → C.Reads (scanned self.new) m }
-        ensures whole { (m : C.Reading) → C.whole (scanned self.new) m ≡ C.whole (scanned self.old) m }
+        ensures reads { (m : C.Reading) →
+            C.Reads (scanned self.old) m → C.Reads (scanned self.new) m }
+        ensures whole { (m : C.Reading) →
+            C.whole (scanned self.new) m ≡ C.whole (scanned self.old) m }
         ensures initial { initial_of self.new ≡ initial_of self.old }
         ensures gives { (m : C.Reading) → C.Reads (scanned self.old) m
             → ResultGives (λ c. C.rest c m) self.old result self.new }
         ensures runs { IfOk result (λ _. is_over self.new ≡ false) }
-        ensures fewer { IfOk result (λ _. C.most_asks (scanned self.new) < most_results C.most_asks self.old) }
+        ensures fewer { IfOk result (λ _.
+            C.most_asks (scanned self.new) < most_results C.most_asks self.old) }
         ensures pends { IfErr result (λ asked. IsFinal asked
             ⊎ most_results C.most_asks self.new < most_results C.most_asks self.old) }
         ensures over { IfErr result (λ asked. IsFinal asked → is_over self.new ≡ true) }
-        ensures behind { (¬ (is_over self.old ≡ true)) → (m : C.Reading) → C.Reads (scanned self.old) m
+        ensures behind { (¬ (is_over self.old ≡ true)) →
+            (m : C.Reading) → C.Reads (scanned self.old) m
             → WithAnswer result (λ asked. AsksScanned (λ c. C.rest c m) self.old asked self.new) }
         ensures end { is_over self.old ≡ true → (result ≡ Err Asked.End) × self.new ≡ self.old }
     {
@@ -91,9 +95,12 @@ impl<C: Cold, U: FlowValue> Results<C, U> {
     pub(crate) fn rewind(&mut self)
         requires { C.CanAsk (scanned self.old) }
         ensures callable { C.CanAsk (scanned self.new) }
-        ensures reads { (m : C.Reading) → C.Reads (scanned self.old) m → C.Reads (scanned self.new) m }
-        ensures whole { (m : C.Reading) → C.whole (scanned self.new) m ≡ C.whole (scanned self.old) m }
-        ensures rest { (m : C.Reading) → C.rest (scanned self.new) m ≡ C.whole (scanned self.old) m }
+        ensures reads { (m : C.Reading)
+            → C.Reads (scanned self.old) m → C.Reads (scanned self.new) m }
+        ensures whole { (m : C.Reading)
+            → C.whole (scanned self.new) m ≡ C.whole (scanned self.old) m }
+        ensures rest { (m : C.Reading)
+            → C.rest (scanned self.new) m ≡ C.whole (scanned self.old) m }
         ensures initial { initial_of self.new ≡ initial_of self.old }
         ensures last { last_of self.new ≡ None }
         ensures over { is_over self.new ≡ false }

@@ -31,7 +31,8 @@ where
 
     ghost CanAsk = { λ s. C.CanAsk (chain_of s.upstream) × F.IsAlwaysCallable s.closure };
 
-    ghost Reads = { λ s m. C.Reads (chain_of s.upstream) m.0 × ComputesPairs (F.post s.closure) m.1 };
+    ghost Reads = { λ s m.
+        C.Reads (chain_of s.upstream) m.0 × ComputesPairs (F.post s.closure) m.1 };
 
     ghost whole = { λ s m. running_reduce_run m.1 None (C.whole (chain_of s.upstream) m.0) };
 
@@ -45,7 +46,8 @@ where
 
     ghost IsOver = { λ s. is_ended s.upstream ≡ true };
 
-    ghost AsksBehind = { λ old m result new. AsksUpstream (λ c. C.rest c m.0) old.upstream result new.upstream };
+    ghost AsksBehind = { λ old m result new.
+        AsksUpstream (λ c. C.rest c m.0) old.upstream result new.upstream };
 
     fn ask(&mut self) -> Asked<C::Item> {
         match self.upstream.next() {
@@ -79,15 +81,19 @@ where
         requires upstream { C.CanAsk upstream }
         requires callable { F.IsAlwaysCallable closure }
         ensures callable { ⟦<RunningReduce<C, F> as Cold>⟧.CanAsk result }
-        ensures reads { (m : C.Reading) (f : C.Item × C.Item → Result C.Item ChainFault) → C.Reads upstream m
-            → ComputesPairs (F.post closure) f → ⟦<RunningReduce<C, F> as Cold>⟧.Reads result (m, f) }
+        ensures reads { (m : C.Reading) (f : C.Item × C.Item → Result C.Item ChainFault) →
+            C.Reads upstream m
+            → ComputesPairs (F.post closure) f →
+            ⟦<RunningReduce<C, F> as Cold>⟧.Reads result (m, f) }
         ensures whole { (m : C.Reading) (f : C.Item × C.Item → Result C.Item ChainFault)
-            → ⟦<RunningReduce<C, F> as Cold>⟧.whole result (m, f) ≡ running_reduce_run f None (C.whole upstream m) }
+            → ⟦<RunningReduce<C, F> as Cold>⟧.whole result (m, f) ≡
+            running_reduce_run f None (C.whole upstream m) }
         ensures meaning { (m : C.Reading) (f : C.Item × C.Item → Result C.Item ChainFault)
             → meaning_of (⟦<RunningReduce<C, F> as Cold>⟧.whole result (m, f))
             ≡ running_reduce_meaning f (meaning_of (C.whole upstream m)) }
         ensures rest { (m : C.Reading) (f : C.Item × C.Item → Result C.Item ChainFault)
-            → ⟦<RunningReduce<C, F> as Cold>⟧.rest result (m, f) ≡ running_reduce_run f None (C.rest upstream m) }
+            → ⟦<RunningReduce<C, F> as Cold>⟧.rest result (m, f) ≡
+            running_reduce_run f None (C.rest upstream m) }
     {
         RunningReduce {
             upstream: Upstream::new(upstream),

@@ -47,7 +47,8 @@ where
 
     ghost IsOver = { λ s. is_over s.results ≡ true };
 
-    ghost AsksBehind = { λ old m result new. AsksScanned (λ c. C.rest c m.0) old.results result new.results };
+    ghost AsksBehind = { λ old m result new.
+        AsksScanned (λ c. C.rest c m.0) old.results result new.results };
 
     fn ask(&mut self) -> Asked<U> {
         match self.results.next() {
@@ -80,12 +81,14 @@ where
         ensures reads { (m : C.Reading) (f : U × C.Item → Result U ChainFault) → C.Reads upstream m
             → ComputesPairs (F.post closure) f → ⟦<Scan<C, U, F> as Cold>⟧.Reads result (m, f) }
         ensures whole { (m : C.Reading) (f : U × C.Item → Result U ChainFault)
-            → ⟦<Scan<C, U, F> as Cold>⟧.whole result (m, f) ≡ gives initial (scan_run f initial (C.whole upstream m)) }
+            → ⟦<Scan<C, U, F> as Cold>⟧.whole result (m, f) ≡
+            gives initial (scan_run f initial (C.whole upstream m)) }
         ensures meaning { (m : C.Reading) (f : U × C.Item → Result U ChainFault)
             → meaning_of (⟦<Scan<C, U, F> as Cold>⟧.whole result (m, f))
             ≡ scan_meaning f initial (meaning_of (C.whole upstream m)) }
         ensures rest { (m : C.Reading) (f : U × C.Item → Result U ChainFault)
-            → ⟦<Scan<C, U, F> as Cold>⟧.rest result (m, f) ≡ gives initial (scan_run f initial (C.rest upstream m)) }
+            → ⟦<Scan<C, U, F> as Cold>⟧.rest result (m, f) ≡
+            gives initial (scan_run f initial (C.rest upstream m)) }
     {
         Scan {
             results: Results::new(upstream, initial),

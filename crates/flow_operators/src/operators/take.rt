@@ -23,11 +23,13 @@ impl<C: Cold> Take<C> {
     pub fn new(upstream: C, count: u64) -> Result<Self, ChainFault>
         requires { C.CanAsk upstream }
         ensures callable { IfOk result ⟦<Take<C> as Cold>⟧.CanAsk }
-        ensures reads { IfOk result (λ t. (m : C.Reading) → C.Reads upstream m → ⟦<Take<C> as Cold>⟧.Reads t m) }
+        ensures reads { IfOk result (λ t.
+            (m : C.Reading) → C.Reads upstream m → ⟦<Take<C> as Cold>⟧.Reads t m) }
         ensures whole { IfOk result (λ t. (m : C.Reading) →
             ⟦<Take<C> as Cold>⟧.whole t m ≡ take_run count (C.whole upstream m)) }
         ensures meaning { IfOk result (λ t. (m : C.Reading) →
-            meaning_of (⟦<Take<C> as Cold>⟧.whole t m) ≡ take_meaning count (meaning_of (C.whole upstream m))) }
+            meaning_of (⟦<Take<C> as Cold>⟧.whole t m) ≡
+            take_meaning count (meaning_of (C.whole upstream m))) }
         ensures rest { IfOk result (λ t. (m : C.Reading) →
             ⟦<Take<C> as Cold>⟧.rest t m ≡ take_run count (C.rest upstream m)) }
         ensures left { IfOk result (λ t. items_left t ≡ count) }
@@ -66,23 +68,29 @@ impl<C: Cold> Cold for Take<C> {
 
     ghost IsOver = { λ s. (s.left ≡ 0) ⊎ (is_ended s.upstream ≡ true) };
 
-    ghost AsksBehind = { λ old m result new. AsksUpstream (λ c. C.rest c m) old.upstream result new.upstream };
+    ghost AsksBehind = { λ old m result new.
+        AsksUpstream (λ c. C.rest c m) old.upstream result new.upstream };
 
     // The trait's clauses, and the number of items that are left. After the last item the upstream does not change.
     fn ask(&mut self) -> Asked<C::Item>
         requires { ⟦<Take<C> as Cold>⟧.CanAsk self.old }
         ensures callable { ⟦<Take<C> as Cold>⟧.CanAsk self.new }
-        ensures reads { (m : C.Reading) → ⟦<Take<C> as Cold>⟧.Reads self.old m → ⟦<Take<C> as Cold>⟧.Reads self.new m }
-        ensures whole { (m : C.Reading) → ⟦<Take<C> as Cold>⟧.whole self.new m ≡ ⟦<Take<C> as Cold>⟧.whole self.old m }
+        ensures reads { (m : C.Reading) →
+            ⟦<Take<C> as Cold>⟧.Reads self.old m → ⟦<Take<C> as Cold>⟧.Reads self.new m }
+        ensures whole { (m : C.Reading) →
+            ⟦<Take<C> as Cold>⟧.whole self.new m ≡ ⟦<Take<C> as Cold>⟧.whole self.old m }
         ensures gives { (m : C.Reading) → ⟦<Take<C> as Cold>⟧.Reads self.old m
-            → AskGives (⟦<Take<C> as Cold>⟧.rest self.old m) result (⟦<Take<C> as Cold>⟧.rest self.new m) }
+            → AskGives (⟦<Take<C> as Cold>⟧.rest self.old m) result
+            (⟦<Take<C> as Cold>⟧.rest self.new m) }
         ensures fewer { IsFinal result
             ⊎ ⟦<Take<C> as Cold>⟧.most_asks self.new < ⟦<Take<C> as Cold>⟧.most_asks self.old }
         ensures over { IsFinal result → ⟦<Take<C> as Cold>⟧.IsOver self.new }
         ensures answered { OnEnd result (⟦<Take<C> as Cold>⟧.HasAnswered self.new) }
         ensures behind { (¬ ⟦<Take<C> as Cold>⟧.IsOver self.old) → (m : C.Reading)
-            → ⟦<Take<C> as Cold>⟧.Reads self.old m → ⟦<Take<C> as Cold>⟧.AsksBehind self.old m result self.new }
-        ensures end { ⟦<Take<C> as Cold>⟧.IsOver self.old → (result ≡ Asked.End) × self.new ≡ self.old }
+            → ⟦<Take<C> as Cold>⟧.Reads self.old m →
+            ⟦<Take<C> as Cold>⟧.AsksBehind self.old m result self.new }
+        ensures end { ⟦<Take<C> as Cold>⟧.IsOver self.old →
+            (result ≡ Asked.End) × self.new ≡ self.old }
         ensures left { items_left self.new ≡ left_after result (items_left self.old) }
         ensures last { items_left self.old ≡ 0 → (result ≡ Asked.End) × self.new ≡ self.old }
     {

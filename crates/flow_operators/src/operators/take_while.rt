@@ -39,7 +39,8 @@ impl<C: Cold, F: Fn(&C::Item) -> bool> Cold for TakeWhile<C, F> {
 
     ghost IsOver = { λ s. is_ended s.upstream ≡ true };
 
-    ghost AsksBehind = { λ old m result new. AsksUpstream (λ c. C.rest c m.0) old.upstream result new.upstream };
+    ghost AsksBehind = { λ old m result new. AsksUpstream
+        (λ c. C.rest c m.0) old.upstream result new.upstream };
 
     fn ask(&mut self) -> Asked<C::Item> {
         match self.upstream.next() {
@@ -63,14 +64,17 @@ impl<C: Cold, F: Fn(&C::Item) -> bool> TakeWhile<C, F> {
         requires callable { F.IsAlwaysCallable test }
         ensures callable { ⟦<TakeWhile<C, F> as Cold>⟧.CanAsk result }
         ensures reads { (m : C.Reading) (p : C.Item → Bool) → C.Reads upstream m
-            → Decides (λ x b. FnReturnsAt F.Fn test x b) p → ⟦<TakeWhile<C, F> as Cold>⟧.Reads result (m, p) }
+            → Decides (λ x b. FnReturnsAt F.Fn test x b) p →
+            ⟦<TakeWhile<C, F> as Cold>⟧.Reads result (m, p) }
         ensures whole { (m : C.Reading) (p : C.Item → Bool)
-            → ⟦<TakeWhile<C, F> as Cold>⟧.whole result (m, p) ≡ take_while_run p (C.whole upstream m) }
+            → ⟦<TakeWhile<C, F> as Cold>⟧.whole result (m, p) ≡
+            take_while_run p (C.whole upstream m) }
         ensures meaning { (m : C.Reading) (p : C.Item → Bool)
             → meaning_of (⟦<TakeWhile<C, F> as Cold>⟧.whole result (m, p))
             ≡ take_while_meaning p (meaning_of (C.whole upstream m)) }
         ensures rest { (m : C.Reading) (p : C.Item → Bool)
-            → ⟦<TakeWhile<C, F> as Cold>⟧.rest result (m, p) ≡ take_while_run p (C.rest upstream m) }
+            → ⟦<TakeWhile<C, F> as Cold>⟧.rest result (m, p) ≡
+            take_while_run p (C.rest upstream m) }
     {
         TakeWhile {
             upstream: Upstream::new(upstream),

@@ -55,7 +55,8 @@ where
     ghost IsOver = { λ s. is_ended s.upstream ≡ true };
 
     ghost AsksBehind = { λ old m result new.
-        Leaves (unless_empty (images_left (λ v. v.items) old.images) (C.rest (chain_of old.upstream) m.0)
+        Leaves (unless_empty (images_left (λ v. v.items) old.images)
+        (C.rest (chain_of old.upstream) m.0)
         (after_transform m.1 (C.rest (chain_of old.upstream) m.0)))
         result (C.rest (chain_of new.upstream) m.0) };
 
@@ -92,7 +93,8 @@ where
 fn next_image<U: FlowValue>(images: &mut Option<Vec<U>>) -> Option<U>
     ensures { MatchOption result
         (images_left (λ v. v.items) images.old ≡ [] × images.new ≡ None)
-        (λ image. images_left (λ v. v.items) images.old ≡ image ∷ images_left (λ v. v.items) images.new) }
+        (λ image. images_left (λ v. v.items) images.old ≡
+        image ∷ images_left (λ v. v.items) images.new) }
 {
     let mut kept = images.take()?;
     let image = kept.pop()?;
@@ -106,7 +108,8 @@ where
     U: FlowValue,
     F: Fn(A) -> Result<Vec<U>, ChainFault>,
     requires { F.IsAlwaysCallable closure.now }
-    ensures { (f : A → Result (List U) ChainFault) → ComputesBy (λ v. v.items) (F.post closure.now) f
+    ensures { (f : A → Result (List U) ChainFault) →
+        ComputesBy (λ v. v.items) (F.post closure.now) f
         → FollowsBy (λ v. v.items) (f item) result }
 {
     closure(item)
@@ -125,15 +128,19 @@ where
         requires upstream { C.CanAsk upstream }
         requires callable { F.IsAlwaysCallable closure }
         ensures callable { ⟦<Transform<C, U, F> as Cold>⟧.CanAsk result }
-        ensures reads { (m : C.Reading) (f : C.Item → Result (List U) ChainFault) → C.Reads upstream m
-            → ComputesBy (λ v. v.items) (F.post closure) f → ⟦<Transform<C, U, F> as Cold>⟧.Reads result (m, f) }
+        ensures reads { (m : C.Reading) (f : C.Item → Result (List U) ChainFault) →
+            C.Reads upstream m
+            → ComputesBy (λ v. v.items) (F.post closure) f →
+            ⟦<Transform<C, U, F> as Cold>⟧.Reads result (m, f) }
         ensures whole { (m : C.Reading) (f : C.Item → Result (List U) ChainFault)
-            → ⟦<Transform<C, U, F> as Cold>⟧.whole result (m, f) ≡ transform_run f (C.whole upstream m) }
+            → ⟦<Transform<C, U, F> as Cold>⟧.whole result (m, f) ≡
+            transform_run f (C.whole upstream m) }
         ensures meaning { (m : C.Reading) (f : C.Item → Result (List U) ChainFault)
             → meaning_of (⟦<Transform<C, U, F> as Cold>⟧.whole result (m, f))
             ≡ transform_meaning f (meaning_of (C.whole upstream m)) }
         ensures rest { (m : C.Reading) (f : C.Item → Result (List U) ChainFault)
-            → ⟦<Transform<C, U, F> as Cold>⟧.rest result (m, f) ≡ transform_run f (C.rest upstream m) }
+            → ⟦<Transform<C, U, F> as Cold>⟧.rest result (m, f) ≡
+            transform_run f (C.rest upstream m) }
     {
         Transform {
             upstream: Upstream::new(upstream),

@@ -34,9 +34,11 @@ where
     ghost Reading = { (L.Reading × R.Reading) × (L.Item × R.Item → Result U ChainFault) };
 
     ghost CanAsk = { λ s.
-        L.CanAsk (left_chain s.pairs) × R.CanAsk (right_chain s.pairs) × F.IsAlwaysCallable s.closure };
+        L.CanAsk (left_chain s.pairs) ×
+        R.CanAsk (right_chain s.pairs) × F.IsAlwaysCallable s.closure };
 
-    ghost Reads = { λ s m. (L.Reads (left_chain s.pairs) m.0.0 × R.Reads (right_chain s.pairs) m.0.1)
+    ghost Reads = { λ s m.
+        (L.Reads (left_chain s.pairs) m.0.0 × R.Reads (right_chain s.pairs) m.0.1)
         × ComputesPairs (F.post s.closure) m.1 };
 
     ghost whole = { λ s m. zip_run m.1
@@ -87,15 +89,20 @@ where
         requires right { R.CanAsk right }
         requires callable { F.IsAlwaysCallable closure }
         ensures callable { ⟦<Zip<L, R, F> as Cold>⟧.CanAsk result }
-        ensures reads { (m : L.Reading) (n : R.Reading) (f : L.Item × R.Item → Result U ChainFault) → L.Reads left m
-            → R.Reads right n → ComputesPairs (F.post closure) f → ⟦<Zip<L, R, F> as Cold>⟧.Reads result ((m, n), f) }
+        ensures reads { (m : L.Reading) (n : R.Reading)
+            (f : L.Item × R.Item → Result U ChainFault) → L.Reads left m
+            → R.Reads right n → ComputesPairs (F.post closure) f →
+            ⟦<Zip<L, R, F> as Cold>⟧.Reads result ((m, n), f) }
         ensures whole { (m : L.Reading) (n : R.Reading) (f : L.Item × R.Item → Result U ChainFault)
-            → ⟦<Zip<L, R, F> as Cold>⟧.whole result ((m, n), f) ≡ zip_run f (L.whole left m) (R.whole right n) }
-        ensures meaning { (m : L.Reading) (n : R.Reading) (f : L.Item × R.Item → Result U ChainFault)
+            → ⟦<Zip<L, R, F> as Cold>⟧.whole result ((m, n), f) ≡
+            zip_run f (L.whole left m) (R.whole right n) }
+        ensures meaning { (m : L.Reading) (n : R.Reading)
+            (f : L.Item × R.Item → Result U ChainFault)
             → meaning_of (⟦<Zip<L, R, F> as Cold>⟧.whole result ((m, n), f))
             ≡ zip_meaning f (meaning_of (L.whole left m)) (meaning_of (R.whole right n)) }
         ensures rest { (m : L.Reading) (n : R.Reading) (f : L.Item × R.Item → Result U ChainFault)
-            → ⟦<Zip<L, R, F> as Cold>⟧.rest result ((m, n), f) ≡ zip_run f (L.rest left m) (R.rest right n) }
+            → ⟦<Zip<L, R, F> as Cold>⟧.rest result ((m, n), f) ≡
+            zip_run f (L.rest left m) (R.rest right n) }
     {
         Zip {
             pairs: Pairs {

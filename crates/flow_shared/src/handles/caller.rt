@@ -101,7 +101,8 @@ impl<'a, S: FlowCore + Drop, A: Allocator + Copy> FlowCaller<'a, S, A> {
     pub fn meet(&mut self, other: &mut FlowCaller<'_, S, A>)
         requires { other.old.flow.table_id ≡ self.old.flow.table_id }
         ensures flow { (self.new.flow ≡ self.old.flow) × (other.new.flow ≡ other.old.flow) }
-        ensures met { Meets S.kind self.old.flow self.old.token other.old.token self.new.token other.new.token }
+        ensures met { Meets S.kind self.old.flow
+            self.old.token other.old.token self.new.token other.new.token }
     {
         self.flow.meet(&mut self.seat, &mut other.seat);
     }

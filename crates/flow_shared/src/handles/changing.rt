@@ -33,7 +33,8 @@ impl<'a, T: FlowValue, A: Allocator + Copy> Model for StateChangedFuture<'a, T, 
     ghost use Rattle.flow_law.specs.declared.states.StateFlowState.{StateFlowState};
     ghost use Rattle.flow_law.specs.Handles.{ReaderOf};
 
-    ghost Value = { Option (ReaderOf TableId (StateFlowState T) (Said (StateCall T) (StateReply T))) };
+    ghost Value = { Option
+        (ReaderOf TableId (StateFlowState T) (Said (StateCall T) (StateReply T))) };
 
     ghost view = { λ f. f.reader };
 }

@@ -75,7 +75,8 @@ impl<'a, T: FlowValue, A: Allocator + Copy> FlowCaller<'a, SharedCore<T, A>, A> 
     /// no memory for it.
     pub fn emit<R: Wait>(self, rt: &R, value: T) -> EmitAnswer<'a, T, NumberError, A>
         ensures flow { emitted_flow result ≡ self.entry.flow }
-        ensures emits { Emits self.entry.flow self.entry.token value (emitted_by number_fault result) }
+        ensures emits { Emits self.entry.flow self.entry.token value
+            (emitted_by number_fault result) }
     {
         let FlowCaller { flow, seat } = self;
         match flow.emit(rt, seat, value) {
@@ -94,7 +95,8 @@ impl<'a, T: FlowValue, A: Allocator + Copy> FlowCaller<'a, SharedCore<T, A>, A> 
     /// Emits a value as `emit` does if no other caller holds the flow; otherwise the error is `Busy`.
     pub fn emit_now(self, value: T) -> EmitAnswer<'a, T, EmitNowError, A>
         ensures flow { emitted_flow result ≡ self.entry.flow }
-        ensures emits { EmitsNow self.entry.flow self.entry.token value (emitted_by emit_now_fault result) }
+        ensures emits { EmitsNow self.entry.flow self.entry.token value
+            (emitted_by emit_now_fault result) }
     {
         let FlowCaller { flow, seat } = self;
         match flow.emit_now(seat, value) {
@@ -117,7 +119,8 @@ impl<'a, T: FlowValue, A: Allocator + Copy> FlowCaller<'a, SharedCore<T, A>, A> 
         first: Vec<T, A>,
     ) -> Result<Reader<'a, T, A>, Rejected<Vec<T, A>, NumberError>>
         ensures flow { self.new.flow ≡ self.old.flow }
-        ensures subscribed { SubscribesBound shared_flow (λ name. call.Subscribe name first.items) self.old
+        ensures subscribed { SubscribesBound shared_flow
+            (λ name. call.Subscribe name first.items) self.old
             (fault_alone (handed_by number_fault result)) self.new.token }
         ensures handed_back { IfErr result (λ rejected. rejected.value ≡ first) }
     {
@@ -148,7 +151,8 @@ impl<'a, T: FlowValue, A: Allocator + Copy> FlowCaller<'a, SharedCore<T, A>, A> 
     /// Empties the replay cache. Present subscribers still receive the values that they have not received.
     pub fn reset_replay_cache<R: Wait>(&mut self, rt: &R)
         ensures flow { self.new.flow ≡ self.old.flow }
-        ensures called { Calls self.old.flow self.old.token call.ResetReplayCache reply.Reset self.new.token }
+        ensures called { Calls self.old.flow self.old.token
+            call.ResetReplayCache reply.Reset self.new.token }
     {
         self.flow.reset_replay_cache(rt, &mut self.seat);
     }
@@ -156,7 +160,8 @@ impl<'a, T: FlowValue, A: Allocator + Copy> FlowCaller<'a, SharedCore<T, A>, A> 
     /// Empties the replay cache if no other caller holds the flow; otherwise returns `Busy`.
     pub fn try_reset_replay_cache(&mut self) -> Result<(), Busy>
         ensures flow { self.new.flow ≡ self.old.flow }
-        ensures called { ResetsNow self.old.flow self.old.token (answer_by busy_fault result) self.new.token }
+        ensures called { ResetsNow self.old.flow self.old.token
+            (answer_by busy_fault result) self.new.token }
     {
         match self.flow.reset_now(&mut self.seat) {
             Ok(()) => Ok(()),
@@ -169,8 +174,10 @@ impl<'a, T: FlowValue, A: Allocator + Copy> FlowCaller<'a, SharedCore<T, A>, A> 
     pub fn seen(&mut self)
         ensures unchanged { self.new ≡ self.old }
         ensures history { IsHistory shared_flow self.new.flow.first self.new.token.knows.seen }
-        ensures delivered { (u : ℕ) → Delivers u self.new.flow.first.config self.new.token.knows.seen }
-        ensures no_idle_queue { NoIdleQueue (state_after self.new.flow.first.config self.new.token.knows.seen) }
+        ensures delivered { (u : ℕ) →
+            Delivers u self.new.flow.first.config self.new.token.knows.seen }
+        ensures no_idle_queue { NoIdleQueue
+            (state_after self.new.flow.first.config self.new.token.knows.seen) }
         ensures admitted { EachWaits self.new.flow.first.config self.new.token.knows.seen }
         ensures lagged { EachLags self.new.flow.first.config self.new.token.knows.seen }
         ensures replayed { EachReplays self.new.flow.first.config self.new.token.knows.seen }

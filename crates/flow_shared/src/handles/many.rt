@@ -26,7 +26,8 @@ impl<'a, S: FlowCore + Drop, A: Allocator + Copy> FlowCaller<'a, S, A> {
         ensures maker { IfOk result (λ made. self.new.token
             ≡ knowing self.old.token (makes_many count self.old.token.knows)) }
         ensures count { IfOk result (λ made. vec_len made ≡ count) }
-        ensures made { IfOk result (λ made. (i : ℕ) (d : _) → i < count → slice_index_or made.items i d
+        ensures made { IfOk result (λ made.
+            (i : ℕ) (d : _) → i < count → slice_index_or made.items i d
             ≡ called_by self.old.flow (knowing self.old.token (nth_child i self.old.token.knows))) }
     {
         let mut made = Vec::new(alloc);
@@ -66,12 +67,14 @@ impl<'a, S: FlowCore + Drop, A: Allocator + Copy> FlowCaller<'a, S, A> {
         ensures meets { OnlyMeets self.old.token self.new.token }
         ensures count { length readers.new ≡ length readers.old }
         ensures numbers { (i : ℕ) (d : _) → i < length readers.old →
-            (slice_index_or readers.new i d).subscription.number ≡ (slice_index_or readers.old i d).subscription.number }
+            (slice_index_or readers.new i d).subscription.number ≡
+            (slice_index_or readers.old i d).subscription.number }
         ensures flows { (i : ℕ) (d : _) → i < length readers.old →
             (slice_index_or readers.new i d).flow ≡ (slice_index_or readers.old i d).flow }
         ensures met { (i : ℕ) (d : _) → i < length readers.old →
             MeetsInTurn S.kind self.old.flow.first self.old.token.knows self.new.token.knows
-            (slice_index_or readers.old i d).subscription.token (slice_index_or readers.new i d).subscription.token }
+            (slice_index_or readers.old i d).subscription.token
+            (slice_index_or readers.new i d).subscription.token }
     {
         for k in 0..readers.len() {
             let reader = &mut readers[k];
@@ -94,7 +97,8 @@ impl<'a, S: FlowCore + Drop, A: Allocator + Copy> FlowCaller<'a, S, A> {
         requires readers { All (λ r. r.flow.table_id ≡ self.old.flow.table_id) readers.old }
         ensures flow { self.new.flow ≡ self.old.flow }
         ensures closed { HasClosedHistory S.kind self.old.flow.first (self.old.token.knows ∷
-            (map (λ c. c.token.knows) others.old ++ map (λ r. r.subscription.token.knows) readers.old)) }
+            (map (λ c. c.token.knows) others.old ++
+            map (λ r. r.subscription.token.knows) readers.old)) }
     {
         self.meet_all(others);
         self.meet_readers(readers);

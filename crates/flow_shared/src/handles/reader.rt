@@ -133,7 +133,8 @@ impl<'a, S: FlowCore + Drop, A: Allocator + Copy> FlowReader<'a, S, A> {
         values: &mut Vec<S::Item, B>,
     ) -> Result<DrainEnd, OutOfMemory>
         ensures flow { self.new.flow ≡ self.old.flow }
-        ensures drained { DrainsBy (NextsOf S.kind self.old.flow) most self.old.subscription values.old.items
+        ensures drained { DrainsBy
+            (NextsOf S.kind self.old.flow) most self.old.subscription values.old.items
             (drained_by (answer_by memory_fault result)) values.new.items self.new.subscription }
         ensures number { self.new.subscription.number ≡ self.old.subscription.number }
         ensures full { S.Item.IsAlwaysCopied → OnErr result (IsFull values.new) }
@@ -168,7 +169,8 @@ impl<'a, S: FlowCore + Drop, A: Allocator + Copy> FlowReader<'a, S, A> {
     /// Ends the subscription if no other caller holds the flow; otherwise returns the reader.
     pub fn try_unsubscribe(self) -> Result<FlowCaller<'a, S, A>, FlowReader<'a, S, A>>
         ensures flow { left_flow result ≡ self.entry.flow }
-        ensures left { UnsubscribesNow S.kind self.entry.flow self.entry.subscription (left_by result) }
+        ensures left { UnsubscribesNow S.kind self.entry.flow self.entry.subscription
+            (left_by result) }
     {
         let FlowReader { flow, subscription } = self;
         match flow.unsubscribe_now(subscription) {
@@ -197,7 +199,8 @@ impl<S: FlowCore + Drop, A: Allocator + Copy> Flow<S, A> {
         ensures maker { subscription.new.token
             ≡ knowing subscription.old.token (makes subscription.old.token.knows) }
         ensures number { subscription.new.number ≡ subscription.old.number }
-        ensures made { result ≡ knowing subscription.old.token (child subscription.old.token.knows) }
+        ensures made { result ≡
+            knowing subscription.old.token (child subscription.old.token.knows) }
     {
         self.seat(&mut subscription.seat)
     }

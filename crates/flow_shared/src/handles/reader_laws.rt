@@ -23,16 +23,21 @@ impl<'a, T: FlowValue, A: Allocator + Copy> FlowReader<'a, SharedCore<T, A>, A> 
     /// Call it to conclude what the subscriber received, or that no value waits in the queue.
     pub fn seen(&mut self)
         ensures unchanged { self.new ≡ self.old }
-        ensures history { IsHistory shared_flow self.new.flow.first self.new.subscription.token.knows.seen }
+        ensures history { IsHistory shared_flow
+            self.new.flow.first self.new.subscription.token.knows.seen }
         ensures delivered { (u : ℕ) → Delivers u self.new.flow.first.config
             self.new.subscription.token.knows.seen }
         ensures no_idle_queue { NoIdleQueue
             (state_after self.new.flow.first.config self.new.subscription.token.knows.seen) }
-        ensures admitted { EachWaits self.new.flow.first.config self.new.subscription.token.knows.seen }
-        ensures lagged { EachLags self.new.flow.first.config self.new.subscription.token.knows.seen }
-        ensures replayed { EachReplays self.new.flow.first.config self.new.subscription.token.knows.seen }
+        ensures admitted { EachWaits self.new.flow.first.config
+            self.new.subscription.token.knows.seen }
+        ensures lagged { EachLags self.new.flow.first.config
+            self.new.subscription.token.knows.seen }
+        ensures replayed { EachReplays self.new.flow.first.config
+            self.new.subscription.token.knows.seen }
         ensures subscribed { IsSome (position_of self.new.subscription.number
-            (state_after self.new.flow.first.config self.new.subscription.token.knows.seen).subscribers) }
+            (state_after self.new.flow.first.config
+            self.new.subscription.token.knows.seen).subscribers) }
     {
         self.flow.seen_by_subscription(&mut self.subscription);
     }
@@ -42,9 +47,12 @@ impl<'a, T: FlowValue, A: Allocator + Copy> FlowReader<'a, StateCore<T, A>, A> {
     /// Proves the laws of state flows for what the subscription has seen, as that of a shared flow's reader does.
     pub fn seen(&mut self)
         ensures unchanged { self.new ≡ self.old }
-        ensures history { IsStateHistory self.new.flow.first self.new.subscription.token.knows.seen }
-        ensures conflated { Conflates self.new.flow.first.value self.new.subscription.token.knows.seen }
-        ensures current { (u : ℕ) → Converges u self.new.flow.first self.new.subscription.token.knows.seen }
+        ensures history { IsStateHistory self.new.flow.first
+            self.new.subscription.token.knows.seen }
+        ensures conflated { Conflates
+            self.new.flow.first.value self.new.subscription.token.knows.seen }
+        ensures current { (u : ℕ)
+            → Converges u self.new.flow.first self.new.subscription.token.knows.seen }
         ensures subscribed { IsThere self.new.subscription.number
             (state_after_all self.new.flow.first self.new.subscription.token.knows.seen) }
     {

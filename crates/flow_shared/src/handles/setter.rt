@@ -55,7 +55,8 @@ impl<'a, T: FlowValue, A: Allocator + Copy> FlowCaller<'a, StateCore<T, A>, A> {
     /// again.
     pub fn set<R: Wait>(&mut self, rt: &R, value: T)
         ensures flow { self.new.flow ≡ self.old.flow }
-        ensures called { StateCalls self.old.flow self.old.token (call.Set value) reply.Done self.new.token }
+        ensures called { StateCalls self.old.flow self.old.token
+            (call.Set value) reply.Done self.new.token }
     {
         self.flow.set(rt, &mut self.seat, value);
     }
@@ -63,7 +64,8 @@ impl<'a, T: FlowValue, A: Allocator + Copy> FlowCaller<'a, StateCore<T, A>, A> {
     /// Sets the current value if no other caller holds the flow; otherwise returns it with `Busy`.
     pub fn try_set(&mut self, value: T) -> Result<(), Rejected<T, Busy>>
         ensures flow { self.new.flow ≡ self.old.flow }
-        ensures called { SetsNow self.old.flow self.old.token value (handed_by busy_fault result) self.new.token }
+        ensures called { SetsNow self.old.flow self.old.token value
+            (handed_by busy_fault result) self.new.token }
     {
         match self.flow.set_now(&mut self.seat, value) {
             Ok(()) => Ok(()),
@@ -87,7 +89,8 @@ impl<'a, T: FlowValue, A: Allocator + Copy> FlowCaller<'a, StateCore<T, A>, A> {
     /// of the setter does.
     pub fn compare_and_set<R: Wait>(&mut self, rt: &R, expect: &T, update: T) -> bool
         ensures flow { self.new.flow ≡ self.old.flow }
-        ensures called { StateCalls self.old.flow self.old.token (call.CompareAndSet expect.now update)
+        ensures called { StateCalls self.old.flow self.old.token
+            (call.CompareAndSet expect.now update)
             (reply.Answered result) self.new.token }
     {
         self.flow

@@ -23,7 +23,8 @@ impl<'a, T: FlowValue, A: Allocator + Copy> FlowCaller<'a, StateCore<T, A>, A> {
     ) -> Result<(T, T), OutOfMemory>
         requires callable { F.IsAlwaysCallable f.now }
         ensures flow { self.new.flow ≡ self.old.flow }
-        ensures read { IfOk result (λ round. CallsIn state_flow self.old.flow.first self.old.token call.GetValue
+        ensures read { IfOk result (λ round.
+            CallsIn state_flow self.old.flow.first self.old.token call.GetValue
             (reply.Got round.0) self.new.token × FnReturnsAt F.Fn f.now round.0 (Ok round.1)) }
         ensures stopped { IfErr result (λ none. ReadsInVain self.old.flow.first
             (Refuses (FnReturnsAt F.Fn f.now)) self.old.token self.new.token) }
@@ -54,7 +55,8 @@ impl<'a, T: FlowValue, A: Allocator + Copy> FlowCaller<'a, StateCore<T, A>, A> {
         ensures updates { MatchResult result
             (λ read. (set : _) × Updates self.old.flow.first (Accepts (FnReturnsAt F.Fn f))
             self.old.token read set self.new.token)
-            (λ none. StopsAt self.old.flow.first (Accepts (FnReturnsAt F.Fn f)) (Refuses (FnReturnsAt F.Fn f))
+            (λ none. StopsAt self.old.flow.first
+            (Accepts (FnReturnsAt F.Fn f)) (Refuses (FnReturnsAt F.Fn f))
             self.old.token self.new.token) }
     {
         for _ in rt.forever() {
@@ -79,9 +81,11 @@ impl<'a, T: FlowValue, A: Allocator + Copy> FlowCaller<'a, StateCore<T, A>, A> {
         requires callable { F.IsAlwaysCallable f }
         ensures flow { self.new.flow ≡ self.old.flow }
         ensures updates { MatchResult result
-            (λ none. (read : _) × (set : _) × Updates self.old.flow.first (Accepts (FnReturnsAt F.Fn f))
+            (λ none. (read : _) × (set : _) ×
+            Updates self.old.flow.first (Accepts (FnReturnsAt F.Fn f))
             self.old.token read set self.new.token)
-            (λ none. StopsAt self.old.flow.first (Accepts (FnReturnsAt F.Fn f)) (Refuses (FnReturnsAt F.Fn f))
+            (λ none. StopsAt self.old.flow.first
+            (Accepts (FnReturnsAt F.Fn f)) (Refuses (FnReturnsAt F.Fn f))
             self.old.token self.new.token) }
     {
         match self.get_and_update(rt, f) {

@@ -30,7 +30,8 @@ impl<'a, S: FlowCore + Drop, A: Allocator + Copy> FlowReader<'a, S, A> {
         cx: &mut Context<'_>,
     ) -> Poll<Result<S::Item, OutOfMemory>>
         ensures flow { self.new.flow ≡ self.old.flow }
-        ensures polls { PollsNext S.kind self.old.flow self.old.subscription result self.new.subscription }
+        ensures polls { PollsNext S.kind self.old.flow
+            self.old.subscription result self.new.subscription }
         ensures armed { OnPending result (IsArmed cx.new) }
         ensures kept { Keeps cx.old cx.new }
     {
@@ -83,7 +84,8 @@ impl<'a, S: FlowCore + Drop, A: Allocator + Copy> FlowValues<'a, S, A> {
     /// Polls the reader once.
     fn advance(&mut self, cx: &mut Context<'_>) -> Poll<Result<S::Item, OutOfMemory>>
         ensures flow { self.new.flow ≡ self.old.flow }
-        ensures polls { PollsNext S.kind self.old.flow self.old.subscription result self.new.subscription }
+        ensures polls { PollsNext S.kind self.old.flow
+            self.old.subscription result self.new.subscription }
         ensures armed { OnPending result (IsArmed cx.new) }
         ensures kept { Keeps cx.old cx.new }
     {

@@ -30,7 +30,8 @@ impl<T: FlowValue, A: Allocator + Copy> Attended<SharedCore<T, A>, A> {
         ensures readers { self.new.readers ≡ self.old.readers }
         ensures watchers { self.new.watchers ≡ self.old.watchers }
         ensures watched { self.new.watched ≡ self.old.watched }
-        ensures emitters { AddsWaiting shared_sleeping StandsFor self.old.core number self.old.emitters self.new.emitters }
+        ensures emitters { AddsWaiting shared_sleeping StandsFor
+            self.old.core number self.old.emitters self.new.emitters }
         ensures armed { W.is_armed waiter.new }
         ensures kept { W.keeps waiter.old waiter.new }
     {

@@ -48,7 +48,8 @@ impl<T: FlowValue, A: Allocator + Copy> Flow<SharedCore<T, A>, A> {
         value: T,
     ) -> Result<bool, Refused<T>>
         requires { seat.old.table_id ≡ self.now.table_id }
-        ensures called { Calls self.now seat.old (call.TryEmit value) (try_emit_reply result) seat.new }
+        ensures called { Calls self.now seat.old
+            (call.TryEmit value) (try_emit_reply result) seat.new }
         ensures refused { IfErr result (λ refused. refused.fault ≡ Exhausted) }
         ensures handed_back { IfErr result (λ refused. refused.value ≡ value) }
     {

@@ -26,7 +26,8 @@ impl<T: FlowValue, A: Allocator + Copy> Flow<SharedCore<T, A>, A> {
         // It is a history of the flow, from its first state on.
         ensures history { IsHistory shared_flow self.now.first seat.new.knows.seen }
         ensures delivered { (u : ℕ) → Delivers u self.now.first.config seat.new.knows.seen }
-        ensures no_idle_queue { NoIdleQueue (state_after self.now.first.config seat.new.knows.seen) }
+        ensures no_idle_queue { NoIdleQueue
+            (state_after self.now.first.config seat.new.knows.seen) }
         ensures admitted { EachWaits self.now.first.config seat.new.knows.seen }
         ensures lagged { EachLags self.now.first.config seat.new.knows.seen }
         ensures replayed { EachReplays self.now.first.config seat.new.knows.seen }
@@ -39,7 +40,8 @@ impl<T: FlowValue, A: Allocator + Copy> Flow<SharedCore<T, A>, A> {
         requires { subscription.old.token.table_id ≡ self.now.table_id }
         ensures unchanged { subscription.new ≡ subscription.old }
         ensures history { IsHistory shared_flow self.now.first subscription.new.token.knows.seen }
-        ensures delivered { (u : ℕ) → Delivers u self.now.first.config subscription.new.token.knows.seen }
+        ensures delivered { (u : ℕ) →
+            Delivers u self.now.first.config subscription.new.token.knows.seen }
         ensures no_idle_queue { NoIdleQueue
             (state_after self.now.first.config subscription.new.token.knows.seen) }
         ensures admitted { EachWaits self.now.first.config subscription.new.token.knows.seen }

@@ -62,7 +62,8 @@ impl<T: FlowValue, A: Allocator + Copy> Flow<SharedCore<T, A>, A> {
         ensures subscribed { Subscribes shared_flow self.now
             (λ name. call.Subscribe name first.items) seat.old (fault_alone result) seat.new }
         ensures handed_back { IfErr result (λ refused. refused.value ≡ first) }
-        ensures refused { IfErr result (λ refused. (refused.fault ≡ OutOfMemory) ⊎ (refused.fault ≡ Exhausted)) }
+        ensures refused { IfErr result (λ refused.
+            (refused.fault ≡ OutOfMemory) ⊎ (refused.fault ≡ Exhausted)) }
     {
         let id = self.call(rt, seat, SubscribeWith { first })?;
         let made = self.seat(seat);

@@ -74,7 +74,8 @@ impl<T: FlowValue, A: Allocator + Copy> Flow<StateCore<T, A>, A> {
     /// another caller is inside; `set_now` does not.
     pub fn try_emit<R: Wait>(&self, rt: &R, seat: &mut StateSeat<T, A>, value: T) -> bool
         requires { seat.old.table_id ≡ self.now.table_id }
-        ensures { StateCalls self.now seat.old (call.TryEmit value) (reply.Answered result) seat.new }
+        ensures { StateCalls self.now seat.old
+            (call.TryEmit value) (reply.Answered result) seat.new }
     {
         self.call(rt, seat, TryEmit { value })
     }

@@ -20,7 +20,8 @@ fn two_subscribers<R: Wait + Abort>(
     Subscription<i64>,
     Subscription<i64>,
 )
-    ensures { (result.1.table_id ≡ result.0.table_id) × (result.2.token.table_id ≡ result.0.table_id)
+    ensures { (result.1.table_id ≡ result.0.table_id) ×
+        (result.2.token.table_id ≡ result.0.table_id)
         × (result.3.token.table_id ≡ result.0.table_id) }
 {
     let (flow, mut seat) = SharedFlow::new(alloc, Config::new()).expect(rt, "a flow");

@@ -46,7 +46,8 @@ fn meet_in_one_history(
     other: Seat<Count>,
 ) -> (Seat<Count>, Seat<Count>)
     requires { (one.table_id ≡ gate.now.table_id) × (other.table_id ≡ gate.now.table_id) }
-    ensures gate { (result.0.table_id ≡ gate.entry.now.table_id) × (result.1.table_id ≡ gate.entry.now.table_id) }
+    ensures gate { (result.0.table_id ≡ gate.entry.now.table_id) ×
+        (result.1.table_id ≡ gate.entry.now.table_id) }
     ensures seen { result.0.knows.seen ≡ result.1.knows.seen }
 {
     gate.meet(one, other)

@@ -18,7 +18,8 @@ pub fn one_subscriber<R: Wait + Abort>(
     alloc: Global,
     config: Config,
 ) -> (SharedFlow<i64>, Seat<i64>, Subscription<i64>)
-    ensures { (result.1.table_id ≡ result.0.table_id) × (result.2.token.table_id ≡ result.0.table_id) }
+    ensures { (result.1.table_id ≡ result.0.table_id) ×
+        (result.2.token.table_id ≡ result.0.table_id) }
 {
     let (flow, mut seat) = SharedFlow::new(alloc, config).expect(rt, "a flow");
     let subscription = flow.subscribe(rt, &mut seat).expect(rt, "a subscription");
@@ -32,7 +33,8 @@ fn round(
     subscription: &mut Subscription<i64>,
     value: i64,
 ) -> Option<Seat<i64>>
-    requires { (seat.table_id ≡ flow.now.table_id) × (subscription.old.token.table_id ≡ flow.now.table_id) }
+    requires { (seat.table_id ≡ flow.now.table_id) ×
+        (subscription.old.token.table_id ≡ flow.now.table_id) }
     ensures seat { IfSome result (λ seat. seat.table_id ≡ flow.entry.now.table_id) }
     ensures subscription { subscription.new.token.table_id ≡ flow.entry.now.table_id }
 {
@@ -47,7 +49,8 @@ fn round(
 
 /// How many of 10,000 rounds a caller did who was alone.
 fn rounds(flow: &SharedFlow<i64>, seat: Seat<i64>, subscription: &mut Subscription<i64>) -> i64
-    requires { (seat.table_id ≡ flow.now.table_id) × (subscription.old.token.table_id ≡ flow.now.table_id) }
+    requires { (seat.table_id ≡ flow.now.table_id) ×
+        (subscription.old.token.table_id ≡ flow.now.table_id) }
 {
     let mut seat = seat;
     for value in 0..10_000 {

@@ -21,7 +21,8 @@ impl<'a, T: Packed> WordSetter<'a, T> {
         ensures flow { self.new.flow ≡ self.old.flow }
         ensures maker { IfOk result (λ _. MakesMany count self.old.token self.new.token) }
         ensures count { IfOk result (λ made. vec_len made ≡ count) }
-        ensures made { IfOk result (λ made. AreNextSeats self.old.flow self.old.token count made.items) }
+        ensures made { IfOk result (λ made.
+            AreNextSeats self.old.flow self.old.token count made.items) }
     {
         let mut made = Vec::new(alloc);
         for _count in 0..count {

@@ -79,7 +79,8 @@ impl<'a, T: Packed> WordReader<'a, T> {
     /// Ends the subscription, and returns a setter with its seat.
     pub fn unsubscribe(self) -> WordSetter<'a, T>
         ensures flow { result.flow ≡ self.entry.flow }
-        ensures left { UnsubscribesIn state_flow self.entry.flow.first self.entry.subscription result.token }
+        ensures left { UnsubscribesIn state_flow
+            self.entry.flow.first self.entry.subscription result.token }
     {
         let WordReader { flow, subscription } = self;
         let seat = flow.unsubscribe(subscription);
@@ -89,9 +90,12 @@ impl<'a, T: Packed> WordReader<'a, T> {
     /// Proves the laws of state flows for what the subscription has seen. It makes no call of the flow and changes nothing.
     pub fn seen(&mut self)
         ensures unchanged { self.new ≡ self.old }
-        ensures history { IsStateHistory self.new.flow.first self.new.subscription.token.knows.seen }
-        ensures conflated { Conflates self.new.flow.first.value self.new.subscription.token.knows.seen }
-        ensures current { (u : ℕ) → Converges u self.new.flow.first self.new.subscription.token.knows.seen }
+        ensures history { IsStateHistory
+            self.new.flow.first self.new.subscription.token.knows.seen }
+        ensures conflated { Conflates self.new.flow.first.value
+            self.new.subscription.token.knows.seen }
+        ensures current { (u : ℕ) →
+            Converges u self.new.flow.first self.new.subscription.token.knows.seen }
         ensures subscribed { IsThereAfter self.new.flow.first self.new.subscription.token.knows.seen
             self.new.subscription.number }
     {

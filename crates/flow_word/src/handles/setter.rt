@@ -95,7 +95,8 @@ impl<'a, T: Packed> WordSetter<'a, T> {
     /// Sets the current value. Setting a value that is equal to the current one does nothing: no subscriber gets it again.
     pub fn set(&mut self, value: T)
         ensures flow { self.new.flow ≡ self.old.flow }
-        ensures called { CallsAtOnceIn state_flow self.old.flow.first self.old.token (call.Set value)
+        ensures called { CallsAtOnceIn state_flow self.old.flow.first self.old.token
+            (call.Set value)
             reply.Done self.new.token }
     {
         self.flow.set(&mut self.seat, value);
@@ -115,7 +116,8 @@ impl<'a, T: Packed> WordSetter<'a, T> {
     /// Counts the subscribers. A subscription whose token was dropped is counted; one whose handle was dropped has ended.
     pub fn subscription_count(&mut self) -> u64
         ensures flow { self.new.flow ≡ self.old.flow }
-        ensures counted { CallsAtOnceIn state_flow self.old.flow.first self.old.token call.SubscriptionCount
+        ensures counted { CallsAtOnceIn state_flow
+            self.old.flow.first self.old.token call.SubscriptionCount
             (reply.Counted result) self.new.token }
     {
         self.flow.subscription_count(&mut self.seat)
@@ -135,7 +137,8 @@ impl<'a, T: Packed> WordSetter<'a, T> {
     pub fn meet_reader(&mut self, reader: &mut WordReader<'_, T>)
         requires { reader.old.flow.table_id ≡ self.old.flow.table_id }
         ensures flow { (self.new.flow ≡ self.old.flow) × (reader.new.flow ≡ reader.old.flow) }
-        ensures met { MeetsIn state_flow self.old.flow.first reader.old.subscription.token self.old.token
+        ensures met { MeetsIn state_flow self.old.flow.first
+            reader.old.subscription.token self.old.token
             reader.new.subscription.token self.new.token }
         ensures number { reader.new.subscription.number ≡ reader.old.subscription.number }
     {

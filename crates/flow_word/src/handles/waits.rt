@@ -119,7 +119,8 @@ impl<'a, T: Packed + Drop> WordReader<'a, T> {
     /// Returns the current value, and takes it if the subscriber has not got it.
     fn current(&mut self) -> T
         ensures flow { self.new.flow ≡ self.old.flow }
-        ensures looked { Looks self.old.flow.first self.old.subscription result self.new.subscription }
+        ensures looked { Looks self.old.flow.first
+            self.old.subscription result self.new.subscription }
     {
         let value = self.flow.value_by(&mut self.subscription);
         match self.next() {

@@ -50,7 +50,8 @@ fn is_among(name: &str, keys: &[&str]) -> bool
 
 /// Returns whether each member has one of the keys.
 fn are_among(object: &Map<String, Value>, keys: &[&str]) -> bool
-    ensures { result ≡ members.are_among (map (λ key. key.now) keys.now) (members_view object.now.entries) }
+    ensures { result ≡
+        members.are_among (map (λ key. key.now) keys.now) (members_view object.now.entries) }
 {
     for (name, _value) in object.iter() {
         if !is_among(name.as_str(), keys) {
