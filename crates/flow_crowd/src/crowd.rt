@@ -32,10 +32,7 @@ fn run_in<'s, E, R: Threads + Wait + Sync>(
     let readers = subscribe_all(rt, alloc, &mut maker, size.subscribers)?;
     let emitting = start_emitters(rt, alloc, scope, flow, emitters, u64::from(size.values))?;
     let reading = start_subscribers(rt, alloc, scope, flow, readers, size.emitted())?;
-    let Ok(seats) = join_promised(rt, emitting) else {
-        return None;
-    };
-    let Ok(ended) = join_promised(rt, reading) else {
+    let (Ok(seats), Ok(ended)) = (join_promised(rt, emitting), join_promised(rt, reading)) else {
         return None;
     };
     let mut emitters = emitters_of(alloc, flow, seats)?;

@@ -23,33 +23,33 @@ start_subscribers-requires g c = (
 
 pub emitters_of-requires : goal.emitters_of-requires
 emitters_of-requires g c = λ k d l.
-    let joined = c.in-Ok-join_promised.ensures in let made = c.in-Ok.ensures in let promised = c.in_ok-emitting.ensures in let n = c.from.result in let table = c.args.flow.now.table_id in
-    let low : k < c.args.size.emitters = (let o = c.in-Ok-join_promised.seats.ok.0 in let b = joined.len in let e = promised.count in let f = made.count in omega (arith, o, b, e, f, l)) in
+    let joined = c.in-Ok-Ok.ensures in let made = c.in-Ok.ensures in let promised = c.in_ok-emitting.ensures in let n = c.from.result in let table = c.args.flow.now.table_id in
+    let low : k < c.args.size.emitters = (let o = c.in-Ok-Ok.seats.ok.0 in let b = joined.len in let e = promised.count in let f = made.count in omega (arith, o, b, e, f, l)) in
     let h = (joined.each k d (let e = promised.count in let f = made.count in omega (arith, e, f, low))).1 in
     let any : Caller = called_by c.args.flow.now d in let start = (get_or (vec_items c.in-Ok.emitters) k any).token in
-    (emitter_ended n k table start (get_or (vec_items c.in-Ok-join_promised.seats) k d) h.handle.promise
+    (emitter_ended n k table start (get_or (vec_items c.in-Ok-Ok.seats) k d) h.handle.promise
     (ap (λ w. w.token.knows) (made.made k any low) ∙ ap (nth_child k) (ap (λ m. m.token.knows) c.emitter-maker.ensures ∙ c.requires.first))
     (subst (λ t. WillEmit table start (k * n) n t.promise) (sym h.handle_is) (promised.promised k h.handle any (let f = made.count in omega (arith, f, low)))) h.kept).0
 
 pub apart-requires : goal.apart-requires
 apart-requires g c = λ k d l.
-    let joined = c.in-Ok-join_promised-2.ensures in let made = c.in_ok-readers.ensures in let promised = c.in_ok-reading.ensures in let table = c.args.flow.now.table_id in
-    let low : k < c.args.size.subscribers = (let o = c.in-Ok-join_promised-2.ended.ok.0 in let e = joined.len in let f = promised.count in let m = made.count in omega (arith, o, e, f, m, l)) in
+    let joined = c.in-Ok-Ok.ensures' in let made = c.in_ok-readers.ensures in let promised = c.in_ok-reading.ensures in let table = c.args.flow.now.table_id in
+    let low : k < c.args.size.subscribers = (let o = c.in-Ok-Ok.ended.ok.0 in let e = joined.len in let f = promised.count in let m = made.count in omega (arith, o, e, f, m, l)) in
     let h = (joined.each k d (let f = promised.count in let m = made.count in omega (arith, f, m, low))).1 in
-    let any : Subscriber = read_by c.args.flow.now d.0 in let start = (get_or (vec_items c.in_ok-readers.readers) k any).subscription in let end = get_or (vec_items c.in-Ok-join_promised-2.ended) k d in
+    let any : Subscriber = read_by c.args.flow.now d.0 in let start = (get_or (vec_items c.in_ok-readers.readers) k any).subscription in let end = get_or (vec_items c.in-Ok-Ok.ended) k d in
     (reader_ended (done_by c.subscribe_all.new.maker.token.knows) (c.others.new.self.token.knows.made + k) c.emitted.result table start end.0 end.1.items h.handle.promise (made.subscribed k any low)
     (subst (λ t. WillRead table start c.emitted.result t.promise) (sym h.handle_is) (promised.promised k h.handle any (let m = made.count in omega (arith, m, low)))) h.kept).0
 
 pub meet_twice-requires-clause-others : goal.meet_twice-requires-clause-others
 meet_twice-requires-clause-others g c = λ k d l.
-    let bound = c.in_ok-emitters.ensures in let low : k < vec_len c.in-Ok-join_promised.seats = (let a = c.deref_mut.ensures.len in let b = bound.count in omega (arith, a, b, l)) in
+    let bound = c.in_ok-emitters.ensures in let low : k < vec_len c.in-Ok-Ok.seats = (let a = c.deref_mut.ensures.len in let b = bound.count in omega (arith, a, b, l)) in
     subst (λ xs. (get_or xs k d).flow.table_id ≡ c.subscribe_all.new.maker.flow.table_id) (sym c.deref_mut.ensures.value)
     (ap (λ w. w.flow.table_id) (bound.bound k d d.token low)
     ∙ ap (λ f. f.table_id) (sym (c.in_ok-readers.ensures.flow ∙ c.others.ensures.flow ∙ ap (λ m. m.flow) c.emitter-maker.ensures)))
 
 pub meet_twice-requires-clause-readers : goal.meet_twice-requires-clause-readers
 meet_twice-requires-clause-readers g c = λ k d l.
-    let apart = c.in_ok-readers-2.ensures in let ended = c.in-Ok-join_promised-2.ended in let same = ap vec_len c.in_ok-readers-2.readers-is in
+    let apart = c.in_ok-readers-2.ensures in let ended = c.in-Ok-Ok.ended in let same = ap vec_len c.in_ok-readers-2.readers-is in
     let low : k < vec_len ended = (let a = c.deref_mut-2.ensures.len in let b = apart.readers in omega (arith, a, b, l, same)) in
     let any = one_of (vec_items ended) (let o = ended.ok.0 in omega (arith, o, low)) in
     subst (λ xs. (get_or xs k d).flow.table_id ≡ c.subscribe_all.new.maker.flow.table_id) (sym c.deref_mut-2.ensures.value)
@@ -59,9 +59,9 @@ meet_twice-requires-clause-readers g c = λ k d l.
 pub returns : goal.returns
 returns g c =
     let size = c.args.size in let flow = c.args.flow.now in let now = c.subscribe_all.new.maker in let before = c.others.new.self in
-    let made = c.in-Ok.ensures in let emitting = c.in_ok-emitting.ensures in let joined = c.in-Ok-join_promised.ensures in let n = c.from.result in let bound = c.in_ok-emitters.ensures in
-    let subscribed = c.in_ok-readers.ensures in let reading = c.in_ok-reading.ensures in let joined_readers = c.in-Ok-join_promised-2.ensures in let apart = c.in_ok-readers-2.ensures in
-    let seats = c.in-Ok-join_promised.seats in let es = vec_items c.in_ok-emitters.emitters in let rs = vec_items c.in_ok-readers-2.field-0.readers in let gots = vec_items c.in_ok-readers-2.field-0.got in let ended = c.in-Ok-join_promised-2.ended in
+    let made = c.in-Ok.ensures in let emitting = c.in_ok-emitting.ensures in let joined = c.in-Ok-Ok.ensures in let n = c.from.result in let bound = c.in_ok-emitters.ensures in
+    let subscribed = c.in_ok-readers.ensures in let reading = c.in_ok-reading.ensures in let joined_readers = c.in-Ok-Ok.ensures' in let apart = c.in_ok-readers-2.ensures in
+    let seats = c.in-Ok-Ok.seats in let es = vec_items c.in_ok-emitters.emitters in let rs = vec_items c.in_ok-readers-2.field-0.readers in let gots = vec_items c.in_ok-readers-2.field-0.got in let ended = c.in-Ok-Ok.ended in
     let is_maker : c.emitter-maker.result ≡ called_by flow c.args.seat = c.emitter-maker.ensures in
     let begun = ap (λ m. m.token.knows) is_maker ∙ c.requires.first in
     let so_many_seats : vec_len seats ≡ size.emitters = joined.len ∙ emitting.count ∙ made.count in
