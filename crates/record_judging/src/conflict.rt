@@ -1,38 +1,60 @@
 //! The calls of an illegal record that contradict each other.
 use crate::judging::wrong_moment;
-use crate::left_out::{Roles, is_look};
+use crate::left_out::Roles;
+use crate::looks::is_look;
 use crate::order::write_line;
 use crate::written::{Sheet, WrittenCall};
 use std::alloc::{AllocError, Global};
 use std::io::{self, Write};
 
-/// Returns when the first look that is needed began, or the first call that ends at the moment.
-fn begin_of(sheet: &Sheet, moment: u64, roles: &Roles) -> u64 {
+/// Returns when the first of a caller's calls began that is a look that is needed, or that ends at the moment.
+fn begin_in(calls: &[WrittenCall], moment: u64, roles: &Roles) -> u64 {
     let mut begin = moment;
-    for calls in sheet.rows.as_slice() {
-        for call in calls {
-            let is_needed = is_look(*call) && roles.needs(call.number);
-            if is_needed || call.end == Some(moment) {
-                begin = begin.min(call.begin);
-            }
+    for call in calls {
+        let is_needed = is_look(*call) && roles.needs(call.number);
+        if is_needed || call.end == Some(moment) {
+            begin = begin.min(call.begin);
         }
     }
     begin
 }
 
+/// Returns when the first look that is needed began, or the first call that ends at the moment.
+fn begin_of(sheet: &Sheet, moment: u64, roles: &Roles) -> u64 {
+    let mut begin = moment;
+    for calls in sheet.rows.as_slice() {
+        begin = begin.min(begin_in(calls.as_slice(), moment, roles));
+    }
+    begin
+}
+
+/// Returns when a call was over, or 0 if there is none.
+fn end_of(call: Option<WrittenCall>) -> u64 {
+    match call {
+        Some(call) => call.end.unwrap_or(0),
+        None => 0,
+    }
+}
+
+/// Returns the last of a caller's changes that were over before a moment, and not before `last`.
+fn change_in(calls: &[WrittenCall], moment: u64, last: Option<WrittenCall>) -> Option<WrittenCall> {
+    let mut last_end = end_of(last);
+    let mut last = last;
+    for call in calls {
+        let end = call.end.unwrap_or(moment);
+        if end < moment && last_end <= end && !is_look(*call) {
+            last_end = end;
+            last = Some(*call);
+        }
+    }
+    last
+}
+
 /// Returns the last change that was over before a moment.
 fn change_before(sheet: &Sheet, moment: u64) -> Option<WrittenCall> {
-    let mut last_end = 0;
     let mut last = None;
     for calls in sheet.rows.as_slice() {
-        for call in calls {
-            if let Some(end) = call.end {
-                if !is_look(*call) && end < moment && last_end <= end {
-                    last_end = end;
-                    last = Some(*call);
-                }
-            }
-        }
+        last = change_in(calls.as_slice(), moment, last);
     }
     last
 }

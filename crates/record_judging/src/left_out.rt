@@ -6,8 +6,8 @@
 //! A *change* may have been seen by others. But an order that explains calls also explains them if a change may have happened
 //! at any moment after it began, or not at all. So if the calls are illegal with that, it is not needed.
 use crate::judging::{Outcome, judge};
-use crate::words::CallWord;
-use crate::written::{Sheet, WrittenAnswer, WrittenCall};
+use crate::looks::{changes_within, looks_by};
+use crate::written::{Sheet, WrittenCall};
 use flow_check::Verdict;
 use std::alloc::{AllocError, Global};
 
@@ -28,29 +28,6 @@ enum Role {
     Out,
     /// It may have happened at any moment after it began, or not at all.
     Free,
-}
-
-/// Returns whether a call changed nothing.
-pub fn is_look(call: WrittenCall) -> bool {
-    match (call.call, call.answer) {
-        (CallWord::Value | CallWord::SubscriptionCount | CallWord::ReplayCache, _) => true,
-        (CallWord::CompareAndSet, Some(WrittenAnswer::Truth(false))) => true,
-        (CallWord::Next, Some(WrittenAnswer::Empty)) => true,
-        _ => false,
-    }
-}
-
-/// Returns whether a call is a change that does not depend on its caller.
-fn is_change_of_any(call: WrittenCall) -> bool {
-    match call.call {
-        CallWord::Set
-        | CallWord::CompareAndSet
-        | CallWord::Update
-        | CallWord::TryEmit
-        | CallWord::Emit
-        | CallWord::ResetReplayCache => !is_look(call),
-        _ => false,
-    }
 }
 
 /// Returns the end of a call that was over by a moment.
@@ -248,38 +225,4 @@ impl Roles {
         let tried = changes.get(..MOST_CHANGES).unwrap_or(changes.as_slice());
         self.try_each(alloc, sheet, tried, Role::Free)
     }
-}
-
-/// Returns the numbers of the looks that began by a moment, in order.
-fn looks_by(alloc: Global, sheet: &Sheet, moment: u64) -> Result<Vec<usize>, AllocError> {
-    let mut looks = Vec::new(alloc);
-    for calls in sheet.rows.as_slice() {
-        for call in calls {
-            if call.begin <= moment && is_look(*call) {
-                looks.push(call.number)?;
-            }
-        }
-    }
-    looks.sort()?;
-    Ok(looks)
-}
-
-/// Returns the numbers of the changes of any caller that were over after a moment and by another one, in order.
-fn changes_within(
-    alloc: Global,
-    sheet: &Sheet,
-    from: u64,
-    moment: u64,
-) -> Result<Vec<usize>, AllocError> {
-    let mut changes = Vec::new(alloc);
-    for calls in sheet.rows.as_slice() {
-        for call in calls {
-            let is_within = matches!(call.end, Some(end) if from < end && end <= moment);
-            if is_within && is_change_of_any(*call) {
-                changes.push(call.number)?;
-            }
-        }
-    }
-    changes.sort()?;
-    Ok(changes)
 }

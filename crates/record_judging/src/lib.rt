@@ -12,6 +12,7 @@ mod explaining;
 mod fields;
 mod judging;
 mod left_out;
+mod looks;
 mod order;
 mod reading;
 mod reading_answer;

@@ -50,11 +50,10 @@ pub fn word_of(call: CallWord) -> &'static str {
 
 fn write_list<W: Write>(out: &mut W, lists: &[u64], range: Range) -> io::Result<()> {
     write!(out, "[")?;
-    for (index, value) in range.of(lists).iter().enumerate() {
-        if index > 0 {
-            write!(out, ", ")?;
-        }
-        write!(out, "{value}")?;
+    let mut separator = "";
+    for value in range.of(lists) {
+        write!(out, "{separator}{value}")?;
+        separator = ", ";
     }
     write!(out, "]")
 }

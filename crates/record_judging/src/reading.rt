@@ -159,18 +159,23 @@ fn read_lines(alloc: Global, bytes: &[u8]) -> Result<Sheet, Unread> {
     }
 }
 
-/// Returns whether the first line is all of a record's head, so that its calls stand in lines.
-pub fn has_lines(alloc: Global, bytes: &[u8]) -> Result<bool, Unread> {
+/// Returns the first line that is not blank, or no byte.
+fn first_line(bytes: &[u8]) -> &[u8] {
     for line in bytes.split(|byte| *byte == b'\n') {
         if !is_blank(line) {
-            return match value_of(alloc, line) {
-                Ok(value) => Ok(value.get("flow").is_some() && value.get("calls").is_none()),
-                Err(Unread::NotJson) => Ok(false),
-                Err(unread) => Err(unread),
-            };
+            return line;
         }
     }
-    Ok(false)
+    &[]
+}
+
+/// Returns whether the first line is all of a record's head, so that its calls stand in lines.
+pub fn has_lines(alloc: Global, bytes: &[u8]) -> Result<bool, Unread> {
+    match value_of(alloc, first_line(bytes)) {
+        Ok(value) => Ok(value.get("flow").is_some() && value.get("calls").is_none()),
+        Err(Unread::NotJson) => Ok(false),
+        Err(unread) => Err(unread),
+    }
 }
 
 /// Reads a record.

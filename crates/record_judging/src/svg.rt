@@ -2,7 +2,7 @@
 use crate::drawing::{Bar, Picture};
 use crate::order::write_call;
 use crate::written::{Sheet, WrittenCall};
-use std::alloc::{AllocError, Global};
+use std::alloc::Global;
 use std::io::{self, Write};
 
 /// The width of a letter.
@@ -49,13 +49,17 @@ fn escape_of(letter: char) -> Option<&'static str> {
     }
 }
 
+fn write_letter<W: Write>(out: &mut W, letter: char) -> io::Result<()> {
+    match escape_of(letter) {
+        Some(escape) => write!(out, "{escape}"),
+        None => write!(out, "{letter}"),
+    }
+}
+
 /// Writes text so that it is no markup.
 fn write_escaped<W: Write>(out: &mut W, text: &str) -> io::Result<()> {
     for letter in text.chars() {
-        match escape_of(letter) {
-            Some(escape) => write!(out, "{escape}")?,
-            None => write!(out, "{letter}")?,
-        }
+        write_letter(out, letter)?;
     }
     Ok(())
 }
@@ -112,7 +116,8 @@ impl Columns {
         };
         columns.edges.push(left_of(sheet, picture))?;
         for column in 0..picture.moments.len() {
-            columns.add_after(picture, column)?;
+            let end = columns.end_of(picture, column);
+            columns.edges.push(end)?;
         }
         Ok(columns)
     }
@@ -122,16 +127,15 @@ impl Columns {
         self.edges.get(column).copied().unwrap_or(0)
     }
 
-    /// Adds the end of a column, after all bars that end there.
-    fn add_after(&mut self, picture: &Picture, column: usize) -> Result<(), AllocError> {
+    /// Returns where a column ends: after all bars that end there.
+    fn end_of(&self, picture: &Picture, column: usize) -> usize {
         let mut end = self.x_of(column).saturating_add(COLUMN);
         for (bar, width) in picture.bars.iter().zip(self.widths.iter()) {
             if bar.last_column() == column {
                 end = end.max(self.x_of(bar.from).saturating_add(*width));
             }
         }
-        self.edges.push(end)?;
-        Ok(())
+        end
     }
 
     /// Returns where the last column ends.
@@ -181,10 +185,8 @@ fn write_box<W: Write>(
 ) -> io::Result<()> {
     let top = y.saturating_add(5);
     let height = LANE - 10;
-    write!(
-        out,
-        "<rect class=\"{class}\" x=\"{x}\" y=\"{top}\" width=\"{width}\" height=\"{height}\" rx=\"3\"/>"
-    )
+    write!(out, "<rect class=\"{class}\" x=\"{x}\" y=\"{top}\"")?;
+    write!(out, " width=\"{width}\" height=\"{height}\" rx=\"3\"/>")
 }
 
 fn write_bar<W: Write>(out: &mut W, sheet: &Sheet, columns: &Columns, bar: &Bar) -> io::Result<()> {
