@@ -1,5 +1,6 @@
 //! Where the marks of a picture stand: columns of a width in characters, in bands that are at most 100 wide.
 
+use crate::parts::Parts;
 use crate::picture::{Label, Lane, Mark, Picture};
 use crate::widths::{head_width, labels_width, mark_width};
 use flow_script::Told;
@@ -78,40 +79,6 @@ pub enum Part<'a> {
     EndBand(usize),
     /// The picture of a collection comes: the number of its step, and its chain.
     Collection(usize, &'a Value),
-}
-
-/// The parts of pictures so far.
-#[derive(Drop)]
-pub struct Parts<'a> {
-    parts: Vec<Part<'a>>,
-    /// Whether there was no memory for a part.
-    failed: bool,
-}
-
-impl<'a> Parts<'a> {
-    pub fn new(alloc: Global) -> Self {
-        Parts {
-            parts: Vec::new(alloc),
-            failed: false,
-        }
-    }
-
-    pub fn push(&mut self, part: Part<'a>) {
-        self.failed = self.failed || self.parts.push(part).is_err();
-    }
-
-    /// There was no memory for something that belongs to the parts.
-    pub fn fail(&mut self) {
-        self.failed = true;
-    }
-
-    /// The parts, where there was memory for all of them.
-    pub fn finish(self) -> Result<Vec<Part<'a>>, AllocError> {
-        if self.failed {
-            return Err(AllocError);
-        }
-        Ok(self.parts)
-    }
 }
 
 /// Columns that stand beside each other.

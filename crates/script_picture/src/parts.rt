@@ -1,12 +1,46 @@
 //! The parts of all pictures of a script.
 
 use crate::collection::collection_picture;
-use crate::layout::{Axis, Part, Parts, add_parts};
+use crate::layout::{Axis, Part, add_parts};
 use crate::picture::Picture;
 use crate::played::Played;
 use crate::steps::steps_picture;
 use serde_json::Value;
 use std::alloc::{AllocError, Global};
+
+/// The parts of pictures so far.
+#[derive(Drop)]
+pub struct Parts<'a> {
+    parts: Vec<Part<'a>>,
+    /// Whether there was no memory for a part.
+    failed: bool,
+}
+
+impl<'a> Parts<'a> {
+    pub fn new(alloc: Global) -> Self {
+        Parts {
+            parts: Vec::new(alloc),
+            failed: false,
+        }
+    }
+
+    pub fn push(&mut self, part: Part<'a>) {
+        self.failed = self.failed || self.parts.push(part).is_err();
+    }
+
+    /// There was no memory for something that belongs to the parts.
+    pub fn fail(&mut self) {
+        self.failed = true;
+    }
+
+    /// The parts, where there was memory for all of them.
+    pub fn finish(self) -> Result<Vec<Part<'a>>, AllocError> {
+        if self.failed {
+            return Err(AllocError);
+        }
+        Ok(self.parts)
+    }
+}
 
 /// A picture, where there was memory for it, with these steps above its columns.
 fn add_picture<'a>(
