@@ -1,5 +1,5 @@
 //! Tests of the checker of recorded histories: records worked by hand from kotlinx.coroutines'
-//! documentation, with their verdicts, and random ones beside a plain search.
+//! documentation, with their verdicts. `.ci/random_records` compares the checker with a plain search.
 //!
 //! They stand apart, since a crate that has tests is proved twice.
 #![tactic(auto)]

@@ -16,6 +16,24 @@ pub enum Outcome {
     BeginsEarly,
 }
 
+impl Outcome {
+    /// What comes of calls that are no record.
+    pub fn of_fault(kind: FaultKind) -> Outcome {
+        match kind {
+            FaultKind::EndsEarly => Outcome::EndsEarly,
+            FaultKind::BeginsEarly => Outcome::BeginsEarly,
+        }
+    }
+
+    pub fn of_verdict(verdict: &Verdict) -> Outcome {
+        match verdict {
+            Verdict::Legal(_) => Outcome::Legal,
+            Verdict::Illegal => Outcome::Illegal,
+            Verdict::GaveUp => Outcome::GaveUp,
+        }
+    }
+}
+
 /// Asks that this came of the record in a row of a test.
 pub fn expect(
     rt: &impl Abort,
@@ -26,12 +44,6 @@ pub fn expect(
     let found = found?;
     assert_eq!(rt; found, wanted, "row {row}");
     Ok(())
-}
-
-/// Asks that of so many random records neither few nor most are legal.
-pub fn expect_mixed(rt: &impl Abort, legal: u32, records: u32) {
-    let is_mixed = records / 5 < legal && legal < records / 5 * 4;
-    assert!(rt; is_mixed, "{legal} of {records} are legal");
 }
 
 /// A call that was answered, from one moment to another.
@@ -64,7 +76,7 @@ pub fn pending(operation: StateOperation, begin: u64) -> Timed<StateEntry> {
 }
 
 /// Makes a list of the calls of each caller.
-fn callers_of(
+pub fn callers_of(
     alloc: Global,
     rows: &[&[Timed<StateEntry>]],
 ) -> Result<Vec<Vec<Timed<StateEntry>>>, AllocError> {
@@ -81,7 +93,10 @@ pub fn judge(
     budget: u64,
     rows: &[&[Timed<StateEntry>]],
 ) -> Result<Outcome, AllocError> {
-    judge_rows(alloc, budget, callers_of(alloc, rows)?)
+    match Record::new(callers_of(alloc, rows)?) {
+        Ok(record) => Ok(Outcome::of_verdict(&check_state(alloc, 0, &record, budget)?)),
+        Err(fault) => Ok(Outcome::of_fault(fault.kind)),
+    }
 }
 
 /// Returns the order in which a history explains these calls, or none if they are not legal.
@@ -108,27 +123,4 @@ pub fn wrong_moment(
         Ok(record) => state_goes_wrong(alloc, 0, &record, 1_000),
         Err(_) => Ok(None),
     }
-}
-
-/// Judges the calls of these callers.
-pub fn judge_rows(
-    alloc: Global,
-    budget: u64,
-    callers: Vec<Vec<Timed<StateEntry>>>,
-) -> Result<Outcome, AllocError> {
-    let record = match Record::new(callers) {
-        Ok(record) => record,
-        Err(fault) => {
-            return Ok(match fault.kind {
-                FaultKind::EndsEarly => Outcome::EndsEarly,
-                FaultKind::BeginsEarly => Outcome::BeginsEarly,
-            });
-        }
-    };
-    let verdict = check_state(alloc, 0, &record, budget)?;
-    Ok(match verdict {
-        Verdict::Legal(_) => Outcome::Legal,
-        Verdict::Illegal => Outcome::Illegal,
-        Verdict::GaveUp => Outcome::GaveUp,
-    })
 }

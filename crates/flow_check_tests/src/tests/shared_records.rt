@@ -1,9 +1,7 @@
 //! Records of shared flows in few words, and what comes of one.
 use crate::tests::records::Outcome;
-use crate::tests::shared_search::Rows;
 use flow_check::{
-    FaultKind, Record, SharedAnswer, SharedEntry, SharedOperation, Timed, Verdict, check_shared,
-    shared_goes_wrong,
+    Record, SharedAnswer, SharedEntry, SharedOperation, Timed, check_shared, shared_goes_wrong,
 };
 use flow_law::Config;
 use std::alloc::{AllocError, Global};
@@ -27,20 +25,8 @@ pub fn call(
     }
 }
 
-/// A call that was not over when the record was made.
-pub fn pending(operation: SharedOperation<'static>, begin: u64) -> Recorded {
-    Timed {
-        call: SharedEntry {
-            operation,
-            answer: None,
-        },
-        begin,
-        end: None,
-    }
-}
-
 /// Makes a list of the calls of each caller.
-fn callers_of(alloc: Global, rows: &[&[Recorded]]) -> Result<Rows, AllocError> {
+fn callers_of(alloc: Global, rows: &[&[Recorded]]) -> Result<Vec<Vec<Recorded>>, AllocError> {
     let mut callers = Vec::new(alloc);
     for row in rows {
         callers.push(Vec::from_slice(alloc, *row)?)?;
@@ -50,7 +36,10 @@ fn callers_of(alloc: Global, rows: &[&[Recorded]]) -> Result<Rows, AllocError> {
 
 /// Judges these calls of a shared flow of this configuration.
 pub fn judge(alloc: Global, config: Config, rows: &[&[Recorded]]) -> Result<Outcome, AllocError> {
-    judge_rows(alloc, config, 10_000, callers_of(alloc, rows)?)
+    match Record::new(callers_of(alloc, rows)?) {
+        Ok(record) => Ok(Outcome::of_verdict(&check_shared(alloc, config, &record, 10_000)?)),
+        Err(fault) => Ok(Outcome::of_fault(fault.kind)),
+    }
 }
 
 /// Returns the first moment at which these calls go wrong, if they do.
@@ -63,28 +52,4 @@ pub fn wrong_moment(
         Ok(record) => shared_goes_wrong(alloc, config, &record, 1_000),
         Err(_) => Ok(None),
     }
-}
-
-/// Judges the calls of these callers.
-pub fn judge_rows(
-    alloc: Global,
-    config: Config,
-    budget: u64,
-    callers: Rows,
-) -> Result<Outcome, AllocError> {
-    let record = match Record::new(callers) {
-        Ok(record) => record,
-        Err(fault) => {
-            return Ok(match fault.kind {
-                FaultKind::EndsEarly => Outcome::EndsEarly,
-                FaultKind::BeginsEarly => Outcome::BeginsEarly,
-            });
-        }
-    };
-    let verdict = check_shared(alloc, config, &record, budget)?;
-    Ok(match verdict {
-        Verdict::Legal(_) => Outcome::Legal,
-        Verdict::Illegal => Outcome::Illegal,
-        Verdict::GaveUp => Outcome::GaveUp,
-    })
 }

@@ -1,36 +1,29 @@
 //! The first moments at which records go wrong, and what was known of a record before.
-use crate::tests::records::{call, pending, wrong_moment};
+use crate::tests::records::{call, callers_of, wrong_moment};
 use crate::tests::shared_records;
 use flow_check::StateAnswer::{Done, Value};
 use flow_check::StateOperation::{Set, Value as Read};
-use flow_check::{Cut, Record, SharedAnswer, SharedOperation, known_record};
+use flow_check::{Cut, Record, SharedAnswer, SharedOperation, StateEntry, known_record};
 use flow_law::Config;
-use std::alloc::AllocError;
+use std::alloc::{AllocError, Global};
+use std::process::Abort;
 
 /// A read goes wrong when it ends, however the calls after it are answered.
 #[test]
-fn finds_when_reads_go_wrong(rt: HostRuntime) -> Result<(), AllocError> {
+fn finds_when_a_read_goes_wrong(rt: HostRuntime) -> Result<(), AllocError> {
     let set = call(Set(1), Done, 0, 1);
-    let right = call(Read, Value(1), 2, 3);
-    let wrong = call(Read, Value(0), 4, 7);
-    let last = call(Read, Value(1), 8, 9);
-    let rows = [
-        (set, wrong, Some(7)),
-        (set, call(Read, Value(1), 4, 7), None),
-        (pending(Set(1), 0), wrong, Some(7)),
-        // While the set was not over, it may not have happened yet.
-        (
-            call(Set(1), Done, 0, 6),
-            call(Read, Value(0), 7, 8),
-            Some(8),
-        ),
-        // The first read goes wrong: nothing was set when it ended.
-        (call(Set(1), Done, 8, 9), wrong, Some(3)),
-    ];
-    for (place, (one, other, wanted)) in rows.iter().enumerate() {
-        let found = wrong_moment(rt.alloc(), &[&[*one], &[right, *other, last]])?;
-        assert_eq!(rt; found, *wanted, "row {place}");
-    }
+    let reads = [call(Read, Value(0), 4, 7), call(Read, Value(1), 8, 9)];
+    let found = wrong_moment(rt.alloc(), &[&[set], &reads])?;
+    assert_eq!(rt; found, Some(7));
+    Ok(())
+}
+
+/// While the set was not over, it may not have happened yet.
+#[test]
+fn finds_nothing_wrong(rt: HostRuntime) -> Result<(), AllocError> {
+    let set = call(Set(1), Done, 0, 6);
+    let found = wrong_moment(rt.alloc(), &[&[set], &[call(Read, Value(0), 4, 7)]])?;
+    assert_eq!(rt; found, None);
     Ok(())
 }
 
@@ -60,29 +53,44 @@ fn finds_when_a_value_is_received_late(rt: HostRuntime) -> Result<(), AllocError
     Ok(())
 }
 
+/// When each of two calls ended: None of one that had not begun, Some(None) of one that was not over.
+type Ends = (Option<Option<u64>>, Option<Option<u64>>);
+
+fn ends_of(known: &Record<StateEntry>) -> Ends {
+    match known.callers().first() {
+        Some(calls) => (
+            calls.get(0).map(|call| call.end),
+            calls.get(1).map(|call| call.end),
+        ),
+        None => (None, None),
+    }
+}
+
+fn is_cut(
+    rt: &impl Abort,
+    alloc: Global,
+    record: &Record<StateEntry>,
+    cut: Cut,
+    ends: Ends,
+) -> Result<(), AllocError> {
+    let known = known_record(alloc, record, cut)?.expect(rt, "a record");
+    assert_eq!(rt; ends_of(&known), ends);
+    Ok(())
+}
+
 /// Before a moment a call that ended at it was pending, and one that began at it had not begun.
 #[test]
 fn cuts_records(rt: HostRuntime) -> Result<(), AllocError> {
-    let mut row = Vec::new(rt.alloc());
-    row.push(call(Set(1), Done, 0, 3))?;
-    row.push(call(Set(2), Done, 3, 4))?;
-    let mut rows = Vec::new(rt.alloc());
-    rows.push(row)?;
-    let Ok(record) = Record::new(rows) else {
-        panic!(rt; "the calls of one caller overlap");
-    };
-    for (cut, ends) in [
-        (Cut::Before(3), [Some(None), None]),
-        (Cut::By(3), [Some(Some(3)), Some(None)]),
-        (Cut::Before(0), [None, None]),
-    ] {
-        let Some(known) = known_record(rt.alloc(), &record, cut)? else {
-            panic!(rt; "what was known overlaps");
-        };
-        for (index, end) in ends.iter().enumerate() {
-            let found = known.callers().first().and_then(|calls| calls.get(index));
-            assert_eq!(rt; found.map(|call| call.end), *end);
-        }
-    }
-    Ok(())
+    let sets = [call(Set(1), Done, 0, 3), call(Set(2), Done, 3, 4)];
+    let made = Record::new(callers_of(rt.alloc(), &[&sets])?);
+    let record = made.ok().expect(&rt, "a record");
+    is_cut(&rt, rt.alloc(), &record, Cut::Before(3), (Some(None), None))?;
+    is_cut(
+        &rt,
+        rt.alloc(),
+        &record,
+        Cut::By(3),
+        (Some(Some(3)), Some(None)),
+    )?;
+    is_cut(&rt, rt.alloc(), &record, Cut::Before(0), (None, None))
 }
