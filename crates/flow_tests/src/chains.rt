@@ -7,6 +7,4 @@ mod methods;
 mod operators;
 mod refused_copies;
 mod refused_growth;
-mod script_chains;
-mod script_examples;
 mod streams;

@@ -1,6 +1,6 @@
-//! Whole runs of the program over memory: streams that give or take little, texts that are no script, and threads.
-//! The cases of `cases/` at the top of the repository, and scripts at each limit and above it, are played by the program as it
-//! was built (`.ci/cases`, `.ci/hostile`).
+//! Whole runs of the program over memory: streams that give or take little, and threads. The cases of `cases/` at the top of
+//! the repository, texts that are no script, and scripts at each limit and above it are played by the program as it was built
+//! (`.ci/cases`, `.ci/hostile`).
 use flow_program::run;
 use flow_script::Watched;
 use std::alloc::AllocGlobal;
@@ -11,9 +11,7 @@ use std::thread::Threads;
 
 mod crowd;
 mod explained;
-mod limits;
 mod streams;
-mod texts;
 mod vectors;
 
 /// What a run of the program takes, and a test that fails.
