@@ -4,7 +4,7 @@ use flow_crowd::{CrowdSize, run_crowd, run_pair};
 use std::process::Abort;
 
 /// Emitters, subscribers, values of each emitter, and what each subscriber is to get.
-const CROWDS: &[(u32, u32, u32, u64)] = &[
+static CROWDS: &[(u32, u32, u32, u64)] = &[
     (1, 1, 50, 50),
     (2, 2, 50, 100),
     (4, 4, 25, 100),

@@ -77,7 +77,7 @@ pub fn script(rt: &impl Abort, alloc: Global, entries: &[Entry<i64>]) -> Scripte
 }
 
 /// It gives 5, pends, gives 6 and fails.
-pub const FAILS_AFTER_TWO: &[Entry<i64>] = &[
+pub static FAILS_AFTER_TWO: &[Entry<i64>] = &[
     Entry::Item(5),
     Entry::Pending,
     Entry::Item(6),

@@ -13,7 +13,7 @@ const THREE: Config = Config {
     ..UNBUFFERED
 };
 
-pub const DRAINS: &[Example] = &[
+pub static DRAINS: &[Example] = &[
     // A shared flow gives all that is there.
     Example {
         config: THREE,

@@ -5,7 +5,7 @@ use flow_law::Config;
 use flow_law::Emit::Queued;
 use flow_law::Next::Value;
 
-pub const HELD: &[Example] = &[
+pub static HELD: &[Example] = &[
     // A value is kept for the cache or a subscriber.
     Example {
         config: Config {

@@ -13,7 +13,7 @@ const TWO: Config = Config {
     ..UNBUFFERED
 };
 
-pub const LAGS: &[Example] = &[
+pub static LAGS: &[Example] = &[
     // Values that wait are not emitted yet. A new subscriber has the cache to receive, its own first values aside.
     Example {
         config: TWO,

@@ -5,7 +5,7 @@ use flow_law::Emit::{Done, Queued};
 use flow_law::Next::Value;
 use flow_law::{Config, Overflow};
 
-pub const MANY: &[Example] = &[
+pub static MANY: &[Example] = &[
     // The largest buffer is filled, and more.
     Example {
         config: Config {

@@ -15,7 +15,7 @@ const ROOM_FOR_TWO: Config = Config {
     ..UNBUFFERED
 };
 
-pub const OWN_VALUES: &[Example] = &[
+pub static OWN_VALUES: &[Example] = &[
     // Own values come before the cache, and are never dropped.
     Example {
         config: ROOM_FOR_TWO,

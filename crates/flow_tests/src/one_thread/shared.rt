@@ -7,7 +7,7 @@ use flow_law::Config;
 use flow_law::Emit::{Done, Queued};
 use flow_law::Next::{Empty, Gone, Value};
 
-pub const SHARED: &[Example] = &[
+pub static SHARED: &[Example] = &[
     // A new subscriber gets the cache.
     Example {
         config: Config {

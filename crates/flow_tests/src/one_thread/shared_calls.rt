@@ -238,21 +238,40 @@ fn play(rt: &impl Abort, alloc: Global, place: usize, example: &Example) {
     }
 }
 
-const TABLES: &[&[Example]] = &[SHARED, DRAINS, HELD, LAGS, OWN_VALUES, MANY];
-
-/// Plays each example of the table at this place.
-fn play_all(rt: &impl Abort, alloc: Global, table: usize, examples: &[Example]) {
+/// Makes the calls of each example on a new flow, and compares what they answer. Call 7 of the example 3 has the place 307,
+/// both counted from 0.
+fn play_all(rt: &impl Abort, alloc: Global, examples: &[Example]) {
     for (number, example) in examples.iter().enumerate() {
-        let place = table.saturating_mul(100).saturating_add(number);
-        play(rt, alloc, place.saturating_mul(100), example);
+        play(rt, alloc, number.saturating_mul(100), example);
     }
 }
 
-/// Makes the calls of each example on a new flow, and compares what they answer. Call 7 of the example 3 of the table 2 has
-/// the place 20307, all counted from 0.
 #[test]
 fn calls_of_shared_flows(rt: HostRuntime) {
-    for (table, examples) in TABLES.iter().enumerate() {
-        play_all(&rt, rt.alloc(), table, examples);
-    }
+    play_all(&rt, rt.alloc(), SHARED);
+}
+
+#[test]
+fn drains_of_shared_flows(rt: HostRuntime) {
+    play_all(&rt, rt.alloc(), DRAINS);
+}
+
+#[test]
+fn values_that_a_shared_flow_keeps(rt: HostRuntime) {
+    play_all(&rt, rt.alloc(), HELD);
+}
+
+#[test]
+fn lags_of_subscribers(rt: HostRuntime) {
+    play_all(&rt, rt.alloc(), LAGS);
+}
+
+#[test]
+fn own_first_values_of_subscribers(rt: HostRuntime) {
+    play_all(&rt, rt.alloc(), OWN_VALUES);
+}
+
+#[test]
+fn many_values_and_emitters(rt: HostRuntime) {
+    play_all(&rt, rt.alloc(), MANY);
 }

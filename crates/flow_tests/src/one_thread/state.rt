@@ -1,8 +1,10 @@
 //! A state flow without a subscriber, and a drain of one, which no script shows.
 use crate::compare::compare;
-use flow_core::StateCore;
+use flow_core::{StateCore, SubId};
 use flow_law::{Drained, FlowFault};
 use flow_testing::Refusing;
+use std::alloc::Allocator;
+use std::process::Abort;
 
 /// Its cache is the current value alone.
 #[test]
@@ -14,6 +16,20 @@ fn a_state_flow_without_a_subscriber_has_a_cache(rt: HostRuntime) {
     compare(&rt, 1, cache.as_slice(), [7].as_slice());
 }
 
+/// Drains at most ten values, and compares why the drain stopped and all that was drained so far.
+fn drains<A: Allocator>(
+    rt: &impl Abort,
+    place: usize,
+    flow: &mut StateCore<i64>,
+    reader: SubId,
+    drained: &mut Vec<i64, A>,
+    answer: Result<Drained, FlowFault>,
+    values: &[i64],
+) {
+    compare(rt, place, flow.drain(reader, 10, drained), answer);
+    compare(rt, place, drained.as_slice(), values);
+}
+
 /// Of two values that were set the subscriber gets the last one, once, and nothing after it has left.
 #[test]
 fn a_drain_of_a_state_flow_gives_the_value_once(rt: HostRuntime) {
@@ -22,18 +38,26 @@ fn a_drain_of_a_state_flow_gives_the_value_once(rt: HostRuntime) {
     flow.set(4);
     flow.set(5);
     let mut drained = Vec::new(rt.alloc());
-    let first = flow.drain(reader, 10, &mut drained);
-    let was_there = flow.unsubscribe(reader);
-    let second = flow.drain(reader, 10, &mut drained);
-    compare(
+    drains(
         &rt,
         0,
-        (first, second),
-        (Ok(Drained::Empty), Ok(Drained::Gone)),
+        &mut flow,
+        reader,
+        &mut drained,
+        Ok(Drained::Empty),
+        &[5],
     );
-    compare(&rt, 1, drained.as_slice(), [5].as_slice());
-    let is_there = flow.unsubscribe(reader);
-    compare(&rt, 2, (was_there, is_there), (true, false));
+    compare(&rt, 1, flow.unsubscribe(reader), true);
+    drains(
+        &rt,
+        2,
+        &mut flow,
+        reader,
+        &mut drained,
+        Ok(Drained::Gone),
+        &[5],
+    );
+    compare(&rt, 3, flow.unsubscribe(reader), false);
 }
 
 /// A drain whose list has no room for the value loses nothing: the next drain gives it.
@@ -44,10 +68,15 @@ fn a_refused_drain_of_a_state_flow_loses_nothing(rt: HostRuntime) {
     let reader = flow.subscribe().expect(&rt, "a subscription");
     let mut drained = Vec::new(&memory);
     memory.refuse(1);
-    let refused = flow.drain(reader, 10, &mut drained);
-    compare(&rt, 0, refused, Err(FlowFault::OutOfMemory));
-    compare(&rt, 1, drained.len(), 0);
-    let second = flow.drain(reader, 10, &mut drained);
-    compare(&rt, 2, second, Ok(Drained::Empty));
-    compare(&rt, 3, drained.as_slice(), [4].as_slice());
+    let refused = Err(FlowFault::OutOfMemory);
+    drains(&rt, 0, &mut flow, reader, &mut drained, refused, &[]);
+    drains(
+        &rt,
+        1,
+        &mut flow,
+        reader,
+        &mut drained,
+        Ok(Drained::Empty),
+        &[4],
+    );
 }

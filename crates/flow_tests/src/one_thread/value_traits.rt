@@ -1,8 +1,10 @@
 //! What the values that own memory print, when they are equal, and that equal ones are hashed alike.
 use crate::compare::compare;
-use flow_law::{Boxed, Items, OutOfMemory, Text};
+use crate::one_thread::values::{boxed, items};
+use flow_law::{OutOfMemory, Text};
 use flow_testing::Refusing;
 use std::alloc::Global;
+use std::fmt::Debug;
 use std::hash::{DefaultHasher, Hash, Hasher};
 use std::process::Abort;
 
@@ -17,14 +19,35 @@ fn text(rt: &impl Abort, alloc: Global, text: &str) -> Text {
     Text::from_str(alloc, text).expect(rt, "memory")
 }
 
+fn ready(rt: &impl Abort, alloc: Global, title: &str) -> Page {
+    Page::Ready(text(rt, alloc, title))
+}
+
 fn hash_of<T: Hash>(value: &T) -> u64 {
     let mut state = DefaultHasher::new();
     value.hash(&mut state);
     state.finish()
 }
 
+/// Both values are equal, and hashed alike, or neither.
+fn are_equal<T: PartialEq + Hash>(
+    rt: &impl Abort,
+    place: usize,
+    first: &T,
+    second: &T,
+    equal: bool,
+) {
+    compare(rt, place, *first == *second, equal);
+    compare(rt, place, hash_of(first) == hash_of(second), equal);
+}
+
+fn is_printed<T: Debug>(rt: &impl Abort, alloc: Global, value: &T, wanted: &str) {
+    let printed = format!(in alloc; "{value:?}").expect(rt, "memory");
+    compare(rt, 0, printed.as_str(), wanted);
+}
+
 /// Two texts, and whether they are equal.
-const TEXTS: &[(&str, &str, bool)] = &[
+static TEXTS: &[(&str, &str, bool)] = &[
     ("page", "page", true),
     ("page", "pages", false),
     ("page", "pago", false),
@@ -34,56 +57,52 @@ const TEXTS: &[(&str, &str, bool)] = &[
 #[test]
 fn texts_are_equal_if_their_bytes_are(rt: HostRuntime) {
     for (place, (first, second, equal)) in TEXTS.iter().enumerate() {
-        let left = text(&rt, rt.alloc(), first);
-        let right = text(&rt, rt.alloc(), second);
-        compare(&rt, place, left == right, *equal);
-        compare(&rt, place, hash_of(&left) == hash_of(&right), *equal);
-        compare(&rt, place, hash_of(&left), hash_of(first));
-        compare(&rt, place, Page::Ready(left) == Page::Ready(right), *equal);
+        let left = ready(&rt, rt.alloc(), first);
+        let right = ready(&rt, rt.alloc(), second);
+        are_equal(&rt, place, &left, &right, *equal);
     }
 }
 
 #[test]
+fn a_text_is_hashed_as_a_str_is(rt: HostRuntime) {
+    let page = text(&rt, rt.alloc(), "page");
+    compare(&rt, 0, hash_of(&page), hash_of(&"page"));
+}
+
+#[test]
 fn a_text_is_printed_as_it_is(rt: HostRuntime) {
-    let alloc = rt.alloc();
-    let page = text(&rt, alloc, "page");
-    let printed = format!(in alloc; "{page}, {page:>6}, {page:?}").expect(&rt, "memory");
-    compare(&rt, 0, printed.as_str(), "page,   page, \"page\"");
-    let pages = [Page::Loading, Page::Ready(page)];
-    let printed = format!(in alloc; "{pages:?}").expect(&rt, "memory");
-    compare(&rt, 1, printed.as_str(), "[Loading, Ready(\"page\")]");
+    let page = text(&rt, rt.alloc(), "page");
+    let printed = format!(in rt.alloc(); "{page}, {page:>6}").expect(&rt, "memory");
+    compare(&rt, 0, printed.as_str(), "page,   page");
+}
+
+#[test]
+fn a_text_in_a_state_is_printed_with_quotes(rt: HostRuntime) {
+    is_printed(&rt, rt.alloc(), &Page::Loading, "Loading");
+    let page = ready(&rt, rt.alloc(), "page");
+    is_printed(&rt, rt.alloc(), &page, "Ready(\"page\")");
 }
 
 #[test]
 fn a_text_is_refused_without_memory(rt: HostRuntime) {
     let memory = Refusing::new(rt.alloc());
     memory.refuse(1);
-    let refused = Text::from_str(&memory, "page");
-    compare(&rt, 0, refused.err(), Some(OutOfMemory));
-    let given = Text::from_str(&memory, "page").expect(&rt, "memory");
-    compare(&rt, 1, given.as_str(), "page");
+    let refused = Text::from_str(&memory, "page").err();
+    compare(&rt, 0, refused, Some(OutOfMemory));
 }
 
 #[test]
 fn a_list_is_compared_and_printed_by_its_values(rt: HostRuntime) {
-    let alloc = rt.alloc();
-    let list = Items::from(vec![in alloc; 1i64, 2].expect(&rt, "memory"));
-    let same = Items::from(vec![in alloc; 1i64, 2].expect(&rt, "memory"));
-    let other = Items::from(vec![in alloc; 1i64].expect(&rt, "memory"));
-    compare(&rt, 0, (list == same, list == other), (true, false));
-    compare(&rt, 1, hash_of(&list), hash_of(&list.as_slice()));
-    let printed = format!(in alloc; "{list:?}").expect(&rt, "memory");
-    compare(&rt, 2, printed.as_str(), "[1, 2]");
+    let list = items(&rt, rt.alloc(), 0, &[1, 2]);
+    are_equal(&rt, 0, &list, &items(&rt, rt.alloc(), 0, &[1, 2]), true);
+    are_equal(&rt, 1, &list, &items(&rt, rt.alloc(), 0, &[1]), false);
+    is_printed(&rt, rt.alloc(), &list, "[1, 2]");
 }
 
 #[test]
 fn a_box_is_compared_and_printed_by_its_value(rt: HostRuntime) {
-    let alloc = rt.alloc();
-    let seven = Boxed::from(Box::new(alloc, 7i64).expect(&rt, "memory"));
-    let same = Boxed::from(Box::new(alloc, 7i64).expect(&rt, "memory"));
-    let eight = Boxed::from(Box::new(alloc, 8i64).expect(&rt, "memory"));
-    compare(&rt, 0, (seven == same, seven == eight), (true, false));
-    compare(&rt, 1, hash_of(&seven), hash_of(&7i64));
-    let printed = format!(in alloc; "{seven:?}").expect(&rt, "memory");
-    compare(&rt, 2, printed.as_str(), "7");
+    let seven = boxed(&rt, rt.alloc(), 7);
+    are_equal(&rt, 0, &seven, &boxed(&rt, rt.alloc(), 7), true);
+    are_equal(&rt, 1, &seven, &boxed(&rt, rt.alloc(), 8), false);
+    is_printed(&rt, rt.alloc(), &seven, "7");
 }

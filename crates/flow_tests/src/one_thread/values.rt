@@ -18,7 +18,7 @@ fn set_and_receive<T: FlowValue>(flow: &mut StateCore<T>, reader: SubId, value: 
 }
 
 /// The list of these values, with room for so many more.
-fn items(rt: &impl Abort, alloc: Global, room: usize, values: &[i64]) -> Items<i64> {
+pub fn items(rt: &impl Abort, alloc: Global, room: usize, values: &[i64]) -> Items<i64> {
     let mut list = values.to_vec(alloc).expect(rt, "memory");
     list.reserve(room).expect(rt, "memory");
     Items::new(list)
@@ -37,7 +37,7 @@ fn is_list(rt: &impl Abort, place: usize, list: Option<Items<i64>>, values: Opti
 
 /// For how many more values a list that is set has room, its values, and what the subscriber receives then. The same values in a
 /// list with more room are no new value.
-const LISTS: &[(usize, &[i64], Option<&[i64]>)] = &[
+static LISTS: &[(usize, &[i64], Option<&[i64]>)] = &[
     (0, &[1, 2], Some(&[1, 2])),
     (98, &[1, 2], None),
     (0, &[1], Some(&[1])),
@@ -58,7 +58,7 @@ fn a_list_is_its_values(rt: HostRuntime) {
     }
 }
 
-fn boxed(rt: &impl Abort, alloc: Global, number: i64) -> Boxed<i64> {
+pub fn boxed(rt: &impl Abort, alloc: Global, number: i64) -> Boxed<i64> {
     Boxed::new(Box::new(alloc, number).expect(rt, "memory"))
 }
 
@@ -71,7 +71,7 @@ fn number_in(rt: &impl Abort, place: usize, boxed: Option<Boxed<i64>>) -> Option
 }
 
 /// The number in a box that is set, and the one that the subscriber receives then.
-const BOXES: &[(i64, Option<i64>)] = &[(7, Some(7)), (7, None), (8, Some(8))];
+static BOXES: &[(i64, Option<i64>)] = &[(7, Some(7)), (7, None), (8, Some(8))];
 
 #[test]
 fn a_boxed_value_is_what_the_box_contains(rt: HostRuntime) {

@@ -14,7 +14,7 @@ fn words(alloc: Global, line: &str) -> Result<Vec<String>, AllocError> {
 const USAGE: &str = "usage: flow_play [crowd E S N | count T N]\n";
 
 /// Arguments, the status, and what is printed.
-const RUNS: &[(&str, u8, &str)] = &[
+static RUNS: &[(&str, u8, &str)] = &[
     (
         "crowd 2 2 100",
         0,

@@ -7,7 +7,7 @@ use serde_json::Value;
 const NO_STEPS: &str = r#"{"version":2,"flows":{},"steps":[]}"#;
 
 /// Texts with a fault, and what is told of it.
-const REFUSALS: &[(&str, ScriptFault, &str)] = &[
+static REFUSALS: &[(&str, ScriptFault, &str)] = &[
     (
         r#"{"version":1,"flow":{"kind":"shared","replay":1,"extra":0,"overflow":"suspend"},
 "steps":[{"do":"try_emit","valeu":1}]}"#,
@@ -48,7 +48,7 @@ fn a_refusal_is_told_with_its_place(rt: HostRuntime) {
 }
 
 /// A script, a step, whether the step was answered by `true`, and the rule: none, where the step has no such answer.
-const RULES: &[(&str, &str, bool, &str)] = &[
+static RULES: &[(&str, &str, bool, &str)] = &[
     (
         r#"{"flow":{"kind":"shared","replay":0,"extra":2,"overflow":"drop_oldest"}}"#,
         r#"{"do":"try_emit"}"#,

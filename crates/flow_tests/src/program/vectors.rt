@@ -20,7 +20,7 @@ const UNKNOWN: &str =
     r#"{"version":1,"flow":{"kind":"shared","replay":1,"extra":0,"overflow":"suspend"},"steps":[{"do":"emit","name":"e","value":1},{"do":"next","name":"e"}]}"#;
 
 /// Scripts and their lines.
-const PLAYED: &[(&str, &str)] = &[
+static PLAYED: &[(&str, &str)] = &[
     (SCRIPT, LINES),
     (
         CANCELLED,

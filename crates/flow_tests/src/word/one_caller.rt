@@ -29,33 +29,44 @@ fn a_word_state_is_made(rt: HostRuntime) {
     compare(&rt, 1, flow.value(&mut seat), 7);
 }
 
-/// A second number is refused.
+/// The values that were set between two calls of `next` are conflated: the last one is what the subscriber got last.
 #[test]
 fn a_subscriber_gets_what_it_has_not_got(rt: HostRuntime) {
     let made = WordState::<i64>::new(rt.alloc(), 0, 1);
     let (flow, mut seat) = made.expect(&rt, "a flow");
     let subscribed = flow.subscribe(&rt, &mut seat);
     let mut subscription = subscribed.expect(&rt, "a number");
-    let first = flow.next(&mut subscription);
+    compare(&rt, 0, flow.next(&mut subscription), Next::Value(0));
     flow.set(&mut seat, 1);
     flow.set(&mut seat, 0);
-    let second = flow.next(&mut subscription);
-    compare(&rt, 0, (first, second), (Next::Value(0), Next::Empty));
-    let same = flow.compare_and_set(&mut seat, 0, 0);
-    let other = flow.compare_and_set(&mut seat, 1, 2);
-    compare(&rt, 1, (same, other), (true, false));
+    compare(&rt, 1, flow.next(&mut subscription), Next::Empty);
     flow.set(&mut seat, 5);
     compare(&rt, 2, flow.next(&mut subscription), Next::Value(5));
-    flow.set(&mut seat, 6);
-    let count = flow.subscription_count(&mut seat);
-    compare(&rt, 3, (flow.value(&mut seat), count), (6, 1));
-    let mut other = flow.unsubscribe(subscription);
-    let refused = flow.subscribe(&rt, &mut other).err();
-    compare(&rt, 4, refused, Some(FlowFault::Exhausted));
-    compare(&rt, 5, flow.subscription_count(&mut other), 0);
 }
 
-/// Two seats read what either set before they met. So does a subscription what a seat set that met it.
+#[test]
+fn a_value_is_set_if_it_is_the_expected_one(rt: HostRuntime) {
+    let made = WordState::<i64>::new(rt.alloc(), 0, 0);
+    let (flow, mut seat) = made.expect(&rt, "a flow");
+    compare(&rt, 0, flow.compare_and_set(&mut seat, 0, 0), true);
+    compare(&rt, 1, flow.compare_and_set(&mut seat, 1, 2), false);
+    compare(&rt, 2, flow.value(&mut seat), 0);
+}
+
+/// A second number is refused.
+#[test]
+fn subscribers_are_counted(rt: HostRuntime) {
+    let made = WordState::<i64>::new(rt.alloc(), 0, 1);
+    let (flow, mut seat) = made.expect(&rt, "a flow");
+    let subscribed = flow.subscribe(&rt, &mut seat);
+    compare(&rt, 0, flow.subscription_count(&mut seat), 1);
+    let mut other = flow.unsubscribe(subscribed.expect(&rt, "a number"));
+    let refused = flow.subscribe(&rt, &mut other).err();
+    compare(&rt, 1, refused, Some(FlowFault::Exhausted));
+    compare(&rt, 2, flow.subscription_count(&mut other), 0);
+}
+
+/// Two seats read what either set before they met.
 #[test]
 fn who_has_met_reads_what_the_other_one_set(rt: HostRuntime) {
     let made = WordState::<i64>::new(rt.alloc(), 0, 1);
@@ -63,18 +74,22 @@ fn who_has_met_reads_what_the_other_one_set(rt: HostRuntime) {
     let mut other = flow.seat(&mut seat);
     flow.set(&mut other, 3);
     flow.meet(&mut seat, &mut other);
-    let both = (flow.value(&mut seat), flow.value(&mut other));
-    compare(&rt, 0, both, (3, 3));
+    compare(&rt, 0, flow.value(&mut seat), 3);
+    compare(&rt, 1, flow.value(&mut other), 3);
+}
+
+/// A subscription receives what a seat set that met it.
+#[test]
+fn a_subscriber_that_has_met_receives_what_was_set(rt: HostRuntime) {
+    let made = WordState::<i64>::new(rt.alloc(), 0, 1);
+    let (flow, mut seat) = made.expect(&rt, "a flow");
     let subscribed = flow.subscribe(&rt, &mut seat);
     let mut subscription = subscribed.expect(&rt, "a number");
-    compare(&rt, 1, flow.next(&mut subscription), Next::Value(3));
-    flow.set(&mut other, 4);
-    flow.meet_subscription(&mut subscription, &mut other);
-    let received = flow.next(&mut subscription);
-    compare(&rt, 2, received, Next::Value(flow.value(&mut other)));
-    compare(&rt, 3, flow.value(&mut other), 4);
+    flow.set(&mut seat, 4);
+    flow.meet_subscription(&mut subscription, &mut seat);
+    compare(&rt, 0, flow.next(&mut subscription), Next::Value(4));
     flow.seen_by_subscription(&mut subscription);
-    compare(&rt, 4, flow.next(&mut subscription), Next::Empty);
+    compare(&rt, 1, flow.next(&mut subscription), Next::Empty);
 }
 
 #[test]
