@@ -1,7 +1,7 @@
 //! Callers that leave while others sleep: a cancel, an unsubscribe or a drop wakes the emitter that waited for it, and no reader
 //! misses a value by it. A sleeper that is not woken wakes at its limit, an hour, which no test has.
 use crate::tests::compare::compare;
-use crate::tests::emissions::queued;
+use crate::tests::emissions::{cancel, emission_of};
 use crate::tests::two_threads::emit_and_read;
 use flow_law::Config;
 use flow_shared::{Emitter, Reader, SendEnd};
@@ -60,15 +60,20 @@ fn send_late<R: Wait + Clock>(rt: &R, emitter: &mut Emitter<'_, i64>) -> bool {
     send(rt, emitter, 2)
 }
 
-/// Offers 1, and cancels it when 2 waits behind it. Returns whether 1 waited, and the value that is received then.
+/// Offers 1, and cancels it when 2 waits behind it. Returns whether 1 waited.
+fn offer_and_cancel<R: Wait + Clock + Abort>(rt: &R, emitter: &mut Emitter<'_, i64>) -> bool {
+    let emission = emission_of(rt, emitter, 1);
+    pause(rt);
+    pause(rt);
+    cancel(rt, emission)
+}
+
+/// Returns whether 1 waited, and the value that is received then.
 fn cancel_then_receive<R: Wait + Clock + Abort>(
     rt: &R,
     mut reader: Reader<'_, i64>,
 ) -> (bool, Option<i64>) {
-    let emission = queued(rt, reader.another().emit(rt, 1));
-    pause(rt);
-    pause(rt);
-    let was_waiting = emission.cancel(rt).1;
+    let was_waiting = offer_and_cancel(rt, &mut reader.another());
     let received = reader.receive_timeout(rt, an_hour());
     (was_waiting, received.unwrap_or(None))
 }

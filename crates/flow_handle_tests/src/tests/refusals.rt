@@ -1,7 +1,6 @@
 //! Waits whose requests for memory are refused, each in turn. A thread without memory for its waker lets other threads go
 //! first and asks again, so the answer is the one that it has with memory.
 use crate::tests::compare::compare;
-use crate::tests::first::exceeds_eight;
 use flow_law::{Config, Rejected};
 use flow_shared::{Emitter, Reader, SendEnd, Setter, SharedFlow, StateFlow, StateReader};
 use flow_testing::Refusing;
@@ -45,14 +44,24 @@ fn waits_in_vain<R: Wait + Clock + Abort, A: Allocator + Copy>(
     compare(rt, 1, sent, Some(SendEnd::Cancelled));
 }
 
-/// Makes a flow, which is not refused memory, and refuses one request of each wait.
+/// Subscribes, and refuses one request of each wait.
+fn refuse_reader<R: Wait + Clock + Abort, A: Allocator + Copy>(
+    rt: &R,
+    emitter: &mut Emitter<'_, i64, A>,
+    refusing: &Refusing<Global>,
+    number: u64,
+) {
+    let mut reader = emitter.subscribe(rt).expect(rt, "a reader");
+    waits_in_vain(rt, emitter, &mut reader, refusing, number);
+}
+
+/// Makes a flow, and a reader, which are not refused memory, and refuses one request of each wait.
 fn refuse_waits<R: Wait + Clock + Abort>(rt: &R, memory: &Refusing<Global>, number: u64) {
     memory.refuse(0);
     let made = SharedFlow::<i64, _>::new(memory, Config::new());
     let (flow, seat) = made.expect(rt, "a flow");
     let mut emitter = flow.emitter(seat);
-    let mut reader = emitter.subscribe(rt).expect(rt, "a reader");
-    waits_in_vain(rt, &mut emitter, &mut reader, memory, number);
+    refuse_reader(rt, &mut emitter, memory, number);
 }
 
 #[test]
@@ -62,6 +71,10 @@ fn refused_waits_end_in_time(rt: HostRuntime) {
         refuse_waits(&rt, &memory, number);
     }
     compare(&rt, 2, memory.is_waiting(), true);
+}
+
+fn exceeds_eight(value: &i64) -> bool {
+    *value > 8
 }
 
 /// The state does not change in time, whatever is refused.
@@ -82,13 +95,23 @@ fn changes_in_vain<R: Wait + Clock + Abort, A: Allocator + Copy>(
     compare(rt, 2, found, Ok(None));
 }
 
-/// Makes a state flow, which is not refused memory, and refuses one request of each wait.
+/// Subscribes, and refuses one request of each wait.
+fn refuse_state_reader<R: Wait + Clock + Abort, A: Allocator + Copy>(
+    rt: &R,
+    setter: &mut Setter<'_, i64, A>,
+    refusing: &Refusing<Global>,
+    number: u64,
+) {
+    let mut reader = setter.subscribe(rt).expect(rt, "a reader");
+    changes_in_vain(rt, setter, &mut reader, refusing, number);
+}
+
+/// Makes a state flow, and a reader, which are not refused memory, and refuses one request of each wait.
 fn refuse_state_waits<R: Wait + Clock + Abort>(rt: &R, memory: &Refusing<Global>, number: u64) {
     memory.refuse(0);
     let (flow, seat) = StateFlow::<i64, _>::new(memory, 0, 1).expect(rt, "a flow");
     let mut setter = flow.setter(seat);
-    let mut reader = setter.subscribe(rt).expect(rt, "a reader");
-    changes_in_vain(rt, &mut setter, &mut reader, memory, number);
+    refuse_state_reader(rt, &mut setter, memory, number);
 }
 
 #[test]

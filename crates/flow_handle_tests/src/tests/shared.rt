@@ -1,142 +1,143 @@
-//! Emitters and readers of a shared flow, on one thread.
-ghost use Rattle.std.specs.Prelude.{◌≡◌};
+//! Worked examples over an emitter and a reader of a shared flow, on one thread.
+use crate::tests::shared_calls::Call::{
+    CacheLength, Cancel, Count, CountBesideFuture, Drain, DropEmission, DropSecond, EmitByAnother,
+    EmitByReader, Next, PollReceive, PollSend, PollUntilReceived, Receive, ReceiveByFuture,
+    ReceiveInTime, Reset, Seen, Send, SendByFuture, SendRefused, Subscribe, SubscribeWith,
+    TryCancel, TryCount, TryEmit, TryEmitRefused, TryNext, TryReset, Unsubscribe,
+};
+use crate::tests::shared_calls::Example;
+use flow_law::{Config, Overflow};
 
-use crate::tests::compare::compare;
-use crate::tests::flows::lend_shared;
-use flow_law::{Config, Exhausted, NumberError, OutOfMemory, Rejected};
-use flow_shared::{DrainEnd, Emitter, Reader, Seat, SharedFlow};
-use std::alloc::AllocGlobal;
-use std::process::Abort;
-use std::sync::Wait;
+/// The configuration of a flow without a buffer (`MutableSharedFlow()`).
+const UNBUFFERED: Config = Config {
+    replay: 0,
+    extra: 0,
+    overflow: Overflow::Suspend,
+    limit: u64::MAX,
+};
 
-/// How many values a cache has.
-fn length(cache: Result<Vec<i64>, OutOfMemory>) -> usize {
-    match cache {
-        Ok(values) => values.len(),
-        Err(OutOfMemory) => 99,
-    }
-}
-
-/// The flow has a cache of one value and room for one more.
-fn emits_and_reads<R: Wait + Abort>(
-    rt: &R,
-    emitter: &mut Emitter<'_, i64>,
-    reader: &mut Reader<'_, i64>,
-) {
-    compare(rt, 0, emitter.try_emit(rt, 1), Ok(true));
-    compare(rt, 1, emitter.try_emit(rt, 2), Ok(true));
-    compare(rt, 2, emitter.try_emit(rt, 3), Ok(false));
-    compare(rt, 3, reader.next(rt), Ok(Some(1)));
-    compare(rt, 4, reader.try_next(), Ok(Some(2)));
-    compare(rt, 5, reader.next(rt), Ok(None));
-    compare(rt, 6, reader.try_next(), Ok(None));
-    compare(rt, 7, emitter.subscription_count(rt), 1);
-    compare(rt, 8, emitter.try_subscription_count(), Ok(1));
-}
-
-fn empties_its_cache<R: Wait + Abort>(rt: &R, emitter: &mut Emitter<'_, i64>) {
-    compare(rt, 0, length(emitter.replay_cache(rt)), 1);
-    emitter.reset_replay_cache(rt);
-    compare(rt, 1, length(emitter.replay_cache(rt)), 0);
-    compare(rt, 2, emitter.try_emit(rt, 4), Ok(true));
-    compare(rt, 3, emitter.try_reset_replay_cache(), Ok(()));
-    compare(rt, 4, length(emitter.replay_cache(rt)), 0);
-}
-
-fn drains<R: Wait + Abort + AllocGlobal>(rt: &R, reader: &mut Reader<'_, i64>) {
-    let mut values = Vec::new(rt.alloc());
-    compare(rt, 0, reader.drain(rt, 1, &mut values), Ok(DrainEnd::Most));
-    compare(rt, 1, values.len(), 1);
-    reader.seen();
-}
-
-fn emits_reads_and_drains<R: Wait + Abort + AllocGlobal>(
-    rt: &R,
-    emitter: &mut Emitter<'_, i64>,
-    reader: &mut Reader<'_, i64>,
-) {
-    emits_and_reads(rt, emitter, reader);
-    empties_its_cache(rt, emitter);
-    drains(rt, reader);
-    emitter.seen();
-}
-
-#[test]
-fn an_emitter_emits_what_its_reader_reads(rt: HostRuntime) {
-    let config = Config::new().replay(1).extra(1);
-    lend_shared(&rt, config, emits_reads_and_drains);
-}
-
-/// A reader that was unsubscribed leaves an emitter.
-fn emits_when_unsubscribed<R: Wait + Abort>(rt: &R, emitter: &mut Emitter<'_, i64>) {
-    let reader = emitter.subscribe(rt).expect(rt, "a reader");
-    let mut fourth = reader.unsubscribe(rt);
-    compare(rt, 0, fourth.subscription_count(rt), 1);
-    compare(rt, 1, fourth.try_emit(rt, 3), Ok(true));
-}
-
-/// A handle that was made through another one or through a reader emits as the first does.
-fn makes_others<R: Wait + Abort>(
-    rt: &R,
-    emitter: &mut Emitter<'_, i64>,
-    reader: &mut Reader<'_, i64>,
-) {
-    let mut second = emitter.another();
-    compare(rt, 0, second.try_emit(rt, 1), Ok(true));
-    emitter.meet(&mut second);
-    let mut third = reader.another();
-    compare(rt, 1, third.try_emit(rt, 2), Ok(true));
-    compare(rt, 2, reader.next(rt), Ok(Some(1)));
-    emits_when_unsubscribed(rt, emitter);
-}
-
-#[test]
-fn each_handle_makes_another(rt: HostRuntime) {
-    lend_shared(&rt, Config::new().extra(8), makes_others);
-}
-
-/// What is taken out of the handles of this flow makes them again.
-fn are_bound_again<R: Wait + Abort>(rt: &R, flow: &SharedFlow<i64>, seat: Seat<i64>)
-    requires { seat.table_id ≡ flow.now.table_id }
-{
-    let mut emitter = flow.emitter(seat);
-    let reader = emitter.subscribe(rt).expect(rt, "a reader");
-    let subscription = reader.into_subscription();
-    let mut emitter = flow.emitter(emitter.into_seat());
-    compare(rt, 0, emitter.try_emit(rt, 7), Ok(true));
-    let mut reader = flow.reader(subscription);
-    compare(rt, 1, reader.next(rt), Ok(Some(7)));
-}
-
-#[test]
-fn a_handle_gives_its_token_back(rt: HostRuntime) {
-    let made = SharedFlow::new(rt.alloc(), Config::new().extra(8));
-    let (flow, seat) = made.expect(&rt, "a flow");
-    are_bound_again(&rt, &flow, seat);
-}
-
-/// Two readers got the two numbers.
-fn hands_the_value_back<R: Wait + Abort + AllocGlobal>(
-    rt: &R,
-    emitter: &mut Emitter<'_, i64>,
-    reader: &mut Reader<'_, i64>,
-) {
-    let second = emitter.subscribe_with(rt, Vec::new(rt.alloc()));
-    compare(rt, 0, second.is_ok(), true);
-    let third = emitter.subscribe(rt).err();
-    compare(rt, 1, third, Some(NumberError::Exhausted));
-    let rejected = emitter.try_emit(rt, 5).err();
-    let wanted = Rejected {
-        value: 5,
-        error: Exhausted,
-    };
-    compare(rt, 2, rejected, Some(wanted));
-    let handed_back = emitter.subscribe_with(rt, Vec::new(rt.alloc())).err();
-    compare(rt, 3, handed_back.is_some(), true);
-    compare(rt, 4, reader.next(rt), Ok(None));
-}
-
-#[test]
-fn a_refusal_hands_the_value_back(rt: HostRuntime) {
-    lend_shared(&rt, Config::new().extra(8).limit(2), hands_the_value_back);
-}
+pub static SHARED: &[Example] = &[
+    // An emitter emits what its reader reads. The flow has a cache of one value and room for one more.
+    Example {
+        config: Config {
+            replay: 1,
+            extra: 1,
+            ..UNBUFFERED
+        },
+        calls: &[
+            TryEmit(1, true),
+            TryEmit(2, true),
+            TryEmit(3, false),
+            Next(Some(1)),
+            TryNext(Some(2)),
+            Next(None),
+            TryNext(None),
+            Count(1),
+            TryCount(1),
+            CacheLength(1),
+            Reset,
+            CacheLength(0),
+            TryEmit(4, true),
+            TryReset,
+            CacheLength(0),
+            Drain(1),
+            Seen,
+        ],
+    },
+    // A handle that was made through another one or through a reader emits as the first does. A reader that left is no
+    // longer counted.
+    Example {
+        config: Config {
+            extra: 8,
+            ..UNBUFFERED
+        },
+        calls: &[
+            EmitByAnother(1),
+            EmitByReader(2),
+            Next(Some(1)),
+            Unsubscribe(1),
+            Next(Some(2)),
+        ],
+    },
+    // A value that is there is received at once. A wait ends in time: as `withTimeoutOrNull`, null if nothing came, and
+    // else the value.
+    Example {
+        config: Config {
+            extra: 2,
+            ..UNBUFFERED
+        },
+        calls: &[
+            Send(1),
+            Send(2),
+            Receive(1),
+            Receive(2),
+            ReceiveInTime(1, None),
+            Send(7),
+            ReceiveInTime(1, Some(7)),
+            ReceiveInTime(0, None),
+        ],
+    },
+    // A refusal hands the value back: two readers got the two numbers.
+    Example {
+        config: Config {
+            extra: 8,
+            limit: 2,
+            ..UNBUFFERED
+        },
+        calls: &[
+            SubscribeWith(true),
+            Subscribe(false),
+            TryEmitRefused(5),
+            SendRefused(6),
+            SubscribeWith(false),
+            Next(None),
+        ],
+    },
+    // A second reader, which receives nothing, is dropped: it is no longer counted, and emitters no longer wait for it.
+    Example {
+        config: Config {
+            extra: 1,
+            ..UNBUFFERED
+        },
+        calls: &[
+            Subscribe(true),
+            TryEmit(1, true),
+            Next(Some(1)),
+            TryEmit(2, false),
+            DropSecond,
+            Count(1),
+            TryEmit(2, true),
+        ],
+    },
+    // A future that waits for a value and is dropped ends its subscription, after a poll and before one. A value goes
+    // from one future to another.
+    Example {
+        config: Config {
+            extra: 1,
+            ..UNBUFFERED
+        },
+        calls: &[
+            PollReceive,
+            Count(1),
+            CountBesideFuture(2),
+            Count(1),
+            Subscribe(true),
+            SendByFuture(6),
+            ReceiveByFuture(6),
+            Next(Some(6)),
+        ],
+    },
+    // A flow without a buffer: an emission waits until the subscriber has its value. No reader receives the value of a
+    // cancelled or dropped emission or of a dropped future.
+    Example {
+        config: UNBUFFERED,
+        calls: &[
+            PollUntilReceived(1),
+            Cancel(2),
+            TryCancel(3),
+            DropEmission(4),
+            PollSend(5),
+            Next(None),
+        ],
+    },
+];

@@ -1,71 +1,71 @@
-//! Setters and readers of a state flow, on one thread.
-use crate::tests::compare::compare;
-use crate::tests::flows::lend_state;
-use flow_law::{OutOfMemory, Unsupported};
-use flow_shared::{DrainEnd, Setter, StateReader};
-use std::alloc::AllocGlobal;
-use std::process::Abort;
-use std::sync::Wait;
+//! Worked examples over a setter and a reader of a state flow, on one thread. Each flow begins with the value 7.
+use crate::tests::state_calls::Call;
+use crate::tests::state_calls::Call::{
+    CacheLength, Changed, ChangedInTime, CompareAndSet, Count, CountBesideReader,
+    CountBesideStream, Drain, GetAndUpdate, GetAndUpdateRefused, Next, NextOfNew, ReaderSeen,
+    Reset, Seen, Set, StreamOfNew, TryEmit, TryNext, TrySet, TryUnsubscribe, Update, UpdateAndGet,
+    UpdateAndGetRefused, UpdateRefused, Value, WaitFor, WaitInTime,
+};
 
-pub fn one_more(value: &i64) -> Result<i64, OutOfMemory> {
-    Ok(value.wrapping_add(1))
-}
-
-fn none(_value: &i64) -> Result<i64, OutOfMemory> {
-    Err(OutOfMemory)
-}
-
-fn sets<R: Wait + Abort>(rt: &R, setter: &mut Setter<'_, i64>) {
-    compare(rt, 0, setter.value(rt), Ok(7));
-    setter.set(rt, 1);
-    compare(rt, 1, setter.try_set(2), Ok(()));
-    compare(rt, 2, setter.try_emit(rt, 3), true);
-    compare(rt, 3, setter.compare_and_set(rt, &3, 4), true);
-    compare(rt, 4, setter.compare_and_set(rt, &3, 5), false);
-    compare(rt, 5, setter.reset_replay_cache(rt), Err(Unsupported));
-    compare(rt, 6, setter.subscription_count(rt), 1);
-}
-
-fn updates<R: Wait + Abort>(rt: &R, setter: &mut Setter<'_, i64>) {
-    compare(rt, 0, setter.update(rt, one_more), Ok(()));
-    compare(rt, 1, setter.get_and_update(rt, one_more), Ok(5));
-    compare(rt, 2, setter.update_and_get(rt, one_more), Ok(7));
-    compare(rt, 3, setter.update(rt, none), Err(OutOfMemory));
-    compare(rt, 4, setter.get_and_update(rt, none), Err(OutOfMemory));
-    compare(rt, 5, setter.update_and_get(rt, none), Err(OutOfMemory));
-    compare(rt, 6, setter.value(rt), Ok(7));
-}
-
-fn reads<R: Wait + Abort + AllocGlobal>(rt: &R, reader: &mut StateReader<'_, i64>) {
-    let mut values = Vec::new(rt.alloc());
-    compare(rt, 0, reader.next(rt), Ok(Some(7)));
-    compare(rt, 1, reader.try_next(), Ok(None));
-    compare(rt, 2, reader.drain(rt, 8, &mut values), Ok(DrainEnd::Empty));
-    compare(rt, 3, values.len(), 0);
-    reader.seen();
-}
-
-fn caches<R: Wait + Abort>(rt: &R, setter: &mut Setter<'_, i64>) {
-    let length = match setter.replay_cache(rt) {
-        Ok(values) => values.len(),
-        Err(OutOfMemory) => 99,
-    };
-    compare(rt, 0, length, 1);
-    setter.seen();
-}
-
-fn sets_and_reads<R: Wait + Abort + AllocGlobal>(
-    rt: &R,
-    setter: &mut Setter<'_, i64>,
-    reader: &mut StateReader<'_, i64>,
-) {
-    sets(rt, setter);
-    updates(rt, setter);
-    caches(rt, setter);
-    reads(rt, reader);
-}
-
-#[test]
-fn a_setter_sets_what_its_reader_reads(rt: HostRuntime) {
-    lend_state(&rt, 8, sets_and_reads);
-}
+pub static STATE: &[&[Call]] = &[
+    // A setter sets what its reader reads.
+    &[
+        Value(7),
+        Set(1),
+        TrySet(2),
+        TryEmit(3),
+        CompareAndSet(3, 4, true),
+        CompareAndSet(3, 5, false),
+        Reset,
+        Count(1),
+        Update,
+        GetAndUpdate(5),
+        UpdateAndGet(7),
+        UpdateRefused,
+        GetAndUpdateRefused,
+        UpdateAndGetRefused,
+        Value(7),
+        CacheLength(1),
+        Seen,
+        Next(Some(7)),
+        TryNext(None),
+        Drain(8, 0),
+        ReaderSeen,
+    ],
+    // `StateFlow.first { }` tests the current value first. The reader has not got it.
+    &[
+        WaitFor(6, 7),
+        Next(None),
+        WaitFor(6, 7),
+        Set(9),
+        Changed(9),
+        WaitInTime(3_600_000, 8, Some(9)),
+        Next(None),
+        Set(10),
+        WaitFor(8, 10),
+        WaitInTime(0, 10, None),
+        Next(None),
+    ],
+    // As `withTimeoutOrNull`: null if nothing came in time, and else the value.
+    &[
+        ChangedInTime(1, Some(7)),
+        ChangedInTime(1, None),
+        Set(8),
+        WaitInTime(1, 8, None),
+        Set(9),
+        WaitInTime(1, 8, Some(9)),
+        ChangedInTime(0, None),
+    ],
+    // A reader or a stream that is dropped ends its subscription, and so does a reader that leaves at once. A new
+    // reader gets the state, `take(1).toList()` of it is `[7]`, and a future that is not polled gives its reader back.
+    &[
+        CountBesideReader(2),
+        Count(1),
+        CountBesideStream(2),
+        Count(1),
+        TryUnsubscribe,
+        Count(1),
+        StreamOfNew(7),
+        NextOfNew(7),
+    ],
+];

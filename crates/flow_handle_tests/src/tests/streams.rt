@@ -1,13 +1,11 @@
 //! Readers as streams, and handles as futures: their tasks sleep in an executor until the flow wakes them.
 use crate::tests::compare::compare;
-use crate::tests::flows::{lend_shared, lend_state};
 use crate::tests::two_threads::{emit_and_read, set_and_read};
 use flow_law::{Config, OutOfMemory};
-use flow_shared::{Emitter, Reader, Setter, StateReader};
+use flow_shared::{Emitter, Reader, StateReader};
 use futures::executor::block_on;
 use futures::{Stream, StreamExt};
 use std::alloc::AllocGlobal;
-use std::process::Abort;
 use std::random::RandomSource;
 use std::sync::Wait;
 use std::thread::sleep;
@@ -53,41 +51,6 @@ fn a_stream_of_a_reader_serves_combinators(rt: HostRuntime) {
     compare(&rt, 1, sent, true);
 }
 
-/// A new reader gets the state, which is 7.
-fn streams_its_value<R: Wait + RandomSource + Abort + AllocGlobal>(
-    rt: &R,
-    setter: &mut Setter<'_, i64>,
-    _reader: &mut StateReader<'_, i64>,
-) {
-    let reader = setter.subscribe(rt).expect(rt, "a reader");
-    let values = next_of(rt, reader.into_stream(), 1).expect(rt, "a value");
-    compare(rt, 0, values.as_slice(), [Ok(7)].as_slice());
-}
-
-/// `take(1).toList()` of a state that is 7 is `[7]`.
-#[test]
-fn a_stream_of_a_state_begins_with_its_value(rt: HostRuntime) {
-    lend_state(&rt, 2, streams_its_value);
-}
-
-/// A value that is sent by a future is received by another.
-fn sends_and_receives<R: Wait + RandomSource + Abort + AllocGlobal>(
-    rt: &R,
-    emitter: &mut Emitter<'_, i64>,
-    _reader: &mut Reader<'_, i64>,
-) {
-    let reader = emitter.subscribe(rt).expect(rt, "a reader");
-    let sent = block_on(rt, emitter.another().into_send(7));
-    compare(rt, 0, sent.is_ok(), true);
-    let given = block_on(rt, reader.into_receive()).expect(rt, "an executor");
-    compare(rt, 1, given.1, Ok(7));
-}
-
-#[test]
-fn a_value_goes_from_future_to_future(rt: HostRuntime) {
-    lend_shared(&rt, Config::new().extra(1), sends_and_receives);
-}
-
 /// Awaits a change, and looks for another one, which does not come.
 fn change_and_next<R: Wait + RandomSource + AllocGlobal>(
     rt: &R,
@@ -102,20 +65,4 @@ fn change_and_next<R: Wait + RandomSource + AllocGlobal>(
 fn a_future_of_a_state_waits_for_a_change(rt: HostRuntime) {
     let found = set_and_read(&rt, 1, Duration::from_millis(2), change_and_next);
     compare(&rt, 1, found, Some((Ok(1), Ok(None))));
-}
-
-/// A future that is not polled has received nothing, and gives its reader back.
-fn gives_its_reader_back<R: Wait + Abort>(
-    rt: &R,
-    setter: &mut Setter<'_, i64>,
-    _reader: &mut StateReader<'_, i64>,
-) {
-    let future = setter.subscribe(rt).expect(rt, "a reader").into_changed();
-    let mut reader = future.into_reader().expect(rt, "a reader");
-    compare(rt, 0, reader.next(rt), Ok(Some(7)));
-}
-
-#[test]
-fn a_future_of_a_state_gives_its_reader_back(rt: HostRuntime) {
-    lend_state(&rt, 2, gives_its_reader_back);
 }

@@ -3,7 +3,7 @@
 ghost use Rattle.std.specs.Prelude.{◌≡◌};
 
 use crate::tests::compare::compare;
-use crate::tests::state::one_more;
+use crate::tests::state_calls::one_more;
 use crate::tests::two_threads::emit_and_read;
 use flow_law::{Config, OutOfMemory};
 use flow_shared::{Emitter, Reader, Setter, StateFlow, StateSeat};

@@ -1,11 +1,9 @@
 //! Callers that wait: they sleep until there is a value, or room.
 use crate::tests::compare::compare;
-use crate::tests::flows::lend_shared;
 use crate::tests::two_threads::{emit_and_read, set_and_read};
 use flow_law::{Config, NumberError, OutOfMemory, Rejected};
 use flow_shared::{Emitter, Reader, StateReader};
 use std::ops::Range;
-use std::process::Abort;
 use std::sync::Wait;
 use std::time::Duration;
 
@@ -19,42 +17,6 @@ fn send_all<R: Wait>(
         emitter.send(rt, value)?;
     }
     Ok(())
-}
-
-/// What is there is received at once.
-fn receives_at_once<R: Wait + Abort>(
-    rt: &R,
-    emitter: &mut Emitter<'_, i64>,
-    reader: &mut Reader<'_, i64>,
-) {
-    compare(rt, 0, send_all(rt, emitter, 1..3), Ok(()));
-    compare(rt, 1, reader.receive(rt), Ok(1));
-    compare(rt, 2, reader.receive(rt), Ok(2));
-}
-
-#[test]
-fn a_value_that_is_there_is_received_at_once(rt: HostRuntime) {
-    lend_shared(&rt, Config::new().extra(2), receives_at_once);
-}
-
-/// The reader has one of the two numbers, and the first emission takes the other one.
-fn is_refused<R: Wait + Abort>(
-    rt: &R,
-    emitter: &mut Emitter<'_, i64>,
-    reader: &mut Reader<'_, i64>,
-) {
-    compare(rt, 0, emitter.send(rt, 1), Ok(()));
-    let refused = Rejected {
-        value: 2,
-        error: NumberError::Exhausted,
-    };
-    compare(rt, 1, emitter.send(rt, 2), Err(refused));
-    compare(rt, 2, reader.receive(rt), Ok(1));
-}
-
-#[test]
-fn a_value_that_is_refused_comes_back(rt: HostRuntime) {
-    lend_shared(&rt, Config::new().extra(2).limit(2), is_refused);
 }
 
 /// Sends the values from 1 to 2,000. Returns whether all were taken.

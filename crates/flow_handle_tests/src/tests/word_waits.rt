@@ -1,8 +1,7 @@
 //! Readers of a word state that sleep until there is a value.
 use crate::tests::compare::compare;
-use crate::tests::first::{exceeds_eight, exceeds_three};
-use crate::tests::flows::lend_word;
 use crate::tests::streams::next_of;
+use crate::tests::timeouts::exceeds_three;
 use flow_word::{WordReader, WordSetter, WordState};
 use futures::StreamExt;
 use futures::executor::block_on;
@@ -98,29 +97,6 @@ fn wait_for_four<R: Wait>(rt: &R, mut reader: WordReader<'_, i64>) -> i64 {
 #[test]
 fn a_word_reader_waits_for_a_value_that_passes(rt: HostRuntime) {
     compare(&rt, 0, read_and_set(&rt, false, 4, wait_for_four), 4);
-}
-
-/// As `withTimeoutOrNull`: null if nothing came in time, and else the value.
-fn waits_in_time<R: Wait + Clock + Abort>(
-    rt: &R,
-    setter: &mut WordSetter<'_, i64>,
-    reader: &mut WordReader<'_, i64>,
-) {
-    let limit = milliseconds(1);
-    compare(rt, 0, reader.changed_timeout(rt, limit), Some(7));
-    compare(rt, 1, reader.changed_timeout(rt, limit), None);
-    setter.set(8);
-    let found = reader.wait_for_timeout(rt, limit, exceeds_eight);
-    compare(rt, 2, found, None);
-    setter.set(9);
-    let found = reader.wait_for_timeout(rt, limit, exceeds_eight);
-    compare(rt, 3, found, Some(9));
-    compare(rt, 4, reader.changed_timeout(rt, Duration::ZERO), None);
-}
-
-#[test]
-fn a_wait_of_a_word_reader_ends_in_time(rt: HostRuntime) {
-    lend_word(&rt, 1, waits_in_time);
 }
 
 /// Awaits a change, and looks for another one, which does not come.
