@@ -102,26 +102,58 @@ impl<'a> Worker<'a> {
     }
 }
 
-/// The workers of a flow: all readers, and then all emitters.
-fn workers<'a, R: Wait>(
+/// Adds so many readers to the workers of a flow.
+fn add_readers<'a, R: Wait>(
+    rt: &R,
+    emitter: &mut Emitter<'a, i64>,
+    workers: &mut Vec<Worker<'a>>,
+    count: u32,
+) -> Option<()> {
+    for number in 0..count {
+        let part = Part::Receive(emitter.subscribe(rt).ok()?);
+        workers.push(Worker::new(part, number)).ok()?;
+    }
+    Some(())
+}
+
+/// Adds so many emitters to the workers of a flow.
+fn add_emitters<'a>(
+    emitter: &mut Emitter<'a, i64>,
+    workers: &mut Vec<Worker<'a>>,
+    count: u32,
+) -> Option<()> {
+    for number in 0..count {
+        let part = Part::Send(emitter.another());
+        workers.push(Worker::new(part, number)).ok()?;
+    }
+    Some(())
+}
+
+/// Runs each worker in a thread of its own. Returns how many were wrong.
+fn run_workers<R: Wait + Threads + Sync>(
+    rt: &R,
+    workers: &mut Vec<Worker<'_>>,
+    crowd: Crowd,
+) -> usize {
+    let threads = workers.len().max(1);
+    for_each_mut(rt, workers, threads, &|_, worker| worker.run(rt, crowd));
+    workers.iter().filter(|worker| !worker.is_right).count()
+}
+
+/// Makes all readers of a flow, and then all emitters, and runs them. Returns how many were wrong.
+fn run_crowd<'a, R: Wait + Threads + Sync>(
     rt: &R,
     alloc: Global,
     emitter: &mut Emitter<'a, i64>,
     crowd: Crowd,
-) -> Option<Vec<Worker<'a>>> {
+) -> Option<usize> {
     let mut workers = Vec::new(alloc);
-    for number in 0..crowd.readers {
-        let part = Part::Receive(emitter.subscribe(rt).ok()?);
-        workers.push(Worker::new(part, number)).ok()?;
-    }
-    for number in 0..crowd.emitters {
-        let part = Part::Send(emitter.another());
-        workers.push(Worker::new(part, number)).ok()?;
-    }
-    Some(workers)
+    add_readers(rt, emitter, &mut workers, crowd.readers)?;
+    add_emitters(emitter, &mut workers, crowd.emitters)?;
+    Some(run_workers(rt, &mut workers, crowd))
 }
 
-/// Runs each worker in a thread of its own. Returns how many were wrong.
+/// Runs a crowd on a new flow.
 fn run_all<R: Wait + Threads + Sync>(
     rt: &R,
     alloc: Global,
@@ -130,15 +162,7 @@ fn run_all<R: Wait + Threads + Sync>(
 ) -> Option<usize> {
     let (flow, seat) = SharedFlow::new(alloc, Config::new().extra(extra)).ok()?;
     let mut emitter = flow.emitter(seat);
-    let mut workers = workers(rt, alloc, &mut emitter, crowd)?;
-    let threads = workers.len().max(1);
-    for_each_mut(
-        rt,
-        &mut workers,
-        threads,
-        &|_, worker| worker.run(rt, crowd),
-    );
-    Some(workers.iter().filter(|worker| !worker.is_right).count())
+    run_crowd(rt, alloc, &mut emitter, crowd)
 }
 
 #[test]
