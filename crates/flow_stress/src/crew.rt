@@ -1,4 +1,5 @@
 //! Threads that begin once all of them are made.
+use crate::found::{Found, sum};
 use std::alloc::{AllocGlobal, Global};
 use std::random::RandomSource;
 use std::sync::Wait;
@@ -124,4 +125,14 @@ where
         rt,
         move |scope| -> Option<Vec<W::Done>> { run_in(rt, alloc, scope, held, workers) },
     )
+}
+
+/// Lets each worker do its work, as `run_all` does, and returns what all of them found.
+pub fn found_by_all<W, R>(rt: &R, alloc: Global, workers: Vec<W>) -> Option<Found>
+where
+    W: Worker<Done = Found>,
+    R: Threads + Wait + Clock + RandomSource + AllocGlobal + Sync,
+{
+    let done = run_all(rt, alloc, workers)?;
+    Some(sum(&done))
 }

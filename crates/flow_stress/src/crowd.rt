@@ -1,7 +1,7 @@
 //! A crowd at one shared flow that suspends: threads that send, and threads that receive all that is sent.
 use crate::arguments::CrowdSize;
-use crate::crew::run_all;
-use crate::found::{Found, sum};
+use crate::crew::found_by_all;
+use crate::found::Found;
 use crate::member::{Member, Part};
 use crate::order::Value;
 use flow_law::Config;
@@ -20,45 +20,32 @@ fn share_of(size: CrowdSize, number: u32) -> u32 {
     each.saturating_add(u32::from(number < rest))
 }
 
-/// Subscribes for each thread that receives. Returns None if memory is refused.
-fn add_readers<'a, R: Wait>(
+/// Makes the member of this number: first those that receive, and then those that send. Returns None if memory is
+/// refused.
+fn member<'a, R: Wait>(
     rt: &R,
     emitter: &mut Emitter<'a, Value>,
-    members: &mut Vec<Member<'a>>,
     size: CrowdSize,
-) -> Option<()> {
-    for number in 0..size.readers {
-        let member = Member {
+    number: u32,
+) -> Option<Member<'a>> {
+    let dice = Pcg32::new(size.seed, u64::from(number));
+    match number.checked_sub(size.readers) {
+        None => Some(Member {
             part: Part::Receive(emitter.subscribe(rt).ok()?),
             values: size.values,
             may_cancel: false,
-            dice: Pcg32::new(size.seed, u64::from(number)),
-        };
-        members.push(member).ok()?;
-    }
-    Some(())
-}
-
-/// Makes an emitter for each thread that sends. Returns None if memory is refused.
-fn add_emitters<'a>(
-    emitter: &mut Emitter<'a, Value>,
-    members: &mut Vec<Member<'a>>,
-    size: CrowdSize,
-) -> Option<()> {
-    for number in 0..size.emitters {
-        let stream = u64::from(size.readers).saturating_add(u64::from(number));
-        let member = Member {
+            dice,
+        }),
+        Some(number) => Some(Member {
             part: Part::Send(emitter.another(), number),
             values: share_of(size, number),
             may_cancel: size.capacity > 0,
-            dice: Pcg32::new(size.seed, stream),
-        };
-        members.push(member).ok()?;
+            dice,
+        }),
     }
-    Some(())
 }
 
-/// Makes all members: first those that receive. Returns None if memory is refused.
+/// Makes all members. Returns None if memory is refused.
 fn members<'a, R: Wait>(
     rt: &R,
     alloc: Global,
@@ -66,8 +53,10 @@ fn members<'a, R: Wait>(
     size: CrowdSize,
 ) -> Option<Vec<Member<'a>>> {
     let mut members = Vec::new(alloc);
-    add_readers(rt, emitter, &mut members, size)?;
-    add_emitters(emitter, &mut members, size)?;
+    for number in 0..size.readers.saturating_add(size.emitters) {
+        let member = member(rt, emitter, size, number)?;
+        members.push(member).ok()?;
+    }
     Some(members)
 }
 
@@ -79,9 +68,7 @@ fn run<R: Threads + Wait + Clock + RandomSource + AllocGlobal + Sync>(
     emitter: &mut Emitter<'_, Value>,
     size: CrowdSize,
 ) -> Option<Found> {
-    let members = members(rt, alloc, emitter, size)?;
-    let done = run_all(rt, alloc, members)?;
-    let mut all = sum(&done);
+    let mut all = found_by_all(rt, alloc, members(rt, alloc, emitter, size)?)?;
     all.check(emitter.subscription_count(rt) == 0);
     Some(all)
 }

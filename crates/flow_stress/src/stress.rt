@@ -1,10 +1,11 @@
 //! The flows, the threads, and what must hold at the end.
 use crate::arguments::Size;
 use crate::caller::{Caller, Flows};
-use crate::crew::run_all;
-use crate::found::{Found, sum};
+use crate::crew::found_by_all;
+use crate::found::Found;
+use crate::order::Value;
 use flow_law::{Config, Overflow};
-use flow_shared::{SharedFlow, StateFlow};
+use flow_shared::{Emitter, SharedFlow, StateFlow};
 use flow_word::WordState;
 use std::alloc::{AllocGlobal, Global};
 use std::random::RandomSource;
@@ -25,14 +26,36 @@ fn callers<'a>(alloc: Global, flows: &mut Flows<'a>, size: Size) -> Option<Vec<C
 fn call_all<R: Threads + Wait + Clock + RandomSource + AllocGlobal + Sync>(
     rt: &R,
     alloc: Global,
-    mut flows: Flows<'_>,
+    flows: &mut Flows<'_>,
     size: Size,
 ) -> Option<Found> {
-    let callers = callers(alloc, &mut flows, size)?;
-    let done = run_all(rt, alloc, callers)?;
-    let mut all = sum(&done);
+    let mut all = found_by_all(rt, alloc, callers(alloc, flows, size)?)?;
     flows.check(rt, &mut all)?;
     Some(all)
+}
+
+/// Puts two shared flows and two new state flows under the calls of all threads. Returns None if memory or a thread is
+/// refused.
+fn stress_all<R: Threads + Wait + Clock + RandomSource + AllocGlobal + Sync>(
+    rt: &R,
+    alloc: Global,
+    suspending: Emitter<'_, Value>,
+    dropping: Emitter<'_, Value>,
+    size: Size,
+) -> Option<Found> {
+    let (Ok((word, word_seat)), Ok((state, state_seat))) = (
+        WordState::new(alloc, 0, u32::MAX),
+        StateFlow::new(alloc, 0, u64::MAX),
+    ) else {
+        return None;
+    };
+    let mut flows = Flows {
+        suspending,
+        dropping,
+        word: word.setter(word_seat),
+        state: state.setter(state_seat),
+    };
+    call_all(rt, alloc, &mut flows, size)
 }
 
 /// Puts new flows under the calls of all threads. Returns None if memory or a thread is refused.
@@ -43,24 +66,13 @@ pub fn stress<R: Threads + Wait + Clock + RandomSource + AllocGlobal + Sync>(
 ) -> Option<Found> {
     let suspends = Config::new().replay(2).extra(4);
     let drops = suspends.overflow(Overflow::DropOldest);
-    let (
-        Ok((suspending, suspending_seat)),
-        Ok((dropping, dropping_seat)),
-        Ok((word, word_seat)),
-        Ok((state, state_seat)),
-    ) = (
+    let (Ok((suspending, suspending_seat)), Ok((dropping, dropping_seat))) = (
         SharedFlow::new(alloc, suspends),
         SharedFlow::new(alloc, drops),
-        WordState::new(alloc, 0, u32::MAX),
-        StateFlow::new(alloc, 0, u64::MAX),
     ) else {
         return None;
     };
-    let flows = Flows {
-        suspending: suspending.emitter(suspending_seat),
-        dropping: dropping.emitter(dropping_seat),
-        word: word.setter(word_seat),
-        state: state.setter(state_seat),
-    };
-    call_all(rt, alloc, flows, size)
+    let suspending = suspending.emitter(suspending_seat);
+    let dropping = dropping.emitter(dropping_seat);
+    stress_all(rt, alloc, suspending, dropping, size)
 }
