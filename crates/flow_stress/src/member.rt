@@ -107,21 +107,33 @@ fn receive<R: Wait + Clock>(rt: &R, reader: &mut Reader<'_, Value>, dice: &mut P
     unreachable!()
 }
 
-/// Receives all values, and leaves. Each value of each emitter has to come, in its order, and nothing else.
+/// Sends all values of the emitter of this number.
+fn send_all<R: Wait + Clock>(
+    rt: &R,
+    emitter: &mut Emitter<'_, Value>,
+    number: u32,
+    values: u32,
+    may_cancel: bool,
+    dice: &mut Pcg32,
+) {
+    for place in 0..values {
+        send(rt, emitter, (number, place), may_cancel, dice);
+    }
+}
+
+/// Receives all values. Each value of each emitter has to come, in its order, and nothing else.
 fn receive_all<R: Wait + Clock>(
     rt: &R,
-    reader: Reader<'_, Value>,
+    reader: &mut Reader<'_, Value>,
     values: u32,
     dice: &mut Pcg32,
 ) -> Found {
-    let mut reader = reader;
     let mut order = Order::new(Gets::All);
     for _ in 0..values {
-        order.add(receive(rt, &mut reader, dice));
+        order.add(receive(rt, reader, dice));
     }
     let is_all = matches!(reader.next(rt), Ok(None));
     order.found.check(is_all);
-    let _emitter = reader.unsubscribe(rt);
     order.found
 }
 
@@ -137,12 +149,14 @@ impl Worker for Member<'_> {
         } = self;
         match part {
             Part::Send(mut emitter, number) => {
-                for place in 0..values {
-                    send(rt, &mut emitter, (number, place), may_cancel, &mut dice);
-                }
+                send_all(rt, &mut emitter, number, values, may_cancel, &mut dice);
                 Some(NOTHING)
             }
-            Part::Receive(reader) => Some(receive_all(rt, reader, values, &mut dice)),
+            Part::Receive(mut reader) => {
+                let found = receive_all(rt, &mut reader, values, &mut dice);
+                let _emitter = reader.unsubscribe(rt);
+                Some(found)
+            }
         }
     }
 }

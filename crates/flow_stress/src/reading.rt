@@ -30,18 +30,24 @@ fn next<R: Wait>(
     }
 }
 
-/// Reads, as the dice say, and leaves. Returns None if memory is refused.
-fn read<R: Wait>(rt: &R, reader: Reader<'_, Value>, dice: &mut Pcg32) -> Option<Found> {
-    let mut reader = reader;
+/// Reads, as the dice say. Returns None if memory is refused.
+fn read<R: Wait>(rt: &R, reader: &mut Reader<'_, Value>, dice: &mut Pcg32) -> Option<Found> {
     let mut order = Order::new(Gets::Following);
     for _ in 0..CALLS {
-        match next(rt, &mut reader, dice.next_word() % 2 == 0).ok()? {
+        match next(rt, reader, dice.next_word() % 2 == 0).ok()? {
             Some(value) => order.add(value),
             None => yield_now(),
         }
     }
-    let _emitter = reader.unsubscribe(rt);
     Some(order.found)
+}
+
+/// Subscribes, reads and leaves. Returns None if memory is refused.
+fn read_once<R: Wait>(rt: &R, emitter: &mut Emitter<'_, Value>, dice: &mut Pcg32) -> Option<Found> {
+    let mut reader = emitter.subscribe(rt).ok()?;
+    let found = read(rt, &mut reader, dice);
+    let _emitter = reader.unsubscribe(rt);
+    found
 }
 
 /// Makes so many calls, by one subscription after another, and further ones until it has read a value: the flow replays
@@ -58,8 +64,7 @@ pub fn read_all<R: Wait>(
         if number >= usual && found.read > 0 {
             break;
         }
-        let reader = emitter.subscribe(rt).ok()?;
-        found = found.plus(read(rt, reader, dice)?);
+        found = found.plus(read_once(rt, emitter, dice)?);
     }
     let has_read = found.read > 0;
     found.check(has_read);
