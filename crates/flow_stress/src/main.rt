@@ -54,10 +54,10 @@ mod recorder;
 mod recording;
 mod stress;
 
-use arguments::{CrowdSize, Size, Task, task_of};
+use arguments::{CrowdSize, Kind, Size, Task, task_of};
 use crowd::crowd;
 use found::Found;
-use recorder::record;
+use recorder::{ThreadRecord, record, write_all};
 use std::alloc::AllocGlobal;
 use std::env::args;
 use std::io::{self, ErrorKind};
@@ -112,6 +112,19 @@ fn tell_crowd(rt: &HostRuntime, size: CrowdSize, found: Option<Found>) -> io::Re
     Ok(status_of(found))
 }
 
+/// Writes a record, and answers the status.
+fn write_record(
+    rt: &HostRuntime,
+    kind: Kind,
+    records: Option<Vec<ThreadRecord>>,
+) -> io::Result<u8> {
+    let Some(records) = records else {
+        return Ok(OUT_OF_MEMORY);
+    };
+    write_all(&mut rt.stdout(), kind, &records)?;
+    Ok(0)
+}
+
 fn tell_memory(rt: &HostRuntime) -> io::Result<u8> {
     println!(rt; "out of memory")?;
     Ok(OUT_OF_MEMORY)
@@ -140,10 +153,7 @@ fn do_task<R: Threads + Wait + Clock + RandomSource + AllocGlobal + Sync>(
     match task {
         Task::Stress(size) => tell(rt, size, stress(threads, rt.alloc(), size)),
         Task::Crowd(size) => tell_crowd(rt, size, crowd(threads, rt.alloc(), size)),
-        Task::Record(kind, size) => {
-            record(threads, rt.alloc(), &mut rt.stdout(), kind, size)?;
-            Ok(0)
-        }
+        Task::Record(kind, size) => write_record(rt, kind, record(threads, rt.alloc(), kind, size)),
     }
 }
 

@@ -10,22 +10,28 @@ use flow_word::WordState;
 use rand_core::utils::NextWord;
 use rand_pcg::Pcg32;
 use std::alloc::{AllocGlobal, Global};
-use std::io::{self, ErrorKind, Write};
+use std::io::{self, Write};
 use std::random::RandomSource;
 use std::sync::Wait;
 use std::sync::atomic::{AtomicU64, Ordering};
 use std::thread::Threads;
 use std::time::Clock;
 
+/// What the thread of this number has recorded.
+#[derive(Drop)]
+pub struct ThreadRecord {
+    number: u32,
+    entries: Vec<Entry>,
+}
+
 /// The calls of one thread. All threads raise one clock, once before a call and once after it.
 #[derive(Drop)]
 struct Recorder<'a, 'c> {
     flow: Recorded<'a>,
     clock: &'c AtomicU64,
-    number: u32,
     rounds: u32,
     dice: Pcg32,
-    entries: Vec<Entry>,
+    record: ThreadRecord,
 }
 
 impl<'a, 'c> Recorder<'a, 'c> {
@@ -50,9 +56,9 @@ impl<'a, 'c> Recorder<'a, 'c> {
     /// Chooses a call of a shared flow. No other call emits its value.
     fn choose_of_shared(&mut self) -> Call {
         let is_subscribed = self.flow.is_subscribed();
-        let value = (self.entries.len() as u64)
+        let value = (self.record.entries.len() as u64)
             .wrapping_mul(100)
-            .wrapping_add(u64::from(self.number));
+            .wrapping_add(u64::from(self.record.number));
         match self.dice.next_word() % 12 {
             0 | 1 => Call::TryEmit(value),
             2 | 3 => Call::Emit(value),
@@ -83,7 +89,8 @@ impl<'a, 'c> Recorder<'a, 'c> {
         let begin = self.tick();
         let answer = self.flow.make(rt, call)?;
         let end = self.tick();
-        self.entries
+        self.record
+            .entries
             .push(Entry {
                 call,
                 answer,
@@ -115,25 +122,39 @@ impl<'a, 'c> Worker for Recorder<'a, 'c> {
     }
 }
 
-/// Makes a recorder for each thread.
+/// Takes the records once all threads have ended: a reader that is dropped leaves the flow, which no record tells.
+/// Returns None if memory is refused.
+fn records_of(alloc: Global, recorders: Vec<Recorder<'_, '_>>) -> Option<Vec<ThreadRecord>> {
+    let mut records = Vec::new(alloc);
+    for recorder in recorders {
+        let Recorder { record, .. } = recorder;
+        records.push(record).ok()?;
+    }
+    Some(records)
+}
+
+/// Makes a recorder for each thread. Returns None if memory is refused.
 fn recorders<'a, 'c>(
     alloc: Global,
     flow: &mut Recorded<'a>,
     clock: &'c AtomicU64,
     size: Size,
-) -> io::Result<Vec<Recorder<'a, 'c>>> {
+) -> Option<Vec<Recorder<'a, 'c>>> {
     let mut recorders = Vec::new(alloc);
     for number in 0..size.threads {
-        recorders.push(Recorder {
+        let recorder = Recorder {
             flow: flow.another(),
             clock,
-            number,
             rounds: size.rounds,
             dice: Pcg32::new(size.seed, u64::from(number)),
-            entries: Vec::new(alloc),
-        })?;
+            record: ThreadRecord {
+                number,
+                entries: Vec::new(alloc),
+            },
+        };
+        recorders.push(recorder).ok()?;
     }
-    Ok(recorders)
+    Some(recorders)
 }
 
 /// Returns the record's text of the flow.
@@ -162,61 +183,81 @@ fn config_of(kind: Kind) -> Config {
     }
 }
 
-fn write_all<W: Write>(out: &mut W, kind: Kind, recorders: &[Recorder<'_, '_>]) -> io::Result<()> {
+/// Writes the record of a flow of this kind.
+pub fn write_all<W: Write>(out: &mut W, kind: Kind, records: &[ThreadRecord]) -> io::Result<()> {
     writeln!(out, "{{\"flow\": {{{}}}}}", flow_words(kind))?;
-    for recorder in recorders {
-        for entry in &recorder.entries {
-            entry.write(out, recorder.number)?;
+    for record in records {
+        for entry in &record.entries {
+            entry.write(out, record.number)?;
         }
     }
     Ok(())
 }
 
-/// Makes the calls of all threads, and writes their record.
-fn record_by<R: Threads + Wait + Clock + RandomSource + AllocGlobal + Sync, W: Write>(
+/// Makes the calls of all threads. Returns None if memory or a thread is refused.
+fn record_by<R: Threads + Wait + Clock + RandomSource + AllocGlobal + Sync>(
     rt: &R,
     alloc: Global,
-    out: &mut W,
-    mut flow: Recorded<'_>,
-    kind: Kind,
+    flow: &mut Recorded<'_>,
     size: Size,
-) -> io::Result<()> {
+) -> Option<Vec<ThreadRecord>> {
     let clock = AtomicU64::new(0);
-    let recorders = recorders(alloc, &mut flow, &clock, size)?;
-    let Some(done) = run_all(rt, alloc, recorders) else {
-        return Err(io::Error::from(ErrorKind::OutOfMemory));
-    };
-    write_all(out, kind, &done)
+    let recorders = recorders(alloc, flow, &clock, size)?;
+    records_of(alloc, run_all(rt, alloc, recorders)?)
 }
 
-/// Records the calls of a new flow of this kind.
-pub fn record<R: Threads + Wait + Clock + RandomSource + AllocGlobal + Sync, W: Write>(
+fn record_word<R: Threads + Wait + Clock + RandomSource + AllocGlobal + Sync>(
     rt: &R,
     alloc: Global,
-    out: &mut W,
+    size: Size,
+) -> Option<Vec<ThreadRecord>> {
+    let (flow, seat) = WordState::new(alloc, 0, u32::MAX).ok()?;
+    let mut recorded = Recorded::Word(RecordedWord {
+        setter: flow.setter(seat),
+        reader: None,
+    });
+    record_by(rt, alloc, &mut recorded, size)
+}
+
+fn record_state<R: Threads + Wait + Clock + RandomSource + AllocGlobal + Sync>(
+    rt: &R,
+    alloc: Global,
+    size: Size,
+) -> Option<Vec<ThreadRecord>> {
+    let (flow, seat) = StateFlow::new(alloc, 0, u64::MAX).ok()?;
+    let mut recorded = Recorded::State(RecordedState {
+        setter: flow.setter(seat),
+        reader: None,
+    });
+    record_by(rt, alloc, &mut recorded, size)
+}
+
+fn record_shared<R: Threads + Wait + Clock + RandomSource + AllocGlobal + Sync>(
+    rt: &R,
+    alloc: Global,
+    config: Config,
+    size: Size,
+) -> Option<Vec<ThreadRecord>> {
+    let (flow, seat) = SharedFlow::new(alloc, config).ok()?;
+    let mut recorded = Recorded::Shared(RecordedShared {
+        emitter: flow.emitter(seat),
+        reader: None,
+    });
+    record_by(rt, alloc, &mut recorded, size)
+}
+
+/// Records the calls of a new flow of this kind, of each thread. Returns None if memory or a thread is refused.
+pub fn record<R: Threads + Wait + Clock + RandomSource + AllocGlobal + Sync>(
+    rt: &R,
+    alloc: Global,
     kind: Kind,
     size: Size,
-) -> io::Result<()> {
-    let (Ok((word, word_seat)), Ok((state, state_seat)), Ok((shared, shared_seat))) = (
-        WordState::new(alloc, 0, u32::MAX),
-        StateFlow::new(alloc, 0, u64::MAX),
-        SharedFlow::new(alloc, config_of(kind)),
-    ) else {
-        return Err(io::Error::from(ErrorKind::OutOfMemory));
-    };
-    let flow = match kind {
-        Kind::Word => Recorded::Word(RecordedWord {
-            setter: word.setter(word_seat),
-            reader: None,
-        }),
-        Kind::State => Recorded::State(RecordedState {
-            setter: state.setter(state_seat),
-            reader: None,
-        }),
-        Kind::Shared | Kind::Dropping | Kind::Rendezvous => Recorded::Shared(RecordedShared {
-            emitter: shared.emitter(shared_seat),
-            reader: None,
-        }),
-    };
-    record_by(rt, alloc, out, flow, kind, size)
+) -> Option<Vec<ThreadRecord>> {
+    match kind {
+        Kind::Word => record_word(rt, alloc, size),
+        Kind::State => record_state(rt, alloc, size),
+        Kind::Shared | Kind::Dropping | Kind::Rendezvous => {
+            record_shared(rt, alloc, config_of(kind), size)
+        }
+    }
 }
