@@ -15,24 +15,37 @@ mod threads;
 use anyhow::Result;
 use flow_core::StateCore;
 use flow_law::Text;
+use std::io;
 
 fn main(rt: HostRuntime) -> Result<()> {
     one_thread::show(&rt)?;
     chains::show(&rt)?;
     let sum = threads::add_up(&rt, rt.alloc())?;
-    println!(rt; "the sum is {sum}")?;
-    let [a, b, c] = producers::add_up(&rt, rt.alloc())?;
-    println!(rt; "the consumers have {a}, {b} and {c}")?;
+    let consumers = producers::add_up(&rt, rt.alloc())?;
     let shared = chains::between_threads::add_up(&rt, rt.alloc())?;
-    println!(rt; "shared between threads: {shared}")?;
+    print_sums(&rt, sum, consumers, shared)?;
     sensor::show(&rt)?;
     let page = screen::show_page(&rt, rt.alloc(), page(&rt)?)?;
     println!(rt; "ready: {}", page.as_str())?;
+    show_best(&rt)?;
+    print!(rt; "{}", played::lines(rt.alloc())?)?;
+    Ok(())
+}
+
+/// Prints what threads have added up.
+fn print_sums(rt: &HostRuntime, sum: i64, consumers: [i64; 3], shared: i64) -> io::Result<()> {
+    let [a, b, c] = consumers;
+    println!(rt; "the sum is {sum}")?;
+    println!(rt; "the consumers have {a}, {b} and {c}")?;
+    println!(rt; "shared between threads: {shared}")
+}
+
+/// Shows what functions with contracts of their own do.
+fn show_best(rt: &HostRuntime) -> Result<()> {
     let mut flow = StateCore::new(rt.alloc(), 1i64, u64::MAX);
     let read = setting::set_and_read(&mut flow, 7)?;
     let best = setting::raise(&mut flow, 5)?;
     println!(rt; "set and read: {read}, and the best is {best}")?;
-    print!(rt; "{}", played::lines(rt.alloc())?)?;
     Ok(())
 }
 

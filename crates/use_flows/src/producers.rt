@@ -11,11 +11,31 @@ pub fn add_up<R: Wait + Threads + Sync>(rt: &R, alloc: Global) -> Result<[i64; 3
     let mut p = flow.emitter(seat);
     let mut q = p.another();
     let (mut a, mut b, mut c) = (p.subscribe(rt)?, p.subscribe(rt)?, p.subscribe(rt)?);
-    let two = || join(rt, || consume(rt, &mut a), || consume(rt, &mut b));
-    let consumers = || join(rt, two, || consume(rt, &mut c));
-    let producers = || join(rt, || produce(rt, &mut p, 1), || produce(rt, &mut q, 6));
-    let (((a, b), c), (first, second)) = join(rt, consumers, producers);
-    first.and(second)?;
+    let consumers = || consume_all(rt, &mut a, &mut b, &mut c);
+    let (sums, produced) = join(rt, consumers, || produce_all(rt, &mut p, &mut q));
+    produced?;
+    Ok(sums?)
+}
+
+/// Runs both producers.
+fn produce_all<R: Wait + Threads + Sync>(
+    rt: &R,
+    p: &mut Emitter<'_, i64>,
+    q: &mut Emitter<'_, i64>,
+) -> Result<(), FlowFault> {
+    let (first, second) = join(rt, || produce(rt, p, 1), || produce(rt, q, 6));
+    first.and(second)
+}
+
+/// Runs all consumers.
+fn consume_all<R: Wait + Threads + Sync>(
+    rt: &R,
+    a: &mut Reader<'_, i64>,
+    b: &mut Reader<'_, i64>,
+    c: &mut Reader<'_, i64>,
+) -> Result<[i64; 3], OutOfMemory> {
+    let two = || join(rt, || consume(rt, a), || consume(rt, b));
+    let ((a, b), c) = join(rt, two, || consume(rt, c));
     Ok([a?, b?, c?])
 }
 
