@@ -1,22 +1,20 @@
 //! Tests of sharings. The answers are those of the rules of `SharingStarted`, of `shareIn` (a buffer of 64 values at
 //! least) and of `stateIn`.
 //!
-//! A worked example is a list of steps, each with what it is to answer. Another module takes the steps.
+//! A worked example is a list of steps, each with what it is to answer. Another module takes the steps. The cases of
+//! `cases/share.toml` play such examples over flows for one thread.
 
+mod beside;
 mod expiry;
 mod flow_runs;
 mod hubs;
-mod on_cores;
 mod playing;
-mod refusal_steps;
-mod refusals;
 mod refused_reset;
 mod runs;
 mod sharing_steps;
 mod sharings;
 mod state_runs;
 mod subscribers;
-mod test_hub;
 mod two_chains;
 mod word_hubs;
 

@@ -72,34 +72,33 @@ fn had(rt: &impl Abort, closed: Option<Count>, events: u64) {
 }
 
 /// One seat enters, and the other one after it has left.
-fn enter_in_turn<R: Wait + Abort>(rt: &R, gate: &Gate<Count>, seat: Seat<Count>, other: Seat<Count>)
+fn enter_in_turn<R: Wait + Abort>(
+    rt: &R,
+    gate: &Gate<Count>,
+    seat: Seat<Count>,
+    other: Seat<Count>,
+) -> Seat<Count>
     requires { (seat.table_id ≡ gate.now.table_id) × (other.table_id ≡ gate.now.table_id) }
+    ensures { result.table_id ≡ gate.entry.now.table_id }
 {
-    let mut held = gate.enter(rt, seat);
+    let held = gate.enter(rt, seat);
     let other = match gate.try_enter(other) {
         Err(back) => back,
         Ok(_) => panic!(rt; "somebody is inside"),
     };
-    compare(rt, 0, held.state().events, 0);
     let _seat = add_one(held);
-    let Ok(mut held) = gate.try_enter(other) else {
+    let Ok(held) = gate.try_enter(other) else {
         panic!(rt; "nobody is inside")
     };
-    compare(rt, 1, held.state().events, 1);
-    let _seat = add_one(held);
+    add_one(held)
 }
 
-/// A fresh gate gives its state.
 #[test]
 fn who_is_inside_keeps_others_out(rt: HostRuntime) {
-    let (gate, _seat) = new_gate(&rt, rt.alloc());
-    had(&rt, gate.close(), 0);
-    let (gate, seat) = new_gate(&rt, rt.alloc());
-    had(&rt, gate.close_with(seat), 0);
     let (gate, mut seat) = new_gate(&rt, rt.alloc());
     let other = gate.seat(&mut seat);
-    enter_in_turn(&rt, &gate, seat, other);
-    had(&rt, gate.close(), 2);
+    let other = enter_in_turn(&rt, &gate, seat, other);
+    had(&rt, gate.close_with(other), 2);
 }
 
 /// One seat adds an event and meets the other one. Each of them then adds one, and the second one leaves once more.

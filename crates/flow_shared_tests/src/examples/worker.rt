@@ -54,8 +54,8 @@ pub struct Worker<'a> {
 }
 
 impl<'a> FlowPlayer<'a, i64, SharedCore<i64>> {
-    /// Another caller at the flow, for another thread. Who reads, leaves or receives has the first subscriber, and who cancels
-    /// the first emission.
+    /// Makes a worker with a new seat of the flow, for another thread. A worker that reads, leaves or receives takes the first
+    /// subscriber of this player, and a worker that cancels takes the first emission.
     pub fn worker(&mut self, rt: &impl Abort, role: Role) -> Worker<'a> {
         let flow = self.flow;
         let seat = flow.seat(&mut self.seat);

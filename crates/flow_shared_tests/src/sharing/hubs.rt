@@ -1,16 +1,13 @@
-//! Policies and hubs by themselves.
+//! Policies, and hubs of flows for one thread, by themselves. Worked examples of sharings put items by the hubs of other flows.
 ghost use Rattle.std.specs.Prelude.{◌≡◌, false};
 
 use crate::compare::compare;
 use flow_core::{SharedCore, StateCore};
 use flow_law::{Command, Config, NEVER, Next, Started};
-use flow_shared::{SharedFlow, StateFlow};
 use flow_sharing::{
-    Backwards, CoreHub, Hub, Policy, SharedFlowHub, StateFlowHub, StateHub, WordHub,
-    law_turn_over_core, law_turn_over_shared_flow, law_turn_over_state_core,
-    law_turn_over_state_flow, law_turn_over_word_state,
+    Backwards, CoreHub, Hub, Policy, StateHub, law_turn_over_core, law_turn_over_shared_flow,
+    law_turn_over_state_core, law_turn_over_state_flow, law_turn_over_word_state,
 };
-use flow_word::WordState;
 use std::alloc::Global;
 use std::process::Abort;
 
@@ -79,7 +76,6 @@ fn puts_and_cancels<H: Hub<Item = i64>>(rt: &impl Abort, hub: &mut H, waits: boo
     compare(rt, 2, hub.poll(), Ok(waits));
     compare(rt, 3, hub.cancel(), Ok(waits));
     compare(rt, 4, hub.poll(), Ok(false));
-    compare(rt, 5, hub.cancel(), Ok(false));
 }
 
 /// Without a buffer an emission waits until its subscriber has received it.
@@ -89,37 +85,12 @@ fn a_hub_of_a_shared_core_cancels_what_waits(rt: HostRuntime) {
     let id = core.subscribe().expect(&rt, "a subscription");
     let mut hub = CoreHub::new(core);
     puts_and_cancels(&rt, &mut hub, true, 1);
-    compare(&rt, 6, hub.core_mut().next(id), Ok(Next::Empty));
-}
-
-#[test]
-fn a_hub_of_a_shared_flow_cancels_what_waits(rt: HostRuntime) {
-    let made = SharedFlow::new(rt.alloc(), Config::new());
-    let (flow, mut seat) = made.expect(&rt, "a flow");
-    let mut subscription = flow.subscribe(&rt, &mut seat).expect(&rt, "a subscription");
-    puts_and_cancels(&rt, &mut SharedFlowHub::new(&flow, &mut seat), true, 1);
-    compare(&rt, 7, flow.next(&rt, &mut subscription), Ok(Next::Empty));
+    compare(&rt, 5, hub.core_mut().next(id), Ok(Next::Empty));
 }
 
 #[test]
 fn nothing_waits_for_a_state_core(rt: HostRuntime) {
     let mut hub = StateHub::new(StateCore::new(rt.alloc(), 0i64, u64::MAX), 0);
     puts_and_cancels(&rt, &mut hub, false, 0);
-    compare(&rt, 6, hub.core_mut().value(), Ok(3));
-}
-
-#[test]
-fn nothing_waits_for_a_state_flow(rt: HostRuntime) {
-    let made = StateFlow::new(rt.alloc(), 0i64, u64::MAX);
-    let (flow, mut seat) = made.expect(&rt, "a flow");
-    puts_and_cancels(&rt, &mut StateFlowHub::new(&flow, &mut seat, 0), false, 0);
-    compare(&rt, 7, flow.value(&rt, &mut seat), Ok(3));
-}
-
-#[test]
-fn nothing_waits_for_a_word_state(rt: HostRuntime) {
-    let made = WordState::new(rt.alloc(), 0i64, u32::MAX);
-    let (word, mut seat) = made.expect(&rt, "a flow");
-    puts_and_cancels(&rt, &mut WordHub::new(&word, &mut seat, 0), false, 0);
-    compare(&rt, 8, word.value(&mut seat), 3);
+    compare(&rt, 5, hub.core_mut().value(), Ok(3));
 }

@@ -1,19 +1,26 @@
 //! Sharings over a word state that are run by one call, on a thread of its own.
-use crate::compare::compare;
-use crate::sharing::flow_runs::{SHORTLY, nap};
+use crate::sharing::beside::{Follower, SHORTLY, nap, run_beside};
 use crate::sharing::playing::Chain;
-use crate::sharing::word_hubs::IntoWord;
 use flow_sharing::{Sharing, WordHub, WordStop};
 use flow_word::{WordSetter, WordState};
-use std::process::Abort;
 use std::sync::Wait;
-use std::thread::{Threads, join};
 use std::time::Clock;
 
-/// Waits until the state is this one, and does not subscribe. The number of looks is bounded.
-fn comes_to<R: Clock>(rt: &R, setter: &mut WordSetter<'_, i64>, wanted: i64) -> bool {
+/// Subscribes while the run sleeps, waits for the chain's last item, which is 4, and unsubscribes.
+fn waits_for_last<R: Wait + Clock>(rt: &R, setter: &mut WordSetter<'_, i64>) -> bool {
+    nap(rt);
+    let Ok(mut reader) = setter.subscribe(rt) else {
+        return false;
+    };
+    let last = reader.wait_for(rt, |value| *value == 4);
+    reader.unsubscribe();
+    last == 4
+}
+
+/// Waits until the state is the first one again, and does not subscribe. The number of looks is bounded.
+fn is_first<R: Clock>(rt: &R, setter: &mut WordSetter<'_, i64>) -> bool {
     for _ in 0..5000 {
-        if setter.value() == wanted {
+        if setter.value() == 0 {
             return true;
         }
         nap(rt);
@@ -21,43 +28,14 @@ fn comes_to<R: Clock>(rt: &R, setter: &mut WordSetter<'_, i64>, wanted: i64) -> 
     false
 }
 
-/// Subscribes while the run sleeps, waits for the last item, and goes. What is refused is 0.
-fn follow<R: Wait + Clock>(rt: &R, setter: &mut WordSetter<'_, i64>) -> i64 {
-    nap(rt);
-    let Ok(mut reader) = setter.subscribe(rt) else {
-        return 0;
-    };
-    let last = reader.wait_for(rt, |value| *value == 4);
-    reader.unsubscribe();
-    last
-}
-
-/// Twice, so that the run is woken by a subscriber after a stop, too.
-fn follow_twice<R: Wait + Clock>(
-    rt: &R,
-    setter: &mut WordSetter<'_, i64>,
-    stop: &WordStop<'_, i64>,
-) -> [(i64, bool); 2] {
-    let first = (follow(rt, setter), comes_to(rt, setter, 0));
-    let second = (follow(rt, setter), comes_to(rt, setter, 0));
-    stop.ask();
-    [first, second]
-}
-
-fn run_beside<R: Threads + Wait + Clock + Abort + Sync>(
-    rt: &R,
-    flow: &WordState<i64>,
-    sharing: &mut IntoWord<'_>,
-    setter: &mut WordSetter<'_, i64>,
-) {
-    let stop = WordStop::new(flow);
-    let (ran, seen) = join(
-        rt,
-        || sharing.run(rt, &stop),
-        || follow_twice(rt, setter, &stop),
-    );
-    compare(rt, 0, ran, Ok(()));
-    compare(rt, 1, seen, [(4, true), (4, true)]);
+impl<'a> Follower<WordStop<'a, i64>> for WordSetter<'a, i64> {
+    /// Subscribes twice, so that the run is woken by a subscriber after a stop, too.
+    fn follow<R: Wait + Clock>(&mut self, rt: &R, stop: &WordStop<'a, i64>) -> bool {
+        let first = waits_for_last(rt, self) && is_first(rt, self);
+        let second = waits_for_last(rt, self) && is_first(rt, self);
+        stop.ask();
+        first && second
+    }
 }
 
 /// `stateIn` with `WhileSubscribed(stopTimeoutMillis = 3, replayExpirationMillis = 3)`: a subscriber sees the chain's last
@@ -68,5 +46,6 @@ fn a_run_is_woken_by_subscribers_and_at_the_expiry(rt: HostRuntime) {
     let (flow, mut seat) = WordState::new(rt.alloc(), 0, u32::MAX).expect(&rt, "a flow");
     let hub = WordHub::new(&flow, &mut seat, 0);
     let mut sharing = Sharing::new(chain, SHORTLY, hub);
-    run_beside(&rt, &flow, &mut sharing, &mut flow.setter(seat));
+    let stop = WordStop::new(&flow);
+    run_beside(&rt, &mut sharing, &stop, &mut flow.setter(seat));
 }

@@ -1,6 +1,5 @@
-//! Steps of a sharing, of its flow and of a test flow, each with what it is to answer.
+//! Steps of a sharing and of its flow, each with what it is to answer.
 use crate::compare::compare;
-use crate::sharing::test_hub::Behaviour;
 use crate::steps;
 use flow_cold::Scripted;
 use flow_law::{Command, Event, Report, ShareFault};
@@ -38,18 +37,6 @@ pub enum Step {
     Count(u64),
     /// A step on the flow.
     Flow(steps::Step),
-    /// From now on the test flow does this with each item.
-    Behave(Behaviour),
-    /// From now on the test flow has so many subscribers.
-    Subscribers(u64),
-    /// Whether an emission of the test flow waits.
-    Waits(bool),
-    /// What the test flow has accepted, and nobody has cancelled.
-    Accepted(&'static [i64]),
-    /// How often the chain has been asked.
-    Asked(u64),
-    /// How often the test flow has been reset.
-    Resets(u64),
 }
 
 /// Takes a step of the sharing itself, and compares what it answers.

@@ -1,8 +1,8 @@
 //! Worked examples of `shareIn` and `stateIn`.
+use crate::sharing::expiry;
 use crate::sharing::playing::FlowKind::{Shared, State};
 use crate::sharing::playing::{Chain, Example, play};
 use crate::sharing::sharing_steps::Step::{Count, Flow, Refused, Turn, Turns};
-use crate::sharing::{expiry, on_cores};
 use crate::steps::Step::{Cache, Current, Next, Subscribe, Unsubscribe};
 use flow_law::Command::{Keep, Start, Stop};
 use flow_law::Event::{Completed, Idle, Pending, Put, Queued, Waiting};
@@ -124,11 +124,9 @@ const EXAMPLES: &[Example] = &[
     },
 ];
 
-/// Over flows for several threads, and over flows for one thread, whose places begin at 20000.
+/// Over flows for several threads.
 #[test]
 fn sharings_are_as_documented(rt: HostRuntime) {
-    for (first, examples) in [(0, EXAMPLES), (10_000, expiry::EXAMPLES)] {
-        play(&rt, rt.alloc(), first, examples);
-        on_cores::play(&rt, rt.alloc(), 20_000 + first, examples);
-    }
+    play(&rt, rt.alloc(), 0, EXAMPLES);
+    play(&rt, rt.alloc(), 10_000, expiry::EXAMPLES);
 }

@@ -1,34 +1,27 @@
 //! Sharings over state flows that are run by one call, on a thread of its own.
-use crate::compare::compare;
-use crate::sharing::flow_runs::{AT_ONCE, SHORTLY, nap};
+use crate::sharing::beside::{AT_ONCE, Follower, SHORTLY, nap, run_beside};
 use crate::sharing::playing::Chain;
-use flow_cold::Scripted;
-use flow_law::Started;
 use flow_shared::{Setter, StateFlow};
 use flow_sharing::{FlowStop, Sharing, StateFlowHub};
-use std::process::Abort;
 use std::sync::Wait;
-use std::thread::{Threads, join, yield_now};
+use std::thread::yield_now;
 use std::time::Clock;
 
-/// A chain that is shared into a state flow.
-type IntoState<'a> = Sharing<Scripted<i64>, StateFlowHub<'a, i64>>;
-
-/// Subscribes while the run sleeps, and waits for the chain's last item, which is 4. What is refused is 0.
-fn last_item<R: Wait + Clock>(rt: &R, setter: &mut Setter<'_, i64>) -> i64 {
+/// Subscribes while the run sleeps, waits for the chain's last item, which is 4, and unsubscribes.
+fn waits_for_last<R: Wait + Clock>(rt: &R, setter: &mut Setter<'_, i64>) -> bool {
     nap(rt);
     let Ok(mut reader) = setter.subscribe(rt) else {
-        return 0;
+        return false;
     };
     let last = reader.wait_for(rt, |item| *item == 4).unwrap_or(0);
     reader.unsubscribe(rt);
-    last
+    last == 4
 }
 
 /// Waits until the state is the first one again, and does not subscribe. The number of looks is bounded.
 fn is_first<R: Wait + Clock>(rt: &R, setter: &mut Setter<'_, i64>) -> bool {
     for _ in 0..5000 {
-        if setter.value(rt).ok() == Some(0) {
+        if setter.value(rt).unwrap_or(4) == 0 {
             return true;
         }
         nap(rt);
@@ -36,31 +29,14 @@ fn is_first<R: Wait + Clock>(rt: &R, setter: &mut Setter<'_, i64>) -> bool {
     false
 }
 
-/// Subscribes twice, and asks the run to stop at last.
-fn follow_state<R: Wait + Clock>(
-    rt: &R,
-    setter: &mut Setter<'_, i64>,
-    stop: &FlowStop,
-) -> [(i64, bool); 2] {
-    let first = (last_item(rt, setter), is_first(rt, setter));
-    let second = (last_item(rt, setter), is_first(rt, setter));
-    stop.ask(rt, setter);
-    [first, second]
-}
-
-fn run_state<R: Threads + Wait + Clock + Abort + Sync>(
-    rt: &R,
-    sharing: &mut IntoState<'_>,
-    setter: &mut Setter<'_, i64>,
-) {
-    let stop = FlowStop::new();
-    let (ran, seen) = join(
-        rt,
-        || sharing.run(rt, &stop),
-        || follow_state(rt, setter, &stop),
-    );
-    compare(rt, 0, ran, Ok(()));
-    compare(rt, 1, seen, [(4, true), (4, true)]);
+impl<'a> Follower<FlowStop> for Setter<'a, i64> {
+    /// Subscribes twice.
+    fn follow<R: Wait + Clock>(&mut self, rt: &R, stop: &FlowStop) -> bool {
+        let first = waits_for_last(rt, self) && is_first(rt, self);
+        let second = waits_for_last(rt, self) && is_first(rt, self);
+        stop.ask(rt, self);
+        first && second
+    }
 }
 
 /// `stateIn` with `WhileSubscribed(stopTimeoutMillis = 3, replayExpirationMillis = 3)`: once a subscriber has gone for six
@@ -71,30 +47,23 @@ fn a_state_flows_run_is_woken_by_subscribers_and_at_the_expiry(rt: HostRuntime) 
     let (flow, mut seat) = StateFlow::new(rt.alloc(), 0, u64::MAX).expect(&rt, "a flow");
     let hub = StateFlowHub::new(&flow, &mut seat, 0);
     let mut sharing = Sharing::new(chain, SHORTLY, hub);
-    run_state(&rt, &mut sharing, &mut flow.setter(seat));
+    run_beside(&rt, &mut sharing, &FlowStop::new(), &mut flow.setter(seat));
 }
 
-/// Asks the run to stop after so many yields.
-fn ask_after<R: Wait>(rt: &R, setter: &mut Setter<'_, i64>, stop: &FlowStop, yields: usize) {
-    for _ in 0..yields {
-        yield_now();
-    }
-    stop.ask(rt, setter);
+/// A caller that asks the run to stop after so many yields.
+#[derive(Drop)]
+struct Asker<'a> {
+    setter: Setter<'a, i64>,
+    yields: u32,
 }
 
-fn stop_at_any_moment<R: Threads + Wait + Clock + Abort + Sync>(
-    rt: &R,
-    sharing: &mut IntoState<'_>,
-    setter: &mut Setter<'_, i64>,
-) {
-    for round in 0..200 {
-        let stop = FlowStop::new();
-        let (ran, ()) = join(
-            rt,
-            || sharing.run(rt, &stop),
-            || ask_after(rt, setter, &stop, round),
-        );
-        compare(rt, round, ran, Ok(()));
+impl<'a> Follower<FlowStop> for Asker<'a> {
+    fn follow<R: Wait + Clock>(&mut self, rt: &R, stop: &FlowStop) -> bool {
+        for _ in 0..self.yields {
+            yield_now();
+        }
+        stop.ask(rt, &mut self.setter);
+        true
     }
 }
 
@@ -105,5 +74,10 @@ fn a_stop_that_comes_before_the_sleep_is_not_missed(rt: HostRuntime) {
     let (flow, mut seat) = StateFlow::new(rt.alloc(), 0, u64::MAX).expect(&rt, "a flow");
     let hub = StateFlowHub::new(&flow, &mut seat, 0);
     let mut sharing = Sharing::new(chain, AT_ONCE, hub);
-    stop_at_any_moment(&rt, &mut sharing, &mut flow.setter(seat));
+    let setter = flow.setter(seat);
+    let mut asker = Asker { setter, yields: 0 };
+    for round in 0..200 {
+        asker.yields = round;
+        run_beside(&rt, &mut sharing, &FlowStop::new(), &mut asker);
+    }
 }

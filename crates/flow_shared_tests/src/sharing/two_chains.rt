@@ -1,9 +1,11 @@
 //! Two chains, each shared into a flow, by two threads that use both flows.
+ghost use Rattle.std.specs.Prelude.{◌≡◌};
+
 use crate::compare::compare;
 use crate::work::{Work, run_all};
 use flow_cold::OfRange;
 use flow_law::{Config, Event, Started};
-use flow_shared::{Emitter, Reader, SharedFlow};
+use flow_shared::{Emitter, Reader, Seat, SharedFlow};
 use flow_sharing::{SharedFlowHub, Sharing};
 use std::alloc::AllocGlobal;
 use std::process::Abort;
@@ -61,6 +63,14 @@ fn new_worker<'a, R: Wait + Abort>(
     }
 }
 
+/// Shares these numbers into a flow, from the first turn on.
+fn share<'a>(flow: &'a SharedFlow<i64>, seat: &mut Seat<i64>, numbers: OfRange) -> IntoShared<'a>
+    requires { seat.old.table_id ≡ flow.now.table_id }
+    ensures { seat.new.table_id ≡ flow.entry.now.table_id }
+{
+    Sharing::new(numbers, Started::Eagerly, SharedFlowHub::new(flow, seat))
+}
+
 /// The low numbers come to 6, and the high ones to 36.
 fn share_both<R: Threads + Wait + RandomSource + AllocGlobal + Abort + Sync>(
     rt: &R,
@@ -79,10 +89,8 @@ fn two_threads_share_two_chains(rt: HostRuntime) {
     let config = Config::new().extra(64);
     let (low, mut low_seat) = SharedFlow::new(rt.alloc(), config).expect(&rt, "a flow");
     let (high, mut high_seat) = SharedFlow::new(rt.alloc(), config).expect(&rt, "a flow");
-    let low_hub = SharedFlowHub::new(&low, &mut low_seat);
-    let high_hub = SharedFlowHub::new(&high, &mut high_seat);
-    let to_low = Sharing::new(OfRange::new(1, 3), Started::Eagerly, low_hub);
-    let to_high = Sharing::new(OfRange::new(11, 13), Started::Eagerly, high_hub);
+    let to_low = share(&low, &mut low_seat, OfRange::new(1, 3));
+    let to_high = share(&high, &mut high_seat, OfRange::new(11, 13));
     let to_low = new_worker(&rt, to_low, &mut high.emitter(high_seat), 36);
     let to_high = new_worker(&rt, to_high, &mut low.emitter(low_seat), 6);
     share_both(&rt, to_low, to_high);
