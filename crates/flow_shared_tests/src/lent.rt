@@ -27,8 +27,8 @@ pub fn emit_one<R: Wait, T: FlowValue>(
 }
 
 /// Receives the next value: what the subscriber received so far was emitted since it subscribed, in order; with a buffer,
-/// unless the flow drops the oldest, nothing is left out. Where there is no next value, the subscriber has received all that was
-/// delivered to it.
+/// unless the flow drops the oldest, nothing is left out. If there is no next value, the subscriber has received all that
+/// was delivered to it.
 pub fn next_in_order<R: Wait, T: FlowValue>(
     rt: &R,
     flow: &SharedFlow<T>,

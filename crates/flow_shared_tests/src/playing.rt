@@ -1,4 +1,4 @@
-//! Worked examples are played with the first allocation refused, with the second one, and so on, until a run has none that is.
+//! Worked examples are played with the first allocation refused, then with the second one, until a run has none that is.
 //! A step that is refused is taken again. Whatever is refused, the answers are those of the documentation; and where memory
 //! refuses nothing no step is refused.
 

@@ -2,67 +2,71 @@
 use crate::compare::compare;
 use crate::examples::polling::{SLEEPS, is_done, new_task, pends, received};
 use flow_law::Config;
-use flow_shared::{Emitter, Reader, ReceiveFuture, SendFuture, SharedFlow};
+use flow_shared::{Emitter, ReceiveFuture, SendFuture, SharedFlow};
 use futures::test::MockTask;
 use std::alloc::AllocGlobal;
 use std::process::Abort;
 use std::random::RandomSource;
 use std::sync::Wait;
 
-/// A task that waits for the next value of a new subscriber.
-fn new_reader<'a, R: Wait + RandomSource + AllocGlobal + Abort>(
-    rt: &R,
-    emitter: &mut Emitter<'a, i64>,
-) -> (MockTask, ReceiveFuture<'a, i64>) {
-    let reader = emitter.subscribe(rt).expect(rt, "a reader");
-    (new_task(rt), reader.into_receive())
+/// A task that waits for the next value of a subscriber.
+#[derive(Drop)]
+struct Sleeper<'a> {
+    task: MockTask,
+    next: ReceiveFuture<'a, i64>,
 }
 
-/// Two readers sleep, and both are woken by one value.
-fn wakes_both<R: Wait + RandomSource + AllocGlobal + Abort>(
-    rt: &R,
-    emitter: &mut Emitter<'_, i64>,
-) {
-    let (one, mut next) = new_reader(rt, emitter);
-    let (other, mut next_other) = new_reader(rt, emitter);
-    compare(rt, 0, pends(&one, &mut next), SLEEPS);
-    compare(rt, 1, pends(&other, &mut next_other), SLEEPS);
-    compare(rt, 2, pends(&one, &mut next), SLEEPS);
-    compare(rt, 3, emitter.try_emit(rt, 7).ok(), Some(true));
-    compare(rt, 4, (one.is_woken(), other.is_woken()), (true, true));
-    compare(rt, 5, received(&one, &mut next), Some(Ok(7)));
-    compare(rt, 6, received(&other, &mut next_other), Some(Ok(7)));
+impl<'a> Sleeper<'a> {
+    /// Makes a task with a new subscriber.
+    fn new<R: Wait + RandomSource + AllocGlobal + Abort>(
+        rt: &R,
+        emitter: &mut Emitter<'a, i64>,
+    ) -> Sleeper<'a> {
+        let reader = emitter.subscribe(rt).expect(rt, "a reader");
+        Sleeper {
+            task: new_task(rt),
+            next: reader.into_receive(),
+        }
+    }
+
+    /// The task sleeps after its first poll, and after its second one.
+    fn sleeps(&mut self, rt: &impl Abort) {
+        compare(rt, 0, pends(&self.task, &mut self.next), SLEEPS);
+        compare(rt, 1, pends(&self.task, &mut self.next), SLEEPS);
+    }
+
+    /// The task was woken, and receives 7.
+    fn receives(&mut self, rt: &impl Abort) {
+        compare(rt, 2, self.task.is_woken(), true);
+        compare(rt, 3, received(&self.task, &mut self.next), Some(Ok(7)));
+    }
 }
 
-#[test]
-fn readers_sleep_until_a_value_is_emitted(rt: HostRuntime) {
-    let made = SharedFlow::new(rt.alloc(), Config::new().extra(1));
-    let (flow, seat) = made.expect(&rt, "a flow");
-    wakes_both(&rt, &mut flow.emitter(seat));
-}
-
-/// Without a buffer an emitter sleeps until the last subscriber has its value, and no longer.
-fn wakes_at_last<R: Wait + RandomSource + AllocGlobal + Abort>(
+/// An emission wakes both subscribers, and its own task is woken once both have received the value.
+fn wakes_both<R: RandomSource + AllocGlobal + Abort>(
     rt: &R,
     send: SendFuture<'_, i64>,
-    first: &mut Reader<'_, i64>,
-    second: &mut Reader<'_, i64>,
+    one: &mut Sleeper<'_>,
+    other: &mut Sleeper<'_>,
 ) {
     let task = new_task(rt);
     let mut send = send;
-    compare(rt, 0, pends(&task, &mut send), SLEEPS);
-    compare(rt, 1, first.next(rt), Ok(Some(7)));
-    compare(rt, 2, task.is_woken(), false);
-    compare(rt, 3, second.next(rt), Ok(Some(7)));
-    compare(rt, 4, task.is_woken(), true);
-    compare(rt, 5, is_done(&task, &mut send), true);
+    compare(rt, 4, pends(&task, &mut send), SLEEPS);
+    one.receives(rt);
+    compare(rt, 5, task.is_woken(), false);
+    other.receives(rt);
+    compare(rt, 6, task.is_woken(), true);
+    compare(rt, 7, is_done(&task, &mut send), true);
 }
 
+/// Without a buffer two readers sleep until a value is emitted, and the emitter until each of them has it.
 #[test]
-fn an_emitter_sleeps_until_each_subscriber_has_its_value(rt: HostRuntime) {
+fn readers_and_their_emitter_sleep_until_they_go_on(rt: HostRuntime) {
     let (flow, seat) = SharedFlow::new(rt.alloc(), Config::new()).expect(&rt, "a flow");
     let mut emitter = flow.emitter(seat);
-    let mut first = emitter.subscribe(&rt).expect(&rt, "a reader");
-    let mut second = emitter.subscribe(&rt).expect(&rt, "a reader");
-    wakes_at_last(&rt, emitter.into_send(7), &mut first, &mut second);
+    let mut one = Sleeper::new(&rt, &mut emitter);
+    let mut other = Sleeper::new(&rt, &mut emitter);
+    one.sleeps(&rt);
+    other.sleeps(&rt);
+    wakes_both(&rt, emitter.into_send(7), &mut one, &mut other);
 }

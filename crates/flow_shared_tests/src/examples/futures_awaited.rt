@@ -1,35 +1,19 @@
-//! Futures over flows, awaited on one thread and on two.
+//! Futures over a flow, awaited by an emitter on one thread and a subscriber on another.
 ghost use Rattle.std.specs.Prelude.{◌≡◌};
 
-use crate::awaiting::{Exchange, exchange, send};
+use crate::awaiting::send;
 use crate::compare::compare;
 use crate::examples::threads::one_subscriber;
-use flow_law::{Config, FlowFault};
+use flow_law::Config;
 use flow_shared::{NextFuture, Seat, Sent, SharedFlow, Subscription};
 use futures::executor::block_on;
 use std::alloc::AllocGlobal;
 use std::random::RandomSource;
 use std::sync::Wait;
+use std::thread::join;
 
-/// What was received, where the emission is done.
-fn received(both: Exchange<i64>) -> Option<Result<i64, FlowFault>> {
-    let (sent, (_subscription, received)) = both;
-    match sent {
-        Sent::Done(_seat) => Some(received),
-        Sent::Refused(_seat, _value, _fault) => None,
-    }
-}
-
-/// Without a buffer an emission and its receiver wait for each other.
-#[test]
-fn an_emission_and_its_receiver_are_awaited(rt: HostRuntime) {
-    let (flow, seat, subscription) = one_subscriber(&rt, rt.alloc(), Config::new());
-    let both = exchange(&rt, &flow, seat, 7, subscription);
-    compare(&rt, 0, received(both.expect(&rt, "a waker")), Some(Ok(7)));
-}
-
-/// Emits 0, 1, 2 .., and tells how many were received.
-pub fn send_all<R: Wait + RandomSource + AllocGlobal>(
+/// Emits 0, 1, 2 .., and returns how many of these emissions were done.
+fn send_all<R: Wait + RandomSource + AllocGlobal>(
     rt: &R,
     flow: &SharedFlow<i64>,
     seat: Seat<i64>,
@@ -47,8 +31,8 @@ pub fn send_all<R: Wait + RandomSource + AllocGlobal>(
     count
 }
 
-/// Receives 0, 1, 2 .., and tells how many came in order.
-pub fn receive_all<R: Wait + RandomSource + AllocGlobal>(
+/// Receives 0, 1, 2 .., and returns how many came in order.
+fn receive_all<R: Wait + RandomSource + AllocGlobal>(
     rt: &R,
     flow: &SharedFlow<i64>,
     subscription: Subscription<i64>,
@@ -64,4 +48,16 @@ pub fn receive_all<R: Wait + RandomSource + AllocGlobal>(
         }
     }
     count
+}
+
+/// Without a buffer each value is received before the next one is emitted.
+#[test]
+fn emissions_and_their_receiver_are_awaited(rt: HostRuntime) {
+    let (flow, seat, subscription) = one_subscriber(&rt, rt.alloc(), Config::new());
+    let done = join(
+        &rt,
+        || send_all(&rt, &flow, seat, 100),
+        || receive_all(&rt, &flow, subscription, 100),
+    );
+    compare(&rt, 0, done, (100, 100));
 }

@@ -3,8 +3,8 @@
 ghost use Rattle.std.specs.Prelude.{◌≡◌};
 
 use crate::compare::compare;
-use crate::examples::worker::Outcome;
-use crate::examples::worker::Role::{self, Cancel, Emit, Leave, Read, Receive, Send};
+use crate::examples::worker::Role::{self, Cancel, Emit, Leave, Read};
+use crate::examples::worker::{Outcome, Worker, give_back};
 use crate::playing::{FlowPlayer, take_all};
 use crate::steps::Step::{self, Cache, Next, Subscribe, TryEmit};
 use crate::steps::{self, TAKEN, UNBUFFERED, WAITS};
@@ -63,8 +63,8 @@ const MEETINGS: &[Meeting] = &[
         subscribers: 0,
         caches: &[&[1, 2]],
     },
-    // Three emit 2, 3 and 4, where there is no room, and the one subscriber, who has not read 1, leaves. Then nobody subscribes
-    // any more, and the cache has one of the three values.
+    // Three emit 2, 3 and 4, for which there is no room, and the only subscriber, which has not read 1, leaves. Then there is
+    // no subscriber, and the cache has one of the three values.
     Meeting {
         config: Config {
             replay: 1,
@@ -76,29 +76,6 @@ const MEETINGS: &[Meeting] = &[
         emitted: None,
         subscribers: 0,
         caches: &[&[2], &[3], &[4]],
-    },
-    // Without a buffer each value is received before the next one is emitted.
-    Meeting {
-        config: UNBUFFERED,
-        before: &[Subscribe],
-        rounds: &[&[Send(100), Receive(100)]],
-        after: &[],
-        emitted: None,
-        subscribers: 1,
-        caches: &[&[]],
-    },
-    // With room an emission that is awaited is done at once.
-    Meeting {
-        config: Config {
-            extra: 1,
-            ..UNBUFFERED
-        },
-        before: &[Subscribe],
-        rounds: &[&[Send(1)]],
-        after: &[Next(0, &Value(0))],
-        emitted: None,
-        subscribers: 1,
-        caches: &[&[]],
     },
 ];
 
@@ -148,25 +125,37 @@ fn pause_of(run: u32, place: usize) -> u32 {
     }
 }
 
-/// These threads run at once.
-fn run_round<'a, R: Threads + Wait + Abort + RandomSource + AllocGlobal + Sync>(
-    rt: &R,
+/// Makes a worker for each role.
+fn workers_for<'a>(
+    rt: &impl Abort,
     alloc: Global,
     player: &mut FlowPlayer<'a, i64, SharedCore<i64>>,
     roles: &[Role],
     run: u32,
-    before: Outcome,
-) -> Outcome {
+) -> Vec<Worker<'a>> {
     let mut workers = Vec::new(alloc);
     for (place, role) in roles.iter().enumerate() {
-        let mut worker = player.worker(rt, *role);
-        worker.pause = pause_of(run, place);
+        let worker = player.worker(rt, *role, pause_of(run, place));
         workers.push(worker).expect(rt, "memory");
     }
+    workers
+}
+
+/// Runs these threads at once.
+fn run_round<R: Threads + Wait + Abort + RandomSource + AllocGlobal + Sync>(
+    rt: &R,
+    alloc: Global,
+    player: &mut FlowPlayer<'_, i64, SharedCore<i64>>,
+    roles: &[Role],
+    run: u32,
+    before: Outcome,
+) -> Outcome {
+    let mut workers = workers_for(rt, alloc, player, roles, run);
     run_all(rt, workers.as_mut_slice());
     let mut outcome = before;
     for worker in &mut workers {
-        outcome = outcome.with(rt, player, worker);
+        outcome = outcome.with(rt, worker);
+        give_back(player, worker);
     }
     outcome
 }

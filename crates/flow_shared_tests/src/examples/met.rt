@@ -4,7 +4,7 @@ ghost use Rattle.std.specs.Prelude.{◌≡◌};
 use crate::compare::compare;
 use crate::examples::threads::one_subscriber;
 use flow_law::{Config, Next};
-use flow_shared::{Seat, SharedFlow, StateFlow, StateSeat, Subscription};
+use flow_shared::{Seat, SharedFlow, StateFlow, StateSeat};
 use std::process::Abort;
 use std::sync::Wait;
 
@@ -22,38 +22,40 @@ fn reads_cache<R: Wait + Abort>(
     compare(rt, 0, cache.as_slice(), wanted);
 }
 
-/// Two seats each emit a value, and meet: both read both values. A subscription meets one of them, and receives the first
-/// value.
+/// Two seats each emit a value, and meet: both read both values.
 fn emit_and_meet<R: Wait + Abort>(
     rt: &R,
     flow: &SharedFlow<i64>,
     seat: &mut Seat<i64>,
     other: &mut Seat<i64>,
-    subscription: &mut Subscription<i64>,
 )
-    requires { (seat.old.table_id ≡ flow.now.table_id) × (other.old.table_id ≡ flow.now.table_id)
-        × (subscription.old.token.table_id ≡ flow.now.table_id) }
+    requires { (seat.old.table_id ≡ flow.now.table_id) × (other.old.table_id ≡ flow.now.table_id) }
+    ensures { other.new.table_id ≡ flow.entry.now.table_id }
 {
     compare(rt, 1, flow.try_emit(rt, seat, 1), Ok(true));
     compare(rt, 2, flow.try_emit(rt, other, 2), Ok(true));
     flow.meet(seat, other);
     reads_cache(rt, flow, seat, &[1, 2]);
     reads_cache(rt, flow, other, &[1, 2]);
-    flow.meet_subscription(subscription, other);
-    compare(rt, 3, flow.next(rt, subscription), Ok(Next::Value(1)));
-    reads_cache(rt, flow, other, &[1, 2]);
 }
 
+/// A subscription meets a seat that has emitted, and receives the first value.
 #[test]
 fn seats_and_a_subscription_of_a_shared_flow_have_met(rt: HostRuntime) {
     let config = Config::new().replay(2);
     let (flow, mut seat, mut subscription) = one_subscriber(&rt, rt.alloc(), config);
     let mut other = flow.seat(&mut seat);
-    emit_and_meet(&rt, &flow, &mut seat, &mut other, &mut subscription);
+    emit_and_meet(&rt, &flow, &mut seat, &mut other);
+    flow.meet_subscription(&mut subscription, &mut other);
+    compare(
+        &rt,
+        3,
+        flow.next(&rt, &mut subscription),
+        Ok(Next::Value(1)),
+    );
 }
 
-/// Two seats meet, and read the value that one of them set at once. A subscription meets that seat, and receives what it set
-/// last.
+/// Two seats meet, and read the value that one of them set at once.
 fn set_and_meet<R: Wait + Abort>(
     rt: &R,
     flow: &StateFlow<i64>,
@@ -61,19 +63,31 @@ fn set_and_meet<R: Wait + Abort>(
     other: &mut StateSeat<i64>,
 )
     requires { (seat.old.table_id ≡ flow.now.table_id) × (other.old.table_id ≡ flow.now.table_id) }
+    ensures { (seat.new.table_id ≡ flow.entry.now.table_id) ×
+        (other.new.table_id ≡ flow.entry.now.table_id) }
 {
     compare(rt, 0, flow.set_now(other, 5), Ok(()));
     compare(rt, 1, flow.count_now(other), Ok(0));
     flow.meet(seat, other);
     flow.seen(seat);
-    let both = (flow.value(rt, seat), flow.value(rt, other));
-    compare(rt, 2, both, (Ok(5), Ok(5)));
+    compare(rt, 2, flow.value(rt, seat), Ok(5));
+    compare(rt, 2, flow.value(rt, other), Ok(5));
+}
+
+/// A subscription meets a seat, and receives what that seat set last.
+fn set_and_receive<R: Wait + Abort>(
+    rt: &R,
+    flow: &StateFlow<i64>,
+    seat: &mut StateSeat<i64>,
+    other: &mut StateSeat<i64>,
+)
+    requires { (seat.old.table_id ≡ flow.now.table_id) × (other.old.table_id ≡ flow.now.table_id) }
+{
     let mut subscription = flow.subscribe(rt, seat).expect(rt, "a subscription");
     flow.set(rt, other, 6);
     flow.meet_subscription(&mut subscription, other);
     flow.seen_by_subscription(&mut subscription);
     compare(rt, 3, flow.next(rt, &mut subscription), Ok(Next::Value(6)));
-    compare(rt, 4, flow.value(rt, other), Ok(6));
 }
 
 #[test]
@@ -81,4 +95,5 @@ fn seats_and_a_subscription_of_a_state_flow_have_met(rt: HostRuntime) {
     let (flow, mut seat) = StateFlow::new(rt.alloc(), 0, u64::MAX).expect(&rt, "a flow");
     let mut other = flow.seat(&mut seat);
     set_and_meet(&rt, &flow, &mut seat, &mut other);
+    set_and_receive(&rt, &flow, &mut seat, &mut other);
 }

@@ -2,7 +2,6 @@
 ghost use Rattle.std.specs.Prelude.{◌≡◌};
 
 use crate::compare::compare;
-use crate::examples::futures_awaited::{receive_all, send_all};
 use crate::playing::{FlowPlayer, Reader, Waiting, put, token};
 use crate::work::Work;
 use flow_core::SharedCore;
@@ -30,10 +29,6 @@ pub enum Role {
     Leave,
     /// It cancels its emission, which waited.
     Cancel,
-    /// It emits 0, 1, 2 .., so many, and awaits each.
-    Send(i64),
-    /// It awaits 0, 1, 2 .., so many.
-    Receive(i64),
 }
 
 /// One of several threads at a flow. Not each has a subscriber or an emission.
@@ -54,25 +49,31 @@ pub struct Worker<'a> {
 }
 
 impl<'a> FlowPlayer<'a, i64, SharedCore<i64>> {
-    /// Makes a worker with a new seat of the flow, for another thread. A worker that reads, leaves or receives takes the first
-    /// subscriber of this player, and a worker that cancels takes the first emission.
-    pub fn worker(&mut self, rt: &impl Abort, role: Role) -> Worker<'a> {
-        let flow = self.flow;
-        let seat = flow.seat(&mut self.seat);
-        let (reader, emission) = match role {
-            Role::Read(_) | Role::Leave | Role::Receive(_) => {
-                (Some(token(rt, &mut self.readers, 0)), None)
-            }
-            Role::Cancel => (None, Some(token(rt, &mut self.emissions, 0))),
-            Role::Emit(_) | Role::Count(_) | Role::Send(_) => (None, None),
-        };
+    /// Takes the first subscriber, if a worker with this role reads or leaves.
+    fn reader_for(&mut self, rt: &impl Abort, role: Role) -> Option<Reader<'a, SharedCore<i64>>> {
+        match role {
+            Role::Read(_) | Role::Leave => Some(token(rt, &mut self.readers, 0)),
+            _ => None,
+        }
+    }
+
+    /// Takes the first emission, if a worker with this role cancels it.
+    fn emission_for(&mut self, rt: &impl Abort, role: Role) -> Option<Waiting<'a, i64>> {
+        match role {
+            Role::Cancel => Some(token(rt, &mut self.emissions, 0)),
+            _ => None,
+        }
+    }
+
+    /// Makes a worker with a new seat of the flow, for another thread.
+    pub fn worker(&mut self, rt: &impl Abort, role: Role, pause: u32) -> Worker<'a> {
         Worker {
-            flow,
-            seat,
+            flow: self.flow,
+            seat: self.flow.seat(&mut self.seat),
             role,
-            reader,
-            emission,
-            pause: 0,
+            reader: self.reader_for(rt, role),
+            emission: self.emission_for(rt, role),
+            pause,
             is_done: false,
             is_first: true,
         }
@@ -119,12 +120,14 @@ impl<'a> Worker<'a> {
         }
     }
 
-    fn receive<R: Wait + RandomSource + AllocGlobal>(&mut self, rt: &R, count: i64) -> bool {
-        match self.reader.take() {
-            Some(Reader { flow, subscription }) => {
-                receive_all(rt, flow, subscription, count) == count
-            }
-            None => false,
+    /// Returns whether it did what it was to do.
+    fn does<R: Wait>(&mut self, rt: &R) -> bool {
+        match self.role {
+            Role::Emit(value) => self.emit(rt, value),
+            Role::Count(count) => self.flow.subscription_count(rt, &mut self.seat) == count,
+            Role::Read(wanted) => self.read(rt, wanted),
+            Role::Leave => self.leave(rt),
+            Role::Cancel => self.cancel(rt),
         }
     }
 }
@@ -147,16 +150,7 @@ impl<'a> Work for Worker<'a> {
         for _ in 0..self.pause {
             yield_now();
         }
-        let flow = self.flow;
-        self.is_done = match self.role {
-            Role::Emit(value) => self.emit(rt, value),
-            Role::Count(count) => flow.subscription_count(rt, &mut self.seat) == count,
-            Role::Read(wanted) => self.read(rt, wanted),
-            Role::Leave => self.leave(rt),
-            Role::Cancel => self.cancel(rt),
-            Role::Send(count) => send_all(rt, flow, flow.seat(&mut self.seat), count) == count,
-            Role::Receive(count) => self.receive(rt, count),
-        };
+        self.is_done = self.does(rt);
     }
 }
 
@@ -170,21 +164,20 @@ pub struct Outcome {
 }
 
 impl Outcome {
-    /// Adds the outcome of one thread, and takes its subscriber back. Only a cancel may come too late.
-    pub fn with<'a>(
-        self,
-        rt: &impl Abort,
-        player: &mut FlowPlayer<'a, i64, SharedCore<i64>>,
-        worker: &mut Worker<'a>,
-    ) -> Outcome {
+    /// Adds the outcome of one thread. Only a cancel may come too late.
+    pub fn with(self, rt: &impl Abort, worker: &Worker<'_>) -> Outcome {
         let may_be_late = matches!(worker.role, Role::Cancel);
         compare(rt, 100, worker.is_done || may_be_late, true);
-        if worker.reader.is_some() {
-            put(&mut player.readers, 0, worker.reader.take());
-        }
         Outcome {
             all_done: self.all_done && worker.is_done,
             all_first: self.all_first && worker.is_first,
         }
+    }
+}
+
+/// Gives the player the subscriber of the worker back.
+pub fn give_back<'a>(player: &mut FlowPlayer<'a, i64, SharedCore<i64>>, worker: &mut Worker<'a>) {
+    if worker.reader.is_some() {
+        put(&mut player.readers, 0, worker.reader.take());
     }
 }

@@ -1,4 +1,4 @@
-//! Futures, and calls made at once, that are refused. An emission that waits for a slow subscriber takes memory, and so does the copy of a value.
+//! Futures, and calls made at once, that are refused memory: for an emission that waits, and for the copy of a value.
 ghost use Rattle.std.specs.Prelude.{◌≡◌};
 
 use crate::compare::compare;
@@ -13,40 +13,90 @@ use std::alloc::{Allocator, Global};
 use std::process::Abort;
 use std::sync::Wait;
 
-/// The emission is refused, at once and by a future, and the seat and the value come back. Then it waits: a future asks for memory
-/// once.
-fn emits<R: Wait + Abort, T: Numbered<Memory = A>, A: Allocator + Copy>(
+/// The emission of 3 is refused at once, and its seat and its value come back.
+fn emit_now<R: Abort, T: Numbered<Memory = A>, A: Allocator + Copy>(
+    rt: &R,
+    flow: &SharedFlow<T, A>,
+    seat: Seat<T, A>,
+    value: T,
+    refusing: &Refusing<Global>,
+) -> (Seat<T, A>, T)
+    requires { seat.table_id ≡ flow.now.table_id }
+    ensures { result.0.table_id ≡ flow.entry.now.table_id }
+{
+    refusing.refuse(1);
+    match flow.emit_now(seat, value) {
+        Emitted::Refused(seat, value, fault) => {
+            compare(rt, 1, fault, FlowFault::OutOfMemory);
+            (seat, value)
+        }
+        _ => panic!(rt; "it is refused"),
+    }
+}
+
+/// A future that emits 3 is refused, and its seat and its value come back.
+fn emit_later<R: Abort, T: Numbered<Memory = A>, A: Allocator + Copy>(
     rt: &R,
     task: &MockTask,
     flow: &SharedFlow<T, A>,
     seat: Seat<T, A>,
-    memory: A,
+    value: T,
+    refusing: &Refusing<Global>,
+) -> (Seat<T, A>, T)
+    requires { seat.table_id ≡ flow.now.table_id }
+    ensures { result.0.table_id ≡ flow.entry.now.table_id }
+{
+    refusing.refuse(1);
+    match task.poll(&mut EmitFuture::new(flow, seat, value)) {
+        Poll::Ready(Sent::Refused(seat, value, fault)) => {
+            compare(rt, 2, fault, FlowFault::OutOfMemory);
+            compare(rt, 2, value.number(), 3);
+            (seat, value)
+        }
+        _ => panic!(rt; "it is refused"),
+    }
+}
+
+/// The emission waits: its future asks for memory once.
+fn emits<R: Abort, T: Numbered<Memory = A>, A: Allocator + Copy>(
+    rt: &R,
+    task: &MockTask,
+    flow: &SharedFlow<T, A>,
+    seat: Seat<T, A>,
+    value: T,
     refusing: &Refusing<Global>,
 )
     requires { seat.table_id ≡ flow.now.table_id }
 {
-    let value = T::of(rt, memory, 3);
-    refusing.refuse(1);
-    let Emitted::Refused(seat, value, fault) = flow.emit_now(seat, value) else {
-        panic!(rt; "it is refused")
-    };
-    compare(rt, 1, fault, FlowFault::OutOfMemory);
-    refusing.refuse(1);
-    let mut emit = EmitFuture::new(flow, seat, value);
-    let Poll::Ready(Sent::Refused(seat, value, fault)) = task.poll(&mut emit) else {
-        panic!(rt; "it is refused")
-    };
-    compare(rt, 1, fault, FlowFault::OutOfMemory);
-    compare(rt, 2, value.number(), 3);
     refusing.refuse(2);
     let mut emit = EmitFuture::new(flow, seat, value);
-    compare(rt, 5, task.poll(&mut emit).is_pending(), true);
-    compare(rt, 6, refusing.is_waiting(), true);
+    compare(rt, 3, task.poll(&mut emit).is_pending(), true);
+    compare(rt, 3, refusing.is_waiting(), true);
 }
 
-/// The subscriber is refused the first value, at once and by a future, and its subscription comes back. Then it receives it: a
-/// future asks for memory once.
-fn receives<R: Wait + Abort, T: Numbered<Memory = A>, A: Allocator + Copy>(
+/// A future that receives the first value is refused, and its subscription comes back.
+fn receive_later<R: Abort, T: Numbered<Memory = A>, A: Allocator + Copy>(
+    rt: &R,
+    task: &MockTask,
+    flow: &SharedFlow<T, A>,
+    subscription: Subscription<T, A>,
+    refusing: &Refusing<Global>,
+) -> Subscription<T, A>
+    requires { subscription.token.table_id ≡ flow.now.table_id }
+    ensures { result.token.table_id ≡ flow.entry.now.table_id }
+{
+    refusing.refuse(1);
+    match task.poll(&mut NextFuture::new(flow, subscription)) {
+        Poll::Ready((subscription, refused)) => {
+            compare(rt, 5, refused.err(), Some(FlowFault::OutOfMemory));
+            subscription
+        }
+        Poll::Pending => panic!(rt; "it is refused"),
+    }
+}
+
+/// The subscriber receives the first value: its future asks for memory once.
+fn receives<R: Abort, T: Numbered<Memory = A>, A: Allocator + Copy>(
     rt: &R,
     task: &MockTask,
     flow: &SharedFlow<T, A>,
@@ -55,35 +105,26 @@ fn receives<R: Wait + Abort, T: Numbered<Memory = A>, A: Allocator + Copy>(
 )
     requires { subscription.token.table_id ≡ flow.now.table_id }
 {
-    let mut subscription = subscription;
-    refusing.refuse(1);
-    let refused = flow.next_now(&mut subscription);
-    compare(rt, 3, refused.err(), Some(FlowFault::OutOfMemory));
-    refusing.refuse(1);
-    let mut next = NextFuture::new(flow, subscription);
-    let Poll::Ready((subscription, refused)) = task.poll(&mut next) else {
-        panic!(rt; "it is refused")
-    };
-    compare(rt, 3, refused.err(), Some(FlowFault::OutOfMemory));
     refusing.refuse(2);
-    let mut next = NextFuture::new(flow, subscription);
-    let Poll::Ready((_subscription, received)) = task.poll(&mut next) else {
+    let Poll::Ready((_subscription, received)) = task.poll(&mut NextFuture::new(flow, subscription))
+    else {
         panic!(rt; "it is received")
     };
     match received {
-        Ok(value) => compare(rt, 4, value.number(), 1),
+        Ok(value) => compare(rt, 6, value.number(), 1),
         Err(_fault) => panic!(rt; "it is received"),
     }
-    compare(rt, 7, refusing.is_waiting(), true);
+    compare(rt, 6, refusing.is_waiting(), true);
 }
 
-/// A subscriber has not read 1 and 2. A third value waits, and the subscriber receives the first one. Both are refused twice.
-fn play<R: Wait + Abort, T: Numbered<Memory = A>, A: Allocator + Copy>(
+/// A flow, a seat, and a subscriber that has not read 1 and 2.
+fn full_flow<R: Wait + Abort, T: Numbered<Memory = A>, A: Allocator + Copy>(
     rt: &R,
-    task: &MockTask,
     memory: A,
-    refusing: &Refusing<Global>,
-) {
+) -> (SharedFlow<T, A>, Seat<T, A>, Subscription<T, A>)
+    ensures { (result.1.table_id ≡ result.0.table_id) ×
+        (result.2.token.table_id ≡ result.0.table_id) }
+{
     let Ok((flow, mut seat)) = SharedFlow::<T, A>::new(memory, SMALL) else {
         panic!(rt; "a flow")
     };
@@ -94,7 +135,24 @@ fn play<R: Wait + Abort, T: Numbered<Memory = A>, A: Allocator + Copy>(
     compare(rt, 0, first.ok(), Some(true));
     let second = flow.try_emit(rt, &mut seat, T::of(rt, memory, 2));
     compare(rt, 0, second.ok(), Some(true));
-    emits(rt, task, &flow, seat, memory, refusing);
+    (flow, seat, subscription)
+}
+
+/// A third value waits, and the subscriber receives the first one. Both are refused at once, and then as futures.
+fn play<R: Wait + Abort, T: Numbered<Memory = A>, A: Allocator + Copy>(
+    rt: &R,
+    task: &MockTask,
+    memory: A,
+    refusing: &Refusing<Global>,
+) {
+    let (flow, seat, mut subscription) = full_flow::<R, T, A>(rt, memory);
+    let (seat, value) = emit_now(rt, &flow, seat, T::of(rt, memory, 3), refusing);
+    let (seat, value) = emit_later(rt, task, &flow, seat, value, refusing);
+    emits(rt, task, &flow, seat, value, refusing);
+    refusing.refuse(1);
+    let refused = flow.next_now(&mut subscription);
+    compare(rt, 4, refused.err(), Some(FlowFault::OutOfMemory));
+    let subscription = receive_later(rt, task, &flow, subscription, refusing);
     receives(rt, task, &flow, subscription, refusing);
 }
 

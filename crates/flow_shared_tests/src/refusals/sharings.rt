@@ -23,8 +23,8 @@ fn refusal<A: Allocator + Copy>(rt: &impl Abort, alloc: Global, memory: A) -> Op
     share_in(memory, chain, Started::Eagerly, 0, u64::MAX).err()
 }
 
-/// Each allocation of a new sharing is refused in turn, until none is; and then that of the item that waits, which is put in the
-/// next turn.
+/// Each allocation of a new sharing is refused in turn, until none is. Then the allocation of the item that waits is refused,
+/// which is put in the next turn.
 fn share<A: Allocator + Copy>(
     rt: &impl Abort,
     alloc: Global,

@@ -10,7 +10,7 @@ use std::sync::atomic::{AtomicU64, Ordering};
 use std::thread::sleep;
 use std::time::{Clock, Duration};
 
-/// Subscribes while the run sleeps, takes three items, each after a nap, and unsubscribes. Returns whether they are 3, 3 and 4.
+/// Subscribes while the run sleeps, and takes three items, each after a nap. Returns whether they are 3, 3 and 4.
 fn takes_slowly<R: Wait + Clock>(rt: &R, emitter: &mut Emitter<'_, i64>) -> bool {
     nap(rt);
     let Ok(mut reader) = emitter.subscribe(rt) else {

@@ -1,4 +1,4 @@
-//! Policies, and hubs of flows for one thread, by themselves. Worked examples of sharings put items by the hubs of other flows.
+//! Policies, and hubs of flows for one thread, by themselves. The worked examples of sharings use the hubs of other flows.
 ghost use Rattle.std.specs.Prelude.{◌≡◌, false};
 
 use crate::compare::compare;
