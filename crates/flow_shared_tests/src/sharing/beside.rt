@@ -21,26 +21,27 @@ pub fn nap<R: Clock>(rt: &R) {
     sleep(rt, Duration::from_millis(2));
 }
 
-/// A caller of the flow into which a sharing runs on another thread.
-pub trait Follower<S: StopSignal> {
-    /// Asks the run to stop at last. Returns whether the caller received what it was to receive.
-    fn follow<R: Wait + Clock>(&mut self, rt: &R, stop: &S) -> bool;
+/// A stop of a run, and what a caller of the flow does before it asks the run to stop.
+pub trait Follows<C>: StopSignal {
+    /// Follows the run on another thread, and asks it to stop at last. Returns whether the caller received what it was to
+    /// receive.
+    fn follow<R: Wait + Clock>(&self, rt: &R, caller: &mut C) -> bool;
 }
 
 /// Runs the sharing while the caller follows it.
-pub fn run_beside<R, H, S, F>(
+pub fn run_beside<R, H, C, S>(
     rt: &R,
     sharing: &mut Sharing<Scripted<i64>, H>,
     stop: &S,
-    follower: &mut F,
+    caller: &mut C,
 )
 where
     R: Threads + Wait + Clock + Abort + Sync,
     H: WatchedHub<Item = i64> + Send,
-    S: StopSignal + Sync,
-    F: Follower<S> + Send,
+    C: Send,
+    S: Follows<C> + Sync,
 {
-    let (ran, follows) = join(rt, || sharing.run(rt, stop), || follower.follow(rt, stop));
+    let (ran, follows) = join(rt, || sharing.run(rt, stop), || stop.follow(rt, caller));
     compare(rt, 0, ran, Ok(()));
     compare(rt, 1, follows, true);
 }

@@ -1,9 +1,14 @@
 //! Sharings over a word state that are run by one call, on a thread of its own.
-use crate::sharing::beside::{Follower, SHORTLY, nap, run_beside};
+ghost use Rattle.std.specs.Prelude.{◌≡◌};
+
+use crate::sharing::beside::{Follows, SHORTLY, nap, run_beside};
 use crate::sharing::playing::Chain;
+use flow_cold::Scripted;
 use flow_sharing::{Sharing, WordHub, WordStop};
-use flow_word::{WordSetter, WordState};
+use flow_word::{WordSeat, WordSetter, WordState};
+use std::process::Abort;
 use std::sync::Wait;
+use std::thread::Threads;
 use std::time::Clock;
 
 /// Subscribes while the run sleeps, waits for the chain's last item, which is 4, and unsubscribes.
@@ -28,14 +33,34 @@ fn is_first<R: Clock>(rt: &R, setter: &mut WordSetter<'_, i64>) -> bool {
     false
 }
 
-impl<'a> Follower<WordStop<'a, i64>> for WordSetter<'a, i64> {
-    /// Subscribes twice, so that the run is woken by a subscriber after a stop, too.
-    fn follow<R: Wait + Clock>(&mut self, rt: &R, stop: &WordStop<'a, i64>) -> bool {
-        let first = waits_for_last(rt, self) && is_first(rt, self);
-        let second = waits_for_last(rt, self) && is_first(rt, self);
-        stop.ask();
+impl<'a> Follows<WordSetter<'a, i64>> for WordStop<'a, i64> {
+    /// The caller subscribes twice, so that the run is woken by a subscriber after a stop, too.
+    fn follow<R: Wait + Clock>(&self, rt: &R, caller: &mut WordSetter<'a, i64>) -> bool {
+        let first = waits_for_last(rt, caller) && is_first(rt, caller);
+        let second = waits_for_last(rt, caller) && is_first(rt, caller);
+        self.ask();
         first && second
     }
+}
+
+/// Shares a chain into the flow by a run, and follows the run.
+fn run_into<R: Threads + Wait + Clock + Abort + Sync>(
+    rt: &R,
+    flow: &WordState<i64>,
+    seat: WordSeat<i64>,
+    chain: Scripted<i64>,
+)
+    requires { seat.table_id ≡ flow.now.table_id }
+{
+    let mut seat = seat;
+    let hub = WordHub::new(flow, &mut seat, 0);
+    let mut sharing = Sharing::new(chain, SHORTLY, hub);
+    run_beside(
+        rt,
+        &mut sharing,
+        &WordStop::new(flow),
+        &mut flow.setter(seat),
+    );
 }
 
 /// `stateIn` with `WhileSubscribed(stopTimeoutMillis = 3, replayExpirationMillis = 3)`: a subscriber sees the chain's last
@@ -43,9 +68,6 @@ impl<'a> Follower<WordStop<'a, i64>> for WordSetter<'a, i64> {
 #[test]
 fn a_run_is_woken_by_subscribers_and_at_the_expiry(rt: HostRuntime) {
     let chain = Chain::List(&[3, 3, 4]).make(&rt, rt.alloc());
-    let (flow, mut seat) = WordState::new(rt.alloc(), 0, u32::MAX).expect(&rt, "a flow");
-    let hub = WordHub::new(&flow, &mut seat, 0);
-    let mut sharing = Sharing::new(chain, SHORTLY, hub);
-    let stop = WordStop::new(&flow);
-    run_beside(&rt, &mut sharing, &stop, &mut flow.setter(seat));
+    let (flow, seat) = WordState::new(rt.alloc(), 0, u32::MAX).expect(&rt, "a flow");
+    run_into(&rt, &flow, seat, chain);
 }

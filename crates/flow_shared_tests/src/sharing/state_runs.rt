@@ -1,10 +1,15 @@
 //! Sharings over state flows that are run by one call, on a thread of its own.
-use crate::sharing::beside::{AT_ONCE, Follower, SHORTLY, nap, run_beside};
+ghost use Rattle.std.specs.Prelude.{◌≡◌};
+
+use crate::sharing::beside::{AT_ONCE, Follows, SHORTLY, nap, run_beside};
 use crate::sharing::playing::Chain;
-use flow_shared::{Setter, StateFlow};
-use flow_sharing::{FlowStop, Sharing, StateFlowHub};
+use flow_cold::Scripted;
+use flow_law::Started;
+use flow_shared::{Setter, StateFlow, StateSeat};
+use flow_sharing::{FlowStop, Sharing, StateFlowHub, StopSignal};
+use std::process::Abort;
 use std::sync::Wait;
-use std::thread::yield_now;
+use std::thread::{Threads, yield_now};
 use std::time::Clock;
 
 /// Subscribes while the run sleeps, waits for the chain's last item, which is 4, and unsubscribes.
@@ -29,13 +34,61 @@ fn is_first<R: Wait + Clock>(rt: &R, setter: &mut Setter<'_, i64>) -> bool {
     false
 }
 
-impl<'a> Follower<FlowStop> for Setter<'a, i64> {
-    /// Subscribes twice.
-    fn follow<R: Wait + Clock>(&mut self, rt: &R, stop: &FlowStop) -> bool {
-        let first = waits_for_last(rt, self) && is_first(rt, self);
-        let second = waits_for_last(rt, self) && is_first(rt, self);
-        stop.ask(rt, self);
-        first && second
+/// Subscribes twice. Returns whether each subscriber got the last item, and the state was the first one once it had gone.
+fn waits_twice<R: Wait + Clock>(rt: &R, setter: &mut Setter<'_, i64>) -> bool {
+    let first = waits_for_last(rt, setter) && is_first(rt, setter);
+    first && waits_for_last(rt, setter) && is_first(rt, setter)
+}
+
+/// Yields so many times.
+fn yields(times: u32) -> bool {
+    for _ in 0..times {
+        yield_now();
+    }
+    true
+}
+
+/// A stop that is asked for after so many yields, or once the caller of the flow has subscribed twice.
+#[derive(Drop)]
+struct LateStop {
+    stop: FlowStop,
+    yields: Option<u32>,
+}
+
+impl StopSignal for LateStop {
+    fn is_asked(&self) -> bool {
+        self.stop.is_asked()
+    }
+}
+
+impl<'a> Follows<Setter<'a, i64>> for LateStop {
+    fn follow<R: Wait + Clock>(&self, rt: &R, caller: &mut Setter<'a, i64>) -> bool {
+        let follows = match self.yields {
+            Some(times) => yields(times),
+            None => waits_twice(rt, caller),
+        };
+        self.stop.ask(rt, caller);
+        follows
+    }
+}
+
+/// Shares a chain into the flow by a run for each of these stops, and follows each run.
+fn run_into<R: Threads + Wait + Clock + Abort + Sync>(
+    rt: &R,
+    flow: &StateFlow<i64>,
+    seat: StateSeat<i64>,
+    chain: Scripted<i64>,
+    started: Started,
+    stops: &[LateStop],
+)
+    requires { seat.table_id ≡ flow.now.table_id }
+{
+    let mut seat = seat;
+    let hub = StateFlowHub::new(flow, &mut seat, 0);
+    let mut sharing = Sharing::new(chain, started, hub);
+    let mut setter = flow.setter(seat);
+    for stop in stops {
+        run_beside(rt, &mut sharing, stop, &mut setter);
     }
 }
 
@@ -43,41 +96,27 @@ impl<'a> Follower<FlowStop> for Setter<'a, i64> {
 /// milliseconds the state is the first one, 0. The next subscriber starts the chain anew.
 #[test]
 fn a_state_flows_run_is_woken_by_subscribers_and_at_the_expiry(rt: HostRuntime) {
+    let stops = [LateStop {
+        stop: FlowStop::new(),
+        yields: None,
+    }];
     let chain = Chain::List(&[3, 3, 4]).make(&rt, rt.alloc());
-    let (flow, mut seat) = StateFlow::new(rt.alloc(), 0, u64::MAX).expect(&rt, "a flow");
-    let hub = StateFlowHub::new(&flow, &mut seat, 0);
-    let mut sharing = Sharing::new(chain, SHORTLY, hub);
-    run_beside(&rt, &mut sharing, &FlowStop::new(), &mut flow.setter(seat));
-}
-
-/// A caller that asks the run to stop after so many yields.
-#[derive(Drop)]
-struct Asker<'a> {
-    setter: Setter<'a, i64>,
-    yields: u32,
-}
-
-impl<'a> Follower<FlowStop> for Asker<'a> {
-    fn follow<R: Wait + Clock>(&mut self, rt: &R, stop: &FlowStop) -> bool {
-        for _ in 0..self.yields {
-            yield_now();
-        }
-        stop.ask(rt, &mut self.setter);
-        true
-    }
+    let (flow, seat) = StateFlow::new(rt.alloc(), 0, u64::MAX).expect(&rt, "a flow");
+    run_into(&rt, &flow, seat, chain, SHORTLY, stops.as_slice());
 }
 
 /// A stop that is asked for at any moment of a run's first turns ends it.
 #[test]
 fn a_stop_that_comes_before_the_sleep_is_not_missed(rt: HostRuntime) {
-    let chain = Chain::List(&[1]).make(&rt, rt.alloc());
-    let (flow, mut seat) = StateFlow::new(rt.alloc(), 0, u64::MAX).expect(&rt, "a flow");
-    let hub = StateFlowHub::new(&flow, &mut seat, 0);
-    let mut sharing = Sharing::new(chain, AT_ONCE, hub);
-    let setter = flow.setter(seat);
-    let mut asker = Asker { setter, yields: 0 };
-    for round in 0..200 {
-        asker.yields = round;
-        run_beside(&rt, &mut sharing, &FlowStop::new(), &mut asker);
+    let mut stops = Vec::new(rt.alloc());
+    for times in 0..200 {
+        let late = LateStop {
+            stop: FlowStop::new(),
+            yields: Some(times),
+        };
+        stops.push(late).expect(&rt, "memory");
     }
+    let chain = Chain::List(&[1]).make(&rt, rt.alloc());
+    let (flow, seat) = StateFlow::new(rt.alloc(), 0, u64::MAX).expect(&rt, "a flow");
+    run_into(&rt, &flow, seat, chain, AT_ONCE, stops.as_slice());
 }
