@@ -234,9 +234,9 @@ impl<S: FlowCore + Drop, A: Allocator + Copy> Flow<S, A> {
         requires flow { seat.old.table_id ≡ self.now.table_id }
         requires may { MayCall S.kind (C.call call (subscription_name seat.old.knows))
             seat.old.knows.name seat.old.knows.seen }
-        ensures called { IfOk result (λ answer. CallsAtOnce S.kind self.now seat.old
-            (C.call call (subscription_name seat.old.knows)) (C.reply answer) seat.new ×
-            C.also call answer) }
+        ensures called { IfOk result (λ answer.
+            CallsAtOnce S.kind self.now seat.old (C.call call (subscription_name seat.old.knows))
+            (C.reply answer) seat.new × C.also call answer) }
         ensures busy { IfErr result (λ back. IsBusy seat.old seat.new × (back ≡ call)) }
         ensures armed { MatchResult result (λ answer. C.is_wait answer → W.is_armed waiter.new)
             (λ back. W.is_armed waiter.new) }
