@@ -1,8 +1,17 @@
 //! What a call answered, beside what it is to answer.
+use flow_law::OutOfMemory;
 use std::fmt::Debug;
 use std::process::Abort;
 
 /// The answer of the call at this place is the one that is wanted.
 pub fn compare<T: PartialEq + Debug + Drop>(rt: &impl Abort, place: usize, answer: T, wanted: T) {
     assert_eq!(rt; answer, wanted, "call {place}");
+}
+
+/// How many values a cache has, or 99 if there was no memory for them.
+pub fn length(cache: Result<Vec<i64>, OutOfMemory>) -> usize {
+    match cache {
+        Ok(values) => values.len(),
+        Err(OutOfMemory) => 99,
+    }
 }

@@ -2,7 +2,7 @@
 use crate::tests::shared_calls::Call::{
     CacheLength, Cancel, Count, CountBesideFuture, Drain, DropEmission, DropSecond, EmitByAnother,
     EmitByReader, Next, PollReceive, PollSend, PollUntilReceived, Receive, ReceiveByFuture,
-    ReceiveInTime, Reset, Seen, Send, SendByFuture, SendRefused, Subscribe, SubscribeWith,
+    ReceiveInTime, Reset, Seen, Select, Send, SendByFuture, SendRefused, Subscribe, SubscribeWith,
     TryCancel, TryCount, TryEmit, TryEmitRefused, TryNext, TryReset, Unsubscribe,
 };
 use crate::tests::shared_calls::Example;
@@ -126,6 +126,14 @@ pub static SHARED: &[Example] = &[
             ReceiveByFuture(6),
             Next(Some(6)),
         ],
+    },
+    // A future that loses a `select` leaves no subscription.
+    Example {
+        config: Config {
+            extra: 1,
+            ..UNBUFFERED
+        },
+        calls: &[Subscribe(true), TryEmit(7, true), Select(7), Count(2)],
     },
     // A flow without a buffer: an emission waits until the subscriber has its value. No reader receives the value of a
     // cancelled or dropped emission or of a dropped future.

@@ -1,12 +1,12 @@
 //! Calls on an emitter and a reader of a shared flow, each with what it is to answer.
-use crate::tests::compare::compare;
+use crate::tests::compare::{compare, length};
 use crate::tests::emissions::{cancel, emission_of, poll_until_received, queued, try_cancel};
 use crate::tests::flows::new_reader;
 use crate::tests::shared::SHARED;
 use crate::tests::tasks::{
-    count_beside_future, poll_receive, poll_send, receive_by_future, send_by_future,
+    count_beside_future, poll_receive, poll_send, receive_by_future, receive_first, send_by_future,
 };
-use flow_law::{Config, Exhausted, NumberError, OutOfMemory, Rejected};
+use flow_law::{Config, Exhausted, NumberError, Rejected};
 use flow_shared::{DrainEnd, Emitter, Reader, SharedFlow};
 use std::alloc::AllocGlobal;
 use std::process::Abort;
@@ -72,6 +72,8 @@ pub enum Call {
     SendByFuture(i64),
     /// A future of the second reader receives the value.
     ReceiveByFuture(i64),
+    /// Of a future of a new reader and one of the second, the latter receives the value.
+    Select(i64),
 }
 
 /// Makes a call that emits, and compares what it answers.
@@ -100,13 +102,6 @@ fn emit<R: Wait + Abort + RandomSource + AllocGlobal>(
             emitter.meet(&mut other);
         }
         _ => ask(rt, emitter, place, call),
-    }
-}
-
-fn length(cache: Result<Vec<i64>, OutOfMemory>) -> usize {
-    match cache {
-        Ok(values) => values.len(),
-        Err(OutOfMemory) => 99,
     }
 }
 
@@ -154,6 +149,15 @@ fn call_second<'a, R: Wait + Abort + RandomSource + AllocGlobal>(
         Call::DropSecond => *second = None,
         Call::ReceiveByFuture(value) => {
             compare(rt, place, receive_by_future(rt, second.take()), Some(value));
+        }
+        Call::Select(value) => {
+            let loser = new_reader(rt, emitter);
+            compare(
+                rt,
+                place,
+                receive_first(rt, loser, second.take()),
+                Some(value),
+            );
         }
         _ => emit(rt, emitter, place, call),
     }

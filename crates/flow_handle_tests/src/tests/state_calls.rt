@@ -1,7 +1,7 @@
 //! Calls on a setter and a reader of a state flow, each with what it is to answer.
-use crate::tests::compare::compare;
+use crate::tests::compare::{compare, length};
 use crate::tests::flows::new_state_reader;
-use crate::tests::state::STATE;
+use crate::tests::state::{Call, STATE, WAITS};
 use crate::tests::streams::next_of;
 use flow_law::{OutOfMemory, Unsupported};
 use flow_shared::{DrainEnd, Setter, StateFlow, StateReader};
@@ -10,56 +10,6 @@ use std::process::Abort;
 use std::random::RandomSource;
 use std::sync::Wait;
 use std::time::{Clock, Duration};
-
-/// A call, and what it answers.
-#[derive(Drop)]
-pub enum Call {
-    Value(i64),
-    Set(i64),
-    TrySet(i64),
-    TryEmit(i64),
-    /// The value that is expected, the new one, and whether it was set.
-    CompareAndSet(i64, i64, bool),
-    /// A state flow does not support it.
-    Reset,
-    /// How many subscribers there are.
-    Count(u64),
-    /// How many values the cache has.
-    CacheLength(usize),
-    Seen,
-    /// Adds one.
-    Update,
-    /// Adds one, and answers the value before.
-    GetAndUpdate(i64),
-    /// Adds one, and answers the value after.
-    UpdateAndGet(i64),
-    /// The function has no memory for the new value.
-    UpdateRefused,
-    GetAndUpdateRefused,
-    UpdateAndGetRefused,
-    Next(Option<i64>),
-    TryNext(Option<i64>),
-    /// How many values are taken at most, and how many were there.
-    Drain(usize, usize),
-    ReaderSeen,
-    Changed(i64),
-    /// How many milliseconds it waits at most, and what comes.
-    ChangedInTime(u64, Option<i64>),
-    /// Waits for a value that is greater than the first number.
-    WaitFor(i64, i64),
-    /// How many milliseconds it waits at most for a value that is greater than the next number, and what comes.
-    WaitInTime(u64, i64, Option<i64>),
-    /// How many subscribers there are beside another reader, which is dropped.
-    CountBesideReader(u64),
-    /// How many subscribers there are beside a stream, which is dropped.
-    CountBesideStream(u64),
-    /// Another reader leaves at once.
-    TryUnsubscribe,
-    /// The first value of another reader's stream.
-    StreamOfNew(i64),
-    /// The first value of another reader, which went through a future.
-    NextOfNew(i64),
-}
 
 pub fn one_more(value: &i64) -> Result<i64, OutOfMemory> {
     Ok(value.wrapping_add(1))
@@ -87,13 +37,6 @@ fn update<R: Wait + Abort>(rt: &R, setter: &mut Setter<'_, i64>, place: usize, c
             compare(rt, place, setter.update_and_get(rt, none), Err(OutOfMemory));
         }
         _ => panic!(rt; "call {place} is no such call"),
-    }
-}
-
-fn length(cache: Result<Vec<i64>, OutOfMemory>) -> usize {
-    match cache {
-        Ok(values) => values.len(),
-        Err(OutOfMemory) => 99,
     }
 }
 
@@ -261,6 +204,13 @@ fn play<R: Wait + Clock + Abort + RandomSource + AllocGlobal>(
 #[test]
 fn calls_of_state_flows(rt: HostRuntime) {
     for (example, calls) in STATE.iter().enumerate() {
+        play(&rt, example, calls);
+    }
+}
+
+#[test]
+fn waits_of_state_flows(rt: HostRuntime) {
+    for (example, calls) in WAITS.iter().enumerate() {
         play(&rt, example, calls);
     }
 }

@@ -3,6 +3,7 @@ use crate::tests::flows::new_reader;
 use flow_shared::{Emitter, Reader};
 use futures::Future;
 use futures::executor::block_on;
+use futures::future::{Either, select};
 use futures::test::MockTask;
 use std::alloc::AllocGlobal;
 use std::process::Abort;
@@ -59,4 +60,16 @@ pub fn receive_by_future<R: Wait + RandomSource + AllocGlobal>(
 ) -> Option<i64> {
     let (_subscription, received) = block_on(rt, reader?.into_receive()).ok()?;
     received.ok()
+}
+
+/// What a future of one reader or of the other receives first. The slower one is dropped.
+pub fn receive_first<R: Wait + RandomSource + AllocGlobal>(
+    rt: &R,
+    one: Reader<'_, i64>,
+    other: Option<Reader<'_, i64>>,
+) -> Option<i64> {
+    match block_on(rt, select(one.into_receive(), other?.into_receive())).ok()? {
+        Either::Left(((_subscription, received), _loser)) => received.ok(),
+        Either::Right(((_subscription, received), _loser)) => received.ok(),
+    }
 }

@@ -1,42 +1,12 @@
 //! Calls on a setter and a reader of a word state, each with what it is to answer.
 use crate::tests::compare::compare;
+use crate::tests::state::{Call, WAITS};
 use crate::tests::word::WORD;
 use flow_word::{WordReader, WordSetter, WordState};
 use std::alloc::AllocGlobal;
 use std::process::Abort;
 use std::sync::Wait;
 use std::time::{Clock, Duration};
-
-/// A call, and what it answers.
-#[derive(Drop)]
-pub enum Call {
-    Value(i64),
-    Set(i64),
-    /// The value that is expected, the new one, and whether it was set.
-    CompareAndSet(i64, i64, bool),
-    /// How many subscribers there are.
-    Count(u64),
-    /// How many subscribers there are beside another reader, which is dropped.
-    CountBesideReader(u64),
-    /// How many subscribers there are beside a stream, which is dropped.
-    CountBesideStream(u64),
-    Seen,
-    /// Adds one.
-    Update,
-    /// Adds one, and answers the value before.
-    GetAndUpdate(i64),
-    /// Adds one, and answers the value after.
-    UpdateAndGet(i64),
-    Next(Option<i64>),
-    ReaderSeen,
-    Changed(i64),
-    /// How many milliseconds it waits at most, and what comes.
-    ChangedInTime(u64, Option<i64>),
-    /// Waits for a value that is greater than the first number.
-    WaitFor(i64, i64),
-    /// How many milliseconds it waits at most for a value that is greater than the next number, and what comes.
-    WaitInTime(u64, i64, Option<i64>),
-}
 
 fn one_more(value: i64) -> i64 {
     value.wrapping_add(1)
@@ -155,6 +125,13 @@ fn play<R: Wait + Clock + Abort + AllocGlobal>(rt: &R, example: usize, calls: &[
 #[test]
 fn calls_of_word_states(rt: HostRuntime) {
     for (example, calls) in WORD.iter().enumerate() {
+        play(&rt, example, calls);
+    }
+}
+
+#[test]
+fn waits_of_word_states(rt: HostRuntime) {
+    for (example, calls) in WAITS.iter().enumerate() {
         play(&rt, example, calls);
     }
 }
