@@ -3,8 +3,8 @@
 mod asks;
 mod callers;
 mod gives;
+mod inner;
 mod methods;
-mod operators;
 mod refused_copies;
 mod refused_growth;
 mod streams;

@@ -1,6 +1,6 @@
-//! Whole runs of the program over memory: streams that give or take little, and threads. The cases of `cases/` at the top of
-//! the repository, texts that are no script, and scripts at each limit and above it are played by the program as it was built
-//! (`.ci/cases`, `.ci/hostile`).
+//! Whole runs of the program over memory: readers and writers that give or take little, or fail. The cases of `cases/` at the
+//! top of the repository, arguments, texts that are no script, and scripts at each limit and above it are played by the program
+//! as it was built (`.ci/cases`, `.ci/hostile`).
 use flow_program::run;
 use flow_script::Watched;
 use std::alloc::AllocGlobal;
@@ -9,7 +9,6 @@ use std::process::Abort;
 use std::sync::Wait;
 use std::thread::Threads;
 
-mod crowd;
 mod explained;
 mod streams;
 mod vectors;
@@ -19,19 +18,12 @@ pub trait Host: Abort + Threads + Wait + Sync + AllocGlobal {}
 
 impl<H: Abort + Threads + Wait + Sync + AllocGlobal> Host for H {}
 
-/// Runs the program with these arguments on what a reader gives, and compares the status and what was printed.
-pub fn expect<H: Host, R: Read + Drop>(
-    rt: &H,
-    name: &str,
-    args: &[String],
-    script: R,
-    status: u8,
-    lines: &[u8],
-) {
+/// Runs the program on what a reader gives, and compares the status and what was printed.
+pub fn expect<H: Host, R: Read + Drop>(rt: &H, name: &str, script: R, status: u8, lines: &[u8]) {
     let mut printed = Vec::new(rt.alloc());
     let mut input = Watched::new(script);
     let mut output = Watched::new(&mut printed);
-    let answered = run(rt, args, &mut input, &mut output);
+    let answered = run(rt, &[], &mut input, &mut output);
     compare(rt, name, printed.as_slice(), lines);
     assert_eq!(rt; answered, status, "the status of {name}");
 }

@@ -2,7 +2,7 @@
 ghost use Rattle.std.specs.Prelude.{⊤};
 
 use crate::chains::gives::{COLLECTIONS, begins_with};
-use crate::chains::operators::sum;
+use crate::chains::inner::sum;
 use crate::compare::compare;
 use flow_cold::{Asked, Chain, Cold, OfRange, law_asks_left};
 use std::cell::Cell;

@@ -1,7 +1,7 @@
 //! Chains as one writes them: operators as methods over plain closures, and terminal operators.
 
 use crate::chains::gives::{FAILS_AFTER_TWO, begins_with, gives, list, script};
-use crate::chains::operators::sum;
+use crate::chains::inner::sum;
 use crate::compare::compare;
 use flow_cold::{Chain, ChainFault, End, OfRange, Terminal};
 
@@ -29,13 +29,6 @@ fn a_result_that_is_out_of_range_ends_a_chain(rt: HostRuntime) {
     gives(&rt, rt.alloc(), 0, above, &[i64::MAX], OVERFLOW);
 }
 
-#[test]
-fn a_sum_that_is_out_of_range_ends_a_chain(rt: HostRuntime) {
-    let above = OfRange::new(1, 3).scan(i64::MAX - 1, sum);
-    let sums = [i64::MAX - 1, i64::MAX];
-    gives(&rt, rt.alloc(), 0, above, &sums, OVERFLOW);
-}
-
 /// Each collection drops the first items anew.
 #[test]
 fn first_items_are_dropped(rt: HostRuntime) {
@@ -49,6 +42,13 @@ fn last_items_are_left_out(rt: HostRuntime) {
     let limit = 3;
     let below = OfRange::new(1, 9).take_while(|x| *x < limit);
     gives(&rt, rt.alloc(), 1, below, &[1, 2], End::Completed);
+}
+
+/// `take(0)` is refused, as in Kotlin.
+#[test]
+fn a_take_of_nothing_is_refused(rt: HostRuntime) {
+    let refused = OfRange::new(1, 5).take(0).err();
+    compare(&rt, 0, refused, Some(ChainFault::NotPositive));
 }
 
 /// Of 1, 5 and 2 the last is below 3, but comes after 5, which is not.
@@ -86,15 +86,6 @@ fn items_are_added_up(rt: HostRuntime) {
 fn items_are_paired(rt: HostRuntime) {
     let zipped = OfRange::new(2, 5).zip(OfRange::new(10, 12), sum);
     gives(&rt, rt.alloc(), 0, zipped, &[12, 14, 16], End::Completed);
-}
-
-#[test]
-fn items_are_paired_by_a_closure(rt: HostRuntime) {
-    let zipped = OfRange::new(1, 3).zip(
-        OfRange::new(10, 13),
-        |x, y| x.checked_add(y).ok_or(ChainFault::Overflow),
-    );
-    gives(&rt, rt.alloc(), 0, zipped, &[11, 13, 15], End::Completed);
 }
 
 #[test]

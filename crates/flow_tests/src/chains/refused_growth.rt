@@ -2,7 +2,7 @@
 //! gives all.
 
 use crate::chains::gives::gives_once;
-use crate::chains::operators::{listed, opened};
+use crate::chains::inner::{listed, opened};
 use crate::compare::compare;
 use flow_cold::{
     Arithmetic, Chain, ChainFault, Cold, Collected, End, OfRange, Op, ScriptChain, Scripted,

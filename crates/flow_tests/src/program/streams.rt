@@ -36,22 +36,6 @@ impl<'a> Read for Trickle<'a> {
     }
 }
 
-/// Gives spaces for ever, and counts them.
-#[derive(Drop)]
-struct Endless<'a> {
-    given: &'a mut usize,
-}
-
-impl<'a> Read for Endless<'a> {
-    fn read(&mut self, buf: &mut [u8]) -> io::Result<usize> {
-        for byte in buf.iter_mut() {
-            *byte = b' ';
-        }
-        *self.given = self.given.saturating_add(buf.len());
-        Ok(buf.len())
-    }
-}
-
 /// Takes one byte at a time, and none once it has taken `left` bytes; then it fails, or takes no more.
 #[derive(Drop)]
 struct Sluggish<'a> {
@@ -105,7 +89,7 @@ fn a_slow_reader_or_writer_changes_nothing(rt: HostRuntime) {
         bytes: SCRIPT.as_bytes(),
         left: usize::MAX,
     };
-    expect(&rt, name, &[], slow, 0, LINES.as_bytes());
+    expect(&rt, name, slow, 0, LINES.as_bytes());
     play_to(&rt, usize::MAX, true, 0, LINES.as_bytes());
 }
 
@@ -122,7 +106,7 @@ fn a_reader_that_fails_prints_its_line_alone(rt: HostRuntime) {
     let bytes = SCRIPT.as_bytes();
     for left in 0..=SCRIPT.len() {
         let fails = Trickle { bytes, left };
-        expect(&rt, "a reader that fails", &[], fails, 3, b"read failed\n");
+        expect(&rt, "a reader that fails", fails, 3, b"read failed\n");
     }
 }
 
@@ -133,13 +117,4 @@ fn a_writer_that_stops_has_the_first_bytes(rt: HostRuntime) {
         play_to(&rt, left, true, 3, lines);
         play_to(&rt, left, false, 3, lines);
     }
-}
-
-#[test]
-fn a_reader_without_end_is_left(rt: HostRuntime) {
-    let mut given = 0;
-    let endless = Endless { given: &mut given };
-    let line = b"script refused 8 TooLarge at step 0\n";
-    expect(&rt, "spaces without end", &[], endless, 2, line);
-    assert_eq!(rt; given, 1_048_577);
 }

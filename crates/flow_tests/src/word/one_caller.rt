@@ -1,9 +1,8 @@
 //! Worked examples by one caller. The values come from kotlinx.coroutines' documentation of
-//! `MutableStateFlow`.
+//! `MutableStateFlow`. flow_handle_tests has more of them, by handles.
 ghost use Rattle.std.specs.Prelude.{◌≡◌};
 
 use crate::compare::compare;
-use crate::word::caller::one_more;
 use flow_law::{FlowFault, Next};
 use flow_word::{WordSeat, WordState};
 use std::alloc::Global;
@@ -27,30 +26,6 @@ fn made_again(rt: &impl Abort, alloc: Global) -> (WordState<i64>, WordSeat<i64>)
 fn a_word_state_is_made(rt: HostRuntime) {
     let (flow, mut seat) = made_again(&rt, rt.alloc());
     compare(&rt, 1, flow.value(&mut seat), 7);
-}
-
-/// The values that were set between two calls of `next` are conflated: the last one is what the subscriber got last.
-#[test]
-fn a_subscriber_gets_what_it_has_not_got(rt: HostRuntime) {
-    let made = WordState::<i64>::new(rt.alloc(), 0, 1);
-    let (flow, mut seat) = made.expect(&rt, "a flow");
-    let subscribed = flow.subscribe(&rt, &mut seat);
-    let mut subscription = subscribed.expect(&rt, "a number");
-    compare(&rt, 0, flow.next(&mut subscription), Next::Value(0));
-    flow.set(&mut seat, 1);
-    flow.set(&mut seat, 0);
-    compare(&rt, 1, flow.next(&mut subscription), Next::Empty);
-    flow.set(&mut seat, 5);
-    compare(&rt, 2, flow.next(&mut subscription), Next::Value(5));
-}
-
-#[test]
-fn a_value_is_set_if_it_is_the_expected_one(rt: HostRuntime) {
-    let made = WordState::<i64>::new(rt.alloc(), 0, 0);
-    let (flow, mut seat) = made.expect(&rt, "a flow");
-    compare(&rt, 0, flow.compare_and_set(&mut seat, 0, 0), true);
-    compare(&rt, 1, flow.compare_and_set(&mut seat, 1, 2), false);
-    compare(&rt, 2, flow.value(&mut seat), 0);
 }
 
 /// A second number is refused.
@@ -90,13 +65,4 @@ fn a_subscriber_that_has_met_receives_what_was_set(rt: HostRuntime) {
     compare(&rt, 0, flow.next(&mut subscription), Next::Value(4));
     flow.seen_by_subscription(&mut subscription);
     compare(&rt, 1, flow.next(&mut subscription), Next::Empty);
-}
-
-#[test]
-fn an_update_gives_the_value_before_or_after(rt: HostRuntime) {
-    let made = WordState::<i64>::new(rt.alloc(), 0, 0);
-    let (flow, mut seat) = made.expect(&rt, "a flow");
-    let before = flow.get_and_update(&rt, &mut seat, one_more);
-    let after = flow.update_and_get(&rt, &mut seat, one_more);
-    compare(&rt, 0, (before, after), (0, 2));
 }

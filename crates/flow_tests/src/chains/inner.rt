@@ -1,0 +1,70 @@
+//! Operators whose items become lists or chains.
+
+use crate::chains::gives::gives;
+use flow_cold::{Chain, ChainFault, End, Entry, OfRange, Scripted};
+use std::alloc::Global;
+
+/// The sum, or the fault of one that is out of range.
+pub fn sum(x: i64, y: i64) -> Result<i64, ChainFault> {
+    x.checked_add(y).ok_or(ChainFault::Overflow)
+}
+
+/// A list of the item twice.
+pub fn listed(alloc: Global, x: i64) -> Result<Vec<i64>, ChainFault> {
+    let mut items = Vec::new(alloc);
+    if items.push(x).is_err() {
+        return Err(ChainFault::OutOfMemory);
+    }
+    if items.push(x).is_err() {
+        return Err(ChainFault::OutOfMemory);
+    }
+    Ok(items)
+}
+
+/// A chain of the item twice.
+pub fn opened(alloc: Global, x: i64) -> Result<Scripted<i64>, ChainFault> {
+    let mut entries = Vec::new(alloc);
+    if entries.push(Entry::Item(x)).is_err() {
+        return Err(ChainFault::OutOfMemory);
+    }
+    if entries.push(Entry::Item(x)).is_err() {
+        return Err(ChainFault::OutOfMemory);
+    }
+    Ok(Scripted::new(entries))
+}
+
+#[test]
+fn items_become_lists(rt: HostRuntime) {
+    let alloc = rt.alloc();
+    let chain = OfRange::new(1, 2).transform(|x| listed(alloc, x));
+    gives(&rt, alloc, 0, chain, &[1, 1, 2, 2], End::Completed);
+}
+
+#[test]
+fn items_become_chains(rt: HostRuntime) {
+    let ranges = OfRange::new(1, 3).flat_map_concat(|x| Ok(OfRange::new(1, x)));
+    gives(
+        &rt,
+        rt.alloc(),
+        0,
+        ranges,
+        &[1, 1, 2, 1, 2, 3],
+        End::Completed,
+    );
+}
+
+/// The inner chain's own closure captures the item.
+#[test]
+fn items_become_chains_with_closures(rt: HostRuntime) {
+    let chain = OfRange::new(1, 3).flat_map_concat(|x| {
+        Ok(OfRange::new(1, x).map(move |y| y.checked_mul(x).ok_or(ChainFault::Overflow)))
+    });
+    gives(
+        &rt,
+        rt.alloc(),
+        0,
+        chain,
+        &[1, 2, 4, 3, 6, 9],
+        End::Completed,
+    );
+}
