@@ -1,5 +1,5 @@
 //! Calls on a shared flow, each with what it is to answer.
-use crate::compare::compare;
+use crate::compare::{compare, no_such_call};
 use crate::one_thread::drains::DRAINS;
 use crate::one_thread::held::HELD;
 use crate::one_thread::lags::LAGS;
@@ -136,10 +136,9 @@ impl<'a> Caller<'a> {
         *self.subscribers.get(index).expect(rt, "a subscriber")
     }
 
-    /// Makes a call that changes nothing, and compares what it answers.
-    fn ask(&self, rt: &impl Abort, place: usize, call: &Call) {
+    /// Makes a call that lists values or refuses a copy, and compares what it answers.
+    fn list(&self, rt: &impl Abort, place: usize, call: &Call) {
         match *call {
-            Call::Poll(number, waits) => compare(rt, place, self.flow.poll(number), waits),
             Call::Cache(values) => {
                 let cache = copied(rt, self.flow.replay_cache());
                 are(rt, place, cache.as_slice(), values);
@@ -148,6 +147,16 @@ impl<'a> Caller<'a> {
                 let cache = copied(rt, self.flow.replay_cache());
                 compare(rt, place, cache.len(), length);
             }
+            Call::Values(values) => are(rt, place, self.drained.as_slice(), values),
+            Call::RefuseCopy(copy) => self.copies.set(copy),
+            _ => no_such_call(rt, place),
+        }
+    }
+
+    /// Makes a call that changes nothing, and compares what it answers.
+    fn ask(&self, rt: &impl Abort, place: usize, call: &Call) {
+        match *call {
+            Call::Poll(number, waits) => compare(rt, place, self.flow.poll(number), waits),
             Call::Count(count) => compare(rt, place, self.flow.subscription_count(), count),
             Call::Held(held) => compare(rt, place, self.flow.held(), held),
             Call::Emitted(count) => compare(rt, place, self.flow.emission_count(), count),
@@ -155,9 +164,7 @@ impl<'a> Caller<'a> {
                 let id = self.subscriber(rt, index);
                 compare(rt, place, self.flow.lag(id), lag);
             }
-            Call::Values(values) => are(rt, place, self.drained.as_slice(), values),
-            Call::RefuseCopy(copy) => self.copies.set(copy),
-            _ => panic!(rt; "call {place} is no such call"),
+            _ => self.list(rt, place, call),
         }
     }
 
@@ -187,17 +194,9 @@ impl<'a> Caller<'a> {
         }
     }
 
-    /// Makes a call, and compares what it answers.
-    fn make(&mut self, rt: &impl Abort, alloc: Global, place: usize, call: &Call) {
+    /// Makes a call of a new subscriber or one that ends an emission, and compares what it answers.
+    fn change(&mut self, rt: &impl Abort, alloc: Global, place: usize, call: &Call) {
         match *call {
-            Call::TryEmit(value, taken) => {
-                let value = CopyLimited::new(value, self.copies);
-                compare(rt, place, self.flow.try_emit(value).ok(), Some(taken));
-            }
-            Call::Emit(value, emission) => {
-                let value = CopyLimited::new(value, self.copies);
-                compare(rt, place, self.flow.emit(value).ok(), Some(emission));
-            }
             Call::Cancel(number, waited) => compare(rt, place, self.flow.cancel(number), waited),
             Call::Subscribe(number) => {
                 let id = self.flow.subscribe().expect(rt, "a subscription");
@@ -209,6 +208,21 @@ impl<'a> Caller<'a> {
             }
             Call::Reset => self.flow.reset_replay_cache(),
             _ => self.receive(rt, place, call),
+        }
+    }
+
+    /// Makes a call, and compares what it answers.
+    fn make(&mut self, rt: &impl Abort, alloc: Global, place: usize, call: &Call) {
+        match *call {
+            Call::TryEmit(value, taken) => {
+                let value = CopyLimited::new(value, self.copies);
+                compare(rt, place, self.flow.try_emit(value).ok(), Some(taken));
+            }
+            Call::Emit(value, emission) => {
+                let value = CopyLimited::new(value, self.copies);
+                compare(rt, place, self.flow.emit(value).ok(), Some(emission));
+            }
+            _ => self.change(rt, alloc, place, call),
         }
     }
 }
