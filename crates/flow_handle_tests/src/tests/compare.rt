@@ -2,10 +2,17 @@
 use flow_law::OutOfMemory;
 use std::fmt::Debug;
 use std::process::Abort;
+use std::thread::sleep;
+use std::time::{Clock, Duration};
 
 /// The answer of the call at this place is the one that is wanted.
 pub fn compare<T: PartialEq + Debug + Drop>(rt: &impl Abort, place: usize, answer: T, wanted: T) {
     assert_eq!(rt; answer, wanted, "call {place}");
+}
+
+/// Ends the test: the handle that got the call at this place has no such call.
+pub fn no_such_call(rt: &impl Abort, place: usize) {
+    panic!(rt; "call {place} is no such call")
 }
 
 /// How many values a cache has, or 99 if there was no memory for them.
@@ -14,4 +21,9 @@ pub fn length(cache: Result<Vec<i64>, OutOfMemory>) -> usize {
         Ok(values) => values.len(),
         Err(OutOfMemory) => 99,
     }
+}
+
+/// Lets another thread fall asleep.
+pub fn pause<R: Clock>(rt: &R) {
+    sleep(rt, Duration::from_millis(5));
 }

@@ -1,8 +1,9 @@
 //! Emissions that wait, through a handle.
-use crate::tests::compare::compare;
+use crate::tests::compare::{compare, pause};
 use flow_shared::{BoundEmission, EmitAnswer, Emitter, PollAnswer, Reader};
 use std::process::Abort;
 use std::sync::Wait;
+use std::time::Clock;
 
 /// Returns the emission, which has to wait.
 pub fn queued<'a, R: Abort, E: Drop>(
@@ -66,4 +67,16 @@ pub fn try_cancel(emission: BoundEmission<'_, i64>) -> bool {
         Ok((_emitter, was_waiting)) => was_waiting,
         Err(_emission) => false,
     }
+}
+
+/// Emits a value, and cancels its emission when another one waits behind it. Returns whether it waited.
+pub fn cancel_late<R: Wait + Clock + Abort>(
+    rt: &R,
+    emitter: &mut Emitter<'_, i64>,
+    value: i64,
+) -> bool {
+    let emission = emission_of(rt, emitter, value);
+    pause(rt);
+    pause(rt);
+    cancel(rt, emission)
 }

@@ -44,31 +44,25 @@ fn waits_in_vain<R: Wait + Clock + Abort, A: Allocator + Copy>(
     compare(rt, 1, sent, Some(SendEnd::Cancelled));
 }
 
-/// Subscribes, and refuses one request of each wait.
-fn refuse_reader<R: Wait + Clock + Abort, A: Allocator + Copy>(
+/// Makes a flow and a reader, which are not refused memory, and refuses one request of each wait.
+fn refuse_waits<R: Wait + Clock + Abort, A: Allocator + Copy>(
     rt: &R,
-    emitter: &mut Emitter<'_, i64, A>,
+    memory: A,
     refusing: &Refusing<Global>,
     number: u64,
 ) {
-    let mut reader = emitter.subscribe(rt).expect(rt, "a reader");
-    waits_in_vain(rt, emitter, &mut reader, refusing, number);
-}
-
-/// Makes a flow, and a reader, which are not refused memory, and refuses one request of each wait.
-fn refuse_waits<R: Wait + Clock + Abort>(rt: &R, memory: &Refusing<Global>, number: u64) {
-    memory.refuse(0);
-    let made = SharedFlow::<i64, _>::new(memory, Config::new());
-    let (flow, seat) = made.expect(rt, "a flow");
+    refusing.refuse(0);
+    let (flow, seat) = SharedFlow::<i64, A>::new(memory, Config::new()).expect(rt, "a flow");
     let mut emitter = flow.emitter(seat);
-    refuse_reader(rt, &mut emitter, memory, number);
+    let mut reader = emitter.subscribe(rt).expect(rt, "a reader");
+    waits_in_vain(rt, &mut emitter, &mut reader, refusing, number);
 }
 
 #[test]
 fn refused_waits_end_in_time(rt: HostRuntime) {
     let memory = Refusing::new(rt.alloc());
     for number in 1..=REQUESTS {
-        refuse_waits(&rt, &memory, number);
+        refuse_waits(&rt, &memory, &memory, number);
     }
     compare(&rt, 2, memory.is_waiting(), true);
 }
@@ -95,30 +89,25 @@ fn changes_in_vain<R: Wait + Clock + Abort, A: Allocator + Copy>(
     compare(rt, 2, found, Ok(None));
 }
 
-/// Subscribes, and refuses one request of each wait.
-fn refuse_state_reader<R: Wait + Clock + Abort, A: Allocator + Copy>(
+/// Makes a state flow and a reader, which are not refused memory, and refuses one request of each wait.
+fn refuse_state_waits<R: Wait + Clock + Abort, A: Allocator + Copy>(
     rt: &R,
-    setter: &mut Setter<'_, i64, A>,
+    memory: A,
     refusing: &Refusing<Global>,
     number: u64,
 ) {
-    let mut reader = setter.subscribe(rt).expect(rt, "a reader");
-    changes_in_vain(rt, setter, &mut reader, refusing, number);
-}
-
-/// Makes a state flow, and a reader, which are not refused memory, and refuses one request of each wait.
-fn refuse_state_waits<R: Wait + Clock + Abort>(rt: &R, memory: &Refusing<Global>, number: u64) {
-    memory.refuse(0);
-    let (flow, seat) = StateFlow::<i64, _>::new(memory, 0, 1).expect(rt, "a flow");
+    refusing.refuse(0);
+    let (flow, seat) = StateFlow::<i64, A>::new(memory, 0, 1).expect(rt, "a flow");
     let mut setter = flow.setter(seat);
-    refuse_state_reader(rt, &mut setter, memory, number);
+    let mut reader = setter.subscribe(rt).expect(rt, "a reader");
+    changes_in_vain(rt, &mut setter, &mut reader, refusing, number);
 }
 
 #[test]
 fn refused_waits_for_a_state_end_in_time(rt: HostRuntime) {
     let memory = Refusing::new(rt.alloc());
     for number in 1..=REQUESTS {
-        refuse_state_waits(&rt, &memory, number);
+        refuse_state_waits(&rt, &memory, &memory, number);
     }
     compare(&rt, 3, memory.is_waiting(), true);
 }

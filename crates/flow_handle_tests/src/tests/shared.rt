@@ -1,12 +1,108 @@
-//! Worked examples over an emitter and a reader of a shared flow, on one thread.
-use crate::tests::shared_calls::Call::{
-    CacheLength, Cancel, Count, CountBesideFuture, Drain, DropEmission, DropSecond, EmitByAnother,
-    EmitByReader, Next, PollReceive, PollSend, PollUntilReceived, Receive, ReceiveByFuture,
-    ReceiveInTime, Reset, Seen, Select, Send, SendByFuture, SendRefused, Subscribe, SubscribeWith,
+//! Worked examples over emitters and readers of shared flows, on one thread and on two.
+use flow_law::{Config, OutOfMemory, Overflow};
+
+/// How many milliseconds an hour has. No test takes so long: a sleeper that is not woken fails.
+const HOUR: u64 = 3_600_000;
+
+/// A worked example: the configuration of a flow, and calls on its handles.
+pub struct Example {
+    pub config: Config,
+    pub calls: &'static [Call],
+}
+
+/// A worked example on two threads.
+pub struct Meeting {
+    pub config: Config,
+    /// The calls of an emitter, on one thread.
+    pub emits: &'static [Call],
+    /// The calls of another emitter and of the only reader, on the other thread.
+    pub reads: &'static [Call],
+    /// What comes of the reader then.
+    pub end: End,
+}
+
+/// The end of a reader.
+pub enum End {
+    Unsubscribe,
+    Drop,
+    /// Its stream gives these.
+    Stream(&'static [Result<i64, OutOfMemory>]),
+}
+
+/// A call, and what it answers.
+#[derive(Drop)]
+pub enum Call {
+    /// The value, and whether the flow took it.
+    TryEmit(i64, bool),
+    /// No number is left, and the value comes back.
+    TryEmitRefused(i64),
+    Send(i64),
+    /// No number is left, and the value comes back.
+    SendRefused(i64),
+    /// How many milliseconds it waits at most, and the value, which the flow takes.
+    SendInTime(u64, i64),
+    /// Sends the numbers from 1 to this one.
+    SendUpTo(i64),
+    /// How many subscribers there are.
+    Count(u64),
+    TryCount(u64),
+    /// How many values the cache has.
+    CacheLength(usize),
+    Reset,
+    TryReset,
+    Seen,
+    /// Another emitter, made through this one, emits the value and meets this one.
+    EmitByAnother(i64),
+    /// An emitter that is made through the reader emits the value.
+    EmitByReader(i64),
+    /// The value is emitted while there is another reader, which is dropped.
+    EmitBesideReader(i64),
+    /// Another reader meets the emitter.
+    MeetReader,
+    /// Another reader comes and leaves. So many subscribers are left.
+    Unsubscribe(u64),
+    /// Whether another reader gets a number.
+    Subscribe(bool),
+    /// The same, with values of its own, of which there are none.
+    SubscribeWith(bool),
+    Next(Option<i64>),
+    TryNext(Option<i64>),
+    Receive(i64),
+    /// How many milliseconds it waits at most, and what comes.
+    ReceiveInTime(u64, Option<i64>),
+    /// Receives the second value, and may receive the first one before.
+    ReceiveAfter(i64, i64),
+    /// How many values are taken at most, and as many are there.
+    Drain(usize),
+    /// Receives the numbers from 1 to this one. Another reader comes and goes before each of them.
+    ReceiveBesideReaders(i64),
+    /// The emission of the value waits until the reader has received it.
+    PollUntilReceived(i64),
+    /// The emission of the value waits, and is cancelled.
+    Cancel(i64),
+    TryCancel(i64),
+    /// It is cancelled when another emission waits behind it.
+    CancelLate(i64),
+    DropEmission(i64),
+    /// A future that sends the value, and whether it waits. It is dropped.
+    PollSend(i64, bool),
+    /// What a future of a new reader receives. It is dropped.
+    PollReceive(Option<i64>),
+    /// So many subscribers are there beside a future that was not polled, and is dropped.
+    CountBesideFuture(u64),
+    /// A future of a new reader loses a `select`.
+    LoseSelect,
+    /// Lets the other thread fall asleep.
+    Pause,
+}
+
+use Call::{
+    CacheLength, Cancel, CancelLate, Count, CountBesideFuture, Drain, DropEmission,
+    EmitBesideReader, EmitByAnother, EmitByReader, LoseSelect, MeetReader, Next, Pause,
+    PollReceive, PollSend, PollUntilReceived, Receive, ReceiveAfter, ReceiveBesideReaders,
+    ReceiveInTime, Reset, Seen, Send, SendInTime, SendRefused, SendUpTo, Subscribe, SubscribeWith,
     TryCancel, TryCount, TryEmit, TryEmitRefused, TryNext, TryReset, Unsubscribe,
 };
-use crate::tests::shared_calls::Example;
-use flow_law::{Config, Overflow};
 
 /// The configuration of a flow without a buffer (`MutableSharedFlow()`).
 const UNBUFFERED: Config = Config {
@@ -16,7 +112,7 @@ const UNBUFFERED: Config = Config {
     limit: u64::MAX,
 };
 
-pub static SHARED: &[Example] = &[
+pub static EXAMPLES: &[Example] = &[
     // An emitter emits what its reader reads. The flow has a cache of one value and room for one more.
     Example {
         config: Config {
@@ -56,6 +152,8 @@ pub static SHARED: &[Example] = &[
             EmitByReader(2),
             Next(Some(1)),
             Unsubscribe(1),
+            MeetReader,
+            Count(1),
             Next(Some(2)),
         ],
     },
@@ -100,40 +198,31 @@ pub static SHARED: &[Example] = &[
             ..UNBUFFERED
         },
         calls: &[
-            Subscribe(true),
-            TryEmit(1, true),
-            Next(Some(1)),
-            TryEmit(2, false),
-            DropSecond,
+            EmitBesideReader(1),
             Count(1),
+            TryEmit(2, false),
+            Next(Some(1)),
             TryEmit(2, true),
         ],
     },
-    // A future that waits for a value and is dropped ends its subscription, after a poll and before one. A value goes
-    // from one future to another.
+    // A future that waits for a value and is dropped ends its subscription, after a poll and before one, and if it loses
+    // a `select`. A value goes from one future to another.
     Example {
         config: Config {
-            extra: 1,
+            replay: 1,
             ..UNBUFFERED
         },
         calls: &[
-            PollReceive,
+            PollReceive(None),
             Count(1),
             CountBesideFuture(2),
             Count(1),
-            Subscribe(true),
-            SendByFuture(6),
-            ReceiveByFuture(6),
+            LoseSelect,
+            Count(1),
+            PollSend(6, false),
+            PollReceive(Some(6)),
             Next(Some(6)),
         ],
-    },
-    // A future that loses a `select` leaves no subscription.
-    Example {
-        config: Config {
-            extra: 1,
-            ..UNBUFFERED
-        },
-        calls: &[Subscribe(true), TryEmit(7, true), Select(7), Count(2)],
     },
     // A flow without a buffer: an emission waits until the subscriber has its value. No reader receives the value of a
     // cancelled or dropped emission or of a dropped future.
@@ -144,8 +233,63 @@ pub static SHARED: &[Example] = &[
             Cancel(2),
             TryCancel(3),
             DropEmission(4),
-            PollSend(5),
+            PollSend(5, true),
             Next(None),
         ],
+    },
+];
+
+pub static MEETINGS: &[Meeting] = &[
+    // Without a buffer `emit` suspends until each subscriber has received the value, or has left.
+    Meeting {
+        config: UNBUFFERED,
+        emits: &[SendInTime(HOUR, 7), Count(0)],
+        reads: &[Pause],
+        end: End::Unsubscribe,
+    },
+    Meeting {
+        config: UNBUFFERED,
+        emits: &[SendInTime(HOUR, 7), Count(0)],
+        reads: &[Pause],
+        end: End::Drop,
+    },
+    // The subscriber gets 2 only, after 1 was cancelled.
+    Meeting {
+        config: UNBUFFERED,
+        emits: &[Pause, SendInTime(HOUR, 2)],
+        reads: &[CancelLate(1), ReceiveInTime(HOUR, Some(2))],
+        end: End::Drop,
+    },
+    // A reader sleeps while another one leaves and an emission is dropped, and gets the next value: 6 or 7, since a
+    // subscriber that is there may receive an offered value before it is withdrawn.
+    Meeting {
+        config: UNBUFFERED,
+        emits: &[Pause, Unsubscribe(1), DropEmission(6), SendInTime(HOUR, 7)],
+        reads: &[ReceiveAfter(6, 7)],
+        end: End::Drop,
+    },
+    // A thread that sleeps is woken long before its limit of an hour.
+    Meeting {
+        config: UNBUFFERED,
+        emits: &[Pause, Send(1)],
+        reads: &[ReceiveInTime(HOUR, Some(1))],
+        end: End::Drop,
+    },
+    // Each emission waits for every subscriber that there is, and only a drop ends the others.
+    Meeting {
+        config: UNBUFFERED,
+        emits: &[SendUpTo(2000)],
+        reads: &[ReceiveBesideReaders(2000), Count(1)],
+        end: End::Drop,
+    },
+    // `take(2).toList()` of a flow that emits 1 and 2 is `[1, 2]`.
+    Meeting {
+        config: Config {
+            extra: 2,
+            ..UNBUFFERED
+        },
+        emits: &[Pause, Send(1), Pause, Send(2)],
+        reads: &[],
+        end: End::Stream(&[Ok(1), Ok(2)]),
     },
 ];

@@ -1,12 +1,25 @@
-//! Worked examples over a setter and a reader of a state flow, on one thread. Each flow begins with the value 7.
-use crate::tests::state::Call::{
-    CacheLength, Changed, ChangedInTime, CompareAndSet, Count, CountBesideReader,
-    CountBesideStream, Drain, GetAndUpdate, GetAndUpdateRefused, Next, NextOfNew, ReaderSeen,
-    Reset, Seen, Set, StreamOfNew, TryEmit, TryNext, TrySet, TryUnsubscribe, Update, UpdateAndGet,
-    UpdateAndGetRefused, UpdateRefused, Value, WaitFor, WaitInTime,
-};
+//! Worked examples over setters and readers of state flows, on one thread and on two. Each flow begins with the value 7.
 
-/// A call of a state flow or a word state, and what it answers. A word state has some of them.
+/// A worked example on two threads. The reader has got 7 before.
+pub struct Meeting {
+    /// The calls of a setter, on one thread.
+    pub sets: &'static [Call],
+    /// The calls of the only reader, on the other thread.
+    pub reads: &'static [Call],
+    /// What comes of the reader then.
+    pub end: End,
+}
+
+/// The end of a reader.
+pub enum End {
+    Drop,
+    /// A future of it gives the value, and no other one comes.
+    Changed(i64),
+    /// The next value of its stream is this one.
+    Stream(i64),
+}
+
+/// A call of a state flow or a word state, and what it answers. Either has most of them.
 #[derive(Drop)]
 pub enum Call {
     Value(i64),
@@ -15,6 +28,8 @@ pub enum Call {
     TryEmit(i64),
     /// The value that is expected, the new one, and whether it was set.
     CompareAndSet(i64, i64, bool),
+    /// Sets the numbers from 8 to this one.
+    SetUpTo(i64),
     /// A state flow does not support it.
     Reset,
     /// How many subscribers there are.
@@ -22,16 +37,12 @@ pub enum Call {
     /// How many values the cache has.
     CacheLength(usize),
     Seen,
-    /// Adds one.
-    Update,
+    /// Adds one. A state flow has no memory for a value above 7, so not all of them are done.
+    Update(bool),
     /// Adds one, and answers the value before.
-    GetAndUpdate(i64),
+    GetAndUpdate(Option<i64>),
     /// Adds one, and answers the value after.
-    UpdateAndGet(i64),
-    /// The function has no memory for the new value.
-    UpdateRefused,
-    GetAndUpdateRefused,
-    UpdateAndGetRefused,
+    UpdateAndGet(Option<i64>),
     Next(Option<i64>),
     TryNext(Option<i64>),
     /// How many values are taken at most, and how many were there.
@@ -40,6 +51,8 @@ pub enum Call {
     Changed(i64),
     /// How many milliseconds it waits at most, and what comes.
     ChangedInTime(u64, Option<i64>),
+    /// Waits for changes until the value is this one. Each value is above the one before.
+    Follow(i64),
     /// Waits for a value that is greater than the first number.
     WaitFor(i64, i64),
     /// How many milliseconds it waits at most for a value that is greater than the next number, and what comes.
@@ -48,13 +61,24 @@ pub enum Call {
     CountBesideReader(u64),
     /// How many subscribers there are beside a stream, which is dropped.
     CountBesideStream(u64),
+    /// Another setter and another reader meet this setter.
+    Meet,
+    /// Another reader leaves. So many subscribers are left.
+    Unsubscribe(u64),
     /// Another reader leaves at once.
     TryUnsubscribe,
-    /// The first value of another reader's stream.
-    StreamOfNew(i64),
     /// The first value of another reader, which went through a future.
     NextOfNew(i64),
+    /// Lets the other thread fall asleep.
+    Pause,
 }
+
+use Call::{
+    CacheLength, Changed, ChangedInTime, CompareAndSet, Count, CountBesideReader,
+    CountBesideStream, Drain, Follow, GetAndUpdate, Next, NextOfNew, Pause, ReaderSeen, Reset,
+    Seen, Set, SetUpTo, TryEmit, TryNext, TrySet, TryUnsubscribe, Update, UpdateAndGet, Value,
+    WaitFor, WaitInTime,
+};
 
 pub static STATE: &[&[Call]] = &[
     // A setter sets what its reader reads.
@@ -67,12 +91,12 @@ pub static STATE: &[&[Call]] = &[
         CompareAndSet(3, 5, false),
         Reset,
         Count(1),
-        Update,
-        GetAndUpdate(5),
-        UpdateAndGet(7),
-        UpdateRefused,
-        GetAndUpdateRefused,
-        UpdateAndGetRefused,
+        Update(true),
+        GetAndUpdate(Some(5)),
+        UpdateAndGet(Some(7)),
+        Update(false),
+        GetAndUpdate(None),
+        UpdateAndGet(None),
         Value(7),
         CacheLength(1),
         Seen,
@@ -82,7 +106,7 @@ pub static STATE: &[&[Call]] = &[
         ReaderSeen,
     ],
     // A reader or a stream that is dropped ends its subscription, and so does a reader that leaves at once. A new
-    // reader gets the state, `take(1).toList()` of it is `[7]`, and a future that is not polled gives its reader back.
+    // reader gets the state, and a future that is not polled gives its reader back.
     &[
         CountBesideReader(2),
         Count(1),
@@ -90,7 +114,6 @@ pub static STATE: &[&[Call]] = &[
         Count(1),
         TryUnsubscribe,
         Count(1),
-        StreamOfNew(7),
         NextOfNew(7),
     ],
 ];
@@ -121,4 +144,38 @@ pub static WAITS: &[&[Call]] = &[
         WaitInTime(1, 8, Some(9)),
         ChangedInTime(0, None),
     ],
+];
+
+/// Examples on two threads that hold of state flows and of word states.
+pub static MEETINGS: &[Meeting] = &[
+    // A reader sleeps until the value changes.
+    Meeting {
+        sets: &[Pause, Set(8)],
+        reads: &[Changed(8)],
+        end: End::Drop,
+    },
+    // `StateFlow.first { it > 9 }` is 10 if the values are set one after the other, up to 10.
+    Meeting {
+        sets: &[Pause, Set(8), Pause, Set(9), Pause, Set(10)],
+        reads: &[WaitFor(9, 10)],
+        end: End::Drop,
+    },
+    // A reader skips values, and gets none twice.
+    Meeting {
+        sets: &[SetUpTo(2000)],
+        reads: &[Follow(2000)],
+        end: End::Drop,
+    },
+    // A task sleeps in the executor until the other thread sets a value.
+    Meeting {
+        sets: &[Pause, Set(8)],
+        reads: &[],
+        end: End::Changed(8),
+    },
+    // `drop(1).take(1)` of a state that begins with 7 and is set to 8 gives 8.
+    Meeting {
+        sets: &[Pause, Set(8)],
+        reads: &[],
+        end: End::Stream(8),
+    },
 ];

@@ -1,61 +1,30 @@
 //! Calls on a setter and a reader of a state flow, each with what it is to answer.
-use crate::tests::compare::{compare, length};
+use crate::tests::compare::{compare, length, no_such_call, pause};
 use crate::tests::flows::new_state_reader;
-use crate::tests::state::{Call, STATE, WAITS};
-use crate::tests::streams::next_of;
+use crate::tests::state::Call;
 use flow_law::{OutOfMemory, Unsupported};
-use flow_shared::{DrainEnd, Setter, StateFlow, StateReader};
+use flow_shared::{DrainEnd, Setter, StateReader};
 use std::alloc::AllocGlobal;
 use std::process::Abort;
-use std::random::RandomSource;
 use std::sync::Wait;
 use std::time::{Clock, Duration};
 
-pub fn one_more(value: &i64) -> Result<i64, OutOfMemory> {
-    Ok(value.wrapping_add(1))
-}
-
-fn none(_value: &i64) -> Result<i64, OutOfMemory> {
-    Err(OutOfMemory)
-}
-
-/// Makes a call that updates the value, and compares what it answers.
-fn update<R: Wait + Abort>(rt: &R, setter: &mut Setter<'_, i64>, place: usize, call: &Call) {
-    match *call {
-        Call::Update => compare(rt, place, setter.update(rt, one_more), Ok(())),
-        Call::GetAndUpdate(value) => {
-            compare(rt, place, setter.get_and_update(rt, one_more), Ok(value));
-        }
-        Call::UpdateAndGet(value) => {
-            compare(rt, place, setter.update_and_get(rt, one_more), Ok(value));
-        }
-        Call::UpdateRefused => compare(rt, place, setter.update(rt, none), Err(OutOfMemory)),
-        Call::GetAndUpdateRefused => {
-            compare(rt, place, setter.get_and_update(rt, none), Err(OutOfMemory));
-        }
-        Call::UpdateAndGetRefused => {
-            compare(rt, place, setter.update_and_get(rt, none), Err(OutOfMemory));
-        }
-        _ => panic!(rt; "call {place} is no such call"),
-    }
-}
-
-/// Makes a call that looks at the flow, and compares what it answers.
-fn ask<R: Wait + Abort>(rt: &R, setter: &mut Setter<'_, i64>, place: usize, call: &Call) {
-    match *call {
-        Call::Value(value) => compare(rt, place, setter.value(rt), Ok(value)),
-        Call::Reset => compare(rt, place, setter.reset_replay_cache(rt), Err(Unsupported)),
-        Call::Count(count) => compare(rt, place, setter.subscription_count(rt), count),
-        Call::CacheLength(wanted) => {
-            compare(rt, place, length(setter.replay_cache(rt)), wanted);
-        }
-        Call::Seen => setter.seen(),
-        _ => update(rt, setter, place, call),
+/// Adds one, if that is not above 7.
+fn one_more(value: &i64) -> Result<i64, OutOfMemory> {
+    if *value < 7 {
+        Ok(value.wrapping_add(1))
+    } else {
+        Err(OutOfMemory)
     }
 }
 
 /// Makes a call that sets the value, and compares what it answers.
-fn set<R: Wait + Abort>(rt: &R, setter: &mut Setter<'_, i64>, place: usize, call: &Call) {
+pub fn set<R: Wait + Clock + Abort>(
+    rt: &R,
+    setter: &mut Setter<'_, i64>,
+    place: usize,
+    call: &Call,
+) {
     match *call {
         Call::Set(value) => setter.set(rt, value),
         Call::TrySet(value) => compare(rt, place, setter.try_set(value), Ok(())),
@@ -64,7 +33,30 @@ fn set<R: Wait + Abort>(rt: &R, setter: &mut Setter<'_, i64>, place: usize, call
             let answer = setter.compare_and_set(rt, &expect, value);
             compare(rt, place, answer, is_set);
         }
+        Call::Reset => compare(rt, place, setter.reset_replay_cache(rt), Err(Unsupported)),
         _ => ask(rt, setter, place, call),
+    }
+}
+
+/// Makes a call that looks at the flow or updates the value, and compares what it answers.
+fn ask<R: Wait + Clock + Abort>(rt: &R, setter: &mut Setter<'_, i64>, place: usize, call: &Call) {
+    match *call {
+        Call::Value(value) => compare(rt, place, setter.value(rt), Ok(value)),
+        Call::Count(count) => compare(rt, place, setter.subscription_count(rt), count),
+        Call::CacheLength(wanted) => {
+            compare(rt, place, length(setter.replay_cache(rt)), wanted);
+        }
+        Call::Seen => setter.seen(),
+        Call::Update(is_done) => {
+            compare(rt, place, setter.update(rt, one_more).is_ok(), is_done);
+        }
+        Call::GetAndUpdate(value) => {
+            compare(rt, place, setter.get_and_update(rt, one_more).ok(), value);
+        }
+        Call::UpdateAndGet(value) => {
+            compare(rt, place, setter.update_and_get(rt, one_more).ok(), value);
+        }
+        _ => call_new(rt, setter, place, call),
     }
 }
 
@@ -78,8 +70,25 @@ fn count_beside_stream<R: Wait + Abort>(rt: &R, setter: &mut Setter<'_, i64>) ->
     setter.subscription_count(rt)
 }
 
-/// Makes a call of another reader, and compares what it answers.
-fn call_new<R: Wait + Abort + RandomSource + AllocGlobal>(
+fn try_unsubscribe<R: Wait + Abort>(rt: &R, setter: &mut Setter<'_, i64>) -> bool {
+    new_state_reader(rt, setter).try_unsubscribe().is_ok()
+}
+
+/// The first value of a new reader, which went through a future.
+fn next_of_new<R: Wait + Abort>(rt: &R, setter: &mut Setter<'_, i64>) -> Option<i64> {
+    let reader = new_state_reader(rt, setter).into_changed().into_reader();
+    reader.expect(rt, "a reader").next(rt).unwrap_or(None)
+}
+
+/// Sets the numbers from 8 to the last one.
+fn set_up_to<R: Wait>(rt: &R, setter: &mut Setter<'_, i64>, last: i64) {
+    for value in 8..=last {
+        setter.set(rt, value);
+    }
+}
+
+/// Makes a call of another reader, or one of the other calls, and compares what it answers.
+fn call_new<R: Wait + Clock + Abort>(
     rt: &R,
     setter: &mut Setter<'_, i64>,
     place: usize,
@@ -92,29 +101,55 @@ fn call_new<R: Wait + Abort + RandomSource + AllocGlobal>(
         Call::CountBesideStream(count) => {
             compare(rt, place, count_beside_stream(rt, setter), count);
         }
-        Call::TryUnsubscribe => {
-            let left = new_state_reader(rt, setter).try_unsubscribe();
-            compare(rt, place, left.is_ok(), true);
+        Call::TryUnsubscribe => compare(rt, place, try_unsubscribe(rt, setter), true),
+        Call::NextOfNew(value) => compare(rt, place, next_of_new(rt, setter), Some(value)),
+        Call::SetUpTo(last) => set_up_to(rt, setter, last),
+        Call::Pause => pause(rt),
+        _ => no_such_call(rt, place),
+    }
+}
+
+/// Drains a reader. Returns how it ended, and how many values were taken.
+fn drain<R: Wait + AllocGlobal>(
+    rt: &R,
+    reader: &mut StateReader<'_, i64>,
+    most: usize,
+) -> (Result<DrainEnd, OutOfMemory>, usize) {
+    let mut values = Vec::new(rt.alloc());
+    let end = reader.drain(rt, most, &mut values);
+    (end, values.len())
+}
+
+/// Follows a state until it is the last value. Returns whether each value was above the one before.
+fn follow<R: Wait>(rt: &R, reader: &mut StateReader<'_, i64>, last: i64) -> bool {
+    let mut before = 0i64;
+    for _ in rt.forever() {
+        let value = reader.changed(rt).unwrap_or(0);
+        if value <= before || value == last {
+            return value == last;
         }
-        Call::StreamOfNew(value) => {
-            let values = next_of(rt, new_state_reader(rt, setter).into_stream(), 1);
-            compare(
-                rt,
-                place,
-                values.expect(rt, "a value").as_slice(),
-                [Ok(value)].as_slice(),
-            );
+        before = value;
+    }
+    unreachable!()
+}
+
+/// Makes a call of the reader, and compares what it answers.
+pub fn read<R: Wait + Clock + Abort + AllocGlobal>(
+    rt: &R,
+    reader: &mut StateReader<'_, i64>,
+    place: usize,
+    call: &Call,
+) {
+    match *call {
+        Call::Next(value) => compare(rt, place, reader.next(rt), Ok(value)),
+        Call::TryNext(value) => compare(rt, place, reader.try_next(), Ok(value)),
+        Call::Drain(most, count) => {
+            let wanted = (Ok(DrainEnd::Empty), count);
+            compare(rt, place, drain(rt, reader, most), wanted);
         }
-        Call::NextOfNew(value) => {
-            let reader = new_state_reader(rt, setter).into_changed().into_reader();
-            compare(
-                rt,
-                place,
-                reader.expect(rt, "a reader").next(rt),
-                Ok(Some(value)),
-            );
-        }
-        _ => set(rt, setter, place, call),
+        Call::ReaderSeen => reader.seen(),
+        Call::Follow(last) => compare(rt, place, follow(rt, reader, last), true),
+        _ => wait(rt, reader, place, call),
     }
 }
 
@@ -140,77 +175,6 @@ fn wait<R: Wait + Clock + Abort>(
             let found = reader.wait_for_timeout(rt, limit, |value: &i64| *value > least);
             compare(rt, place, found, Ok(value));
         }
-        _ => panic!(rt; "call {place} is no such call"),
-    }
-}
-
-/// Makes a call of the reader, and compares what it answers.
-fn read<R: Wait + Clock + Abort + AllocGlobal>(
-    rt: &R,
-    reader: &mut StateReader<'_, i64>,
-    place: usize,
-    call: &Call,
-) {
-    match *call {
-        Call::Next(value) => compare(rt, place, reader.next(rt), Ok(value)),
-        Call::TryNext(value) => compare(rt, place, reader.try_next(), Ok(value)),
-        Call::Drain(most, count) => {
-            let mut values = Vec::new(rt.alloc());
-            let end = reader.drain(rt, most, &mut values);
-            compare(rt, place, (end, values.len()), (Ok(DrainEnd::Empty), count));
-        }
-        Call::ReaderSeen => reader.seen(),
-        _ => wait(rt, reader, place, call),
-    }
-}
-
-/// Makes all calls of an example.
-fn make_all<R: Wait + Clock + Abort + RandomSource + AllocGlobal>(
-    rt: &R,
-    setter: &mut Setter<'_, i64>,
-    reader: &mut StateReader<'_, i64>,
-    example: usize,
-    calls: &[Call],
-) {
-    for (number, call) in calls.iter().enumerate() {
-        let place = example.saturating_mul(100).saturating_add(number);
-        match *call {
-            Call::Next(_)
-            | Call::TryNext(_)
-            | Call::Drain(_, _)
-            | Call::ReaderSeen
-            | Call::Changed(_)
-            | Call::ChangedInTime(_, _)
-            | Call::WaitFor(_, _)
-            | Call::WaitInTime(_, _, _) => read(rt, reader, place, call),
-            _ => call_new(rt, setter, place, call),
-        }
-    }
-}
-
-fn play<R: Wait + Clock + Abort + RandomSource + AllocGlobal>(
-    rt: &R,
-    example: usize,
-    calls: &[Call],
-) {
-    let (flow, seat) = StateFlow::new(rt.alloc(), 7, 99).expect(rt, "a flow");
-    let mut setter = flow.setter(seat);
-    let mut reader = new_state_reader(rt, &mut setter);
-    make_all(rt, &mut setter, &mut reader, example, calls);
-}
-
-/// Makes the calls of each example on a new flow, and compares what they answer. Call 7 of example 3 has the
-/// place 307, all counted from 0.
-#[test]
-fn calls_of_state_flows(rt: HostRuntime) {
-    for (example, calls) in STATE.iter().enumerate() {
-        play(&rt, example, calls);
-    }
-}
-
-#[test]
-fn waits_of_state_flows(rt: HostRuntime) {
-    for (example, calls) in WAITS.iter().enumerate() {
-        play(&rt, example, calls);
+        _ => no_such_call(rt, place),
     }
 }

@@ -1,9 +1,9 @@
 //! Futures of an emitter and of readers of one shared flow, on one thread.
 use crate::tests::flows::new_reader;
-use flow_shared::{Emitter, Reader};
+use flow_shared::Emitter;
 use futures::Future;
-use futures::executor::block_on;
-use futures::future::{Either, select};
+use futures::future::{ready, select};
+use futures::task::Poll;
 use futures::test::MockTask;
 use std::alloc::AllocGlobal;
 use std::process::Abort;
@@ -30,12 +30,16 @@ pub fn poll_send<R: Wait + Abort + RandomSource + AllocGlobal>(
     poll_and_drop(rt, emitter.another().into_send(value))
 }
 
-/// Whether a future that receives a value waited. It is dropped.
+/// What a future receives when it is polled. It is dropped.
 pub fn poll_receive<R: Wait + Abort + RandomSource + AllocGlobal>(
     rt: &R,
     emitter: &mut Emitter<'_, i64>,
-) -> bool {
-    poll_and_drop(rt, new_reader(rt, emitter).into_receive())
+) -> Option<i64> {
+    let task = MockTask::new(rt).expect(rt, "a task");
+    match task.poll(&mut new_reader(rt, emitter).into_receive()) {
+        Poll::Ready((_subscription, received)) => received.ok(),
+        Poll::Pending => None,
+    }
 }
 
 /// How many subscribers there are beside a future that is dropped, and was not polled.
@@ -44,32 +48,10 @@ pub fn count_beside_future<R: Wait + Abort>(rt: &R, emitter: &mut Emitter<'_, i6
     emitter.subscription_count(rt)
 }
 
-/// Sends a value by a future. Returns whether the executor ran it to its end.
-pub fn send_by_future<R: Wait + RandomSource + AllocGlobal>(
+/// A future of a new reader is dropped, since another one is done first. Returns whether that was so at once.
+pub fn lose_select<R: Wait + Abort + RandomSource + AllocGlobal>(
     rt: &R,
     emitter: &mut Emitter<'_, i64>,
-    value: i64,
 ) -> bool {
-    block_on(rt, emitter.another().into_send(value)).is_ok()
-}
-
-/// What a future of this reader receives.
-pub fn receive_by_future<R: Wait + RandomSource + AllocGlobal>(
-    rt: &R,
-    reader: Option<Reader<'_, i64>>,
-) -> Option<i64> {
-    let (_subscription, received) = block_on(rt, reader?.into_receive()).ok()?;
-    received.ok()
-}
-
-/// What a future of one reader or of the other receives first. The slower one is dropped.
-pub fn receive_first<R: Wait + RandomSource + AllocGlobal>(
-    rt: &R,
-    one: Reader<'_, i64>,
-    other: Option<Reader<'_, i64>>,
-) -> Option<i64> {
-    match block_on(rt, select(one.into_receive(), other?.into_receive())).ok()? {
-        Either::Left(((_subscription, received), _loser)) => received.ok(),
-        Either::Right(((_subscription, received), _loser)) => received.ok(),
-    }
+    !poll_and_drop(rt, select(new_reader(rt, emitter).into_receive(), ready(7)))
 }

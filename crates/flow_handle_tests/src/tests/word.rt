@@ -1,8 +1,8 @@
 //! Worked examples over a setter and a reader of a word state, on one thread. Each state begins with the value 7.
 use crate::tests::state::Call;
 use crate::tests::state::Call::{
-    CompareAndSet, Count, CountBesideReader, CountBesideStream, GetAndUpdate, Next, ReaderSeen,
-    Seen, Set, Update, UpdateAndGet, Value,
+    CompareAndSet, Count, CountBesideReader, CountBesideStream, GetAndUpdate, Meet, Next,
+    ReaderSeen, Seen, Set, Unsubscribe, Update, UpdateAndGet, Value,
 };
 
 pub static WORD: &[&[Call]] = &[
@@ -12,20 +12,23 @@ pub static WORD: &[&[Call]] = &[
         Set(3),
         CompareAndSet(3, 4, true),
         CompareAndSet(3, 5, false),
-        Update,
-        GetAndUpdate(5),
-        UpdateAndGet(7),
+        Update(true),
+        GetAndUpdate(Some(5)),
+        UpdateAndGet(Some(7)),
         Count(1),
         Seen,
         Next(Some(7)),
         Next(None),
         ReaderSeen,
     ],
-    // A reader or a stream that is dropped is counted no more.
+    // A reader or a stream that is dropped is counted no more, and neither is a reader that left.
     &[
         CountBesideReader(2),
         Count(1),
         CountBesideStream(2),
+        Count(1),
+        Meet,
+        Unsubscribe(1),
         Count(1),
     ],
 ];

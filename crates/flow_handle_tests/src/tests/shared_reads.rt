@@ -1,0 +1,134 @@
+//! Calls on a reader of a shared flow, each with what it is to answer.
+use crate::tests::compare::{compare, no_such_call};
+use crate::tests::emissions::poll_until_received;
+use crate::tests::flows::new_reader;
+use crate::tests::shared::{Call, End};
+use crate::tests::shared_calls::emit;
+use crate::tests::streams::next_of;
+use flow_law::OutOfMemory;
+use flow_shared::{DrainEnd, Emitter, Reader};
+use std::alloc::AllocGlobal;
+use std::process::Abort;
+use std::random::RandomSource;
+use std::sync::Wait;
+use std::time::{Clock, Duration};
+
+/// Drains a reader. Returns how it ended, and how many values were taken.
+fn drain<R: Wait + AllocGlobal>(
+    rt: &R,
+    reader: &mut Reader<'_, i64>,
+    most: usize,
+) -> (Result<DrainEnd, OutOfMemory>, usize) {
+    let mut values = Vec::new(rt.alloc());
+    let end = reader.drain(rt, most, &mut values);
+    (end, values.len())
+}
+
+/// Returns whether the last value comes, as the next one or after the first one.
+fn receive_after<R: Wait>(rt: &R, reader: &mut Reader<'_, i64>, first: i64, last: i64) -> bool {
+    let received = reader.receive(rt);
+    if received == Ok(first) {
+        return reader.receive(rt) == Ok(last);
+    }
+    received == Ok(last)
+}
+
+/// Makes a call of the reader, and compares what it answers.
+fn receive<R: Wait + Clock + Abort + AllocGlobal>(
+    rt: &R,
+    reader: &mut Reader<'_, i64>,
+    place: usize,
+    call: &Call,
+) {
+    match *call {
+        Call::Next(value) => compare(rt, place, reader.next(rt), Ok(value)),
+        Call::TryNext(value) => compare(rt, place, reader.try_next(), Ok(value)),
+        Call::Receive(value) => compare(rt, place, reader.receive(rt), Ok(value)),
+        Call::ReceiveInTime(limit, value) => {
+            let limit = Duration::from_millis(limit);
+            compare(rt, place, reader.receive_timeout(rt, limit), Ok(value));
+        }
+        Call::ReceiveAfter(first, last) => {
+            compare(rt, place, receive_after(rt, reader, first, last), true);
+        }
+        Call::Drain(most) => {
+            compare(
+                rt,
+                place,
+                drain(rt, reader, most),
+                (Ok(DrainEnd::Most), most),
+            );
+        }
+        Call::EmitByReader(value) => {
+            compare(rt, place, reader.another().try_emit(rt, value), Ok(true));
+        }
+        _ => no_such_call(rt, place),
+    }
+}
+
+/// Receives the numbers from 1 to the last one, and has another reader come and go before each of them. Returns whether
+/// all came.
+fn receive_beside_readers<R: Wait + Abort>(
+    rt: &R,
+    emitter: &mut Emitter<'_, i64>,
+    reader: &mut Reader<'_, i64>,
+    last: i64,
+) -> bool {
+    for value in 1..=last {
+        drop(new_reader(rt, emitter));
+        if reader.receive(rt) != Ok(value) {
+            return false;
+        }
+    }
+    true
+}
+
+/// Makes a call, and compares what it answers.
+pub fn make<R: Wait + Clock + Abort + RandomSource + AllocGlobal>(
+    rt: &R,
+    emitter: &mut Emitter<'_, i64>,
+    reader: &mut Reader<'_, i64>,
+    place: usize,
+    call: &Call,
+) {
+    match *call {
+        Call::Next(_)
+        | Call::TryNext(_)
+        | Call::Receive(_)
+        | Call::ReceiveInTime(_, _)
+        | Call::ReceiveAfter(_, _)
+        | Call::Drain(_)
+        | Call::EmitByReader(_) => receive(rt, reader, place, call),
+        Call::PollUntilReceived(value) => poll_until_received(rt, emitter, reader, place, value),
+        Call::ReceiveBesideReaders(last) => {
+            let is_right = receive_beside_readers(rt, emitter, reader, last);
+            compare(rt, place, is_right, true);
+        }
+        _ => emit(rt, emitter, place, call),
+    }
+}
+
+/// The stream of a reader gives these values.
+fn read_stream<R: Wait + Abort + RandomSource + AllocGlobal>(
+    rt: &R,
+    reader: Reader<'_, i64>,
+    place: usize,
+    wanted: &[Result<i64, OutOfMemory>],
+) {
+    let given = next_of(rt, reader.into_stream(), wanted.len());
+    compare(rt, place, given.expect(rt, "values").as_slice(), wanted);
+}
+
+/// Makes an end of a reader.
+pub fn end<R: Wait + Abort + RandomSource + AllocGlobal>(
+    rt: &R,
+    reader: Reader<'_, i64>,
+    place: usize,
+    end: &End,
+) {
+    match *end {
+        End::Unsubscribe => drop(reader.unsubscribe(rt)),
+        End::Drop => drop(reader),
+        End::Stream(wanted) => read_stream(rt, reader, place, wanted),
+    }
+}

@@ -1,0 +1,150 @@
+//! The worked examples over word states are played. Call 7 of example 3 has the place 307, all counted from 0.
+use crate::tests::compare::compare;
+use crate::tests::state::{Call, End, MEETINGS, Meeting, WAITS};
+use crate::tests::state_plays::is_of_reader;
+use crate::tests::streams::next_of;
+use crate::tests::word::WORD;
+use crate::tests::word_calls::{new_word_reader, read, set};
+use flow_word::{WordReader, WordSetter, WordState};
+use futures::executor::block_on;
+use std::alloc::AllocGlobal;
+use std::process::Abort;
+use std::random::RandomSource;
+use std::sync::Wait;
+use std::thread::{Threads, join};
+use std::time::Clock;
+
+/// Makes all calls of an example.
+fn make_all<R: Wait + Clock + Abort>(
+    rt: &R,
+    setter: &mut WordSetter<'_, i64>,
+    reader: &mut WordReader<'_, i64>,
+    place: usize,
+    calls: &[Call],
+) {
+    for (number, call) in calls.iter().enumerate() {
+        let place = place.saturating_add(number);
+        if is_of_reader(call) {
+            read(rt, reader, place, call);
+        } else {
+            set(rt, setter, place, call);
+        }
+    }
+}
+
+/// Plays an example on a new state. Its handles are those that their tokens make when they are bound again.
+fn play<R: Wait + Clock + Abort + AllocGlobal>(rt: &R, example: usize, calls: &[Call]) {
+    let (flow, seat) = WordState::new(rt.alloc(), 7, 9).expect(rt, "a flow");
+    let mut setter = flow.setter(flow.setter(seat).into_seat());
+    let mut reader = flow.reader(new_word_reader(rt, &mut setter).into_subscription());
+    let place = example.saturating_mul(100);
+    make_all(rt, &mut setter, &mut reader, place, calls);
+}
+
+#[test]
+fn calls_of_word_states(rt: HostRuntime) {
+    for (example, calls) in WORD.iter().enumerate() {
+        play(&rt, example, calls);
+    }
+}
+
+#[test]
+fn waits_of_word_states(rt: HostRuntime) {
+    for (example, calls) in WAITS.iter().enumerate() {
+        play(&rt, example, calls);
+    }
+}
+
+/// Makes all calls of a thread that sets.
+fn set_all<R: Wait + Clock + Abort>(
+    rt: &R,
+    setter: &mut WordSetter<'_, i64>,
+    place: usize,
+    calls: &[Call],
+) {
+    for (number, call) in calls.iter().enumerate() {
+        set(rt, setter, place.saturating_add(number), call);
+    }
+}
+
+/// Awaits a change, and looks for another one.
+fn change_and_next<R: Wait + RandomSource + AllocGlobal>(
+    rt: &R,
+    reader: WordReader<'_, i64>,
+) -> Option<(i64, Option<i64>)> {
+    let (mut reader, value) = block_on(rt, reader.into_changed()).ok()?;
+    Some((value, reader.next()))
+}
+
+/// The next value of a stream of a reader.
+fn next_of_stream<R: Wait + RandomSource + AllocGlobal>(
+    rt: &R,
+    reader: WordReader<'_, i64>,
+) -> Option<i64> {
+    next_of(rt, reader.into_stream(), 1)?.pop()
+}
+
+/// Makes an end of a reader.
+fn end<R: Wait + Abort + RandomSource + AllocGlobal>(
+    rt: &R,
+    reader: WordReader<'_, i64>,
+    place: usize,
+    end: &End,
+) {
+    match *end {
+        End::Drop => drop(reader),
+        End::Changed(value) => {
+            compare(rt, place, change_and_next(rt, reader), Some((value, None)));
+        }
+        End::Stream(value) => compare(rt, place, next_of_stream(rt, reader), Some(value)),
+    }
+}
+
+/// Makes all calls of a thread that reads, and the end of the reader.
+fn read_all<R: Wait + Clock + Abort + RandomSource + AllocGlobal>(
+    rt: &R,
+    mut reader: WordReader<'_, i64>,
+    place: usize,
+    meeting: &Meeting,
+) {
+    for (number, call) in meeting.reads.iter().enumerate() {
+        read(rt, &mut reader, place.saturating_add(number), call);
+    }
+    end(rt, reader, place, &meeting.end);
+}
+
+/// Has one thread set while another one reads.
+fn meet<R: Wait + Clock + Threads + Abort + RandomSource + AllocGlobal + Sync>(
+    rt: &R,
+    setter: &mut WordSetter<'_, i64>,
+    reader: WordReader<'_, i64>,
+    place: usize,
+    meeting: &Meeting,
+) {
+    let reads = place.saturating_add(50);
+    join(
+        rt,
+        || set_all(rt, setter, place, meeting.sets),
+        || read_all(rt, reader, reads, meeting),
+    );
+}
+
+/// Plays an example on two threads. The calls of the thread that reads have places from 50 on.
+fn play_meeting<R: Wait + Clock + Threads + Abort + RandomSource + AllocGlobal + Sync>(
+    rt: &R,
+    place: usize,
+    meeting: &Meeting,
+) {
+    let (flow, seat) = WordState::new(rt.alloc(), 7, 1).expect(rt, "a flow");
+    let mut setter = flow.setter(seat);
+    let mut reader = new_word_reader(rt, &mut setter);
+    compare(rt, place, reader.next(), Some(7));
+    meet(rt, &mut setter, reader, place, meeting);
+}
+
+#[test]
+fn two_threads_meet_at_word_states(rt: HostRuntime) {
+    for (number, meeting) in MEETINGS.iter().enumerate() {
+        play_meeting(&rt, number.saturating_mul(100), meeting);
+    }
+}
