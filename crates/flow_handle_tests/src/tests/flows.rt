@@ -2,11 +2,15 @@
 ghost use Rattle.std.specs.Prelude.{◌≡◌};
 
 use flow_shared::{Emitter, Reader, Setter, StateReader};
+use std::alloc::Allocator;
 use std::process::Abort;
 use std::sync::Wait;
 
 /// Subscribes, which is not refused.
-pub fn new_reader<'a, R: Wait + Abort>(rt: &R, emitter: &mut Emitter<'a, i64>) -> Reader<'a, i64>
+pub fn new_reader<'a, R: Wait + Abort, A: Allocator + Copy>(
+    rt: &R,
+    emitter: &mut Emitter<'a, i64, A>,
+) -> Reader<'a, i64, A>
     ensures flow { emitter.new.flow ≡ emitter.old.flow }
     ensures made { result.flow ≡ emitter.old.flow }
 {
@@ -14,9 +18,9 @@ pub fn new_reader<'a, R: Wait + Abort>(rt: &R, emitter: &mut Emitter<'a, i64>) -
 }
 
 /// Subscribes to a state, which is not refused.
-pub fn new_state_reader<'a, R: Wait + Abort>(
+pub fn new_state_reader<'a, R: Wait + Abort, A: Allocator + Copy>(
     rt: &R,
-    setter: &mut Setter<'a, i64>,
-) -> StateReader<'a, i64> {
+    setter: &mut Setter<'a, i64, A>,
+) -> StateReader<'a, i64, A> {
     setter.subscribe(rt).expect(rt, "a reader")
 }

@@ -1,6 +1,7 @@
 //! Waits whose requests for memory are refused, each in turn. A thread without memory for its waker lets other threads go
 //! first and asks again, so the answer is the one that it has with memory.
 use crate::tests::compare::compare;
+use crate::tests::flows::{new_reader, new_state_reader};
 use flow_law::{Config, Rejected};
 use flow_shared::{Emitter, Reader, SendEnd, Setter, SharedFlow, StateFlow, StateReader};
 use flow_testing::Refusing;
@@ -54,7 +55,7 @@ fn refuse_waits<R: Wait + Clock + Abort, A: Allocator + Copy>(
     refusing.refuse(0);
     let (flow, seat) = SharedFlow::<i64, A>::new(memory, Config::new()).expect(rt, "a flow");
     let mut emitter = flow.emitter(seat);
-    let mut reader = emitter.subscribe(rt).expect(rt, "a reader");
+    let mut reader = new_reader(rt, &mut emitter);
     waits_in_vain(rt, &mut emitter, &mut reader, refusing, number);
 }
 
@@ -99,7 +100,7 @@ fn refuse_state_waits<R: Wait + Clock + Abort, A: Allocator + Copy>(
     refusing.refuse(0);
     let (flow, seat) = StateFlow::<i64, A>::new(memory, 0, 1).expect(rt, "a flow");
     let mut setter = flow.setter(seat);
-    let mut reader = setter.subscribe(rt).expect(rt, "a reader");
+    let mut reader = new_state_reader(rt, &mut setter);
     changes_in_vain(rt, &mut setter, &mut reader, refusing, number);
 }
 

@@ -1,5 +1,6 @@
 //! Worked examples over emitters and readers of shared flows, on one thread and on two.
 use flow_law::{Config, OutOfMemory, Overflow};
+use flow_shared::DrainEnd;
 
 /// How many milliseconds an hour has. No test takes so long: a sleeper that is not woken fails.
 const HOUR: u64 = 3_600_000;
@@ -51,16 +52,12 @@ pub enum Call {
     Reset,
     TryReset,
     Seen,
-    /// Another emitter, made through this one, emits the value and meets this one.
-    EmitByAnother(i64),
+    /// Another emitter and another reader meet the emitter, and leave.
+    Meet,
     /// An emitter that is made through the reader emits the value.
     EmitByReader(i64),
     /// The value is emitted while there is another reader, which is dropped.
     EmitBesideReader(i64),
-    /// Another reader meets the emitter.
-    MeetReader,
-    /// Another reader comes and leaves. So many subscribers are left.
-    Unsubscribe(u64),
     /// Whether another reader gets a number.
     Subscribe(bool),
     /// The same, with values of its own, of which there are none.
@@ -72,8 +69,8 @@ pub enum Call {
     ReceiveInTime(u64, Option<i64>),
     /// Receives the second value, and may receive the first one before.
     ReceiveAfter(i64, i64),
-    /// How many values are taken at most, and as many are there.
-    Drain(usize),
+    /// How many values are taken at most, how it ends, and how many were there.
+    Drain(usize, DrainEnd, usize),
     /// Receives the numbers from 1 to this one. Another reader comes and goes before each of them.
     ReceiveBesideReaders(i64),
     /// The emission of the value waits until the reader has received it.
@@ -88,20 +85,17 @@ pub enum Call {
     PollSend(i64, bool),
     /// What a future of a new reader receives. It is dropped.
     PollReceive(Option<i64>),
-    /// So many subscribers are there beside a future that was not polled, and is dropped.
-    CountBesideFuture(u64),
-    /// A future of a new reader loses a `select`.
+    /// A future of a new reader loses a `select` before it is polled. It is dropped.
     LoseSelect,
     /// Lets the other thread fall asleep.
     Pause,
 }
 
 use Call::{
-    CacheLength, Cancel, CancelLate, Count, CountBesideFuture, Drain, DropEmission,
-    EmitBesideReader, EmitByAnother, EmitByReader, LoseSelect, MeetReader, Next, Pause,
-    PollReceive, PollSend, PollUntilReceived, Receive, ReceiveAfter, ReceiveBesideReaders,
-    ReceiveInTime, Reset, Seen, Send, SendInTime, SendRefused, SendUpTo, Subscribe, SubscribeWith,
-    TryCancel, TryCount, TryEmit, TryEmitRefused, TryNext, TryReset, Unsubscribe,
+    CacheLength, Cancel, CancelLate, Count, Drain, DropEmission, EmitBesideReader, EmitByReader,
+    LoseSelect, Meet, Next, Pause, PollReceive, PollSend, PollUntilReceived, Receive, ReceiveAfter,
+    ReceiveBesideReaders, ReceiveInTime, Reset, Seen, Send, SendInTime, SendRefused, SendUpTo,
+    Subscribe, SubscribeWith, TryCancel, TryCount, TryEmit, TryEmitRefused, TryNext, TryReset,
 };
 
 /// The configuration of a flow without a buffer (`MutableSharedFlow()`).
@@ -136,23 +130,22 @@ pub static EXAMPLES: &[Example] = &[
             TryEmit(4, true),
             TryReset,
             CacheLength(0),
-            Drain(1),
+            Drain(1, DrainEnd::Most, 1),
+            Drain(8, DrainEnd::Empty, 0),
             Seen,
         ],
     },
-    // A handle that was made through another one or through a reader emits as the first does. A reader that left is no
-    // longer counted.
+    // An emitter that was made through a reader emits as the first does. Another reader that left is no longer counted.
     Example {
         config: Config {
             extra: 8,
             ..UNBUFFERED
         },
         calls: &[
-            EmitByAnother(1),
+            TryEmit(1, true),
             EmitByReader(2),
             Next(Some(1)),
-            Unsubscribe(1),
-            MeetReader,
+            Meet,
             Count(1),
             Next(Some(2)),
         ],
@@ -205,8 +198,8 @@ pub static EXAMPLES: &[Example] = &[
             TryEmit(2, true),
         ],
     },
-    // A future that waits for a value and is dropped ends its subscription, after a poll and before one, and if it loses
-    // a `select`. A value goes from one future to another.
+    // A future that waits for a value and is dropped ends its subscription, after a poll, and before one if it loses a
+    // `select`. A value goes from one future to another.
     Example {
         config: Config {
             replay: 1,
@@ -214,8 +207,6 @@ pub static EXAMPLES: &[Example] = &[
         },
         calls: &[
             PollReceive(None),
-            Count(1),
-            CountBesideFuture(2),
             Count(1),
             LoseSelect,
             Count(1),
@@ -264,7 +255,7 @@ pub static MEETINGS: &[Meeting] = &[
     // subscriber that is there may receive an offered value before it is withdrawn.
     Meeting {
         config: UNBUFFERED,
-        emits: &[Pause, Unsubscribe(1), DropEmission(6), SendInTime(HOUR, 7)],
+        emits: &[Pause, Meet, DropEmission(6), SendInTime(HOUR, 7)],
         reads: &[ReceiveAfter(6, 7)],
         end: End::Drop,
     },

@@ -3,7 +3,7 @@ use crate::tests::compare::{compare, length, no_such_call, pause};
 use crate::tests::emissions::{cancel, cancel_late, emission_of, queued, try_cancel};
 use crate::tests::flows::new_reader;
 use crate::tests::shared::Call;
-use crate::tests::tasks::{count_beside_future, lose_select, poll_receive, poll_send};
+use crate::tests::tasks::{lose_select, poll_receive, poll_send};
 use flow_law::{Exhausted, NumberError, Rejected};
 use flow_shared::{Emitter, SendEnd};
 use std::alloc::AllocGlobal;
@@ -61,28 +61,18 @@ fn ask<R: Wait + Clock + Abort + RandomSource + AllocGlobal>(
     }
 }
 
-/// Emits a value by another emitter, which meets this one. Returns whether it was taken.
-fn emit_by_another<R: Wait>(rt: &R, emitter: &mut Emitter<'_, i64>, value: i64) -> bool {
-    let mut other = emitter.another();
-    emitter.meet(&mut other);
-    other.try_emit(rt, value) == Ok(true)
-}
-
 /// Emits a value while there is another reader, which is dropped. Returns whether it was taken.
 fn emit_beside_reader<R: Wait + Abort>(rt: &R, emitter: &mut Emitter<'_, i64>, value: i64) -> bool {
     let _reader = new_reader(rt, emitter);
     emitter.try_emit(rt, value) == Ok(true)
 }
 
-fn meet_reader<R: Wait + Abort>(rt: &R, emitter: &mut Emitter<'_, i64>) {
+/// Another emitter and another reader meet the emitter, and leave.
+fn meet<R: Wait + Abort>(rt: &R, emitter: &mut Emitter<'_, i64>) {
+    let mut other = emitter.another();
+    emitter.meet(&mut other);
     let mut reader = new_reader(rt, emitter);
     emitter.meet_reader(&mut reader);
-}
-
-/// Subscribes, and ends the subscription. Returns how many subscribers are left.
-fn unsubscribe<R: Wait + Abort>(rt: &R, emitter: &mut Emitter<'_, i64>) -> u64 {
-    let _left = new_reader(rt, emitter).unsubscribe(rt);
-    emitter.subscription_count(rt)
 }
 
 /// Subscribes with no values, and drops the reader. Returns whether it got a number.
@@ -98,14 +88,10 @@ fn call_another<R: Wait + Clock + Abort + RandomSource + AllocGlobal>(
     call: &Call,
 ) {
     match *call {
-        Call::EmitByAnother(value) => {
-            compare(rt, place, emit_by_another(rt, emitter, value), true);
-        }
         Call::EmitBesideReader(value) => {
             compare(rt, place, emit_beside_reader(rt, emitter, value), true);
         }
-        Call::MeetReader => meet_reader(rt, emitter),
-        Call::Unsubscribe(left) => compare(rt, place, unsubscribe(rt, emitter), left),
+        Call::Meet => meet(rt, emitter),
         Call::Subscribe(is_there) => compare(rt, place, emitter.subscribe(rt).is_ok(), is_there),
         Call::SubscribeWith(is_there) => {
             compare(rt, place, subscribe_with(rt, emitter), is_there);
@@ -161,9 +147,6 @@ fn go_on<R: Wait + Clock + Abort + RandomSource + AllocGlobal>(
     call: &Call,
 ) {
     match *call {
-        Call::CountBesideFuture(count) => {
-            compare(rt, place, count_beside_future(rt, emitter), count);
-        }
         Call::LoseSelect => compare(rt, place, lose_select(rt, emitter), true),
         Call::SendUpTo(last) => compare(rt, place, send_up_to(rt, emitter, last), true),
         Call::Pause => pause(rt),

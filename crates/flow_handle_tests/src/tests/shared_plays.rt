@@ -24,14 +24,14 @@ fn make_all<R: Wait + Clock + Abort + RandomSource + AllocGlobal>(
     }
 }
 
-/// Plays an example on a new flow. Its handles are those that their tokens make when they are bound again.
+/// Plays an example on a new flow. Its reader is the one that its subscription makes when it is bound again.
 fn play<R: Wait + Clock + Abort + RandomSource + AllocGlobal>(
     rt: &R,
     place: usize,
     example: &Example,
 ) {
     let (flow, seat) = SharedFlow::new(rt.alloc(), example.config).expect(rt, "a flow");
-    let mut emitter = flow.emitter(flow.emitter(seat).into_seat());
+    let mut emitter = flow.emitter(seat);
     let mut reader = flow.reader(new_reader(rt, &mut emitter).into_subscription());
     make_all(rt, &mut emitter, &mut reader, place, example.calls);
 }
@@ -58,12 +58,12 @@ fn emit_all<R: Wait + Clock + Abort + RandomSource + AllocGlobal>(
 /// Makes all calls of a thread that reads, and the end of the reader.
 fn read_all<R: Wait + Clock + Abort + RandomSource + AllocGlobal>(
     rt: &R,
-    emitter: &mut Emitter<'_, i64>,
     mut reader: Reader<'_, i64>,
     place: usize,
     meeting: &Meeting,
 ) {
-    make_all(rt, emitter, &mut reader, place, meeting.reads);
+    let mut emitter = reader.another();
+    make_all(rt, &mut emitter, &mut reader, place, meeting.reads);
     end(rt, reader, place, &meeting.end);
 }
 
@@ -71,7 +71,6 @@ fn read_all<R: Wait + Clock + Abort + RandomSource + AllocGlobal>(
 fn meet<R: Wait + Clock + Threads + Abort + RandomSource + AllocGlobal + Sync>(
     rt: &R,
     emitter: &mut Emitter<'_, i64>,
-    other: &mut Emitter<'_, i64>,
     reader: Reader<'_, i64>,
     place: usize,
     meeting: &Meeting,
@@ -80,7 +79,7 @@ fn meet<R: Wait + Clock + Threads + Abort + RandomSource + AllocGlobal + Sync>(
     join(
         rt,
         || emit_all(rt, emitter, place, meeting.emits),
-        || read_all(rt, other, reader, reads, meeting),
+        || read_all(rt, reader, reads, meeting),
     );
 }
 
@@ -92,9 +91,8 @@ fn play_meeting<R: Wait + Clock + Threads + Abort + RandomSource + AllocGlobal +
 ) {
     let (flow, seat) = SharedFlow::new(rt.alloc(), meeting.config).expect(rt, "a flow");
     let mut emitter = flow.emitter(seat);
-    let mut other = emitter.another();
     let reader = new_reader(rt, &mut emitter);
-    meet(rt, &mut emitter, &mut other, reader, place, meeting);
+    meet(rt, &mut emitter, reader, place, meeting);
 }
 
 #[test]

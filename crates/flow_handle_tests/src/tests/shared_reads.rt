@@ -24,6 +24,11 @@ fn drain<R: Wait + AllocGlobal>(
     (end, values.len())
 }
 
+/// Emits a value by an emitter that is made through the reader. Returns whether it was taken.
+fn emit_by_reader<R: Wait>(rt: &R, reader: &mut Reader<'_, i64>, value: i64) -> bool {
+    reader.another().try_emit(rt, value) == Ok(true)
+}
+
 /// Returns whether the last value comes, as the next one or after the first one.
 fn receive_after<R: Wait>(rt: &R, reader: &mut Reader<'_, i64>, first: i64, last: i64) -> bool {
     let received = reader.receive(rt);
@@ -51,16 +56,11 @@ fn receive<R: Wait + Clock + Abort + AllocGlobal>(
         Call::ReceiveAfter(first, last) => {
             compare(rt, place, receive_after(rt, reader, first, last), true);
         }
-        Call::Drain(most) => {
-            compare(
-                rt,
-                place,
-                drain(rt, reader, most),
-                (Ok(DrainEnd::Most), most),
-            );
+        Call::Drain(most, end, count) => {
+            compare(rt, place, drain(rt, reader, most), (Ok(end), count));
         }
         Call::EmitByReader(value) => {
-            compare(rt, place, reader.another().try_emit(rt, value), Ok(true));
+            compare(rt, place, emit_by_reader(rt, reader, value), true);
         }
         _ => no_such_call(rt, place),
     }
@@ -97,7 +97,7 @@ pub fn make<R: Wait + Clock + Abort + RandomSource + AllocGlobal>(
         | Call::Receive(_)
         | Call::ReceiveInTime(_, _)
         | Call::ReceiveAfter(_, _)
-        | Call::Drain(_)
+        | Call::Drain(_, _, _)
         | Call::EmitByReader(_) => receive(rt, reader, place, call),
         Call::PollUntilReceived(value) => poll_until_received(rt, emitter, reader, place, value),
         Call::ReceiveBesideReaders(last) => {
@@ -116,7 +116,7 @@ fn read_stream<R: Wait + Abort + RandomSource + AllocGlobal>(
     wanted: &[Result<i64, OutOfMemory>],
 ) {
     let given = next_of(rt, reader.into_stream(), wanted.len());
-    compare(rt, place, given.expect(rt, "values").as_slice(), wanted);
+    compare(rt, place, given.as_slice(), wanted);
 }
 
 /// Makes an end of a reader.

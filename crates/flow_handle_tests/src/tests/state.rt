@@ -45,8 +45,6 @@ pub enum Call {
     UpdateAndGet(Option<i64>),
     Next(Option<i64>),
     TryNext(Option<i64>),
-    /// How many values are taken at most, and how many were there.
-    Drain(usize, usize),
     ReaderSeen,
     Changed(i64),
     /// How many milliseconds it waits at most, and what comes.
@@ -65,19 +63,16 @@ pub enum Call {
     Meet,
     /// Another reader leaves. So many subscribers are left.
     Unsubscribe(u64),
-    /// Another reader leaves at once.
-    TryUnsubscribe,
-    /// The first value of another reader, which went through a future.
+    /// The first value of another reader, which went through a future and leaves at once.
     NextOfNew(i64),
     /// Lets the other thread fall asleep.
     Pause,
 }
 
 use Call::{
-    CacheLength, Changed, ChangedInTime, CompareAndSet, Count, CountBesideReader,
-    CountBesideStream, Drain, Follow, GetAndUpdate, Next, NextOfNew, Pause, ReaderSeen, Reset,
-    Seen, Set, SetUpTo, TryEmit, TryNext, TrySet, TryUnsubscribe, Update, UpdateAndGet, Value,
-    WaitFor, WaitInTime,
+    CacheLength, Changed, ChangedInTime, CompareAndSet, Count, CountBesideStream, Follow,
+    GetAndUpdate, Next, NextOfNew, Pause, ReaderSeen, Reset, Seen, Set, SetUpTo, TryEmit, TryNext,
+    TrySet, Update, UpdateAndGet, Value, WaitFor, WaitInTime,
 };
 
 pub static STATE: &[&[Call]] = &[
@@ -102,20 +97,11 @@ pub static STATE: &[&[Call]] = &[
         Seen,
         Next(Some(7)),
         TryNext(None),
-        Drain(8, 0),
         ReaderSeen,
     ],
-    // A reader or a stream that is dropped ends its subscription, and so does a reader that leaves at once. A new
-    // reader gets the state, and a future that is not polled gives its reader back.
-    &[
-        CountBesideReader(2),
-        Count(1),
-        CountBesideStream(2),
-        Count(1),
-        TryUnsubscribe,
-        Count(1),
-        NextOfNew(7),
-    ],
+    // A stream that is dropped ends its subscription, and so does a reader that leaves at once. A new reader gets the
+    // state, and a future that is not polled gives its reader back.
+    &[CountBesideStream(2), Count(1), NextOfNew(7), Count(1)],
 ];
 
 /// Examples that hold of state flows and of word states.

@@ -3,8 +3,7 @@ use crate::tests::compare::{compare, length, no_such_call, pause};
 use crate::tests::flows::new_state_reader;
 use crate::tests::state::Call;
 use flow_law::{OutOfMemory, Unsupported};
-use flow_shared::{DrainEnd, Setter, StateReader};
-use std::alloc::AllocGlobal;
+use flow_shared::{Setter, StateReader};
 use std::process::Abort;
 use std::sync::Wait;
 use std::time::{Clock, Duration};
@@ -60,24 +59,20 @@ fn ask<R: Wait + Clock + Abort>(rt: &R, setter: &mut Setter<'_, i64>, place: usi
     }
 }
 
-fn count_beside_reader<R: Wait + Abort>(rt: &R, setter: &mut Setter<'_, i64>) -> u64 {
-    let _reader = new_state_reader(rt, setter);
-    setter.subscription_count(rt)
-}
-
 fn count_beside_stream<R: Wait + Abort>(rt: &R, setter: &mut Setter<'_, i64>) -> u64 {
     let _stream = new_state_reader(rt, setter).into_stream();
     setter.subscription_count(rt)
 }
 
-fn try_unsubscribe<R: Wait + Abort>(rt: &R, setter: &mut Setter<'_, i64>) -> bool {
-    new_state_reader(rt, setter).try_unsubscribe().is_ok()
-}
-
-/// The first value of a new reader, which went through a future.
+/// The first value of a new reader, which went through a future and leaves at once.
 fn next_of_new<R: Wait + Abort>(rt: &R, setter: &mut Setter<'_, i64>) -> Option<i64> {
-    let reader = new_state_reader(rt, setter).into_changed().into_reader();
-    reader.expect(rt, "a reader").next(rt).unwrap_or(None)
+    let mut reader = new_state_reader(rt, setter).into_changed().into_reader()?;
+    let value = reader.next(rt).unwrap_or(None);
+    if reader.try_unsubscribe().is_ok() {
+        value
+    } else {
+        None
+    }
 }
 
 /// Sets the numbers from 8 to the last one.
@@ -95,29 +90,14 @@ fn call_new<R: Wait + Clock + Abort>(
     call: &Call,
 ) {
     match *call {
-        Call::CountBesideReader(count) => {
-            compare(rt, place, count_beside_reader(rt, setter), count);
-        }
         Call::CountBesideStream(count) => {
             compare(rt, place, count_beside_stream(rt, setter), count);
         }
-        Call::TryUnsubscribe => compare(rt, place, try_unsubscribe(rt, setter), true),
         Call::NextOfNew(value) => compare(rt, place, next_of_new(rt, setter), Some(value)),
         Call::SetUpTo(last) => set_up_to(rt, setter, last),
         Call::Pause => pause(rt),
         _ => no_such_call(rt, place),
     }
-}
-
-/// Drains a reader. Returns how it ended, and how many values were taken.
-fn drain<R: Wait + AllocGlobal>(
-    rt: &R,
-    reader: &mut StateReader<'_, i64>,
-    most: usize,
-) -> (Result<DrainEnd, OutOfMemory>, usize) {
-    let mut values = Vec::new(rt.alloc());
-    let end = reader.drain(rt, most, &mut values);
-    (end, values.len())
 }
 
 /// Follows a state until it is the last value. Returns whether each value was above the one before.
@@ -134,7 +114,7 @@ fn follow<R: Wait>(rt: &R, reader: &mut StateReader<'_, i64>, last: i64) -> bool
 }
 
 /// Makes a call of the reader, and compares what it answers.
-pub fn read<R: Wait + Clock + Abort + AllocGlobal>(
+pub fn read<R: Wait + Clock + Abort>(
     rt: &R,
     reader: &mut StateReader<'_, i64>,
     place: usize,
@@ -143,10 +123,6 @@ pub fn read<R: Wait + Clock + Abort + AllocGlobal>(
     match *call {
         Call::Next(value) => compare(rt, place, reader.next(rt), Ok(value)),
         Call::TryNext(value) => compare(rt, place, reader.try_next(), Ok(value)),
-        Call::Drain(most, count) => {
-            let wanted = (Ok(DrainEnd::Empty), count);
-            compare(rt, place, drain(rt, reader, most), wanted);
-        }
         Call::ReaderSeen => reader.seen(),
         Call::Follow(last) => compare(rt, place, follow(rt, reader, last), true),
         _ => wait(rt, reader, place, call),

@@ -20,7 +20,6 @@ pub fn is_of_reader(call: &Call) -> bool {
         *call,
         Call::Next(_)
             | Call::TryNext(_)
-            | Call::Drain(_, _)
             | Call::ReaderSeen
             | Call::Changed(_)
             | Call::ChangedInTime(_, _)
@@ -31,7 +30,7 @@ pub fn is_of_reader(call: &Call) -> bool {
 }
 
 /// Makes all calls of an example.
-fn make_all<R: Wait + Clock + Abort + AllocGlobal>(
+fn make_all<R: Wait + Clock + Abort>(
     rt: &R,
     setter: &mut Setter<'_, i64>,
     reader: &mut StateReader<'_, i64>,
@@ -93,11 +92,11 @@ fn change_and_next<R: Wait + RandomSource + AllocGlobal>(
 }
 
 /// The next value of a stream of a reader.
-fn next_of_stream<R: Wait + RandomSource + AllocGlobal>(
+fn next_of_stream<R: Wait + Abort + RandomSource + AllocGlobal>(
     rt: &R,
     reader: StateReader<'_, i64>,
 ) -> Option<Result<i64, OutOfMemory>> {
-    next_of(rt, reader.into_stream(), 1)?.pop()
+    next_of(rt, reader.into_stream(), 1).pop()
 }
 
 /// Makes an end of a reader.

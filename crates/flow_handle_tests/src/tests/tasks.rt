@@ -1,6 +1,6 @@
 //! Futures of an emitter and of readers of one shared flow, on one thread.
 use crate::tests::flows::new_reader;
-use flow_shared::Emitter;
+use flow_shared::{Emitter, ReceiveFuture, Received};
 use futures::Future;
 use futures::future::{ready, select};
 use futures::task::Poll;
@@ -30,28 +30,36 @@ pub fn poll_send<R: Wait + Abort + RandomSource + AllocGlobal>(
     poll_and_drop(rt, emitter.another().into_send(value))
 }
 
+/// A future of a new reader, which receives a value.
+fn new_future<'a, R: Wait + Abort>(
+    rt: &R,
+    emitter: &mut Emitter<'a, i64>,
+) -> ReceiveFuture<'a, i64> {
+    new_reader(rt, emitter).into_receive()
+}
+
+/// What was received, if a future did not wait.
+fn received(poll: Poll<Received<i64>>) -> Option<i64> {
+    match poll {
+        Poll::Ready((_subscription, received)) => received.ok(),
+        Poll::Pending => None,
+    }
+}
+
 /// What a future receives when it is polled. It is dropped.
 pub fn poll_receive<R: Wait + Abort + RandomSource + AllocGlobal>(
     rt: &R,
     emitter: &mut Emitter<'_, i64>,
 ) -> Option<i64> {
     let task = MockTask::new(rt).expect(rt, "a task");
-    match task.poll(&mut new_reader(rt, emitter).into_receive()) {
-        Poll::Ready((_subscription, received)) => received.ok(),
-        Poll::Pending => None,
-    }
+    received(task.poll(&mut new_future(rt, emitter)))
 }
 
-/// How many subscribers there are beside a future that is dropped, and was not polled.
-pub fn count_beside_future<R: Wait + Abort>(rt: &R, emitter: &mut Emitter<'_, i64>) -> u64 {
-    let _future = new_reader(rt, emitter).into_receive();
-    emitter.subscription_count(rt)
-}
-
-/// A future of a new reader is dropped, since another one is done first. Returns whether that was so at once.
+/// A future of a new reader is dropped before it is polled, since another one is done first. Returns whether that was so
+/// at once.
 pub fn lose_select<R: Wait + Abort + RandomSource + AllocGlobal>(
     rt: &R,
     emitter: &mut Emitter<'_, i64>,
 ) -> bool {
-    !poll_and_drop(rt, select(new_reader(rt, emitter).into_receive(), ready(7)))
+    !poll_and_drop(rt, select(ready(7), new_future(rt, emitter)))
 }

@@ -77,11 +77,11 @@ fn change_and_next<R: Wait + RandomSource + AllocGlobal>(
 }
 
 /// The next value of a stream of a reader.
-fn next_of_stream<R: Wait + RandomSource + AllocGlobal>(
+fn next_of_stream<R: Wait + Abort + RandomSource + AllocGlobal>(
     rt: &R,
     reader: WordReader<'_, i64>,
 ) -> Option<i64> {
-    next_of(rt, reader.into_stream(), 1)?.pop()
+    next_of(rt, reader.into_stream(), 1).pop()
 }
 
 /// Makes an end of a reader.
