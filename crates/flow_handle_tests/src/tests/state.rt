@@ -106,6 +106,15 @@ pub static STATE: &[&[Call]] = &[
 
 /// Examples that hold of state flows and of word states.
 pub static WAITS: &[&[Call]] = &[
+    // Values that are set between two calls are conflated, and an equal value is no new one.
+    &[
+        Next(Some(7)),
+        Set(1),
+        Set(7),
+        Next(None),
+        Set(5),
+        Next(Some(5)),
+    ],
     // `StateFlow.first { }` tests the current value first. The reader has not got it.
     &[
         WaitFor(6, 7),
