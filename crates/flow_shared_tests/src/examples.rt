@@ -2,17 +2,13 @@
 //! `MutableSharedFlow` and `BufferOverflow`.
 
 mod asleep;
-mod drains;
+mod at_once;
 mod emissions;
-mod futures_awaited;
-mod futures_by_hand;
 mod gate;
 mod lent;
-mod meetings;
 mod met;
-mod own_values;
-mod polling;
-mod state;
+mod polled;
+mod races;
+mod subscribed;
 mod subscribers;
 mod threads;
-mod worker;

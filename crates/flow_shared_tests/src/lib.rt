@@ -30,5 +30,3 @@ mod sharing;
 mod steps;
 #[cfg(test)]
 mod values;
-#[cfg(test)]
-mod work;

@@ -8,6 +8,5 @@ mod on_state_flows;
 mod runs;
 mod tokens;
 
-pub use on_flows::{FlowPlayer, Played, take_all};
+pub use on_flows::{FlowPlayer, Played};
 pub use runs::{MANY, play, refuse_each};
-pub use tokens::{Reader, Waiting, put, token};

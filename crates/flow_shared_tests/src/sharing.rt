@@ -6,17 +6,16 @@
 
 mod beside;
 mod expiry;
-mod flow_runs;
 mod hubs;
 mod playing;
 mod refused_reset;
-mod runs;
+mod shared_runs;
 mod sharing_steps;
 mod sharings;
 mod state_runs;
 mod subscribers;
-mod two_chains;
 mod word_hubs;
+mod word_runs;
 
 pub use playing::Chain;
 pub use sharing_steps::{Step, turn};

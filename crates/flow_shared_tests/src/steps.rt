@@ -39,15 +39,17 @@ pub enum Step {
     /// The value, and whether it waits.
     Emit(i64, Result<bool, FlowFault>),
     /// An emission, and whether it waits.
-    Poll(usize, Result<bool, FlowFault>),
+    Poll(usize, bool),
     /// An emission, and whether it waited.
-    Cancel(usize, Result<bool, FlowFault>),
+    Cancel(usize, bool),
     /// An emission, which is dropped.
     DropEmission(usize),
     Reset,
+    ResetNow,
     /// The current value of a state flow.
     Current(i64),
     Set(i64),
+    SetNow(i64),
     /// The value that is expected, the update, and whether it was set.
     CompareAndSet(i64, i64, bool),
     ResetRefused(FlowFault),
@@ -59,10 +61,12 @@ pub enum Step {
     /// The values that are handed back.
     SubscribeWithRefused(&'static [i64], FlowFault),
     Next(usize, &'static Next<i64>),
+    NextNow(usize, &'static Next<i64>),
     Unsubscribe(usize),
     /// A subscription, which is dropped.
     DropSubscription(usize),
     Count(u64),
+    CountNow(u64),
     /// A subscriber, how many values it takes at most, why it stopped, and the values.
     Drain(usize, usize, Drained, &'static [i64]),
 }

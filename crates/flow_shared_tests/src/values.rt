@@ -75,7 +75,7 @@ pub fn are<T: Numbered>(rt: &impl Abort, place: usize, values: &[T], numbers: &[
     for index in 0..numbers.len() {
         match values.get(index) {
             Some(value) => compare(rt, place, value.number(), numbers[index]),
-            None => panic!(rt; "step {place}: too few values"),
+            None => panic!(rt; "too few values"),
         }
     }
 }

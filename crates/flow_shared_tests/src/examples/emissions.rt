@@ -8,21 +8,7 @@ use crate::steps::{DONE, Example, UNBUFFERED, WAITS};
 use flow_law::Next::{Empty, Value};
 use flow_law::{Config, Overflow};
 
-pub const EXAMPLES: &[Example] = &[
-    // Try emit does not wait.
-    Example {
-        kind: Shared(Config {
-            replay: 1,
-            extra: 1,
-            ..UNBUFFERED
-        }),
-        steps: &[
-            Subscribe,
-            TryEmit(1, Ok(true)),
-            TryEmit(2, Ok(true)),
-            TryEmit(3, Ok(false)),
-        ],
-    },
+pub static EXAMPLES: &[Example] = &[
     // An emitter waits for room.
     Example {
         kind: Shared(Config {
@@ -36,9 +22,9 @@ pub const EXAMPLES: &[Example] = &[
             TryEmit(2, Ok(true)),
             TryEmit(3, Ok(false)),
             Emit(3, WAITS),
-            Poll(0, WAITS),
+            Poll(0, true),
             Next(0, &Value(1)),
-            Poll(0, DONE),
+            Poll(0, false),
             Cache(&[3]),
             Next(0, &Value(2)),
             Next(0, &Value(3)),
@@ -95,9 +81,9 @@ pub const EXAMPLES: &[Example] = &[
             TryEmit(7, Ok(false)),
             Emit(7, WAITS),
             Next(0, &Value(7)),
-            Poll(0, WAITS),
+            Poll(0, true),
             Next(1, &Value(7)),
-            Poll(0, DONE),
+            Poll(0, false),
         ],
     },
     // A cancelled offer is not received.
@@ -109,8 +95,8 @@ pub const EXAMPLES: &[Example] = &[
             TryEmit(7, Ok(false)),
             Emit(7, WAITS),
             Next(0, &Value(7)),
-            Poll(0, WAITS),
-            Cancel(0, Ok(true)),
+            Poll(0, true),
+            Cancel(0, true),
             Next(1, &Empty),
         ],
     },
@@ -122,9 +108,9 @@ pub const EXAMPLES: &[Example] = &[
             Emit(7, WAITS),
             Subscribe,
             Next(1, &Value(7)),
-            Poll(0, WAITS),
+            Poll(0, true),
             Next(0, &Value(7)),
-            Poll(0, DONE),
+            Poll(0, false),
             Subscribe,
             Next(2, &Empty),
         ],
@@ -142,9 +128,9 @@ pub const EXAMPLES: &[Example] = &[
             Emit(3, WAITS),
             Emit(4, WAITS),
             Unsubscribe(0),
-            Poll(1, DONE),
-            Poll(2, DONE),
-            Poll(3, DONE),
+            Poll(1, false),
+            Poll(2, false),
+            Poll(3, false),
             Cache(&[4]),
         ],
     },
@@ -160,7 +146,7 @@ pub const EXAMPLES: &[Example] = &[
             Emit(2, WAITS),
             Emit(3, WAITS),
             Emit(4, WAITS),
-            Cancel(3, Ok(true)),
+            Cancel(3, true),
             Unsubscribe(0),
             Cache(&[3]),
         ],

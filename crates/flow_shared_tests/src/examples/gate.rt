@@ -102,14 +102,20 @@ fn who_is_inside_keeps_others_out(rt: HostRuntime) {
 }
 
 /// One seat adds an event and meets the other one. Each of them then adds one, and the second one leaves once more.
+fn meet_and_go_on<R: Wait>(rt: &R, gate: &Gate<Count>, seat: Seat<Count>, other: Seat<Count>)
+    requires { (seat.table_id ≡ gate.now.table_id) × (other.table_id ≡ gate.now.table_id) }
+{
+    let seat = add_one(gate.enter(rt, seat));
+    let (seat, other) = meet_in_one_history(gate, seat, other);
+    let other = add_one(gate.enter(rt, other));
+    drop(add_one(gate.enter(rt, seat)));
+    drop(gate.enter(rt, other).leave::<Brand, _>(&()));
+}
+
 #[test]
 fn two_seats_meet_and_go_on(rt: HostRuntime) {
     let (gate, mut seat) = new_gate(&rt, rt.alloc());
     let other = gate.seat(&mut seat);
-    let seat = add_one(gate.enter(&rt, seat));
-    let (seat, other) = meet_in_one_history(&gate, seat, other);
-    let other = add_one(gate.enter(&rt, other));
-    let _seat = add_one(gate.enter(&rt, seat));
-    let _other = gate.enter(&rt, other).leave::<Brand, _>(&());
+    meet_and_go_on(&rt, &gate, seat, other);
     had(&rt, gate.close(), 3);
 }

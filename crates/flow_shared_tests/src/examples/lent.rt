@@ -1,20 +1,26 @@
 //! Callers to whom a flow was lent, by the values that they get.
 use crate::compare::compare;
-use crate::examples::threads::one_subscriber;
+use crate::examples::subscribed::{Subscribed, lend};
 use crate::lent::{emit_one, next_in_order, read_newest};
 use flow_law::Config;
 use flow_law::Next::{Empty, Value};
 use flow_word::WordState;
+use std::process::Abort;
+use std::sync::Wait;
+
+/// A subscriber receives what was emitted, and then nothing.
+fn receives_all<R: Wait + Abort>(rt: &R, subscribed: &mut Subscribed<'_>) {
+    let taken = emit_one(rt, subscribed.flow, &mut subscribed.seat, 1);
+    compare(rt, 0, taken, Ok(true));
+    for wanted in [Value(1), Empty] {
+        let received = next_in_order(rt, subscribed.flow, &mut subscribed.subscription);
+        compare(rt, 1, received, Ok(wanted));
+    }
+}
 
 #[test]
 fn subscriber_of_a_lent_flow_receives_all(rt: HostRuntime) {
-    let config = Config::new().extra(1);
-    let (flow, mut seat, mut subscription) = one_subscriber(&rt, rt.alloc(), config);
-    compare(&rt, 0, emit_one(&rt, &flow, &mut seat, 1), Ok(true));
-    let received = next_in_order(&rt, &flow, &mut subscription);
-    compare(&rt, 1, received, Ok(Value(1)));
-    let received = next_in_order(&rt, &flow, &mut subscription);
-    compare(&rt, 2, received, Ok(Empty));
+    lend(&rt, Config::new().extra(1), receives_all);
 }
 
 /// A word state of 5 is set to 9.

@@ -2,7 +2,7 @@
 ghost use Rattle.std.specs.Prelude.{◌≡◌};
 
 use crate::compare::compare;
-use crate::examples::threads::one_subscriber;
+use crate::examples::subscribed::{Subscribed, lend};
 use flow_law::{Config, Next};
 use flow_shared::{Seat, SharedFlow, StateFlow, StateSeat};
 use std::process::Abort;
@@ -30,7 +30,8 @@ fn emit_and_meet<R: Wait + Abort>(
     other: &mut Seat<i64>,
 )
     requires { (seat.old.table_id ≡ flow.now.table_id) × (other.old.table_id ≡ flow.now.table_id) }
-    ensures { other.new.table_id ≡ flow.entry.now.table_id }
+    ensures { (seat.new.table_id ≡ flow.entry.now.table_id) ×
+        (other.new.table_id ≡ flow.entry.now.table_id) }
 {
     compare(rt, 1, flow.try_emit(rt, seat, 1), Ok(true));
     compare(rt, 2, flow.try_emit(rt, other, 2), Ok(true));
@@ -40,22 +41,21 @@ fn emit_and_meet<R: Wait + Abort>(
 }
 
 /// A subscription meets a seat that has emitted, and receives the first value.
-#[test]
-fn seats_and_a_subscription_of_a_shared_flow_have_met(rt: HostRuntime) {
-    let config = Config::new().replay(2);
-    let (flow, mut seat, mut subscription) = one_subscriber(&rt, rt.alloc(), config);
-    let mut other = flow.seat(&mut seat);
-    emit_and_meet(&rt, &flow, &mut seat, &mut other);
-    flow.meet_subscription(&mut subscription, &mut other);
-    compare(
-        &rt,
-        3,
-        flow.next(&rt, &mut subscription),
-        Ok(Next::Value(1)),
-    );
+fn meet_subscriber<R: Wait + Abort>(rt: &R, subscribed: &mut Subscribed<'_>) {
+    let mut other = subscribed.flow.seat(&mut subscribed.seat);
+    emit_and_meet(rt, subscribed.flow, &mut subscribed.seat, &mut other);
+    let subscription = &mut subscribed.subscription;
+    subscribed.flow.meet_subscription(subscription, &mut other);
+    let next = subscribed.flow.next(rt, subscription);
+    compare(rt, 3, next, Ok(Next::Value(1)));
 }
 
-/// Two seats meet, and read the value that one of them set at once.
+#[test]
+fn seats_and_a_subscription_of_a_shared_flow_have_met(rt: HostRuntime) {
+    lend(&rt, Config::new().replay(2), meet_subscriber);
+}
+
+/// Two seats meet, and read the value that one of them set.
 fn set_and_meet<R: Wait + Abort>(
     rt: &R,
     flow: &StateFlow<i64>,
@@ -66,8 +66,7 @@ fn set_and_meet<R: Wait + Abort>(
     ensures { (seat.new.table_id ≡ flow.entry.now.table_id) ×
         (other.new.table_id ≡ flow.entry.now.table_id) }
 {
-    compare(rt, 0, flow.set_now(other, 5), Ok(()));
-    compare(rt, 1, flow.count_now(other), Ok(0));
+    flow.set(rt, other, 5);
     flow.meet(seat, other);
     flow.seen(seat);
     compare(rt, 2, flow.value(rt, seat), Ok(5));

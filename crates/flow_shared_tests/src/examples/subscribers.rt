@@ -1,14 +1,18 @@
-//! What subscribers receive, and what is refused.
-use crate::examples::{drains, emissions, own_values, state};
+//! What subscribers receive, and what is refused. The values of state flows come from kotlinx.coroutines' documentation of
+//! `MutableStateFlow`.
+use crate::examples::emissions;
 use crate::playing::play;
-use crate::steps::Kind::Shared;
-use crate::steps::Step::{Cache, Count, Emit, Next, Reset, Subscribe, SubscribeRefused, TryEmit};
-use crate::steps::{DONE, Example, UNBUFFERED};
-use flow_law::FlowFault::Exhausted;
+use crate::steps::Kind::{Shared, State};
+use crate::steps::Step::{
+    Cache, Cancel, CompareAndSet, Count, Current, Drain, Emit, Next, Poll, Reset, ResetRefused,
+    Set, Subscribe, SubscribeRefused, SubscribeWith, SubscribeWithRefused, TryEmit,
+};
+use crate::steps::{DONE, Example, UNBUFFERED, WAITS};
+use flow_law::FlowFault::{Exhausted, Unsupported};
 use flow_law::Next::{Empty, Value};
-use flow_law::{Config, Overflow};
+use flow_law::{Config, Drained, Overflow};
 
-pub const EXAMPLES: &[Example] = &[
+static EXAMPLES: &[Example] = &[
     // Nobody receives what was emitted before.
     Example {
         kind: Shared(UNBUFFERED),
@@ -17,23 +21,6 @@ pub const EXAMPLES: &[Example] = &[
             Cache(&[]),
             Count(0),
             Subscribe,
-            Next(0, &Empty),
-        ],
-    },
-    // A new subscriber gets the cache.
-    Example {
-        kind: Shared(Config {
-            replay: 2,
-            ..UNBUFFERED
-        }),
-        steps: &[
-            TryEmit(1, Ok(true)),
-            TryEmit(2, Ok(true)),
-            TryEmit(3, Ok(true)),
-            Cache(&[2, 3]),
-            Subscribe,
-            Next(0, &Value(2)),
-            Next(0, &Value(3)),
             Next(0, &Empty),
         ],
     },
@@ -101,13 +88,85 @@ pub const EXAMPLES: &[Example] = &[
             TryEmit(3, Err(Exhausted)),
         ],
     },
+    // An own value lets an emission wait.
+    Example {
+        kind: Shared(UNBUFFERED),
+        steps: &[
+            SubscribeWith(&[8]),
+            Emit(7, WAITS),
+            Next(0, &Value(8)),
+            Poll(0, true),
+            Next(0, &Value(7)),
+            Poll(0, false),
+        ],
+    },
+    // A cancel leaves an own value.
+    Example {
+        kind: Shared(UNBUFFERED),
+        steps: &[
+            SubscribeWith(&[8]),
+            Emit(7, WAITS),
+            Cancel(0, true),
+            Next(0, &Value(8)),
+            Next(0, &Empty),
+        ],
+    },
+    // A refused subscription hands its values back.
+    Example {
+        kind: Shared(Config {
+            limit: 0,
+            ..UNBUFFERED
+        }),
+        steps: &[SubscribeWithRefused(&[1, 2], Exhausted)],
+    },
+    // A shared flow gives all that is there.
+    Example {
+        kind: Shared(Config {
+            extra: 4,
+            ..UNBUFFERED
+        }),
+        steps: &[
+            Subscribe,
+            TryEmit(1, Ok(true)),
+            TryEmit(2, Ok(true)),
+            Drain(0, 1, Drained::Most, &[1]),
+            Drain(0, 9, Drained::Empty, &[2]),
+        ],
+    },
+    // A state flow gives its value once.
+    Example {
+        kind: State(u64::MAX),
+        steps: &[Subscribe, Set(5), Drain(0, 9, Drained::Empty, &[5])],
+    },
+    // A subscriber gets no value twice in a row.
+    Example {
+        kind: State(u64::MAX),
+        steps: &[
+            Subscribe,
+            Next(0, &Value(0)),
+            Set(1),
+            Set(0),
+            Next(0, &Empty),
+            CompareAndSet(0, 0, true),
+            CompareAndSet(1, 2, false),
+            Set(5),
+            Next(0, &Value(5)),
+            Cache(&[5]),
+            ResetRefused(Unsupported),
+            TryEmit(6, Ok(true)),
+            Current(6),
+            Count(1),
+        ],
+    },
+    // No number is issued beyond the limit.
+    Example {
+        kind: State(0),
+        steps: &[SubscribeRefused(Exhausted)],
+    },
 ];
 
 #[test]
 fn flows_are_as_documented(rt: HostRuntime) {
     play(&rt, rt.alloc(), 0, EXAMPLES);
     play(&rt, rt.alloc(), 10_000, emissions::EXAMPLES);
-    play(&rt, rt.alloc(), 20_000, own_values::EXAMPLES);
-    play(&rt, rt.alloc(), 30_000, drains::EXAMPLES);
-    play(&rt, rt.alloc(), 40_000, state::EXAMPLES);
 }

@@ -77,33 +77,45 @@ impl<'a, T: Numbered<Memory = A>, S: FlowCore<Item = T> + Drop, A: Allocator + C
             Step::SubscribeRefused(fault) => {
                 Ok(compare(rt, place, self.subscribe(rt), Err(fault)))
             }
+            Step::Unsubscribe(index) => Ok(token(rt, &mut self.readers, index).leave(rt)),
+            Step::DropSubscription(index) => Ok(drop(token(rt, &mut self.readers, index))),
+            _ => self.reader_step(rt, place, step),
+        }
+    }
+
+    /// Takes a step of a subscriber that stays.
+    fn reader_step<R: Wait + Abort>(
+        &mut self,
+        rt: &R,
+        place: usize,
+        step: Step,
+    ) -> Result<(), FlowFault> {
+        match step {
             Step::Next(index, wanted) => at(rt, &mut self.readers, index).next(rt, place, wanted),
+            Step::NextNow(index, wanted) => {
+                at(rt, &mut self.readers, index).next_now(rt, place, wanted)
+            }
             Step::Drain(index, most, ended, numbers) => {
                 let memory = self.memory;
                 let wanted = (ended, numbers);
                 at(rt, &mut self.readers, index).drain(rt, memory, place, most, wanted)
             }
-            Step::Unsubscribe(index) => Ok(token(rt, &mut self.readers, index).leave(rt)),
-            Step::DropSubscription(index) => Ok(drop(token(rt, &mut self.readers, index))),
-            Step::Count(count) => {
-                let answer = self.flow.subscription_count(rt, &mut self.seat);
-                Ok(compare(rt, place, answer, count))
-            }
-            _ => panic!(rt; "step {place}: not on this flow"),
+            _ => Ok(self.count_step(rt, place, step)),
         }
     }
-}
 
-/// Takes the steps, and expects that none is refused. A failure names the place of its step; the first step has this place.
-pub fn take_all<R: Wait + Abort, T: Numbered, S: Played<T, A>, A: Allocator + Copy>(
-    rt: &R,
-    player: &mut FlowPlayer<'_, T, S, A>,
-    first: usize,
-    steps: &[Step],
-) {
-    for (index, step) in steps.iter().enumerate() {
-        let place = first.saturating_add(index);
-        compare(rt, place, S::take(player, rt, place, *step), Ok(()));
+    /// Takes a step that counts the subscribers.
+    fn count_step<R: Wait + Abort>(&mut self, rt: &R, place: usize, step: Step) {
+        match step {
+            Step::Count(count) => {
+                let answer = self.flow.subscription_count(rt, &mut self.seat);
+                compare(rt, place, answer, count);
+            }
+            Step::CountNow(count) => {
+                compare(rt, place, self.flow.count_now(&mut self.seat), Ok(count));
+            }
+            _ => panic!(rt; "not a step of this flow"),
+        }
     }
 }
 

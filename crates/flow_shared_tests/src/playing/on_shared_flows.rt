@@ -41,6 +41,21 @@ impl<'a, T: Numbered<Memory = A>, A: Allocator + Copy> FlowPlayer<'a, T, SharedC
         waits
     }
 
+    /// Emits a value, and compares whether it waits. `Err` if memory is refused.
+    fn emits<R: Wait + Abort>(
+        &mut self,
+        rt: &R,
+        place: usize,
+        number: i64,
+        waits: Result<bool, FlowFault>,
+    ) -> Result<(), FlowFault> {
+        let answer = self.emit(rt, place, number);
+        if answer == Err(FlowFault::OutOfMemory) {
+            return Err(FlowFault::OutOfMemory);
+        }
+        Ok(compare(rt, place, answer, waits))
+    }
+
     /// Takes a step of an emission.
     fn emission_step<R: Wait + Abort>(
         &mut self,
@@ -48,21 +63,34 @@ impl<'a, T: Numbered<Memory = A>, A: Allocator + Copy> FlowPlayer<'a, T, SharedC
         place: usize,
         step: Step,
     ) -> Result<(), FlowFault> {
-        let (answer, wanted) = match step {
-            Step::Emit(number, waits) => (self.emit(rt, place, number), waits),
-            Step::Poll(index, waits) => (Ok(self.poll(rt, index)), waits),
+        match step {
+            Step::Emit(number, waits) => self.emits(rt, place, number, waits),
+            Step::Poll(index, waits) => Ok(compare(rt, place, self.poll(rt, index), waits)),
             Step::Cancel(index, waited) => {
-                (Ok(token(rt, &mut self.emissions, index).cancel(rt)), waited)
+                let answer = token(rt, &mut self.emissions, index).cancel(rt);
+                Ok(compare(rt, place, answer, waited))
             }
-            Step::DropEmission(index) => {
-                return Ok(drop(token(rt, &mut self.emissions, index)));
-            }
-            _ => return self.subscriber_step(rt, place, step),
-        };
-        if answer == Err(FlowFault::OutOfMemory) {
-            return Err(FlowFault::OutOfMemory);
+            Step::DropEmission(index) => Ok(drop(token(rt, &mut self.emissions, index))),
+            _ => self.subscriber_step(rt, place, step),
         }
-        Ok(compare(rt, place, answer, wanted))
+    }
+
+    /// Takes a step of the replay cache.
+    fn cache_step<R: Wait + Abort>(
+        &mut self,
+        rt: &R,
+        place: usize,
+        step: Step,
+    ) -> Result<(), FlowFault> {
+        match step {
+            Step::Cache(numbers) => {
+                let cache = self.flow.replay_cache(rt, &mut self.seat)?;
+                Ok(are(rt, place, cache.as_slice(), numbers))
+            }
+            Step::Reset => Ok(self.flow.reset_replay_cache(rt, &mut self.seat)),
+            Step::ResetNow => Ok(compare(rt, place, self.flow.reset_now(&mut self.seat), Ok(()))),
+            _ => self.emission_step(rt, place, step),
+        }
     }
 
     /// Subscribes with own first values. A refusal hands them back.
@@ -108,12 +136,7 @@ impl<T: Numbered<Memory = A>, A: Allocator + Copy> Played<T, A> for SharedCore<T
                 let answer = player.subscribe_with(rt, place, first);
                 Ok(compare(rt, place, answer, Err(fault)))
             }
-            Step::Cache(numbers) => {
-                let cache = player.flow.replay_cache(rt, &mut player.seat)?;
-                Ok(are(rt, place, cache.as_slice(), numbers))
-            }
-            Step::Reset => Ok(player.flow.reset_replay_cache(rt, &mut player.seat)),
-            _ => player.emission_step(rt, place, step),
+            _ => player.cache_step(rt, place, step),
         }
     }
 }

@@ -5,7 +5,7 @@ use crate::compare::compare;
 use crate::playing::on_flows::{FlowPlayer, Played, take_again};
 use crate::steps::{Example, Kind, Step};
 use crate::values::Numbered;
-use flow_law::{Boxed, FlowFault};
+use flow_law::{Boxed, Config, FlowFault};
 use flow_shared::{Flow, FlowSeat, SharedFlow, StateFlow};
 use flow_testing::Refusing;
 use std::alloc::{Allocator, Global};
@@ -20,16 +20,44 @@ fn take_on<R: Wait + Abort, T: Numbered<Memory = A>, S: Played<T, A>, A: Allocat
     rt: &R,
     alloc: Global,
     memory: A,
-    flow: Flow<S, A>,
+    flow: &Flow<S, A>,
     seat: FlowSeat<S, A>,
     first: usize,
     steps: &[Step],
     refused: &mut Vec<usize>,
 )
-    requires { seat.table_id ≡ flow.table_id }
+    requires { seat.table_id ≡ flow.now.table_id }
 {
-    let mut player = FlowPlayer::new(alloc, memory, &flow, seat);
+    let mut player = FlowPlayer::new(alloc, memory, flow, seat);
     take_again(rt, &mut player, first, steps, refused);
+}
+
+/// Takes the steps on a new shared flow. `Err` where the flow is refused.
+fn play_shared<R: Wait + Abort, A: Allocator + Copy>(
+    rt: &R,
+    alloc: Global,
+    memory: A,
+    config: Config,
+    first: usize,
+    steps: &[Step],
+    refused: &mut Vec<usize>,
+) -> Result<(), FlowFault> {
+    let (flow, seat) = SharedFlow::<Boxed<i64, A>, A>::new(memory, config)?;
+    Ok(take_on(rt, alloc, memory, &flow, seat, first, steps, refused))
+}
+
+/// Takes the steps on a new state flow. `Err` where the flow is refused.
+fn play_state<R: Wait + Abort, A: Allocator + Copy>(
+    rt: &R,
+    alloc: Global,
+    memory: A,
+    limit: u64,
+    first: usize,
+    steps: &[Step],
+    refused: &mut Vec<usize>,
+) -> Result<(), FlowFault> {
+    let (flow, seat) = StateFlow::new(memory, Boxed::of(rt, memory, 0), limit)?;
+    Ok(take_on(rt, alloc, memory, &flow, seat, first, steps, refused))
 }
 
 /// Plays the example on a new flow. `Err` where the flow is refused.
@@ -43,14 +71,8 @@ fn play_once<R: Wait + Abort, A: Allocator + Copy>(
 ) -> Result<(), FlowFault> {
     let steps = example.steps;
     match example.kind {
-        Kind::Shared(config) => {
-            let (flow, seat) = SharedFlow::<Boxed<i64, A>, A>::new(memory, config)?;
-            Ok(take_on(rt, alloc, memory, flow, seat, first, steps, refused))
-        }
-        Kind::State(limit) => {
-            let (flow, seat) = StateFlow::new(memory, Boxed::of(rt, memory, 0), limit)?;
-            Ok(take_on(rt, alloc, memory, flow, seat, first, steps, refused))
-        }
+        Kind::Shared(config) => play_shared(rt, alloc, memory, config, first, steps, refused),
+        Kind::State(limit) => play_state(rt, alloc, memory, limit, first, steps, refused),
     }
 }
 

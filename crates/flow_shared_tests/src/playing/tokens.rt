@@ -30,6 +30,17 @@ impl<'a, T: Numbered, S: FlowCore<Item = T> + Drop, A: Allocator + Copy> Reader<
         Ok(compare(rt, place, &by_number(next), wanted))
     }
 
+    /// The same, by the call that does not wait for other callers.
+    pub fn next_now<R: Abort>(
+        &mut self,
+        rt: &R,
+        place: usize,
+        wanted: &Next<i64>,
+    ) -> Result<(), FlowFault> {
+        let next = self.flow.next_now(&mut self.subscription)?;
+        Ok(compare(rt, place, &by_number(next), wanted))
+    }
+
     /// Takes at most so many values, compares why it stopped, and the values. `Err` if memory is refused.
     pub fn drain<R: Wait + Abort>(
         &mut self,
@@ -106,14 +117,14 @@ impl<'a, T: Numbered, A: Allocator + Copy> Waiting<'a, T, A> {
 pub fn at<'a, X>(rt: &impl Abort, tokens: &'a mut Vec<Option<X>>, index: usize) -> &'a mut X {
     match tokens.get_mut(index) {
         Some(Some(token)) => token,
-        _ => panic!(rt; "no token {index}"),
+        _ => panic!(rt; "no token"),
     }
 }
 
 /// Takes a token out of its place.
 pub fn token<X>(rt: &impl Abort, tokens: &mut Vec<Option<X>>, index: usize) -> X {
     let Some(place) = tokens.get_mut(index) else {
-        panic!(rt; "no token {index}")
+        panic!(rt; "no token")
     };
     place.take().expect(rt, "a token")
 }

@@ -4,7 +4,8 @@ use crate::compare::compare;
 use crate::playing::refuse_each;
 use crate::steps::Kind::{Shared, State};
 use crate::steps::Step::{
-    Cache, Count, Current, Emit, Next, Set, Subscribe, SubscribeWith, TryEmit,
+    Cache, Count, CountNow, Current, Emit, Next, NextNow, ResetNow, Set, SetNow, Subscribe,
+    SubscribeWith, TryEmit,
 };
 use crate::steps::{DONE, Example, TAKEN, WAITS};
 use flow_law::Config;
@@ -36,7 +37,7 @@ const REPLAYING: Config = Config {
 };
 
 /// The examples, each with the places of the steps that take memory, from 0.
-pub const EXAMPLES: &[(Example, &[usize])] = &[
+static EXAMPLES: &[(Example, &[usize])] = &[
     // An emission waits for a slow subscriber.
     (
         Example {
@@ -48,10 +49,12 @@ pub const EXAMPLES: &[(Example, &[usize])] = &[
                 Emit(3, WAITS),
                 Next(0, &Value(1)),
                 Cache(&[3]),
-                Next(0, &Value(2)),
+                NextNow(0, &Value(2)),
                 Next(0, &Value(3)),
-                Next(0, &Empty),
-                Count(1),
+                NextNow(0, &Empty),
+                CountNow(1),
+                ResetNow,
+                Cache(&[]),
             ],
         },
         &[0, 3, 4, 5, 6, 7],
@@ -110,12 +113,12 @@ pub const EXAMPLES: &[(Example, &[usize])] = &[
                 Subscribe,
                 Next(0, &Value(0)),
                 Set(1),
-                Set(5),
+                SetNow(5),
                 Next(0, &Value(5)),
                 Next(0, &Empty),
                 Cache(&[5]),
                 Current(5),
-                Count(1),
+                CountNow(1),
             ],
         },
         &[0, 1, 4, 6, 7],

@@ -1,8 +1,10 @@
 //! Runs of sharings on a thread of their own, and what another thread makes of them meanwhile.
 use crate::compare::compare;
 use flow_cold::Scripted;
+use flow_core::FlowCore;
 use flow_law::{NEVER, Started};
-use flow_sharing::{Sharing, StopSignal, WatchedHub};
+use flow_shared::FlowCaller;
+use flow_sharing::{FlowStop, Sharing, StopSignal, WatchedHub};
 use std::process::Abort;
 use std::sync::Wait;
 use std::thread::{Threads, join, sleep};
@@ -17,8 +19,13 @@ pub const AT_ONCE: Started = Started::WhileSubscribed {
     expire: NEVER,
 };
 
-pub fn nap<R: Clock>(rt: &R) {
-    sleep(rt, Duration::from_millis(2));
+/// A caller of a flow into which a run shares a chain of 3, 3 and 4.
+pub trait Caller {
+    /// Subscribes, receives what the flow gives up to the last item, and unsubscribes. Returns whether that was right.
+    fn receives<R: Wait>(&mut self, rt: &R) -> bool;
+
+    /// Returns whether the flow has no item of the chain any more.
+    fn is_reset<R: Wait>(&mut self, rt: &R) -> bool;
 }
 
 /// A stop of a run, and what a caller of the flow does before it asks the run to stop.
@@ -26,6 +33,43 @@ pub trait Follows<C>: StopSignal {
     /// Follows the run on another thread, and asks it to stop at last. Returns whether the caller received what it was to
     /// receive.
     fn follow<R: Wait + Clock>(&self, rt: &R, caller: &mut C) -> bool;
+}
+
+fn nap<R: Clock>(rt: &R) {
+    sleep(rt, Duration::from_millis(2));
+}
+
+/// Waits until the flow is reset, and does not subscribe. The number of looks is bounded.
+fn waits_for_reset<R: Wait + Clock, C: Caller>(rt: &R, caller: &mut C) -> bool {
+    for _ in 0..5000 {
+        if caller.is_reset(rt) {
+            return true;
+        }
+        nap(rt);
+    }
+    false
+}
+
+/// Subscribes twice, each time while the run sleeps, so that the run is woken by a subscriber after a stop, too. Returns
+/// whether each subscriber got the items, and the flow was reset once it had gone.
+pub fn receives_twice<R: Wait + Clock, C: Caller>(rt: &R, caller: &mut C) -> bool {
+    let mut is_right = true;
+    for _ in 0..2 {
+        nap(rt);
+        is_right &= caller.receives(rt) && waits_for_reset(rt, caller);
+    }
+    is_right
+}
+
+impl<'a, S: FlowCore + Drop> Follows<FlowCaller<'a, S>> for FlowStop
+where
+    FlowCaller<'a, S>: Caller,
+{
+    fn follow<R: Wait + Clock>(&self, rt: &R, caller: &mut FlowCaller<'a, S>) -> bool {
+        let follows = receives_twice(rt, caller);
+        self.ask(rt, caller);
+        follows
+    }
 }
 
 /// Runs the sharing while the caller follows it.

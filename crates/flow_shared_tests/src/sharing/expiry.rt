@@ -14,7 +14,7 @@ const STARTED: Started = Started::WhileSubscribed {
     expire: 50,
 };
 
-pub const EXAMPLES: &[Example] = &[
+pub static EXAMPLES: &[Example] = &[
     // It forgets some time after the stop. A subscriber who comes after the expiry is replayed nothing.
     Example {
         chain: Chain::List(&[10, 20, 30, 40]),

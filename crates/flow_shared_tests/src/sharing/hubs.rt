@@ -32,7 +32,7 @@ const LONGER: Started = Started::WhileSubscribed {
     expire: 2,
 };
 
-const OBSERVATIONS: &[Observation] = &[
+static OBSERVATIONS: &[Observation] = &[
     (Some(TEN), 5, 0, Ok(Command::Keep)),
     (None, 5, 2, Ok(Command::Start)),
     (None, 7, 0, Ok(Command::Keep)),

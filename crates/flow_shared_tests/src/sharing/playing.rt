@@ -1,12 +1,12 @@
 //! Worked examples of `shareIn` and `stateIn`, over flows for several threads.
-ghost use Rattle.std.specs.Prelude.{◌≡◌, false};
+ghost use Rattle.std.specs.Prelude.{◌≡◌};
 
 use crate::compare::compare;
 use crate::playing::{FlowPlayer, Played};
 use crate::sharing::sharing_steps::{Step, turn};
 use flow_cold::{Entry, Scripted};
 use flow_law::{Config, Started};
-use flow_shared::{Flow, FlowSeat, SharedFlow, StateFlow};
+use flow_shared::{Flow, FlowSeat, Seat, SharedFlow, StateFlow, StateSeat};
 use flow_sharing::{Hub, SharedFlowHub, Sharing, StateFlowHub};
 use std::alloc::Global;
 use std::process::Abort;
@@ -79,43 +79,73 @@ fn take_steps<R: Wait + Abort, S: Played<i64, Global>, H: Hub<Item = i64>>(
     }
 }
 
-/// Shares the chain of an example into a flow that this hub borrows, and takes the example's steps.
+/// Takes the steps of a sharing, and of the flow into which it shares.
 fn play_on<R: Wait + Abort, S: Played<i64, Global>, H: Hub<Item = i64>>(
     rt: &R,
     alloc: Global,
     first: usize,
-    example: &Example,
+    steps: &[Step],
     flow: &Flow<S>,
     seat: FlowSeat<S>,
-    hub: H,
+    sharing: &mut Sharing<Scripted<i64>, H>,
 )
-    requires seat { seat.table_id ≡ flow.now.table_id }
-    requires hub { H.waits hub ≡ false }
+    requires { seat.table_id ≡ flow.now.table_id }
 {
-    let mut sharing = Sharing::new(example.chain.make(rt, alloc), example.started, hub);
     let mut player = FlowPlayer::new(alloc, alloc, flow, seat);
-    take_steps(rt, first, example.steps, &mut sharing, &mut player);
+    take_steps(rt, first, steps, sharing, &mut player);
 }
 
-/// Takes the steps of an example of a shared flow that replays so many values. It has room for 64, those included.
+/// Takes the steps of an example of a shared flow.
 fn play_shared<R: Wait + Abort>(
     rt: &R,
     alloc: Global,
     first: usize,
     example: &Example,
-    replay: u32,
+    config: Config,
 ) {
-    let config = Config::new().replay(replay).extra(64 - replay.min(64));
     let (flow, mut seat) = SharedFlow::new(alloc, config).expect(rt, "a flow");
-    let hub = SharedFlowHub::new(&flow, &mut seat);
-    play_on(rt, alloc, first, example, &flow, seat, hub);
+    let chain = example.chain.make(rt, alloc);
+    let mut sharing = share_into(&flow, &mut seat, chain, example.started);
+    play_on(rt, alloc, first, example.steps, &flow, seat, &mut sharing);
 }
 
 /// Takes the steps of an example of a state flow, which has the value 0 first.
 fn play_state<R: Wait + Abort>(rt: &R, alloc: Global, first: usize, example: &Example) {
     let (flow, mut seat) = StateFlow::new(alloc, 0, u64::MAX).expect(rt, "a flow");
-    let hub = StateFlowHub::new(&flow, &mut seat, 0);
-    play_on(rt, alloc, first, example, &flow, seat, hub);
+    let chain = example.chain.make(rt, alloc);
+    let mut sharing = share_into_state(&flow, &mut seat, chain, example.started);
+    play_on(rt, alloc, first, example.steps, &flow, seat, &mut sharing);
+}
+
+/// Shares a chain into the flow.
+pub fn share_into<'a>(
+    flow: &'a SharedFlow<i64>,
+    seat: &mut Seat<i64>,
+    chain: Scripted<i64>,
+    started: Started,
+) -> Sharing<Scripted<i64>, SharedFlowHub<'a, i64>>
+    requires { seat.old.table_id ≡ flow.now.table_id }
+    ensures { seat.new.table_id ≡ flow.entry.now.table_id }
+{
+    Sharing::new(chain, started, SharedFlowHub::new(flow, seat))
+}
+
+/// Shares a chain into the flow, which has the value 0 first.
+pub fn share_into_state<'a>(
+    flow: &'a StateFlow<i64>,
+    seat: &mut StateSeat<i64>,
+    chain: Scripted<i64>,
+    started: Started,
+) -> Sharing<Scripted<i64>, StateFlowHub<'a, i64>>
+    requires { seat.old.table_id ≡ flow.now.table_id }
+    ensures { seat.new.table_id ≡ flow.entry.now.table_id }
+{
+    Sharing::new(chain, started, StateFlowHub::new(flow, seat, 0))
+}
+
+/// The configuration of `shareIn` with this replay: there is room for 64 values, those included.
+fn config_of(replay: u32) -> Config {
+    Config::new().replay(replay).extra(64 - replay.min(64))
 }
 
 /// Plays the examples. Step 7 of the example 3 has the place 307, from this one on.
@@ -123,7 +153,9 @@ pub fn play<R: Wait + Abort>(rt: &R, alloc: Global, first: usize, examples: &[Ex
     for (number, example) in examples.iter().enumerate() {
         let place = first.saturating_add(number.saturating_mul(100));
         match example.flow {
-            FlowKind::Shared(replay) => play_shared(rt, alloc, place, example, replay),
+            FlowKind::Shared(replay) => {
+                play_shared(rt, alloc, place, example, config_of(replay));
+            }
             FlowKind::State => play_state(rt, alloc, place, example),
         }
     }

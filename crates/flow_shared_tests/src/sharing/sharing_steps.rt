@@ -39,6 +39,20 @@ pub enum Step {
     Flow(steps::Step),
 }
 
+/// Takes a turn at each of these moments, and compares what it reports.
+fn turns<H: Hub<Item = i64>>(
+    rt: &impl Abort,
+    sharing: &mut Sharing<Scripted<i64>, H>,
+    place: usize,
+    first: u64,
+    last: u64,
+    report: Report,
+) {
+    for now in first..=last {
+        compare(rt, place, sharing.turn(now), Ok(report));
+    }
+}
+
 /// Takes a step of the sharing itself, and compares what it answers.
 pub fn turn<H: Hub<Item = i64>>(
     rt: &impl Abort,
@@ -48,15 +62,13 @@ pub fn turn<H: Hub<Item = i64>>(
 ) {
     match step {
         Step::Turn(now, command, event) => {
-            compare(rt, place, sharing.turn(now), Ok(Report { command, event }));
+            turns(rt, sharing, place, now, now, Report { command, event });
         }
         Step::Turns(first, last, command, event) => {
-            for now in first..=last {
-                compare(rt, place, sharing.turn(now), Ok(Report { command, event }));
-            }
+            turns(rt, sharing, place, first, last, Report { command, event });
         }
         Step::Refused(now, fault) => compare(rt, place, sharing.turn(now), Err(fault)),
         Step::Count(count) => compare(rt, place, sharing.hub_mut().count(), Ok(count)),
-        _ => panic!(rt; "step {place}: not of this sharing"),
+        Step::Flow(_) => panic!(rt; "not a step of a sharing"),
     }
 }

@@ -10,7 +10,7 @@ use flow_law::Next::{Empty, Value};
 use flow_law::ShareFault::{Backwards, Chain as OfChain, Ended};
 use flow_law::{ChainFault, NEVER, Started};
 
-const EXAMPLES: &[Example] = &[
+static EXAMPLES: &[Example] = &[
     // It stops some time after the last subscriber. One at 0 goes, another comes at 149 and goes before 200, a third comes
     // at 301.
     Example {

@@ -11,15 +11,13 @@ fn a_subscriber_gets_each_item_of_a_shared_chain(rt: HostRuntime) {
     let shared = share_in(rt.alloc(), OfRange::new(1, 3), Started::Lazily, 0, u64::MAX);
     let mut sharing = shared.expect(&rt, "a sharing");
     let id = sharing.subscribe().expect(&rt, "a subscription");
-    compare(&rt, 1, sharing.next(id), Ok(Next::Empty));
-    compare(&rt, 2, sharing.turn(0), Ok(STARTS));
-    compare(&rt, 3, sharing.turn(1), Ok(PUTS));
-    compare(&rt, 4, sharing.next(id), Ok(Next::Value(1)));
-    compare(&rt, 5, sharing.next(id), Ok(Next::Value(2)));
-    compare(&rt, 6, sharing.next(id), Ok(Next::Empty));
-    compare(&rt, 7, sharing.unsubscribe(id), true);
-    compare(&rt, 8, sharing.next(id), Ok(Next::Gone));
-    compare(&rt, 9, sharing.unsubscribe(id), false);
+    compare(&rt, 1, sharing.turn(0), Ok(STARTS));
+    compare(&rt, 2, sharing.turn(1), Ok(PUTS));
+    for wanted in [Next::Value(1), Next::Value(2), Next::Empty] {
+        compare(&rt, 3, sharing.next(id), Ok(wanted));
+    }
+    compare(&rt, 4, sharing.unsubscribe(id), true);
+    compare(&rt, 5, sharing.next(id), Ok(Next::Gone));
 }
 
 /// A subscriber of a state gets the initial value, and then the most recent one only.
@@ -32,8 +30,5 @@ fn a_subscriber_of_a_state_skips_to_the_last_item(rt: HostRuntime) {
     compare(&rt, 2, sharing.turn(0), Ok(STARTS));
     compare(&rt, 3, sharing.turn(1), Ok(PUTS));
     compare(&rt, 4, sharing.next(id), Ok(Next::Value(2)));
-    compare(&rt, 5, sharing.next(id), Ok(Next::Empty));
-    compare(&rt, 6, sharing.unsubscribe(id), true);
-    compare(&rt, 7, sharing.next(id), Ok(Next::Gone));
-    compare(&rt, 8, sharing.unsubscribe(id), false);
+    compare(&rt, 5, sharing.unsubscribe(id), true);
 }

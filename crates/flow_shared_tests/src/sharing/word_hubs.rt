@@ -1,4 +1,6 @@
 //! A state flow without a lock, into which a chain is shared.
+ghost use Rattle.std.specs.Prelude.{◌≡◌};
+
 use crate::compare::compare;
 use crate::sharing::playing::Chain;
 use crate::sharing::sharing_steps::Step::{self, Turn};
@@ -8,7 +10,7 @@ use flow_law::Command::{Keep, Start, StopAndReset};
 use flow_law::Event::{Completed, Idle, Put};
 use flow_law::Started;
 use flow_sharing::{Sharing, WordHub};
-use flow_word::{WordSetter, WordState};
+use flow_word::{WordReader, WordSeat, WordSetter, WordState};
 use std::process::Abort;
 use std::sync::Wait;
 
@@ -16,7 +18,7 @@ use std::sync::Wait;
 const AT_ONCE: Started = Started::WhileSubscribed { stop: 0, expire: 0 };
 
 /// Turns while there is a subscriber, each with the item that it gets then. It gets no item that is the same as the last.
-const FOLLOWED: &[(Step, Option<i64>)] = &[
+static FOLLOWED: &[(Step, Option<i64>)] = &[
     (Turn(0, Start, Put), Some(3)),
     (Turn(1, Keep, Put), None),
     (Turn(2, Keep, Put), Some(4)),
@@ -28,26 +30,46 @@ const FOLLOWED: &[(Step, Option<i64>)] = &[
 fn follows<R: Wait + Abort>(
     rt: &R,
     sharing: &mut Sharing<Scripted<i64>, WordHub<'_, i64>>,
-    setter: &mut WordSetter<'_, i64>,
+    reader: &mut WordReader<'_, i64>,
 ) {
-    let mut reader = setter.subscribe(rt).expect(rt, "a subscription");
     for (place, (step, item)) in FOLLOWED.iter().enumerate() {
         turn(rt, sharing, place, *step);
         compare(rt, place, reader.next(), *item);
     }
-    reader.unsubscribe();
 }
 
-/// As `stateIn`. Where the last subscriber goes, the state is the initial one again at once.
+/// Once the last subscriber has gone, the state is the initial one again at once.
+fn comes_and_goes<R: Wait + Abort>(
+    rt: &R,
+    sharing: &mut Sharing<Scripted<i64>, WordHub<'_, i64>>,
+    setter: &mut WordSetter<'_, i64>,
+) {
+    let mut reader = setter.subscribe(rt).expect(rt, "a subscription");
+    follows(rt, sharing, &mut reader);
+    reader.unsubscribe();
+    compare(rt, 5, setter.value(), 4);
+    turn(rt, sharing, 6, Turn(5, StopAndReset, Idle));
+    compare(rt, 7, setter.value(), 0);
+}
+
+/// Shares a chain into the flow, which has the value 0 first.
+pub fn share_into_word<'a>(
+    flow: &'a WordState<i64>,
+    seat: &mut WordSeat<i64>,
+    chain: Scripted<i64>,
+    started: Started,
+) -> Sharing<Scripted<i64>, WordHub<'a, i64>>
+    requires { seat.old.table_id ≡ flow.now.table_id }
+    ensures { seat.new.table_id ≡ flow.entry.now.table_id }
+{
+    Sharing::new(chain, started, WordHub::new(flow, seat, 0))
+}
+
+/// As `stateIn`.
 #[test]
 fn a_chain_is_shared_into_a_word_state(rt: HostRuntime) {
     let chain = Chain::List(&[3, 3, 4]).make(&rt, rt.alloc());
     let (flow, mut seat) = WordState::new(rt.alloc(), 0, u32::MAX).expect(&rt, "a flow");
-    let hub = WordHub::new(&flow, &mut seat, 0);
-    let mut sharing = Sharing::new(chain, AT_ONCE, hub);
-    let mut setter = flow.setter(seat);
-    follows(&rt, &mut sharing, &mut setter);
-    compare(&rt, 5, setter.value(), 4);
-    turn(&rt, &mut sharing, 6, Turn(5, StopAndReset, Idle));
-    compare(&rt, 7, setter.value(), 0);
+    let mut sharing = share_into_word(&flow, &mut seat, chain, AT_ONCE);
+    comes_and_goes(&rt, &mut sharing, &mut flow.setter(seat));
 }

@@ -1,0 +1,101 @@
+//! Futures over a flow without a buffer, polled by hand and awaited.
+ghost use Rattle.std.specs.Prelude.{◌≡◌};
+
+use crate::awaiting::send;
+use crate::compare::compare;
+use crate::examples::subscribed::{Subscribed, lend, new_subscription};
+use flow_law::Config;
+use flow_shared::{EmitFuture, NextFuture, Seat, Sent, SharedFlow, Subscription};
+use futures::Future;
+use futures::executor::block_on;
+use futures::test::MockTask;
+use std::alloc::AllocGlobal;
+use std::process::Abort;
+use std::random::RandomSource;
+use std::sync::Wait;
+use std::thread::join;
+
+/// Polls a future, which is pending, and asks for another poll.
+fn asks_again<R: RandomSource + AllocGlobal + Abort, F>(rt: &R, future: F) -> F
+where
+    F: Future<Output: Drop>,
+    requires { F.can_poll future }
+{
+    let mut future = future;
+    let task = MockTask::new(rt).expect(rt, "a task");
+    compare(rt, 0, task.poll(&mut future).is_pending(), true);
+    compare(rt, 1, task.is_woken(), true);
+    future
+}
+
+/// Returns whether the value was still on its way; `None` if there was nothing to cancel.
+fn cancelled<R: Wait>(rt: &R, emit: EmitFuture<'_, i64>) -> Option<bool> {
+    match emit.cancel(rt) {
+        Some((_seat, was_waiting)) => Some(was_waiting),
+        None => None,
+    }
+}
+
+/// The emission of 7 is pending, and its value is still on its way when it is cancelled.
+fn is_cancelled<R: Wait + RandomSource + AllocGlobal + Abort>(
+    rt: &R,
+    subscribed: &mut Subscribed<'_>,
+) {
+    let seat = subscribed.flow.seat(&mut subscribed.seat);
+    let emit = asks_again(rt, EmitFuture::new(subscribed.flow, seat, 7));
+    compare(rt, 2, cancelled(rt, emit), Some(true));
+}
+
+/// Then there is nothing to receive. The future gives its subscription back.
+fn receives_nothing<R: Wait + RandomSource + AllocGlobal + Abort>(
+    rt: &R,
+    subscribed: &mut Subscribed<'_>,
+) {
+    is_cancelled(rt, subscribed);
+    let subscription = new_subscription(rt, subscribed.flow, &mut subscribed.seat);
+    let next = asks_again(rt, NextFuture::new(subscribed.flow, subscription));
+    compare(rt, 3, next.into_subscription().is_some(), true);
+}
+
+#[test]
+fn a_cancelled_emission_is_not_received(rt: HostRuntime) {
+    lend(&rt, Config::new(), receives_nothing);
+}
+
+/// Emits 7. Returns whether the emission was done.
+fn sends<R: Wait + RandomSource + AllocGlobal>(
+    rt: &R,
+    flow: &SharedFlow<i64>,
+    seat: Seat<i64>,
+) -> bool
+    requires { seat.table_id ≡ flow.now.table_id }
+{
+    matches!(send(rt, flow, seat, 7), Ok(Sent::Done(_)))
+}
+
+/// Receives the next value, if none is refused.
+fn receives<R: Wait + RandomSource + AllocGlobal>(
+    rt: &R,
+    flow: &SharedFlow<i64>,
+    subscription: Subscription<i64>,
+) -> Option<i64>
+    requires { subscription.token.table_id ≡ flow.now.table_id }
+{
+    match block_on(rt, NextFuture::new(flow, subscription)) {
+        Ok((_subscription, received)) => received.ok(),
+        Err(_) => None,
+    }
+}
+
+/// An emitter on one thread and a subscriber on another wait for each other.
+#[test]
+fn an_emission_and_its_receiver_are_awaited(rt: HostRuntime) {
+    let (flow, mut seat) = SharedFlow::new(rt.alloc(), Config::new()).expect(&rt, "a flow");
+    let subscription = new_subscription(&rt, &flow, &mut seat);
+    let done = join(
+        &rt,
+        || sends(&rt, &flow, seat),
+        || receives(&rt, &flow, subscription),
+    );
+    compare(&rt, 4, done, (true, Some(7)));
+}

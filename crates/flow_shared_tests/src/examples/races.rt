@@ -1,0 +1,126 @@
+//! A cancel and a read that race on two threads: whichever comes first, the subscribers get what is documented of the flow.
+use crate::compare::compare;
+use flow_law::Config;
+use flow_shared::{BoundEmission, EmitAnswer, Emitter, Reader, SharedFlow};
+use flow_testing::Start;
+use std::alloc::Global;
+use std::process::Abort;
+use std::sync::Wait;
+use std::thread::{Threads, join, yield_now};
+
+/// How often two calls race at least,
+const LEAST_RACES: u32 = 100;
+
+/// and at most, until each of them came first.
+const MOST_RACES: u32 = 10_000;
+
+/// Waits until the other thread is there. In every fourth run it lets the other thread go first.
+fn begin(start: &Start, run: u32) {
+    start.wait();
+    if run % 4 == 0 {
+        for _ in 0..20 {
+            yield_now();
+        }
+    }
+}
+
+/// What the reader receives, if anything.
+fn read<R: Wait>(rt: &R, start: &Start, run: u32, reader: &mut Reader<'_, i64>) -> Option<i64> {
+    begin(start, run);
+    reader.next(rt).unwrap_or(None)
+}
+
+/// Whether the emission waited until it was cancelled.
+fn cancel<R: Wait>(rt: &R, start: &Start, run: u32, emission: BoundEmission<'_, i64>) -> bool {
+    begin(start, run);
+    let (_emitter, was_waiting) = emission.cancel(rt);
+    was_waiting
+}
+
+/// Reads on one thread, and cancels the emission of this value on another one.
+fn read_beside_cancel<R: Threads + Wait + Abort + Sync>(
+    rt: &R,
+    run: u32,
+    reader: &mut Reader<'_, i64>,
+    emitter: &mut Emitter<'_, i64>,
+    value: i64,
+) -> (Option<i64>, bool) {
+    let EmitAnswer::Queued(emission) = emitter.another().emit(rt, value) else {
+        panic!(rt; "it waits")
+    };
+    let start = Start::new(2);
+    join(
+        rt,
+        || read(rt, &start, run, reader),
+        || cancel(rt, &start, run.wrapping_add(2), emission),
+    )
+}
+
+/// With a buffer of one value, 2 waits for room, and is cancelled while the subscriber makes room. It is received by nobody, or by
+/// all. Returns whether the cancel came first.
+fn waits_for_room<R: Threads + Wait + Abort + Sync>(
+    rt: &R,
+    run: u32,
+    emitter: &mut Emitter<'_, i64>,
+) -> bool {
+    let mut reader = emitter.subscribe(rt).expect(rt, "a reader");
+    compare(rt, 0, emitter.try_emit(rt, 1), Ok(true));
+    let (first, was_waiting) = read_beside_cancel(rt, run, &mut reader, emitter, 2);
+    compare(rt, 1, first, Some(1));
+    let next = if was_waiting { None } else { Some(2) };
+    compare(rt, 2, reader.next(rt), Ok(next));
+    was_waiting
+}
+
+/// Without a buffer, 7 is offered to two subscribers, and is cancelled while one of them takes it, before or not at all. Returns
+/// whether the cancel came first.
+fn is_offered<R: Threads + Wait + Abort + Sync>(
+    rt: &R,
+    run: u32,
+    emitter: &mut Emitter<'_, i64>,
+) -> bool {
+    let mut other = emitter.subscribe(rt).expect(rt, "a reader");
+    let mut reader = emitter.subscribe(rt).expect(rt, "a reader");
+    let (taken, was_waiting) = read_beside_cancel(rt, run, &mut reader, emitter, 7);
+    compare(rt, 3, was_waiting, true);
+    compare(rt, 4, taken == None || taken == Some(7), true);
+    compare(
+        rt,
+        5,
+        (other.next(rt), reader.next(rt)),
+        (Ok(None), Ok(None)),
+    );
+    taken == None
+}
+
+/// Races the two calls at a new flow with room for so many values. Returns whether the cancel came first.
+fn race<R: Threads + Wait + Abort + Sync>(rt: &R, alloc: Global, run: u32, room: u32) -> bool {
+    let made = SharedFlow::new(alloc, Config::new().extra(room));
+    let (flow, seat) = made.expect(rt, "a flow");
+    let mut emitter = flow.emitter(seat);
+    match room {
+        0 => is_offered(rt, run, &mut emitter),
+        _ => waits_for_room(rt, run, &mut emitter),
+    }
+}
+
+/// Races the two calls until each of them came first.
+fn race_often<R: Threads + Wait + Abort + Sync>(rt: &R, alloc: Global, room: u32) {
+    let mut cancelled_first = 0u32;
+    for run in 0..MOST_RACES {
+        if race(rt, alloc, run, room) {
+            cancelled_first = cancelled_first.wrapping_add(1);
+        }
+        let has_both = cancelled_first > 0 && cancelled_first <= run;
+        if has_both && run >= LEAST_RACES {
+            return;
+        }
+    }
+    panic!(rt; "one call came first in each race");
+}
+
+#[test]
+fn each_of_two_calls_comes_first(rt: HostRuntime) {
+    race_often(&rt, rt.alloc(), 0);
+    race_often(&rt, rt.alloc(), 1);
+}
