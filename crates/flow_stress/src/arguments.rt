@@ -23,6 +23,40 @@ pub struct CrowdSize {
     pub values: u32,
 }
 
+impl CrowdSize {
+    /// Returns how many values the emitter of this number sends. All together send all.
+    pub fn share_of(self, number: u32) -> u32 {
+        let each = self.values.checked_div(self.emitters).unwrap_or(0);
+        let rest = self.values.checked_rem(self.emitters).unwrap_or(0);
+        each.saturating_add(u32::from(number < rest))
+    }
+}
+
+/// What threads do at a flow.
+#[derive(Clone, Copy)]
+pub enum Job {
+    /// Half of them emit into a shared flow, and half of them read from it.
+    Share,
+    /// Each emits into a shared flow, and reads from it.
+    Exchange,
+    /// Each adds to a state flow.
+    Add,
+    /// Some send all values through a shared flow, and others receive them.
+    Crowd(CrowdSize),
+    /// Each makes calls of any kind, which are recorded.
+    Record,
+}
+
+impl Job {
+    /// Returns whether the thread of this number reads all values of a crowd.
+    pub fn reads_at_once(self, number: u32) -> bool {
+        match self {
+            Job::Crowd(size) => number < size.readers,
+            _ => false,
+        }
+    }
+}
+
 pub const MOST_THREADS: u32 = 64;
 
 /// A shared flow has room for no more values.

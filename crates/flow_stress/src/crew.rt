@@ -1,5 +1,8 @@
-//! Threads that begin once all of them are made.
-use crate::found::{Found, sum};
+//! Threads at one flow, which begin once all of them are made.
+use crate::arguments::{Job, Size};
+use crate::found::{Found, NOTHING};
+use crate::recording::{Answer, Call, Entry};
+use rand_pcg::Pcg32;
 use std::alloc::{AllocGlobal, Global};
 use std::random::RandomSource;
 use std::sync::Wait;
@@ -8,12 +11,50 @@ use std::thread;
 use std::thread::{JoinHandle, Scope, Threads, yield_now};
 use std::time::Clock;
 
-/// What one thread does.
-pub trait Worker: Send + Drop {
-    type Done: Send + Drop;
+/// What one thread is to do, and what it has recorded. The dice choose its calls.
+#[derive(Drop)]
+pub struct Turn {
+    pub job: Job,
+    pub number: u32,
+    pub rounds: u32,
+    pub dice: Pcg32,
+    pub entries: Vec<Entry>,
+    pub found: Found,
+}
 
-    /// Does its work, and returns what it found. Returns None if memory is refused.
-    fn work<R: Wait + Clock + RandomSource + AllocGlobal>(self, rt: &R) -> Option<Self::Done>;
+/// A caller of a flow.
+pub trait Caller: Send + Drop {
+    /// Returns another caller of the same flow, for the thread of this number. Returns None if memory is refused.
+    fn another<R: Wait>(&mut self, rt: &R, job: Job, number: u32) -> Option<Self>;
+
+    /// Does the work of a thread. Returns None if memory is refused.
+    fn work<R: Wait + Clock + RandomSource + AllocGlobal>(
+        &mut self,
+        rt: &R,
+        turn: &mut Turn,
+        clock: &AtomicU64,
+    ) -> Option<Found>;
+
+    /// Checks the flow once all threads have ended. Returns None if memory is refused.
+    fn check<R: Wait>(&mut self, rt: &R, found: &mut Found) -> Option<()>;
+}
+
+/// A caller whose calls can be recorded.
+pub trait Recorded: Drop {
+    /// Returns the call that this number says. No other call emits the fresh value.
+    fn choose(number: u32, fresh: u64) -> Call;
+
+    fn is_subscribed(&self) -> bool;
+
+    /// Makes a call. Returns None if it was refused, or if it needs a subscription and there is none.
+    fn make<R: Wait + Clock>(&mut self, rt: &R, call: Call) -> Option<Answer>;
+}
+
+/// One thread's caller, and what it is to do.
+#[derive(Drop)]
+pub struct Worker<C: Drop> {
+    pub caller: C,
+    pub turn: Turn,
 }
 
 const HELD: u64 = 0;
@@ -22,19 +63,14 @@ const BEGIN: u64 = 1;
 
 const END: u64 = 2;
 
-/// Holds threads back until all of them are made.
+/// Holds threads back until all of them are made. The clock is for those that record their calls.
 #[derive(Drop)]
 struct Start {
     word: AtomicU64,
+    clock: AtomicU64,
 }
 
 impl Start {
-    fn new() -> Start {
-        Start {
-            word: AtomicU64::new(HELD),
-        }
-    }
-
     /// Lets all threads begin, or end if one of them could not be made.
     fn open(&self, are_made: bool) {
         self.word
@@ -53,25 +89,58 @@ impl Start {
         unreachable!()
     }
 
-    fn work<W: Worker, R: Wait + Clock + RandomSource + AllocGlobal>(
+    /// Does the work of a thread once the start is open. Returns None if no thread may begin, or if memory is refused.
+    fn work<C: Caller, R: Wait + Clock + RandomSource + AllocGlobal>(
         &self,
         rt: &R,
-        worker: W,
-    ) -> Option<W::Done> {
-        if self.wait(rt) { worker.work(rt) } else { None }
+        worker: Worker<C>,
+    ) -> Option<Worker<C>> {
+        let Worker {
+            mut caller,
+            mut turn,
+        } = worker;
+        if !self.wait(rt) {
+            return None;
+        }
+        turn.found = caller.work(rt, &mut turn, &self.clock)?;
+        Some(Worker { caller, turn })
     }
 }
 
+/// Makes the worker of each thread. Returns None if memory is refused.
+pub fn workers<C: Caller, R: Wait>(
+    rt: &R,
+    alloc: Global,
+    first: &mut C,
+    job: Job,
+    size: Size,
+) -> Option<Vec<Worker<C>>> {
+    let mut workers = Vec::new(alloc);
+    for number in 0..size.threads {
+        let turn = Turn {
+            job,
+            number,
+            rounds: size.rounds,
+            dice: Pcg32::new(size.seed, u64::from(number)),
+            entries: Vec::new(alloc),
+            found: NOTHING,
+        };
+        let caller = first.another(rt, job, number)?;
+        workers.push(Worker { caller, turn }).ok()?;
+    }
+    Some(workers)
+}
+
 /// Makes a thread for each worker. Returns None if memory or a thread is refused.
-fn make_threads<'s, E, W, R>(
+fn make_threads<'s, E, C, R>(
     rt: &'s R,
     alloc: Global,
     scope: &Scope<'s, E>,
     start: &'s Start,
-    workers: Vec<W>,
-) -> Option<Vec<JoinHandle<Option<W::Done>>>>
+    workers: Vec<Worker<C>>,
+) -> Option<Vec<JoinHandle<Option<Worker<C>>>>>
 where
-    W: Worker + 's,
+    C: Caller + 's,
     R: Wait + Clock + RandomSource + AllocGlobal + Sync,
 {
     let mut threads = Vec::new(alloc);
@@ -83,27 +152,27 @@ where
 }
 
 /// Waits until all threads have ended. Returns None if memory was refused.
-fn join_all<D: Drop, R: Threads>(
+fn join_all<C: Drop, R: Threads>(
     rt: &R,
     alloc: Global,
-    threads: Vec<JoinHandle<Option<D>>>,
-) -> Option<Vec<D>> {
-    let mut done = Vec::new(alloc);
+    threads: Vec<JoinHandle<Option<Worker<C>>>>,
+) -> Option<Vec<Worker<C>>> {
+    let mut workers = Vec::new(alloc);
     for thread in threads {
-        done.push(thread.join(rt)?).ok()?;
+        workers.push(thread.join(rt)?).ok()?;
     }
-    Some(done)
+    Some(workers)
 }
 
-fn run_in<'s, E, W, R>(
+fn run_in<'s, E, C, R>(
     rt: &'s R,
     alloc: Global,
     scope: &Scope<'s, E>,
     start: &'s Start,
-    workers: Vec<W>,
-) -> Option<Vec<W::Done>>
+    workers: Vec<Worker<C>>,
+) -> Option<Vec<Worker<C>>>
 where
-    W: Worker + 's,
+    C: Caller + 's,
     R: Threads + Wait + Clock + RandomSource + AllocGlobal + Sync,
 {
     let threads = make_threads(rt, alloc, scope, start, workers);
@@ -111,28 +180,30 @@ where
     join_all(rt, alloc, threads?)
 }
 
-/// Lets each worker do its work in a thread of its own, and returns what they found. All begin once all threads are
+/// Lets each worker do its work in a thread of its own, and returns all workers then. All begin once all threads are
 /// made. Returns None if memory is refused, or a thread: then no worker begins.
-pub fn run_all<W, R>(rt: &R, alloc: Global, workers: Vec<W>) -> Option<Vec<W::Done>>
+pub fn run_all<C, R>(rt: &R, alloc: Global, workers: Vec<Worker<C>>) -> Option<Vec<Worker<C>>>
 where
-    W: Worker,
+    C: Caller,
     R: Threads + Wait + Clock + RandomSource + AllocGlobal + Sync,
 {
-    let start = Start::new();
+    let start = Start {
+        word: AtomicU64::new(HELD),
+        clock: AtomicU64::new(0),
+    };
     let held = &start;
     thread::scope(
         thread::scope_env(),
         rt,
-        move |scope| -> Option<Vec<W::Done>> { run_in(rt, alloc, scope, held, workers) },
+        move |scope| -> Option<Vec<Worker<C>>> { run_in(rt, alloc, scope, held, workers) },
     )
 }
 
-/// Lets each worker do its work, as `run_all` does, and returns what all of them found.
-pub fn found_by_all<W, R>(rt: &R, alloc: Global, workers: Vec<W>) -> Option<Found>
-where
-    W: Worker<Done = Found>,
-    R: Threads + Wait + Clock + RandomSource + AllocGlobal + Sync,
-{
-    let done = run_all(rt, alloc, workers)?;
-    Some(sum(&done))
+/// Returns what all workers found.
+pub fn found_by_all<C: Drop>(workers: &[Worker<C>]) -> Found {
+    let mut all = NOTHING;
+    for worker in workers {
+        all = all.plus(worker.turn.found);
+    }
+    all
 }

@@ -1,86 +1,151 @@
-//! A crowd at one shared flow that suspends: threads that send, and threads that receive all that is sent.
+//! Threads of a crowd: some send values, and others receive those of all. They sleep while there is no room, or no
+//! value.
 use crate::arguments::CrowdSize;
-use crate::crew::found_by_all;
-use crate::found::Found;
-use crate::member::{Member, Part};
-use crate::order::Value;
-use flow_law::Config;
-use flow_shared::{Emitter, SharedFlow};
+use crate::crew::Turn;
+use crate::found::{Found, NOTHING};
+use crate::order::{Gets, Order, value_of};
+use crate::subscriber::Subscriber;
+use flow_core::SharedCore;
+use flow_shared::{Emitter, Reader, SendEnd};
+use rand_core::utils::NextWord;
 use rand_pcg::Pcg32;
-use std::alloc::{AllocGlobal, Global};
-use std::random::RandomSource;
 use std::sync::Wait;
-use std::thread::Threads;
-use std::time::Clock;
+use std::thread::{sleep, yield_now};
+use std::time::{Clock, Duration};
 
-/// Returns how many values the emitter of this number sends. All together send all.
-fn share_of(size: CrowdSize, number: u32) -> u32 {
-    let each = size.values.checked_div(size.emitters).unwrap_or(0);
-    let rest = size.values.checked_rem(size.emitters).unwrap_or(0);
-    each.saturating_add(u32::from(number < rest))
+/// How long a call with a time limit waits, in microseconds.
+const LIMIT: u64 = 20;
+
+/// How long a pause takes, in microseconds. A thread that waits asks 32 times before it sleeps, which takes less.
+const PAUSE: u64 = 200;
+
+/// Lets other threads go first, now and then, or stops so long that those that wait fall asleep.
+fn pause_at_random<R: Wait + Clock>(rt: &R, dice: &mut Pcg32) {
+    let word = dice.next_word();
+    if word % 256 == 0 {
+        sleep(rt, Duration::from_micros(PAUSE));
+    } else if word % 8 == 0 {
+        yield_now();
+    }
 }
 
-/// Makes the member of this number: first those that receive, and then those that send. Returns None if memory is
-/// refused.
-fn member<'a, R: Wait>(
+/// Sends a value, with a time limit or without one. Returns whether it was sent.
+fn is_sent<R: Wait + Clock>(
     rt: &R,
-    emitter: &mut Emitter<'a, Value>,
-    size: CrowdSize,
+    emitter: &mut Emitter<'_, u64>,
+    value: u64,
+    is_limited: bool,
+) -> bool {
+    if is_limited {
+        return matches!(
+            emitter.send_timeout(rt, value, Duration::from_micros(LIMIT)),
+            Ok(SendEnd::Done)
+        );
+    }
+    emitter.send(rt, value).is_ok()
+}
+
+/// Sends a value. If its time was up, or memory was refused, it is sent again: the readers make room meanwhile.
+///
+/// A flow without room gets no value with a time limit: some readers may have received a value that waits.
+fn send<R: Wait + Clock>(
+    rt: &R,
+    emitter: &mut Emitter<'_, u64>,
+    value: u64,
+    has_room: bool,
+    dice: &mut Pcg32,
+) {
+    for _ in rt.forever() {
+        pause_at_random(rt, dice);
+        let is_limited = has_room && dice.next_word() % 32 == 0;
+        if is_sent(rt, emitter, value, is_limited) {
+            return;
+        }
+    }
+    unreachable!()
+}
+
+/// Sends all values of the emitter of this number.
+fn send_all<R: Wait + Clock>(
+    rt: &R,
+    emitter: &mut Emitter<'_, u64>,
     number: u32,
-) -> Option<Member<'a>> {
-    let dice = Pcg32::new(size.seed, u64::from(number));
-    match number.checked_sub(size.readers) {
-        None => Some(Member {
-            part: Part::Receive(emitter.subscribe(rt).ok()?),
-            values: size.values,
-            may_cancel: false,
-            dice,
-        }),
-        Some(number) => Some(Member {
-            part: Part::Send(emitter.another(), number),
-            values: share_of(size, number),
-            may_cancel: size.capacity > 0,
-            dice,
-        }),
+    size: CrowdSize,
+    dice: &mut Pcg32,
+) {
+    for place in 0..size.share_of(number) {
+        let value = value_of(number, u64::from(place));
+        send(rt, emitter, value, size.capacity > 0, dice);
     }
 }
 
-/// Makes all members. Returns None if memory is refused.
-fn members<'a, R: Wait>(
+/// Receives a value, with a time limit or without one. Returns None if the time was up.
+fn received<R: Wait + Clock>(
     rt: &R,
-    alloc: Global,
-    emitter: &mut Emitter<'a, Value>,
-    size: CrowdSize,
-) -> Option<Vec<Member<'a>>> {
-    let mut members = Vec::new(alloc);
-    for number in 0..size.readers.saturating_add(size.emitters) {
-        let member = member(rt, emitter, size, number)?;
-        members.push(member).ok()?;
+    reader: &mut Reader<'_, u64>,
+    is_limited: bool,
+) -> Option<u64> {
+    if is_limited {
+        return reader
+            .receive_timeout(rt, Duration::from_micros(LIMIT))
+            .ok()?;
     }
-    Some(members)
+    reader.receive(rt).ok()
 }
 
-/// Runs a crowd, made through this emitter, and checks that all readers have left. Returns None if memory or a thread is
-/// refused.
-fn run<R: Threads + Wait + Clock + RandomSource + AllocGlobal + Sync>(
-    rt: &R,
-    alloc: Global,
-    emitter: &mut Emitter<'_, Value>,
-    size: CrowdSize,
-) -> Option<Found> {
-    let mut all = found_by_all(rt, alloc, members(rt, alloc, emitter, size)?)?;
-    all.check(emitter.subscription_count(rt) == 0);
-    Some(all)
+/// Receives the next value, now and then with a time limit at first.
+fn receive<R: Wait + Clock>(rt: &R, reader: &mut Reader<'_, u64>, dice: &mut Pcg32) -> u64 {
+    for _ in rt.forever() {
+        pause_at_random(rt, dice);
+        let is_limited = dice.next_word() % 32 == 0;
+        if let Some(value) = received(rt, reader, is_limited) {
+            return value;
+        }
+    }
+    unreachable!()
 }
 
-/// Lets a crowd send and receive all values through a new flow. All subscribe before a thread begins. Returns None if
-/// memory or a thread is refused.
-pub fn crowd<R: Threads + Wait + Clock + RandomSource + AllocGlobal + Sync>(
+/// Receives all values. Each value of each emitter has to come, in its order, and nothing else.
+fn receive_all<R: Wait + Clock>(
     rt: &R,
-    alloc: Global,
-    size: CrowdSize,
+    reader: &mut Reader<'_, u64>,
+    values: u32,
+    dice: &mut Pcg32,
+) -> Found {
+    let mut order = Order::new(Gets::All);
+    for _ in 0..values {
+        order.add(receive(rt, reader, dice));
+    }
+    let is_all = matches!(reader.next(rt), Ok(None));
+    order.found.check(is_all);
+    order.found
+}
+
+/// Receives all values, and leaves. Returns None if there is no subscription.
+fn receive_and_leave<R: Wait + Clock>(
+    rt: &R,
+    subscriber: &mut Subscriber<'_, SharedCore<u64>>,
+    values: u32,
+    dice: &mut Pcg32,
 ) -> Option<Found> {
-    let (flow, seat) = SharedFlow::new(alloc, Config::new().extra(size.capacity)).ok()?;
-    let mut emitter = flow.emitter(seat);
-    run(rt, alloc, &mut emitter, size)
+    let Some(reader) = &mut subscriber.reader else {
+        return None;
+    };
+    let found = receive_all(rt, reader, values, dice);
+    subscriber.unsubscribe(rt);
+    Some(found)
+}
+
+/// Does the work of one thread of a crowd. Returns None if memory is refused.
+pub fn work_in_crowd<R: Wait + Clock>(
+    rt: &R,
+    subscriber: &mut Subscriber<'_, SharedCore<u64>>,
+    size: CrowdSize,
+    turn: &mut Turn,
+) -> Option<Found> {
+    let Some(number) = turn.number.checked_sub(size.readers) else {
+        return receive_and_leave(rt, subscriber, size.values, &mut turn.dice);
+    };
+    send_all(rt, &mut subscriber.caller, number, size, &mut turn.dice);
+    Some(NOTHING)
 }

@@ -1,9 +1,9 @@
 //! A thread that emits into a shared flow that suspends, in each of the ways that there are.
+use crate::crew::Turn;
 use crate::found::{Found, NOTHING};
-use crate::order::Value;
+use crate::order::value_of;
 use flow_shared::{BoundEmission, EmitAnswer, Emitter, PollAnswer};
 use rand_core::utils::NextWord;
-use rand_pcg::Pcg32;
 use std::sync::Wait;
 use std::thread::yield_now;
 
@@ -11,7 +11,7 @@ use std::thread::yield_now;
 const POLLS: u32 = 100;
 
 /// Polls an emission, and cancels it if it waits too long. Returns whether its value was emitted.
-fn is_done_in_time<R: Wait>(rt: &R, emission: BoundEmission<'_, Value>) -> bool {
+fn is_done_in_time<R: Wait>(rt: &R, emission: BoundEmission<'_, u64>) -> bool {
     let mut emission = emission;
     for _ in 0..POLLS {
         yield_now();
@@ -25,7 +25,7 @@ fn is_done_in_time<R: Wait>(rt: &R, emission: BoundEmission<'_, Value>) -> bool 
 }
 
 /// Emits a value, and waits for room, for a while. Returns whether it was emitted, or None if memory is refused.
-fn emit<R: Wait>(rt: &R, emitter: &mut Emitter<'_, Value>, value: Value) -> Option<bool> {
+fn emit<R: Wait>(rt: &R, emitter: &mut Emitter<'_, u64>, value: u64) -> Option<bool> {
     match emitter.another().emit(rt, value) {
         EmitAnswer::Done(_emitter) => Some(true),
         EmitAnswer::Queued(emission) => Some(is_done_in_time(rt, emission)),
@@ -35,19 +35,14 @@ fn emit<R: Wait>(rt: &R, emitter: &mut Emitter<'_, Value>, value: Value) -> Opti
 
 /// Emits so many times, in either way, as the dice say. A value that was not emitted comes next. Returns None if memory
 /// is refused.
-pub fn emit_all<R: Wait>(
-    rt: &R,
-    emitter: &mut Emitter<'_, Value>,
-    dice: &mut Pcg32,
-    number: u32,
-    rounds: u32,
-) -> Option<Found> {
-    let mut place = 0u32;
-    for _ in 0..rounds {
-        let is_emitted = if dice.next_word() % 2 == 0 {
-            emit(rt, emitter, (number, place))?
+pub fn emit_all<R: Wait>(rt: &R, emitter: &mut Emitter<'_, u64>, turn: &mut Turn) -> Option<Found> {
+    let mut place = 0u64;
+    for _ in 0..turn.rounds {
+        let value = value_of(turn.number, place);
+        let is_emitted = if turn.dice.next_word() % 2 == 0 {
+            emit(rt, emitter, value)?
         } else {
-            emitter.try_emit(rt, (number, place)).ok()?
+            emitter.try_emit(rt, value).ok()?
         };
         if is_emitted {
             place = place.wrapping_add(1);

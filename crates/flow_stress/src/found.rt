@@ -1,22 +1,18 @@
 //! What a thread found.
 
-/// How often something was wrong, how many values it has read of a shared flow, and how much it has added to each state
+/// How often something was wrong, how many values it has read of a shared flow, and how much it has added to a state
 /// flow.
 #[derive(Clone, Copy)]
 pub struct Found {
     pub wrong: u64,
     pub read: u64,
-    /// To the one without a lock.
     pub added: u64,
-    /// To the one behind a gate.
-    pub added_gated: u64,
 }
 
 pub const NOTHING: Found = Found {
     wrong: 0,
     read: 0,
     added: 0,
-    added_gated: 0,
 };
 
 impl Found {
@@ -33,16 +29,6 @@ impl Found {
             wrong: self.wrong.saturating_add(other.wrong),
             read: self.read.saturating_add(other.read),
             added: self.added.saturating_add(other.added),
-            added_gated: self.added_gated.saturating_add(other.added_gated),
         }
     }
-}
-
-/// Returns what all threads found.
-pub fn sum(each: &[Found]) -> Found {
-    let mut all = NOTHING;
-    for found in each {
-        all = all.plus(*found);
-    }
-    all
 }

@@ -10,15 +10,15 @@
 //! threads begin once all of them are made.
 //!
 //! # Calls of every kind
-//! Each thread makes its rounds of calls, as the seed says. A quarter of the threads does each of these:
-//! - emits, polls and cancels at a shared flow that suspends (replay 2, room for 4 more);
-//! - subscribes to that flow, reads by `next` and `try_next`, and leaves. It must receive of each emitter every value
-//!   after the first that came, in order, none twice;
-//! - emits by a `SendFuture`, and then receives from a stream, at a second flow, which drops the oldest. It must receive
-//!   of each emitter rising values, none twice, and a value each time;
-//! - adds 1 to a state flow without a lock, by an update or by a `compare_and_set` from what it read, subscribes, reads
-//!   twice and leaves: the value must never fall, and must rise where the thread added. Then the same by
-//!   `compare_and_set` at a state flow behind a gate, whose value must never fall.
+//! One flow after the other is put under the calls of threads, which make their rounds as the seed says:
+//! - a shared flow that suspends (replay 2, room for 4 more). A quarter of the threads emits, polls and cancels; as many
+//!   subscribe, read by `next` and `try_next`, and leave. Each must receive of each emitter every value after the first
+//!   that came, in order, none twice;
+//! - a shared flow that drops the oldest. A quarter of the threads emits by a `SendFuture`, and then receives from a
+//!   stream: of each emitter rising values, none twice, and a value each time;
+//! - a state flow without a lock. A quarter of the threads adds 1, by an update or by a `compare_and_set` from what it
+//!   read, subscribes, reads twice and leaves: the value must never fall, and must rise where the thread added;
+//! - a state flow behind a gate. A quarter of the threads does the same by `compare_and_set`: the value must never fall.
 //!
 //! At the end no subscriber is left, each reader has read something, and both state flows have as much as all threads
 //! added.
@@ -36,28 +36,25 @@
 //! other things, too, and all is tested; so is that a sleeper is woken.
 #![tactic(auto)]
 
-mod adding;
-mod adding_word;
 mod arguments;
-mod caller;
 mod crew;
 mod crowd;
 mod emitting;
 mod exchanging;
+mod flows;
 mod found;
-mod member;
 mod order;
 mod reading;
-mod recorded;
-mod recorded_shared;
 mod recorder;
 mod recording;
-mod stress;
+mod shared;
+mod state;
+mod subscriber;
+mod word;
 
-use arguments::{CrowdSize, Kind, Size, Task, task_of};
-use crowd::crowd;
+use arguments::{CrowdSize, Size, Task, task_of};
+use flows::{crowd, record_kind, stress};
 use found::Found;
-use recorder::{ThreadRecord, record, write_all};
 use std::alloc::AllocGlobal;
 use std::env::args;
 use std::io::{self, ErrorKind};
@@ -66,7 +63,6 @@ use std::random::RandomSource;
 use std::sync::Wait;
 use std::thread::Threads;
 use std::time::Clock;
-use stress::stress;
 
 const WRONG: u8 = 1;
 
@@ -112,19 +108,6 @@ fn tell_crowd(rt: &HostRuntime, size: CrowdSize, found: Option<Found>) -> io::Re
     Ok(status_of(found))
 }
 
-/// Writes a record, and answers the status.
-fn write_record(
-    rt: &HostRuntime,
-    kind: Kind,
-    records: Option<Vec<ThreadRecord>>,
-) -> io::Result<u8> {
-    let Some(records) = records else {
-        return Ok(OUT_OF_MEMORY);
-    };
-    write_all(&mut rt.stdout(), kind, &records)?;
-    Ok(0)
-}
-
 fn tell_memory(rt: &HostRuntime) -> io::Result<u8> {
     println!(rt; "out of memory")?;
     Ok(OUT_OF_MEMORY)
@@ -150,10 +133,15 @@ fn do_task<R: Threads + Wait + Clock + RandomSource + AllocGlobal + Sync>(
     threads: &R,
     task: Task,
 ) -> io::Result<u8> {
+    let out = &mut rt.stdout();
+    let alloc = rt.alloc();
     match task {
-        Task::Stress(size) => tell(rt, size, stress(threads, rt.alloc(), size)),
-        Task::Crowd(size) => tell_crowd(rt, size, crowd(threads, rt.alloc(), size)),
-        Task::Record(kind, size) => write_record(rt, kind, record(threads, rt.alloc(), kind, size)),
+        Task::Stress(size) => tell(rt, size, stress(threads, alloc, size, out)),
+        Task::Crowd(size) => tell_crowd(rt, size, crowd(threads, alloc, size, out)),
+        Task::Record(kind, size) => match record_kind(threads, alloc, kind, size, out) {
+            Some(found) => Ok(status_of(found)),
+            None => Ok(OUT_OF_MEMORY),
+        },
     }
 }
 

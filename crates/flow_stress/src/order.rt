@@ -3,8 +3,13 @@
 use crate::arguments::MOST_THREADS;
 use crate::found::{Found, NOTHING};
 
-/// An emitter, and which of its values it is, from 0.
-pub type Value = (u32, u32);
+/// More than there are threads.
+const EMITTERS: u64 = 100;
+
+/// Returns the value that the emitter of this number emits at this place, from 0. No other one is the same.
+pub fn value_of(number: u32, place: u64) -> u64 {
+    place.wrapping_mul(EMITTERS).wrapping_add(u64::from(number))
+}
 
 /// Which values of each emitter a subscriber is to get.
 #[derive(Clone, Copy)]
@@ -19,7 +24,7 @@ pub enum Gets {
 
 impl Gets {
     /// Returns whether the value at this place may come after the one at the place before.
-    fn allows(self, before: Option<u32>, place: u32) -> bool {
+    fn allows(self, before: Option<u64>, place: u64) -> bool {
         let Some(before) = before else {
             return place == 0 || !matches!(self, Gets::All);
         };
@@ -30,10 +35,10 @@ impl Gets {
     }
 }
 
-/// What a subscriber keeps of what it got: the last value of each emitter, and what was wrong.
+/// What a subscriber keeps of what it got: the place of the last value of each emitter, and what was wrong.
 #[derive(Clone, Copy)]
 pub struct Order {
-    last: [Option<u32>; MOST_THREADS as usize],
+    last: [Option<u64>; MOST_THREADS as usize],
     gets: Gets,
     pub found: Found,
 }
@@ -49,10 +54,10 @@ impl Order {
     }
 
     /// The value came.
-    pub fn add(&mut self, value: Value) {
-        let (emitter, place) = value;
+    pub fn add(&mut self, value: u64) {
+        let place = value / EMITTERS;
         let gets = self.gets;
-        let is_next = match self.last.get_mut(emitter as usize) {
+        let is_next = match self.last.get_mut((value % EMITTERS) as usize) {
             Some(last) => gets.allows(last.replace(place), place),
             None => false,
         };

@@ -32,8 +32,9 @@ pub enum Answer {
     Number(u64),
     /// With the old value and the new one.
     Exchange(u64, u64),
-    /// A replay cache of at most one value.
-    Cache(Option<u64>),
+    /// A replay cache of one value.
+    Cache(u64),
+    EmptyCache,
 }
 
 /// A call that was recorded.
@@ -45,55 +46,108 @@ pub struct Entry {
     pub end: u64,
 }
 
-/// Values are few, so that exchanges often find the value that they expect.
-pub const VALUES: u64 = 3;
+/// Values of a state flow are few, so that exchanges often find the value that they expect.
+const VALUES: u64 = 3;
 
 /// Returns the value that an update puts in place of this one.
 pub fn value_after(value: u64) -> u64 {
     value.wrapping_add(1) % VALUES
 }
 
-fn write_what<W: Write>(out: &mut W, call: Call) -> io::Result<()> {
+/// Returns the call of a state flow that a number says.
+pub fn call_of_state(number: u32) -> Call {
+    let rest = u64::from(number / 10);
+    let value = rest % VALUES;
+    match number % 10 {
+        0 | 1 => Call::Set(value),
+        2 => Call::CompareAndSet(rest / VALUES % VALUES, value),
+        3 => Call::Update,
+        4 => Call::Value,
+        5 => Call::SubscriptionCount,
+        6 => Call::Unsubscribe,
+        _ => Call::Next,
+    }
+}
+
+impl Call {
+    fn name(self) -> &'static str {
+        match self {
+            Call::Value => "value",
+            Call::Set(_) => "set",
+            Call::CompareAndSet(_, _) => "compare_and_set",
+            Call::Update => "update",
+            Call::TryEmit(_) => "try_emit",
+            Call::Emit(_) => "emit",
+            Call::Subscribe => "subscribe",
+            Call::Next => "next",
+            Call::Unsubscribe => "unsubscribe",
+            Call::SubscriptionCount => "subscription_count",
+            Call::ReplayCache => "replay_cache",
+            Call::ResetReplayCache => "reset_replay_cache",
+        }
+    }
+}
+
+impl Answer {
+    /// Returns the answer that the next value is.
+    pub fn of(next: Option<u64>) -> Answer {
+        match next {
+            Some(value) => Answer::Value(value),
+            None => Answer::Empty,
+        }
+    }
+
+    /// Returns the answer's text, unless it has a number.
+    fn text(self) -> Option<&'static str> {
+        match self {
+            Answer::Done => Some("\"done\""),
+            Answer::Cancelled => Some("\"cancelled\""),
+            Answer::Empty => Some("\"empty\""),
+            Answer::Truth(true) => Some("true"),
+            Answer::Truth(false) => Some("false"),
+            Answer::EmptyCache => Some("[]"),
+            _ => None,
+        }
+    }
+}
+
+fn write_arguments<W: Write>(out: &mut W, call: Call) -> io::Result<()> {
     match call {
-        Call::Value => write!(out, "\"value\""),
-        Call::Set(value) => write!(out, "\"set\", \"value\": {value}"),
-        Call::CompareAndSet(expect, value) => write!(
-            out,
-            "\"compare_and_set\", \"expect\": {expect}, \"value\": {value}"
-        ),
-        Call::Update => write!(out, "\"update\""),
-        Call::TryEmit(value) => write!(out, "\"try_emit\", \"value\": {value}"),
-        Call::Emit(value) => write!(out, "\"emit\", \"value\": {value}"),
-        Call::Subscribe => write!(out, "\"subscribe\""),
-        Call::Next => write!(out, "\"next\""),
-        Call::Unsubscribe => write!(out, "\"unsubscribe\""),
-        Call::SubscriptionCount => write!(out, "\"subscription_count\""),
-        Call::ReplayCache => write!(out, "\"replay_cache\""),
-        Call::ResetReplayCache => write!(out, "\"reset_replay_cache\""),
+        Call::CompareAndSet(expect, value) => {
+            write!(out, ", \"expect\": {expect}, \"value\": {value}")
+        }
+        Call::Set(value) | Call::TryEmit(value) | Call::Emit(value) => {
+            write!(out, ", \"value\": {value}")
+        }
+        _ => Ok(()),
+    }
+}
+
+fn write_numbers<W: Write>(out: &mut W, answer: Answer) -> io::Result<()> {
+    match answer {
+        Answer::Value(value) => write!(out, "{{\"value\": {value}}}"),
+        Answer::Number(number) => write!(out, "{number}"),
+        Answer::Exchange(old, new) => write!(out, "{{\"old\": {old}, \"value\": {new}}}"),
+        Answer::Cache(value) => write!(out, "[{value}]"),
+        _ => Ok(()),
     }
 }
 
 fn write_answer<W: Write>(out: &mut W, answer: Answer) -> io::Result<()> {
-    match answer {
-        Answer::Done => write!(out, "\"done\""),
-        Answer::Cancelled => write!(out, "\"cancelled\""),
-        Answer::Value(value) => write!(out, "{{\"value\": {value}}}"),
-        Answer::Truth(truth) => write!(out, "{truth}"),
-        Answer::Empty => write!(out, "\"empty\""),
-        Answer::Number(number) => write!(out, "{number}"),
-        Answer::Exchange(old, new) => write!(out, "{{\"old\": {old}, \"value\": {new}}}"),
-        Answer::Cache(None) => write!(out, "[]"),
-        Answer::Cache(Some(value)) => write!(out, "[{value}]"),
+    match answer.text() {
+        Some(text) => write!(out, "{text}"),
+        None => write_numbers(out, answer),
     }
 }
 
 impl Entry {
     /// Writes the line of a call of the caller of this number.
     pub fn write<W: Write>(self, out: &mut W, caller: u32) -> io::Result<()> {
-        write!(out, "{{\"by\": \"t{caller}\", \"call\": ")?;
-        write_what(out, self.call)?;
-        write!(out, ", \"begin\": {}, \"end\": {}", self.begin, self.end)?;
-        write!(out, ", \"answer\": ")?;
+        let name = self.call.name();
+        write!(out, "{{\"by\": \"t{caller}\", \"call\": \"{name}\"")?;
+        write_arguments(out, self.call)?;
+        let Entry { begin, end, .. } = self;
+        write!(out, ", \"begin\": {begin}, \"end\": {end}, \"answer\": ")?;
         write_answer(out, self.answer)?;
         writeln!(out, "}}")
     }

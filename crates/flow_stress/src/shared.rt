@@ -1,0 +1,106 @@
+//! A thread at a shared flow: it emits or reads, or both, is one of a crowd, or makes calls that are recorded.
+use crate::arguments::Job;
+use crate::crew::{Caller, Recorded, Turn};
+use crate::crowd::work_in_crowd;
+use crate::emitting::emit_all;
+use crate::exchanging::exchange_all;
+use crate::found::Found;
+use crate::reading::read_all;
+use crate::recorder::record_all;
+use crate::recording::{Answer, Call};
+use crate::subscriber::Subscriber;
+use flow_core::SharedCore;
+use flow_shared::{Emitter, SendEnd};
+use std::alloc::AllocGlobal;
+use std::random::RandomSource;
+use std::sync::Wait;
+use std::sync::atomic::AtomicU64;
+use std::time::{Clock, Duration};
+
+/// How long an `emit` waits before it is cancelled, in microseconds.
+const LIMIT: u64 = 100;
+
+fn emit<R: Wait + Clock>(rt: &R, emitter: &mut Emitter<'_, u64>, value: u64) -> Option<Answer> {
+    let limit = Duration::from_micros(LIMIT);
+    match emitter.send_timeout(rt, value, limit).ok()? {
+        SendEnd::Done => Some(Answer::Done),
+        SendEnd::Cancelled => Some(Answer::Cancelled),
+    }
+}
+
+fn replay_cache<R: Wait>(rt: &R, emitter: &mut Emitter<'_, u64>) -> Option<Answer> {
+    let cache = emitter.replay_cache(rt).ok()?;
+    Some(match cache.as_slice().first() {
+        Some(value) => Answer::Cache(*value),
+        None => Answer::EmptyCache,
+    })
+}
+
+impl Caller for Subscriber<'_, SharedCore<u64>> {
+    /// Returns another caller. Readers of a crowd subscribe before a thread begins.
+    fn another<R: Wait>(&mut self, rt: &R, job: Job, number: u32) -> Option<Self> {
+        let caller = self.caller.another();
+        if !job.reads_at_once(number) {
+            return Some(Subscriber::new(caller));
+        }
+        match self.caller.subscribe(rt) {
+            Ok(reader) => Some(Subscriber {
+                caller,
+                reader: Some(reader),
+            }),
+            Err(_fault) => None,
+        }
+    }
+
+    fn work<R: Wait + Clock + RandomSource + AllocGlobal>(
+        &mut self,
+        rt: &R,
+        turn: &mut Turn,
+        clock: &AtomicU64,
+    ) -> Option<Found> {
+        match turn.job {
+            Job::Crowd(size) => work_in_crowd(rt, self, size, turn),
+            Job::Record => record_all(rt, self, turn, clock),
+            Job::Exchange => exchange_all(rt, &mut self.caller, turn),
+            _ if turn.number % 2 == 0 => emit_all(rt, &mut self.caller, turn),
+            _ => read_all(rt, self, turn),
+        }
+    }
+
+    /// Checks that no subscriber is left.
+    fn check<R: Wait>(&mut self, rt: &R, found: &mut Found) -> Option<()> {
+        found.check(self.caller.subscription_count(rt) == 0);
+        Some(())
+    }
+}
+
+impl Recorded for Subscriber<'_, SharedCore<u64>> {
+    fn choose(number: u32, fresh: u64) -> Call {
+        match number % 12 {
+            0 | 1 => Call::TryEmit(fresh),
+            2 | 3 => Call::Emit(fresh),
+            4 => Call::SubscriptionCount,
+            5 => Call::ReplayCache,
+            6 => Call::ResetReplayCache,
+            7 => Call::Unsubscribe,
+            _ => Call::Next,
+        }
+    }
+
+    fn is_subscribed(&self) -> bool {
+        self.reader.is_some()
+    }
+
+    fn make<R: Wait + Clock>(&mut self, rt: &R, call: Call) -> Option<Answer> {
+        match call {
+            Call::TryEmit(value) => Some(Answer::Truth(self.caller.try_emit(rt, value).ok()?)),
+            Call::Emit(value) => emit(rt, &mut self.caller, value),
+            Call::ReplayCache => replay_cache(rt, &mut self.caller),
+            Call::ResetReplayCache => {
+                self.caller.reset_replay_cache(rt);
+                Some(Answer::Done)
+            }
+            _ => self.make_of_subscriber(rt, call),
+        }
+    }
+}

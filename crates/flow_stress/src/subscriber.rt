@@ -1,0 +1,62 @@
+//! A caller of a flow behind a gate, and its subscription.
+use crate::recording::{Answer, Call};
+use flow_core::FlowCore;
+use flow_shared::{FlowCaller, FlowReader};
+use std::sync::Wait;
+
+/// A caller of a shared flow, or of a state flow behind a gate, and its subscription.
+#[derive(Drop)]
+pub struct Subscriber<'a, S: FlowCore + Drop> {
+    pub caller: FlowCaller<'a, S>,
+    pub reader: Option<FlowReader<'a, S>>,
+}
+
+impl<'a, S: FlowCore + Drop> Subscriber<'a, S> {
+    /// Returns a caller without a subscription.
+    pub fn new(caller: FlowCaller<'a, S>) -> Subscriber<'a, S> {
+        Subscriber {
+            caller,
+            reader: None,
+        }
+    }
+
+    /// Subscribes. Returns None if memory is refused.
+    pub fn subscribe<R: Wait>(&mut self, rt: &R) -> Option<()> {
+        self.reader = Some(self.caller.subscribe(rt).ok()?);
+        Some(())
+    }
+
+    /// Takes the next value, if there is one. Returns None if memory is refused, or if there is no subscription.
+    pub fn next<R: Wait>(&mut self, rt: &R) -> Option<Option<S::Item>> {
+        match &mut self.reader {
+            Some(reader) => reader.next(rt).ok(),
+            None => None,
+        }
+    }
+
+    /// Ends the subscription, if there is one.
+    pub fn unsubscribe<R: Wait>(&mut self, rt: &R) {
+        if let Some(reader) = self.reader.take() {
+            let _caller = reader.unsubscribe(rt);
+        }
+    }
+}
+
+impl<S: FlowCore<Item = u64> + Drop> Subscriber<'_, S> {
+    /// Subscribes, reads, leaves or counts. Returns None for another call.
+    pub fn make_of_subscriber<R: Wait>(&mut self, rt: &R, call: Call) -> Option<Answer> {
+        match call {
+            Call::Subscribe => {
+                self.subscribe(rt)?;
+                Some(Answer::Done)
+            }
+            Call::Next => Some(Answer::of(self.next(rt)?)),
+            Call::Unsubscribe => {
+                self.unsubscribe(rt);
+                Some(Answer::Done)
+            }
+            Call::SubscriptionCount => Some(Answer::Number(self.caller.subscription_count(rt))),
+            _ => None,
+        }
+    }
+}
