@@ -28,22 +28,16 @@ where
 }
 
 /// Lets all threads call a flow, or records their calls. Returns None if memory or a thread is refused.
-fn run<C, R, W>(
-    rt: &R,
-    alloc: Global,
-    first: &mut C,
-    job: Job,
-    size: Size,
-    out: &mut W,
-) -> Option<Found>
+fn run<C, R, W>(rt: &R, alloc: Global, first: C, job: Job, size: Size, out: &mut W) -> Option<Found>
 where
     C: Caller,
     R: Threads + Wait + Clock + RandomSource + AllocGlobal + Sync,
     W: Write,
 {
+    let mut first = first;
     match job {
-        Job::Record => record(rt, alloc, first, size, out),
-        _ => call(rt, alloc, first, job, size),
+        Job::Record => record(rt, alloc, &mut first, size, out),
+        _ => call(rt, alloc, &mut first, job, size),
     }
 }
 
@@ -61,8 +55,8 @@ where
     W: Write,
 {
     let (flow, seat) = SharedFlow::new(alloc, config).ok()?;
-    let mut first = Subscriber::new(flow.emitter(seat));
-    run(rt, alloc, &mut first, job, size, out)
+    let first = Subscriber::new(flow.emitter(seat));
+    run(rt, alloc, first, job, size, out)
 }
 
 /// Does a job at a new state flow behind a gate. Returns None if memory or a thread is refused.
@@ -72,8 +66,8 @@ where
     W: Write,
 {
     let (flow, seat) = StateFlow::new(alloc, 0, u64::MAX).ok()?;
-    let mut first = Subscriber::new(flow.setter(seat));
-    run(rt, alloc, &mut first, job, size, out)
+    let first = Subscriber::new(flow.setter(seat));
+    run(rt, alloc, first, job, size, out)
 }
 
 /// Does a job at a new state flow without a lock. Returns None if memory or a thread is refused.
@@ -83,8 +77,8 @@ where
     W: Write,
 {
     let (flow, seat) = WordState::new(alloc, 0, u32::MAX).ok()?;
-    let mut first = WordSubscriber::new(flow.setter(seat));
-    run(rt, alloc, &mut first, job, size, out)
+    let first = WordSubscriber::new(flow.setter(seat));
+    run(rt, alloc, first, job, size, out)
 }
 
 /// Puts one flow after the other under the calls of half or a quarter of the threads. Returns None if memory or a thread

@@ -39,16 +39,10 @@ fn replay_cache<R: Wait>(rt: &R, emitter: &mut Emitter<'_, u64>) -> Option<Answe
 impl Caller for Subscriber<'_, SharedCore<u64>> {
     /// Returns another caller. Readers of a crowd subscribe before a thread begins.
     fn another<R: Wait>(&mut self, rt: &R, job: Job, number: u32) -> Option<Self> {
-        let caller = self.caller.another();
-        if !job.reads_at_once(number) {
-            return Some(Subscriber::new(caller));
-        }
-        match self.caller.subscribe(rt) {
-            Ok(reader) => Some(Subscriber {
-                caller,
-                reader: Some(reader),
-            }),
-            Err(_fault) => None,
+        if job.reads_at_once(number) {
+            self.another_reader(rt)
+        } else {
+            Some(self.another_caller())
         }
     }
 

@@ -70,7 +70,7 @@ fn update<R: Wait>(rt: &R, setter: &mut Setter<'_, u64>) -> Option<Answer> {
 
 impl Caller for Subscriber<'_, StateCore<u64>> {
     fn another<R: Wait>(&mut self, _rt: &R, _job: Job, _number: u32) -> Option<Self> {
-        Some(Subscriber::new(self.caller.another()))
+        Some(self.another_caller())
     }
 
     fn work<R: Wait + Clock + RandomSource + AllocGlobal>(

@@ -20,6 +20,18 @@ impl<'a, S: FlowCore + Drop> Subscriber<'a, S> {
         }
     }
 
+    /// Returns another caller of the same flow, without a subscription.
+    pub fn another_caller(&mut self) -> Subscriber<'a, S> {
+        Subscriber::new(self.caller.another())
+    }
+
+    /// Returns another caller of the same flow, which has subscribed. Returns None if memory is refused.
+    pub fn another_reader<R: Wait>(&mut self, rt: &R) -> Option<Subscriber<'a, S>> {
+        let mut made = self.another_caller();
+        made.subscribe(rt)?;
+        Some(made)
+    }
+
     /// Subscribes. Returns None if memory is refused.
     pub fn subscribe<R: Wait>(&mut self, rt: &R) -> Option<()> {
         self.reader = Some(self.caller.subscribe(rt).ok()?);
