@@ -22,18 +22,18 @@ pub struct Turn {
     pub found: Found,
 }
 
+/// What the work of a thread takes.
+pub trait Host: Wait + Clock + RandomSource + AllocGlobal {}
+
+impl<H: Wait + Clock + RandomSource + AllocGlobal> Host for H {}
+
 /// A caller of a flow.
 pub trait Caller: Send + Drop {
     /// Returns another caller of the same flow, for the thread of this number. Returns None if memory is refused.
     fn another<R: Wait>(&mut self, rt: &R, job: Job, number: u32) -> Option<Self>;
 
     /// Does the work of a thread. Returns None if memory is refused.
-    fn work<R: Wait + Clock + RandomSource + AllocGlobal>(
-        &mut self,
-        rt: &R,
-        turn: &mut Turn,
-        clock: &AtomicU64,
-    ) -> Option<Found>;
+    fn work<R: Host>(&mut self, rt: &R, turn: &mut Turn, clock: &AtomicU64) -> Option<Found>;
 
     /// Checks the flow once all threads have ended. Returns None if memory is refused.
     fn check<R: Wait>(&mut self, rt: &R, found: &mut Found) -> Option<()>;
@@ -90,11 +90,7 @@ impl Start {
     }
 
     /// Does the work of a thread once the start is open. Returns None if no thread may begin, or if memory is refused.
-    fn work<C: Caller, R: Wait + Clock + RandomSource + AllocGlobal>(
-        &self,
-        rt: &R,
-        worker: Worker<C>,
-    ) -> Option<Worker<C>> {
+    fn work<C: Caller, R: Host>(&self, rt: &R, worker: Worker<C>) -> Option<Worker<C>> {
         let Worker {
             mut caller,
             mut turn,

@@ -1,6 +1,6 @@
 //! A thread at a shared flow: it emits or reads, or both, is one of a crowd, or makes calls that are recorded.
 use crate::arguments::Job;
-use crate::crew::{Caller, Recorded, Turn};
+use crate::crew::{Caller, Host, Recorded, Turn};
 use crate::crowd::work_in_crowd;
 use crate::emitting::emit_all;
 use crate::exchanging::exchange_all;
@@ -11,8 +11,6 @@ use crate::recording::{Answer, Call};
 use crate::subscriber::Subscriber;
 use flow_core::SharedCore;
 use flow_shared::{Emitter, SendEnd};
-use std::alloc::AllocGlobal;
-use std::random::RandomSource;
 use std::sync::Wait;
 use std::sync::atomic::AtomicU64;
 use std::time::{Clock, Duration};
@@ -46,12 +44,7 @@ impl Caller for Subscriber<'_, SharedCore<u64>> {
         }
     }
 
-    fn work<R: Wait + Clock + RandomSource + AllocGlobal>(
-        &mut self,
-        rt: &R,
-        turn: &mut Turn,
-        clock: &AtomicU64,
-    ) -> Option<Found> {
+    fn work<R: Host>(&mut self, rt: &R, turn: &mut Turn, clock: &AtomicU64) -> Option<Found> {
         match turn.job {
             Job::Crowd(size) => work_in_crowd(rt, self, size, turn),
             Job::Record => record_all(rt, self, turn, clock),

@@ -1,7 +1,7 @@
 //! A thread at a state flow behind a gate: it adds to the value, and subscribes between, or makes calls that are
 //! recorded.
 use crate::arguments::Job;
-use crate::crew::{Caller, Recorded, Turn};
+use crate::crew::{Caller, Host, Recorded, Turn};
 use crate::found::{Found, NOTHING};
 use crate::order::are_in_order;
 use crate::recorder::record_all;
@@ -11,8 +11,6 @@ use flow_core::StateCore;
 use flow_law::OutOfMemory;
 use flow_shared::Setter;
 use rand_core::utils::NextWord;
-use std::alloc::AllocGlobal;
-use std::random::RandomSource;
 use std::sync::Wait;
 use std::sync::atomic::AtomicU64;
 use std::time::Clock;
@@ -73,12 +71,7 @@ impl Caller for Subscriber<'_, StateCore<u64>> {
         Some(self.another_caller())
     }
 
-    fn work<R: Wait + Clock + RandomSource + AllocGlobal>(
-        &mut self,
-        rt: &R,
-        turn: &mut Turn,
-        clock: &AtomicU64,
-    ) -> Option<Found> {
+    fn work<R: Host>(&mut self, rt: &R, turn: &mut Turn, clock: &AtomicU64) -> Option<Found> {
         match turn.job {
             Job::Record => record_all(rt, self, turn, clock),
             _ => add_all(rt, self, turn),

@@ -1,15 +1,13 @@
 //! A thread at a state flow without a lock: it adds to the value, and subscribes between, or makes calls that are
 //! recorded.
 use crate::arguments::Job;
-use crate::crew::{Caller, Recorded, Turn};
+use crate::crew::{Caller, Host, Recorded, Turn};
 use crate::found::{Found, NOTHING};
 use crate::order::are_in_order;
 use crate::recorder::record_all;
 use crate::recording::{Answer, Call, call_of_state, value_after};
 use flow_word::{WordReader, WordSetter};
 use rand_core::utils::NextWord;
-use std::alloc::AllocGlobal;
-use std::random::RandomSource;
 use std::sync::Wait;
 use std::sync::atomic::AtomicU64;
 use std::time::Clock;
@@ -110,12 +108,7 @@ impl Caller for WordSubscriber<'_> {
         Some(WordSubscriber::new(self.setter.another()))
     }
 
-    fn work<R: Wait + Clock + RandomSource + AllocGlobal>(
-        &mut self,
-        rt: &R,
-        turn: &mut Turn,
-        clock: &AtomicU64,
-    ) -> Option<Found> {
+    fn work<R: Host>(&mut self, rt: &R, turn: &mut Turn, clock: &AtomicU64) -> Option<Found> {
         match turn.job {
             Job::Record => record_all(rt, self, turn, clock),
             _ => Some(add_all(rt, &mut self.setter, turn)),
