@@ -34,6 +34,7 @@ mod shared_moves;
 mod shared_same;
 mod shared_steps;
 mod shared_words;
+mod state_answers;
 mod state_calls;
 mod state_checking;
 mod state_machine;

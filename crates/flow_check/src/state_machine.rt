@@ -2,13 +2,12 @@
 ghost use Rattle.std.specs.Prelude.{◌≡◌, IsTrue, IfOk};
 ghost use Rattle.flow_check.specs.Subscribed.{none_subscribed};
 ghost use Rattle.flow_check.specs.StateMachine.{reader_of, with_reader};
-ghost use Rattle.flow_check.specs.StateMachine.{subscribe_answer, next_answer, unsubscribe_answer};
-ghost use Rattle.flow_check.specs.StateMachine.{own_answer, moved, same_answer, agrees};
-ghost use Rattle.flow_check.specs.StateMachine.{reader_in, read};
+ghost use Rattle.flow_check.specs.StateMachine.{own_answer, moved, agrees, reader_in, read};
 
 use crate::machine::Machine;
 use crate::marks::mix;
 use crate::same::{Same, are_same};
+use crate::state_answers::{agrees, next_answer, subscribe_answer, unsubscribe_answer};
 use crate::state_calls::{StateAnswer, StateEntry, StateOperation};
 use crate::subscribed::present;
 use crate::words::{Part, number_of, read_parts, word_at, words_from, write_number, write_parts};
@@ -29,68 +28,6 @@ impl Model for StateMachine {
     ghost Value = { Kept };
 
     ghost view = { λ m. record { value = m.value; readers = m.readers.items } };
-}
-
-/// Returns the answer to `subscribe` of a caller that has received this.
-fn subscribe_answer(reader: Option<Option<u64>>) -> Option<StateAnswer>
-    ensures { result ≡ subscribe_answer reader }
-{
-    match reader {
-        None => Some(StateAnswer::Done),
-        Some(_) => None,
-    }
-}
-
-/// Returns the answer to `next`.
-fn next_answer(value: u64, reader: Option<Option<u64>>) -> Option<StateAnswer>
-    ensures { result ≡ next_answer value reader }
-{
-    match reader {
-        None => None,
-        Some(None) => Some(StateAnswer::Value(value)),
-        Some(Some(last)) => {
-            if last == value {
-                Some(StateAnswer::Empty)
-            } else {
-                Some(StateAnswer::Value(value))
-            }
-        }
-    }
-}
-
-/// Returns the answer to `unsubscribe`.
-fn unsubscribe_answer(reader: Option<Option<u64>>) -> Option<StateAnswer>
-    ensures { result ≡ unsubscribe_answer reader }
-{
-    match reader {
-        None => None,
-        Some(_) => Some(StateAnswer::Done),
-    }
-}
-
-/// Returns whether an answer is the one that was recorded.
-fn same_answer(own: StateAnswer, recorded: StateAnswer) -> bool
-    ensures { result ≡ same_answer own recorded }
-{
-    match (own, recorded) {
-        (StateAnswer::Done, StateAnswer::Done) => true,
-        (StateAnswer::Value(v), StateAnswer::Value(w)) => v == w,
-        (StateAnswer::Truth(b), StateAnswer::Truth(c)) => { if b { c } else { !c } }
-        (StateAnswer::Empty, StateAnswer::Empty) => true,
-        (StateAnswer::Number(m), StateAnswer::Number(n)) => m == n,
-        _ => false,
-    }
-}
-
-/// Returns whether the flow's own answer is the one that was recorded, if one was.
-fn agrees(own: Option<StateAnswer>, recorded: Option<StateAnswer>) -> bool
-    ensures { result ≡ agrees own recorded }
-{
-    match (own, recorded) {
-        (None, _) => false,
-        (Some(_), None) => true,
-        (Some(own), Some(recorded)) => same_answer(own, recorded),
-    }
 }
 
 impl StateMachine {
