@@ -10,7 +10,7 @@ use std::io;
 use std::random::RandomSource;
 use std::sync::Wait;
 
-/// Emits a value, and waits until nobody has to be waited for any more.
+/// Emits a value, and waits until the emission is done.
 ///
 /// However often the future was polled, the seat has made one `emit` more.
 pub fn send<R: Wait + RandomSource + AllocGlobal, T: FlowValue>(

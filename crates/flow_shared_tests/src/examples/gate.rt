@@ -53,7 +53,7 @@ fn meet_in_one_history(
     gate.meet(one, other)
 }
 
-/// A gate that nobody has entered, and a seat.
+/// A new gate, and its seat.
 fn new_gate(rt: &impl Abort, alloc: Global) -> (Gate<Count>, Seat<Count>)
     ensures { result.1.table_id ≡ result.0.table_id }
 {
@@ -63,11 +63,11 @@ fn new_gate(rt: &impl Abort, alloc: Global) -> (Gate<Count>, Seat<Count>)
     }
 }
 
-/// A gate that nobody is in was closed, and has had so many events.
+/// A gate without a caller inside was closed, and has had so many events.
 fn had(rt: &impl Abort, closed: Option<Count>, events: u64) {
     match closed {
         Some(count) => compare(rt, 2, count.events, events),
-        None => panic!(rt; "somebody is inside"),
+        None => panic!(rt; "a caller is inside"),
     }
 }
 
@@ -84,11 +84,11 @@ fn enter_in_turn<R: Wait + Abort>(
     let held = gate.enter(rt, seat);
     let other = match gate.try_enter(other) {
         Err(back) => back,
-        Ok(_) => panic!(rt; "somebody is inside"),
+        Ok(_) => panic!(rt; "a caller is inside"),
     };
     let _seat = add_one(held);
     let Ok(held) = gate.try_enter(other) else {
-        panic!(rt; "nobody is inside")
+        panic!(rt; "no caller is inside")
     };
     add_one(held)
 }

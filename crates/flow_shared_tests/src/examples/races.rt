@@ -8,10 +8,10 @@ use std::process::Abort;
 use std::sync::Wait;
 use std::thread::{Threads, join, yield_now};
 
-/// How often two calls race at least,
+/// Two calls race at least so often,
 const LEAST_RACES: u32 = 100;
 
-/// and at most, until each of them came first.
+/// and at most so often until each of them came first.
 const MOST_RACES: u32 = 10_000;
 
 /// Waits until the other thread is there. In every fourth run it lets the other thread go first.
@@ -56,8 +56,8 @@ fn read_beside_cancel<R: Threads + Wait + Abort + Sync>(
     )
 }
 
-/// With a buffer of one value, 2 waits for room, and is cancelled while the subscriber makes room. It is received by nobody, or by
-/// all. Returns whether the cancel came first.
+/// With a buffer of one value, 2 waits for room, and is cancelled while the subscriber makes room. Either the cancel comes first,
+/// and no subscriber receives 2, or the subscriber does. Returns whether the cancel came first.
 fn waits_for_room<R: Threads + Wait + Abort + Sync>(
     rt: &R,
     run: u32,
@@ -72,8 +72,8 @@ fn waits_for_room<R: Threads + Wait + Abort + Sync>(
     was_waiting
 }
 
-/// Without a buffer, 7 is offered to two subscribers, and is cancelled while one of them takes it, before or not at all. Returns
-/// whether the cancel came first.
+/// Without a buffer, 7 is offered to two subscribers, and is cancelled while one of them reads. The reader receives 7 or nothing,
+/// and the other one nothing. Returns whether the cancel came first.
 fn is_offered<R: Threads + Wait + Abort + Sync>(
     rt: &R,
     run: u32,

@@ -13,7 +13,7 @@ use flow_law::Next::{Empty, Value};
 use flow_law::{Config, Drained, Overflow};
 
 static EXAMPLES: &[Example] = &[
-    // Nobody receives what was emitted before.
+    // Without a replay cache, a new subscriber receives nothing that was emitted before.
     Example {
         kind: Shared(UNBUFFERED),
         steps: &[

@@ -45,7 +45,7 @@ fn a_thread_reads_what_it_set_or_what_another_set(rt: HostRuntime) {
     let (flow, mut seat) = StateFlow::new(rt.alloc(), 0, u64::MAX).expect(&rt, "a flow");
     let mut own = flow.seat(&mut seat);
     set_from_two_threads(&rt, &flow, &mut own);
-    let core = flow.close(seat).expect(&rt, "nobody is inside");
+    let core = flow.close(seat).expect(&rt, "no caller is inside");
     let value = core.value().expect(&rt, "a value");
     compare(&rt, 1, value == 9 || value == 4, true);
 }
@@ -81,7 +81,7 @@ fn a_seat_goes_to_two_threads_in_turn(rt: HostRuntime) {
     let (flow, seat) = made.expect(&rt, "a flow");
     let seat = emit_on_a_thread(&rt, &flow, seat, 1);
     let seat = emit_on_a_thread(&rt, &flow, seat, 2);
-    let core = flow.close(seat).expect(&rt, "nobody is inside");
+    let core = flow.close(seat).expect(&rt, "no caller is inside");
     let cache = core.replay_cache().expect(&rt, "memory");
     compare(&rt, 3, cache.as_slice(), [1, 2].as_slice());
     compare(&rt, 4, (core.subscription_count(), core.held()), (0, 2));

@@ -40,7 +40,7 @@ impl<'a, T: Numbered<Memory = A>, S: FlowCore<Item = T> + Drop, A: Allocator + C
     S,
     A,
 > {
-    /// The caller who has this seat of the flow. Nobody subscribes yet.
+    /// The caller that has this seat of the flow, without subscriptions.
     pub fn new(
         alloc: Global,
         memory: A,

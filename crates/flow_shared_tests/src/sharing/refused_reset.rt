@@ -26,7 +26,7 @@ fn turns(
     }
 }
 
-/// A chain of 3, whose state flow begins with 0, stops when nobody is there, and forgets at once.
+/// A chain of 3, whose state flow begins with 0, stops without subscribers, and forgets at once.
 fn share<'a>(
     rt: &impl Abort,
     alloc: Global,

@@ -42,7 +42,7 @@ pub static LAGS: &[Example] = &[
             Lag(1, Some(1)),
         ],
     },
-    // Nobody is behind by more than the buffer, and a value that is dropped was not emitted.
+    // No subscriber is behind by more than the buffer, and a value that is dropped was not emitted.
     Example {
         config: Config {
             overflow: Overflow::DropOldest,
