@@ -1,4 +1,4 @@
--- What is left of a gate that was closed by one of its seats.
+-- What is left of a gate that was closed.
 use Rattle.std.proofs.Common.{◌≡◌, ℕ, false, List, [], ◌∷◌, Option, Some, IfSome, get_or, refl, sym, ap, ◌∙◌, subst}
 use mathlib.Core.Option.{some, some-injective, some-ne-none}
 use lib.ListN.{get_elem?}
@@ -24,3 +24,13 @@ module _ {S E : Type 0} (stands : S → List (HistoryEvent E) → Type 0) where
       let same : Some x.0 ≡ o = some-injective (Some x.0) o (sym (f.4 0 (Some x.0) x.1) ∙ there) in
       let seat : get_elem? s.views id ≡ some (seat_view (k ∷ []) false) = f.1.1 ∙ ap some is in
       subst (λ (p : Option S). IfSome p (λ y. (history : List (HistoryEvent E)) × stands y history × Fits history k)) same (r.history, x.2, r.fits id 0 k (seat_view (k ∷ []) false, seat, refl))
+
+  -- the same without a seat
+  pub closes_alone : (ws : List ℕ) (xs : List (Option S)) (n : ℕ) (o : Option S) → Final (GateHolds stands) ws xs
+      → get_elem? ws 0 ≡ some n → n ≡ 0 → get_elem? xs 0 ≡ some o → IfSome o (λ x. (history : List (HistoryEvent E)) × stands x history)
+  closes_alone ws xs n o f at zero_there there =
+      let s = f.0 in let r : GateHolds stands s = f.1 in
+      let free : get_or s.words 0 0 ≡ 0 = ap (λ l. get_or l 0 0) f.2 ∙ (word_at ws n at ∙ zero_there) in
+      let x = r.free free in
+      let same : Some x.0 ≡ o = some-injective (Some x.0) o (sym (f.4 0 (Some x.0) x.1) ∙ there) in
+      subst (λ (p : Option S). IfSome p (λ y. (history : List (HistoryEvent E)) × stands y history)) same (r.history, x.2)

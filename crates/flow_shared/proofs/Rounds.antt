@@ -1,5 +1,5 @@
 -- The rounds of an update through a handle.
-use Rattle.std.proofs.Common.{◌≡◌, Bool, true, false, subst, ◌∙◌}
+use Rattle.std.proofs.Common.{inl, inr, ◌≡◌, ◌⊎◌, Bool, true, false, Result, subst, ◌∙◌}
 use Rattle.atomic_table.specs.Seated.{TableId}
 use Rattle.flow_law.specs.declared.history.Said.{Said}
 use Rattle.flow_law.specs.declared.call.StateCall.{StateCall}
@@ -10,7 +10,7 @@ use Rattle.flow_law.specs.declared.states.StateFlowState.{StateFlowState}
 use Rattle.flow_law.specs.Handles.{CallerOf}
 use Rattle.flow_law.specs.StateFlow.{state_flow}
 use Rattle.flow_law.specs.Tokens.{CallsIn}
-use Rattle.flow_law.specs.Updates.{IsRound, LosesRounds, one_lost, Updates}
+use Rattle.flow_law.specs.Updates.{IsRound, LosesRounds, one_lost, Updates, ReadsInVain, StopsAt, Refuses, RefusesOrKeepsNone}
 use Rattle.flow_gate.specs.Tokens.{Origin}
 use Rattle.flow_shared.specs.StateReplies.{StateToken}
 
@@ -39,3 +39,15 @@ module _ {T : Type 0} (flow : Origin (StateFlowState T)) (Gives : T → T → Ty
 
   pub won_by : (before : StateToken T) → LosesRounds flow.first Gives before now.token → Reads → CallsIn state_flow mid.flow.first mid.token (CompareAndSet x y) (Answered true) end.token → Updates flow.first Gives before x y end.token
   won_by before lost r exchanged = record { between = now.token; lost = lost; won = round_by true r exchanged }
+
+-- what a read in vain left: before it the handle was `now`, and then `end`
+pub stopped_by : {T : Type 0} (flow : Origin (StateFlowState T)) (Gives : T → T → Type 0) (Stops : T → Type 0) (now end : StateCaller T) (before : StateToken T)
+    → LosesRounds flow.first Gives before now.token → now.flow ≡ flow → ReadsInVain now.flow.first Stops now.token end.token → StopsAt flow.first Gives Stops before end.token
+stopped_by flow Gives Stops now end before lost of_flow vain =
+    record { between = now.token; lost = lost; stopped = subst (λ f. ReadsInVain f.first Stops now.token end.token) of_flow vain }
+
+-- a function that refuses is one reason to stop
+pub refused_or_kept_none : {T E : Type 0} (first : StateFlowState T) (Gives : T → Result T E → Type 0) (before after : StateToken T)
+    → ReadsInVain first (Refuses Gives) before after → ReadsInVain first (RefusesOrKeepsNone Gives) before after
+refused_or_kept_none first Gives before after (inl refused) = inl refused
+refused_or_kept_none first Gives before after (inr read) = inr (read.0, read.1, inl read.2)
