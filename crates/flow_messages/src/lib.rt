@@ -8,8 +8,6 @@
 
 mod message;
 mod passing;
-#[cfg(test)]
-mod tests;
 
 pub use message::{Message, OneFlow};
 pub use passing::{Heard, pass_on};

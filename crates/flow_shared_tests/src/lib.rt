@@ -1,5 +1,5 @@
 //! Callers of flows for several threads, with proofs of what they conclude from the contracts of the calls that they make,
-//! and tests of worked examples by one caller and by several threads, of sharings, and of out of memory.
+//! and tests of handles, of worked examples by one caller and by several threads, of sharings, and of out of memory.
 //!
 //! Each call is proved, for every schedule. The tests with threads look at the rest: that calls succeed, that callers wait
 //! no longer than they have to, and what comes of several threads that do more than `run_count`, `run_crowd` and
@@ -16,6 +16,8 @@ mod awaiting;
 mod compare;
 #[cfg(test)]
 mod examples;
+#[cfg(test)]
+mod handles;
 #[cfg(test)]
 mod lent;
 #[cfg(test)]

@@ -1,5 +1,5 @@
-//! Tests of flows for one thread, of the word state, of crowds, of cold chains and of the program, and callers of them of which
-//! something is proved. What each call answers is proved; here the values come from kotlinx.coroutines' documentation.
+//! Tests of flows for one thread, of the word state, of crowds, of cold chains, of the checker and of the program, and callers of
+//! them of which something is proved. What each call answers is proved; here the values come from kotlinx.coroutines' documentation.
 //! What the programs with threads return (`run_count`, `run_crowd`, `run_pair`) is proved, too: their tests look at whether they
 //! return.
 //!
@@ -8,6 +8,8 @@
 
 #[cfg(test)]
 mod chains;
+#[cfg(test)]
+mod checker;
 #[cfg(test)]
 mod compare;
 #[cfg(test)]

@@ -1,7 +1,9 @@
-//! Tests of the word state: worked examples by one caller and by several threads, and packs.
+//! Tests of the word state: worked examples by one caller and by several threads, packs, and a message between threads.
 #[cfg(test)]
 mod caller;
 pub mod celsius;
+#[cfg(test)]
+mod messages;
 #[cfg(test)]
 mod one_caller;
 #[cfg(test)]

@@ -1,14 +1,8 @@
-//! What a call answered, beside what it is to answer.
+//! What the players of calls by handles share.
 use flow_law::OutOfMemory;
-use std::fmt::Debug;
 use std::process::Abort;
 use std::thread::sleep;
 use std::time::{Clock, Duration};
-
-/// The answer of the call at this place is the one that is wanted.
-pub fn compare<T: PartialEq + Debug + Drop>(rt: &impl Abort, place: usize, answer: T, wanted: T) {
-    assert_eq!(rt; answer, wanted, "call {place}");
-}
 
 /// Ends the test: the handle that got the call at this place has no such call.
 pub fn no_such_call(rt: &impl Abort, place: usize) {

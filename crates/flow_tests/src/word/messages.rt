@@ -1,5 +1,6 @@
 //! A message is sent and heard.
-use crate::passing::pass_on;
+use crate::compare::compare;
+use flow_messages::pass_on;
 use flow_word::WordState;
 
 #[test]
@@ -8,6 +9,6 @@ fn a_reader_finds_what_a_message_tells(rt: HostRuntime) {
     let mut setter = flow.setter(seat);
     let reader = setter.another();
     let heard = pass_on(&rt, rt.alloc(), setter, reader, 7).expect(&rt, "memory");
-    assert!(&rt; heard.value == 7, "the message is of 7");
-    assert!(&rt; heard.found == 7, "no other caller set a value");
+    compare(&rt, 0, heard.value, 7);
+    compare(&rt, 1, heard.found, 7);
 }

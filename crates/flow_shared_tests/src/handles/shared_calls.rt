@@ -1,9 +1,10 @@
 //! Calls on an emitter of a shared flow, each with what it is to answer.
-use crate::tests::compare::{compare, length, no_such_call, pause};
-use crate::tests::emissions::{cancel, cancel_late, emission_of, queued, try_cancel};
-use crate::tests::flows::new_reader;
-use crate::tests::shared::Call;
-use crate::tests::tasks::{lose_select, poll_receive, poll_send};
+use crate::compare::compare;
+use crate::handles::answers::{length, no_such_call, pause};
+use crate::handles::emissions::{cancel, cancel_late, emission_of, queued, try_cancel};
+use crate::handles::flows::new_reader;
+use crate::handles::shared::Call;
+use crate::handles::tasks::{lose_select, poll_receive, poll_send};
 use flow_law::{Exhausted, NumberError, Rejected};
 use flow_shared::{Emitter, SendEnd};
 use std::alloc::AllocGlobal;

@@ -1,5 +1,5 @@
 //! Records of shared flows in few words, and what comes of one.
-use crate::tests::records::Outcome;
+use crate::checker::records::Outcome;
 use flow_check::{
     Record, SharedAnswer, SharedEntry, SharedOperation, Timed, check_shared, shared_goes_wrong,
 };

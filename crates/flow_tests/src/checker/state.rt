@@ -1,6 +1,6 @@
 //! Records of state flows. Each says in its comment why it is legal or illegal.
-use crate::tests::records::Outcome::{BeginsEarly, EndsEarly, GaveUp, Illegal, Legal};
-use crate::tests::records::{Outcome, call, expect, judge, order_of, pending};
+use crate::checker::records::Outcome::{BeginsEarly, EndsEarly, GaveUp, Illegal, Legal};
+use crate::checker::records::{Outcome, call, expect, judge, order_of, pending};
 use flow_check::StateAnswer::{Done, Value};
 use flow_check::StateOperation::{Set, Value as Read};
 use std::alloc::AllocError;

@@ -1,6 +1,6 @@
 //! Worked examples over a setter and a reader of a word state, on one thread. Each state begins with the value 7.
-use crate::tests::state::Call;
-use crate::tests::state::Call::{
+use crate::handles::state::Call;
+use crate::handles::state::Call::{
     CompareAndSet, Count, CountBesideReader, CountBesideStream, GetAndUpdate, Meet, Next,
     ReaderSeen, Seen, Set, Unsubscribe, Update, UpdateAndGet, Value,
 };

@@ -1,7 +1,7 @@
 //! An emission that is taken out of its handle, and bound again.
 ghost use Rattle.std.specs.Prelude.{◌≡◌};
 
-use crate::tests::compare::compare;
+use crate::compare::compare;
 use flow_law::Config;
 use flow_shared::{EmitAnswer, Seat, SharedFlow};
 use std::sync::Wait;

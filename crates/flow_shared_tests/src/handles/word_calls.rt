@@ -1,8 +1,9 @@
 //! Calls on a setter and a reader of a word state, each with what it is to answer.
 ghost use Rattle.std.specs.Prelude.{◌≡◌};
 
-use crate::tests::compare::{compare, no_such_call, pause};
-use crate::tests::state::Call;
+use crate::compare::compare;
+use crate::handles::answers::{no_such_call, pause};
+use crate::handles::state::Call;
 use flow_word::{WordReader, WordSetter};
 use std::process::Abort;
 use std::sync::Wait;

@@ -1,5 +1,6 @@
 //! Emissions that wait, through a handle.
-use crate::tests::compare::{compare, pause};
+use crate::compare::compare;
+use crate::handles::answers::pause;
 use flow_shared::{BoundEmission, EmitAnswer, Emitter, PollAnswer, Reader};
 use std::process::Abort;
 use std::sync::Wait;

@@ -1,11 +1,11 @@
-//! The worked examples over state flows are played. Call 7 of example 3 has the place 307, all counted from 0.
-use crate::tests::compare::compare;
-use crate::tests::flows::new_state_reader;
-use crate::tests::state::{Call, End, MEETINGS, Meeting, STATE, WAITS};
-use crate::tests::state_calls::{read, set};
-use crate::tests::streams::next_of;
-use flow_law::OutOfMemory;
-use flow_shared::{Setter, StateFlow, StateReader};
+//! The worked examples over word states are played. Call 7 of example 3 has the place 307, all counted from 0.
+use crate::compare::compare;
+use crate::handles::state::{Call, End, MEETINGS, Meeting, WAITS};
+use crate::handles::state_plays::is_of_reader;
+use crate::handles::streams::next_of;
+use crate::handles::word::WORD;
+use crate::handles::word_calls::{new_word_reader, read, set};
+use flow_word::{WordReader, WordSetter, WordState};
 use futures::executor::block_on;
 use std::alloc::AllocGlobal;
 use std::process::Abort;
@@ -14,26 +14,11 @@ use std::sync::Wait;
 use std::thread::{Threads, join};
 use std::time::Clock;
 
-/// Whether a call is one of the reader.
-pub fn is_of_reader(call: &Call) -> bool {
-    matches!(
-        *call,
-        Call::Next(_)
-            | Call::TryNext(_)
-            | Call::ReaderSeen
-            | Call::Changed(_)
-            | Call::ChangedInTime(_, _)
-            | Call::Follow(_)
-            | Call::WaitFor(_, _)
-            | Call::WaitInTime(_, _, _)
-    )
-}
-
 /// Makes all calls of an example.
 fn make_all<R: Wait + Clock + Abort>(
     rt: &R,
-    setter: &mut Setter<'_, i64>,
-    reader: &mut StateReader<'_, i64>,
+    setter: &mut WordSetter<'_, i64>,
+    reader: &mut WordReader<'_, i64>,
     place: usize,
     calls: &[Call],
 ) {
@@ -47,24 +32,24 @@ fn make_all<R: Wait + Clock + Abort>(
     }
 }
 
-/// Plays an example on a new flow.
+/// Plays an example on a new state. Its handles are those that their tokens make when they are bound again.
 fn play<R: Wait + Clock + Abort + AllocGlobal>(rt: &R, example: usize, calls: &[Call]) {
-    let (flow, seat) = StateFlow::new(rt.alloc(), 7, 99).expect(rt, "a flow");
-    let mut setter = flow.setter(seat);
-    let mut reader = new_state_reader(rt, &mut setter);
+    let (flow, seat) = WordState::new(rt.alloc(), 7, 9).expect(rt, "a flow");
+    let mut setter = flow.setter(flow.setter(seat).into_seat());
+    let mut reader = flow.reader(new_word_reader(rt, &mut setter).into_subscription());
     let place = example.saturating_mul(100);
     make_all(rt, &mut setter, &mut reader, place, calls);
 }
 
 #[test]
-fn calls_of_state_flows(rt: HostRuntime) {
-    for (example, calls) in STATE.iter().enumerate() {
+fn calls_of_word_states(rt: HostRuntime) {
+    for (example, calls) in WORD.iter().enumerate() {
         play(&rt, example, calls);
     }
 }
 
 #[test]
-fn waits_of_state_flows(rt: HostRuntime) {
+fn waits_of_word_states(rt: HostRuntime) {
     for (example, calls) in WAITS.iter().enumerate() {
         play(&rt, example, calls);
     }
@@ -73,7 +58,7 @@ fn waits_of_state_flows(rt: HostRuntime) {
 /// Makes all calls of a thread that sets.
 fn set_all<R: Wait + Clock + Abort>(
     rt: &R,
-    setter: &mut Setter<'_, i64>,
+    setter: &mut WordSetter<'_, i64>,
     place: usize,
     calls: &[Call],
 ) {
@@ -85,41 +70,40 @@ fn set_all<R: Wait + Clock + Abort>(
 /// Awaits a change, and looks for another one.
 fn change_and_next<R: Wait + RandomSource + AllocGlobal>(
     rt: &R,
-    reader: StateReader<'_, i64>,
-) -> Option<(Result<i64, OutOfMemory>, Result<Option<i64>, OutOfMemory>)> {
+    reader: WordReader<'_, i64>,
+) -> Option<(i64, Option<i64>)> {
     let (mut reader, value) = block_on(rt, reader.into_changed()).ok()?;
-    Some((value, reader.next(rt)))
+    Some((value, reader.next()))
 }
 
 /// The next value of a stream of a reader.
 fn next_of_stream<R: Wait + Abort + RandomSource + AllocGlobal>(
     rt: &R,
-    reader: StateReader<'_, i64>,
-) -> Option<Result<i64, OutOfMemory>> {
+    reader: WordReader<'_, i64>,
+) -> Option<i64> {
     next_of(rt, reader.into_stream(), 1).pop()
 }
 
 /// Makes an end of a reader.
 fn end<R: Wait + Abort + RandomSource + AllocGlobal>(
     rt: &R,
-    reader: StateReader<'_, i64>,
+    reader: WordReader<'_, i64>,
     place: usize,
     end: &End,
 ) {
     match *end {
         End::Drop => drop(reader),
         End::Changed(value) => {
-            let wanted = Some((Ok(value), Ok(None)));
-            compare(rt, place, change_and_next(rt, reader), wanted);
+            compare(rt, place, change_and_next(rt, reader), Some((value, None)));
         }
-        End::Stream(value) => compare(rt, place, next_of_stream(rt, reader), Some(Ok(value))),
+        End::Stream(value) => compare(rt, place, next_of_stream(rt, reader), Some(value)),
     }
 }
 
 /// Makes all calls of a thread that reads, and the end of the reader.
 fn read_all<R: Wait + Clock + Abort + RandomSource + AllocGlobal>(
     rt: &R,
-    mut reader: StateReader<'_, i64>,
+    mut reader: WordReader<'_, i64>,
     place: usize,
     meeting: &Meeting,
 ) {
@@ -132,8 +116,8 @@ fn read_all<R: Wait + Clock + Abort + RandomSource + AllocGlobal>(
 /// Has one thread set while another one reads.
 fn meet<R: Wait + Clock + Threads + Abort + RandomSource + AllocGlobal + Sync>(
     rt: &R,
-    setter: &mut Setter<'_, i64>,
-    reader: StateReader<'_, i64>,
+    setter: &mut WordSetter<'_, i64>,
+    reader: WordReader<'_, i64>,
     place: usize,
     meeting: &Meeting,
 ) {
@@ -151,15 +135,15 @@ fn play_meeting<R: Wait + Clock + Threads + Abort + RandomSource + AllocGlobal +
     place: usize,
     meeting: &Meeting,
 ) {
-    let (flow, seat) = StateFlow::new(rt.alloc(), 7, 1).expect(rt, "a flow");
+    let (flow, seat) = WordState::new(rt.alloc(), 7, 1).expect(rt, "a flow");
     let mut setter = flow.setter(seat);
-    let mut reader = new_state_reader(rt, &mut setter);
-    compare(rt, place, reader.next(rt), Ok(Some(7)));
+    let mut reader = new_word_reader(rt, &mut setter);
+    compare(rt, place, reader.next(), Some(7));
     meet(rt, &mut setter, reader, place, meeting);
 }
 
 #[test]
-fn two_threads_meet_at_state_flows(rt: HostRuntime) {
+fn two_threads_meet_at_word_states(rt: HostRuntime) {
     for (number, meeting) in MEETINGS.iter().enumerate() {
         play_meeting(&rt, number.saturating_mul(100), meeting);
     }

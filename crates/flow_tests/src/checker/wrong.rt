@@ -1,6 +1,6 @@
 //! The first moments at which records go wrong, and what was known of a record before.
-use crate::tests::records::{call, callers_of, wrong_moment};
-use crate::tests::shared_records;
+use crate::checker::records::{call, callers_of, wrong_moment};
+use crate::checker::shared_records;
 use flow_check::StateAnswer::{Done, Value};
 use flow_check::StateOperation::{Set, Value as Read};
 use flow_check::{Cut, Record, SharedAnswer, SharedOperation, StateEntry, known_record};

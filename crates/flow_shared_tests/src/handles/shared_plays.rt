@@ -1,8 +1,8 @@
 //! The worked examples over shared flows are played. Call 7 of example 3 has the place 307, all counted from 0.
-use crate::tests::flows::new_reader;
-use crate::tests::shared::{Call, EXAMPLES, Example, MEETINGS, Meeting};
-use crate::tests::shared_calls::emit;
-use crate::tests::shared_reads::{end, make};
+use crate::handles::flows::new_reader;
+use crate::handles::shared::{Call, EXAMPLES, Example, MEETINGS, Meeting};
+use crate::handles::shared_calls::emit;
+use crate::handles::shared_reads::{end, make};
 use flow_shared::{Emitter, Reader, SharedFlow};
 use std::alloc::AllocGlobal;
 use std::process::Abort;

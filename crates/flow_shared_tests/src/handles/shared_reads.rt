@@ -1,10 +1,11 @@
 //! Calls on a reader of a shared flow, each with what it is to answer.
-use crate::tests::compare::{compare, no_such_call};
-use crate::tests::emissions::poll_until_received;
-use crate::tests::flows::new_reader;
-use crate::tests::shared::{Call, End};
-use crate::tests::shared_calls::emit;
-use crate::tests::streams::next_of;
+use crate::compare::compare;
+use crate::handles::answers::no_such_call;
+use crate::handles::emissions::poll_until_received;
+use crate::handles::flows::new_reader;
+use crate::handles::shared::{Call, End};
+use crate::handles::shared_calls::emit;
+use crate::handles::streams::next_of;
 use flow_law::OutOfMemory;
 use flow_shared::{DrainEnd, Emitter, Reader};
 use std::alloc::AllocGlobal;

@@ -1,7 +1,8 @@
 //! Calls on a setter and a reader of a state flow, each with what it is to answer.
-use crate::tests::compare::{compare, length, no_such_call, pause};
-use crate::tests::flows::new_state_reader;
-use crate::tests::state::Call;
+use crate::compare::compare;
+use crate::handles::answers::{length, no_such_call, pause};
+use crate::handles::flows::new_state_reader;
+use crate::handles::state::Call;
 use flow_law::{OutOfMemory, Unsupported};
 use flow_shared::{Setter, StateReader};
 use std::process::Abort;

@@ -1,6 +1,6 @@
 //! Records of shared flows. Each says in its comment why it is legal or illegal.
-use crate::tests::records::{Outcome, expect};
-use crate::tests::shared_records::{call, judge};
+use crate::checker::records::{Outcome, expect};
+use crate::checker::shared_records::{call, judge};
 use flow_check::SharedAnswer;
 use flow_check::SharedAnswer::{Done, Empty, Truth, Value};
 use flow_check::SharedOperation::{Emit, EmitReturned, Next, Subscribe, TryEmit};

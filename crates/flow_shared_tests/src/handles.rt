@@ -1,5 +1,6 @@
-//! The tests, by what they are about.
-mod compare;
+//! Tests of handles: of each call that it answers what the flow's own call answers. The values come from kotlinx.coroutines'
+//! documentation.
+mod answers;
 mod dropping;
 mod emissions;
 mod errors;

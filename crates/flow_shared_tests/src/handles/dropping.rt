@@ -1,8 +1,8 @@
 //! A flow that ends while a task sleeps.
 ghost use Rattle.std.specs.Prelude.{◌≡◌};
 
-use crate::tests::compare::compare;
-use crate::tests::flows::new_reader;
+use crate::compare::compare;
+use crate::handles::flows::new_reader;
 use flow_law::Config;
 use flow_shared::{ReceiveFuture, Seat, SharedFlow};
 use futures::test::MockTask;
