@@ -4,12 +4,12 @@ ghost use Rattle.flow_law.specs.Growth.{adds, events_of};
 ghost use Rattle.flow_law.specs.Tokens.{knowing};
 
 use crate::gate::Gate;
-use crate::steps::{Adds, Leave};
+use crate::steps::{Adds, Leave, Tells};
 use crate::token::Seat;
 use crate::view::SeatView;
 use flow_law::Guarded;
 use std::alloc::{Allocator, Global};
-use std::marker::Model;
+use std::marker::{Brand, Model};
 
 /// A caller inside the gate, with the state. It has no `Drop`: a caller that entered has to `leave`.
 pub struct Held<'a, S: Guarded, A: Allocator = Global> {
@@ -47,9 +47,9 @@ impl<'a, S: Guarded, A: Allocator> Held<'a, S, A> {
         &mut *self.state
     }
 
-    /// Puts the state back. The added events are those of `W`, a type of the caller's.
+    /// Puts the state back. The added events are those of `W`, which may speak of the evidence if it is `Brand`.
     #[inline]
-    pub fn leave_adding<W: Adds<S::Said>>(self) -> Seat<S, A>
+    fn leave_adding<W: Adds<S::Said>, X>(self, _evidence: &X) -> Seat<S, A>
         requires { StandsWith S.stands self W.adds }
         ensures { result ≡ knowing self.entry.token (adds W.adds self.entry.token.knows) }
     {
@@ -66,13 +66,13 @@ impl<'a, S: Guarded, A: Allocator> Held<'a, S, A> {
         Seat { seat }
     }
 
-    /// Puts the state back. At `Brand` the caller's proof says which events were added; it may speak of what is behind
-    /// `evidence`, such as the call's argument and its answer.
+    /// Puts the state back. The evidence says which events were added.
     #[inline]
-    pub fn leave<W: Adds<S::Said>, X>(self, _evidence: &X) -> Seat<S, A>
-        requires { StandsWith S.stands self W.adds }
-        ensures { result ≡ knowing self.entry.token (adds W.adds self.entry.token.knows) }
+    pub fn leave<X: Tells<S::Said>>(self, evidence: &X) -> Seat<S, A>
+        requires { StandsWith S.stands self (X.tells evidence.now self.token.knows) }
+        ensures { result ≡ knowing self.entry.token
+            (adds (X.tells evidence.now self.entry.token.knows) self.entry.token.knows) }
     {
-        self.leave_adding::<W>()
+        self.leave_adding::<Brand, X>(evidence)
     }
 }

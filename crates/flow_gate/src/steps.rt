@@ -1,5 +1,6 @@
 //! The rule of the gate's table, and what each step proves. Nothing here runs.
 ghost use Rattle.std.specs.Prelude.{List, [], ◌++◌, map, false, Option, None};
+ghost use Rattle.flow_law.specs.declared.history.Knowledge.{Knowledge};
 ghost use Rattle.flow_law.specs.Growth.{makes, child};
 ghost use Rattle.flow_gate.specs.View.{first_view, seat_view};
 ghost use Rattle.flow_gate.specs.Rule.{GateHolds};
@@ -13,12 +14,24 @@ use std::marker::{Brand, PhantomData};
 use std::snapshot::Snapshot;
 
 /// The events that a call adds to the history, for contracts only. A call at `Brand` chooses them in its proof.
-pub trait Adds<E> {
+pub(crate) trait Adds<E> {
     ghost adds: { List E };
 }
 
 impl<E> Adds<E> for Brand {
     ghost adds = { [] };
+}
+
+/// What a caller that leaves says of the events that it added, for contracts only: such as the call that it made, and the
+/// answer.
+pub trait Tells<E> {
+    /// The events, if the caller's token knew this.
+    ghost tells: { Self → Knowledge E → List E };
+}
+
+/// Nothing was added.
+impl<E> Tells<E> for () {
+    ghost tells = { λ _ _. [] };
 }
 
 /// The rule of a gate's table.
@@ -71,7 +84,7 @@ impl<S: Guarded, A: Allocator, B: StartsFrom<S>> Play<Option<Box<S, A>>, SeatVie
 }
 
 /// The store of free.
-pub struct Leave<W> {
+pub(crate) struct Leave<W> {
     adds: PhantomData<W>,
 }
 

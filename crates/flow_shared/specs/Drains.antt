@@ -1,5 +1,5 @@
 -- Draining under one entry: what the calls of the core do in a row, and what the caller has then said.
-use Rattle.std.specs.Prelude.{◌≡◌, ◌↔◌, ℕ, ◌≤◌, List, [], ◌∷◌, ◌++◌, map, length, Result, Ok, Err}
+use Rattle.std.specs.Prelude.{◌≡◌, ◌↔◌, ℕ, ◌≤◌, List, [], ◌∷◌, ◌++◌, map, length, drop, Result, Ok, Err}
 use Rattle.flow_law.specs.declared.fault.FlowFault.{FlowFault}
 use Rattle.flow_law.specs.declared.history.Said.{Said}
 use Rattle.flow_law.specs.declared.outcome.Next.{Next}
@@ -29,6 +29,10 @@ module _ {T S C R : Type 0} (kind : Kind T S C R) (number : ℕ) where
   said_end (Ok drained.Empty) = said (kind.take_next number) (kind.received next.Empty) ∷ []
   said_end (Ok drained.Gone) = said (kind.take_next number) (kind.received next.Gone) ∷ []
   said_end (Err fault) = said (kind.take_next number) (kind.refused fault) ∷ []
+
+  -- the calls by which a list became another one, and the call that ended it
+  abbrev pub said_since : List T → List T → Result Drained FlowFault → List (Said C R)
+  said_since old new result = said_values (drop (length old) new) ++ said_end result
 
   -- A caller that was inside took these values and left.
   pub record TakesInside {K : Type 0} (StandsAs : K → S → Type 0) (most : ℕ) (held : HeldState K (Said C R)) (old_list : List T) (result : Result Drained FlowFault) (new_list : List T) (after : Token (Said C R)) : Type 0 where

@@ -1,7 +1,8 @@
 //! Calls inside the gate: the call of the core, and leaving with the event that names it.
-ghost use Rattle.std.specs.Prelude.{◌≡◌, ℕ, List};
+ghost use Rattle.std.specs.Prelude.{◌≡◌, ℕ, List, [], ◌∷◌};
 ghost use Rattle.flow_law.specs.Growth.{adds};
 ghost use Rattle.flow_law.specs.History.{MayCall};
+ghost use Rattle.flow_law.specs.OneHistory.{said};
 ghost use Rattle.flow_law.specs.Standing.{Documents};
 ghost use Rattle.flow_law.specs.Tokens.{subscription_name, knowing};
 ghost use Rattle.flow_gate.specs.Tokens.{StandsWith};
@@ -10,11 +11,11 @@ ghost use Rattle.flow_shared.specs.Calls.{SaysIn};
 
 use crate::attended::Attended;
 use flow_core::FlowCore;
-use flow_gate::{Adds, Held, Seat};
+use flow_gate::{Held, Seat, Tells};
 use flow_law::Said;
 use flow_sleepers::Waiter;
 use std::alloc::Allocator;
-use std::marker::Brand;
+use std::marker::PhantomData;
 use std::snapshot::Snapshot;
 
 /// One call of a core, with its arguments.
@@ -49,35 +50,51 @@ pub(crate) trait CoreCall<S: FlowCore> {
             result ≡ S.sleeping.is_set (call c name) (reply answer.now) };
 }
 
+/// What a caller that leaves says: that it made this call, and had this answer.
+#[derive(Drop)]
+struct Says<'a, S: FlowCore, C: CoreCall<S>> {
+    call: Snapshot<C>,
+    answer: &'a C::Answer,
+    of: PhantomData<S>,
+}
+
+impl<'a, S: FlowCore, C: CoreCall<S>> Tells<Said<S::Call, S::Reply>> for Says<'a, S, C> {
+    ghost tells = { λ e knows. said (C.call e.call.value (subscription_name knows)) (C.reply e.answer.now) ∷ [] };
+}
+
 /// Leaves the gate, and then wakes the callers that have something.
 #[inline]
-pub(crate) fn leave_and_wake<S: FlowCore, A: Allocator + Copy, W: Adds<Said<S::Call, S::Reply>>, X>(
+pub(crate) fn leave_and_wake<S: FlowCore, A: Allocator + Copy, X: Tells<Said<S::Call, S::Reply>>>(
     held: Held<'_, Attended<S, A>, A>,
     evidence: &X,
 ) -> Seat<Attended<S, A>, A>
-    requires { StandsWith (attended_stands S.sleeping S.first S.stands_as) held W.adds }
-    ensures { result ≡ knowing held.entry.token (adds W.adds held.entry.token.knows) }
+    requires { StandsWith (attended_stands S.sleeping S.first S.stands_as) held
+        (X.tells evidence.now held.token.knows) }
+    ensures { result ≡ knowing held.entry.token
+        (adds (X.tells evidence.now held.entry.token.knows) held.entry.token.knows) }
 {
     let mut held = held;
     if held.state().wakes_any() {
-        return leave_then_wake::<S, A, W, X>(held, evidence);
+        return leave_then_wake(held, evidence);
     }
-    held.leave::<W, X>(evidence)
+    held.leave(evidence)
 }
 
 /// As `leave_and_wake`, if a caller is to be woken.
 #[cold]
 #[inline(never)]
-fn leave_then_wake<S: FlowCore, A: Allocator + Copy, W: Adds<Said<S::Call, S::Reply>>, X>(
+fn leave_then_wake<S: FlowCore, A: Allocator + Copy, X: Tells<Said<S::Call, S::Reply>>>(
     held: Held<'_, Attended<S, A>, A>,
     evidence: &X,
 ) -> Seat<Attended<S, A>, A>
-    requires { StandsWith (attended_stands S.sleeping S.first S.stands_as) held W.adds }
-    ensures { result ≡ knowing held.entry.token (adds W.adds held.entry.token.knows) }
+    requires { StandsWith (attended_stands S.sleeping S.first S.stands_as) held
+        (X.tells evidence.now held.token.knows) }
+    ensures { result ≡ knowing held.entry.token
+        (adds (X.tells evidence.now held.entry.token.knows) held.entry.token.knows) }
 {
     let mut held = held;
     let woken = held.state().take_woken();
-    let seat = held.leave::<W, X>(evidence);
+    let seat = held.leave(evidence);
     drop(woken);
     seat
 }
@@ -120,7 +137,14 @@ pub(crate) fn call_core_or_sleep<
     let mut held = held;
     let named = Snapshot::of(&call);
     let answer = call.run_or_sleep(held.state(), waiter);
-    let seat = leave_and_wake::<S, A, Brand, _>(held, &(named, &answer));
+    let seat = leave_and_wake(
+        held,
+        &Says::<S, C> {
+            call: named,
+            answer: &answer,
+            of: PhantomData,
+        },
+    );
     (seat, answer)
 }
 
@@ -140,6 +164,13 @@ pub(crate) fn call_core<S: FlowCore, A: Allocator + Copy, C: CoreCall<S>>(
     let mut held = held;
     let named = Snapshot::of(&call);
     let answer = held.state().call(call);
-    let seat = leave_and_wake::<S, A, Brand, _>(held, &(named, &answer));
+    let seat = leave_and_wake(
+        held,
+        &Says::<S, C> {
+            call: named,
+            answer: &answer,
+            of: PhantomData,
+        },
+    );
     (seat, answer)
 }

@@ -10,7 +10,7 @@ ghost use Rattle.flow_law.specs.declared.outcome.Drained.TheVariants.{Gone};
 ghost use Rattle.flow_core.specs.SubId.{number_of};
 ghost use Rattle.flow_shared.specs.Attended.{AttendedAs, attended_stands};
 ghost use Rattle.flow_shared.specs.Calls.{NextsOf};
-ghost use Rattle.flow_shared.specs.Drains.{CoreNexts, TakesInside};
+ghost use Rattle.flow_shared.specs.Drains.{CoreNexts, TakesInside, said_since};
 
 use crate::attended::Attended;
 use crate::core_call::leave_and_wake;
@@ -18,10 +18,10 @@ use crate::flow::Flow;
 use crate::subscriber::TakeNext;
 use crate::token::{FlowSeat, FlowSubscription};
 use flow_core::{FlowCore, SubId};
-use flow_gate::{Held, Seat};
-use flow_law::{Drained, FlowFault, Next};
+use flow_gate::{Held, Seat, Tells};
+use flow_law::{Drained, FlowFault, Next, Said};
 use std::alloc::Allocator;
-use std::marker::Brand;
+use std::marker::PhantomData;
 use std::snapshot::Snapshot;
 use std::sync::Wait;
 
@@ -50,6 +50,20 @@ fn take_values<S: FlowCore, A: Allocator + Copy, B: Allocator>(
     Ok(Drained::Most)
 }
 
+/// What a caller that leaves says: that it took the values by which the list has grown, and how it ended.
+#[derive(Drop)]
+struct Takes<'a, S: FlowCore, B: Allocator> {
+    id: SubId,
+    before: Snapshot<Vec<S::Item, B>>,
+    values: &'a Vec<S::Item, B>,
+    ended: &'a Result<Drained, FlowFault>,
+    of: PhantomData<S>,
+}
+
+impl<'a, S: FlowCore, B: Allocator> Tells<Said<S::Call, S::Reply>> for Takes<'a, S, B> {
+    ghost tells = { λ e _. said_since S.kind e.id.number e.before.value.items e.values.now.items e.ended.now };
+}
+
 /// Takes values of the core inside a gate, and leaves with the events that name the calls.
 fn take_inside<S: FlowCore, A: Allocator + Copy, B: Allocator>(
     held: Held<'_, Attended<S, A>, A>,
@@ -71,7 +85,16 @@ fn take_inside<S: FlowCore, A: Allocator + Copy, B: Allocator>(
     let mut held = held;
     let before = Snapshot::of(values);
     let ended = take_values(held.state(), id, most, values);
-    let seat = leave_and_wake::<S, A, Brand, _>(held, &(id, before, &*values, &ended));
+    let seat = leave_and_wake(
+        held,
+        &Takes::<S, B> {
+            id,
+            before,
+            values,
+            ended: &ended,
+            of: PhantomData,
+        },
+    );
     (seat, ended)
 }
 

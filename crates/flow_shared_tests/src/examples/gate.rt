@@ -2,10 +2,9 @@
 ghost use Rattle.std.specs.Prelude.{◌≡◌, ◌%◌, ◌^◌, [], ◌∷◌, length};
 
 use crate::compare::compare;
-use flow_gate::{Adds, Gate, Held, Seat};
+use flow_gate::{Gate, Held, Seat, Tells};
 use flow_law::Guarded;
 use std::alloc::Global;
-use std::marker::Brand;
 use std::process::Abort;
 use std::sync::Wait;
 
@@ -22,10 +21,11 @@ impl Guarded for Count {
 }
 
 /// One event.
+#[derive(Drop)]
 struct Once;
 
-impl Adds<()> for Once {
-    ghost adds = { tt ∷ [] };
+impl Tells<()> for Once {
+    ghost tells = { λ _ _. tt ∷ [] };
 }
 
 /// Adds one event, and leaves.
@@ -36,7 +36,7 @@ fn add_one(held: Held<'_, Count>) -> Seat<Count>
     let mut held = held;
     let state = held.state();
     state.events = state.events.wrapping_add(1);
-    held.leave_adding::<Once>()
+    held.leave(&Once)
 }
 
 /// Two seats that met have seen one history.
@@ -109,7 +109,7 @@ fn meet_and_go_on<R: Wait>(rt: &R, gate: &Gate<Count>, seat: Seat<Count>, other:
     let (seat, other) = meet_in_one_history(gate, seat, other);
     let other = add_one(gate.enter(rt, other));
     drop(add_one(gate.enter(rt, seat)));
-    drop(gate.enter(rt, other).leave::<Brand, _>(&()));
+    drop(gate.enter(rt, other).leave(&()));
 }
 
 #[test]
