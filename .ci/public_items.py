@@ -1,5 +1,6 @@
 """The public items of the crates, read from their `.rt` sources as `rt fmt` lays them out: for .ci/calls."""
 import collections
+import functools
 import pathlib
 import re
 
@@ -69,6 +70,7 @@ def files(crate):
             yield file
 
 
+@functools.cache
 def exports(crate):
     """What `lib.rt` exports: each name with the crate that defines it, or with the public module of it."""
     found = {}
