@@ -11,16 +11,30 @@ use std::marker::Model;
 use std::mem;
 
 /// A caller that sleeps, under its number.
-#[derive(Drop)]
 struct Sleeper<A: Allocator = Global> {
     number: u64,
     wakers: Wakers<A>,
 }
 
+// Not derived, nor are the next ones: each crate that drops a flow would prove again how its sleepers are dropped.
+impl<A: Allocator> Drop for Sleeper<A> {
+    fn drop(self) {
+        let Self {
+            number: _,
+            wakers: _,
+        } = self;
+    }
+}
+
 /// Callers that sleep, each under a number, in the order of the numbers.
-#[derive(Drop)]
 pub struct Sleepers<A: Allocator = Global> {
     list: Vec<Sleeper<A>, A>,
+}
+
+impl<A: Allocator> Drop for Sleepers<A> {
+    fn drop(self) {
+        let Self { list: _ } = self;
+    }
 }
 
 impl<A: Allocator> Model for Sleepers<A> {
@@ -34,9 +48,14 @@ impl<A: Allocator> Model for Sleepers<A> {
 }
 
 /// Callers that are to be woken: dropping this wakes each.
-#[derive(Drop)]
 pub struct Woken<A: Allocator = Global> {
     list: Vec<Sleeper<A>, A>,
+}
+
+impl<A: Allocator> Drop for Woken<A> {
+    fn drop(self) {
+        let Self { list: _ } = self;
+    }
 }
 
 /// Returns whether the sleeper at this place has this number.

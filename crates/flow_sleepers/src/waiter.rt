@@ -20,10 +20,16 @@ const LOOKS: u32 = 32;
 const YIELDS: u32 = 4;
 
 /// The wakers of a sleeper: that of its task, or of its thread. Dropping them wakes it.
-#[derive(Drop)]
 pub struct Wakers<A: Allocator = Global> {
     task: Option<Waker>,
     thread: Option<ThreadWaker<A>>,
+}
+
+// Not derived: each crate that drops a flow would prove again how its wakers are dropped.
+impl<A: Allocator> Drop for Wakers<A> {
+    fn drop(self) {
+        let Self { task: _, thread: _ } = self;
+    }
 }
 
 impl<A: Allocator> Wakers<A> {

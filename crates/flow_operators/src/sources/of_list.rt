@@ -8,10 +8,16 @@ use flow_law::{ChainFault, FlowValue};
 use std::alloc::{Allocator, Global};
 
 /// Emits the items of a list.
-#[derive(Drop)]
 pub struct OfList<T, A: Allocator = Global> {
     items: Vec<T, A>,
     at: usize,
+}
+
+// Not derived: each crate that drops such a chain would prove again how that is done.
+impl<T: Drop, A: Allocator> Drop for OfList<T, A> {
+    fn drop(self) {
+        let Self { items: _, at: _ } = self;
+    }
 }
 
 impl<T: FlowValue, A: Allocator> OfList<T, A> {

@@ -20,10 +20,16 @@ use std::sync::Wait;
 ///
 /// # Dropping
 /// Dropping it drops its seat: no caller has that name any more, and the flow does not change.
-#[derive(Drop)]
 pub struct WordSetter<'a, T: Packed> {
     pub(crate) flow: &'a WordState<T>,
     pub(crate) seat: WordSeat<T>,
+}
+
+// Not derived, for the reason given at `WordSeat`.
+impl<T: Packed> Drop for WordSetter<'_, T> {
+    fn drop(self) {
+        let Self { flow: _, seat: _ } = self;
+    }
 }
 
 impl<'a, T: Packed> Model for WordSetter<'a, T> {
