@@ -4,7 +4,7 @@ ghost use Rattle.flow_law.specs.Growth.{adds, events_of};
 ghost use Rattle.flow_law.specs.Tokens.{knowing};
 
 use crate::gate::Gate;
-use crate::steps::{Adds, Leave, Tells};
+use crate::steps::{Adds, Leave, NamesEvents};
 use crate::token::Seat;
 use crate::view::SeatView;
 use flow_law::Guarded;
@@ -68,10 +68,10 @@ impl<'a, S: Guarded, A: Allocator> Held<'a, S, A> {
 
     /// Puts the state back. The evidence says which events were added.
     #[inline]
-    pub fn leave<X: Tells<S::Said>>(self, evidence: &X) -> Seat<S, A>
-        requires { StandsWith S.stands self (X.tells evidence.now self.token.knows) }
+    pub fn leave<X: NamesEvents<S::Said>>(self, evidence: &X) -> Seat<S, A>
+        requires { StandsWith S.stands self (X.events evidence.now self.token.knows) }
         ensures { result ≡ knowing self.entry.token
-            (adds (X.tells evidence.now self.entry.token.knows) self.entry.token.knows) }
+            (adds (X.events evidence.now self.entry.token.knows) self.entry.token.knows) }
     {
         self.leave_adding::<Brand, X>(evidence)
     }

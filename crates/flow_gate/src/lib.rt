@@ -23,6 +23,6 @@ mod view;
 
 pub use gate::Gate;
 pub use held::Held;
-pub use steps::{GateRule, Tells};
+pub use steps::{GateRule, NamesEvents};
 pub use token::Seat;
 pub use view::SeatView;

@@ -22,16 +22,16 @@ impl<E> Adds<E> for Brand {
     ghost adds = { [] };
 }
 
-/// What a caller that leaves says of the events that it added, for contracts only: such as the call that it made, and the
-/// answer.
-pub trait Tells<E> {
+/// Evidence of the events that a caller added while it was inside, such as the call that it made and the answer. For
+/// contracts only.
+pub trait NamesEvents<E> {
     /// The events, if the caller's token knew this.
-    ghost tells: { Self → Knowledge E → List E };
+    ghost events: { Self → Knowledge E → List E };
 }
 
 /// Nothing was added.
-impl<E> Tells<E> for () {
-    ghost tells = { λ _ _. [] };
+impl<E> NamesEvents<E> for () {
+    ghost events = { λ _ _. [] };
 }
 
 /// The rule of a gate's table.

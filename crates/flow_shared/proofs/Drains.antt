@@ -1,6 +1,6 @@
 -- From what a core does at each `next` under one entry to a drain of the caller: the first call has the history that was found on
 -- entering before it, the others follow at once.
-use Rattle.std.proofs.Common.{◌≡◌, ◌≢◌, ℕ, ◌+◌, ◌<◌, ◌≤◌, List, [], ◌∷◌, ◌++◌, length, drop, Result, Ok, Err, refl, sym, ap, ◌∙◌, subst, inl, arith, append_assoc, append-nil, length-append}
+use Rattle.std.proofs.Common.{◌≡◌, ◌≢◌, ℕ, ◌+◌, ◌≤◌, List, [], ◌∷◌, ◌++◌, length, drop, Result, Ok, Err, refl, sym, ap, ◌∙◌, subst, inl, arith, append_assoc, append-nil, length-append}
 use Rattle.std.proofs.Math.Seq.{drop-append_seam}
 use Rattle.std.proofs.lemmas.List.{map-append}
 use Rattle.std.specs.List.{FoldsTo}
@@ -23,7 +23,7 @@ use Rattle.flow_law.proofs.Names.{fits_own, grew_refl}
 use Rattle.flow_law.proofs.TokenLemmas.{stands_next, may_grows, may_speak, never_gone, subscription_after_next, subscription_met}
 use Rattle.flow_gate.specs.Tokens.{Token, Origin, HeldState, Finds}
 use Rattle.flow_shared.specs.Calls.{NextsOf, NumberedToken}
-use Rattle.flow_shared.specs.Drains.{CoreNexts, TakesInside, said_values, said_end}
+use Rattle.flow_shared.specs.Drains.{CoreNexts, TakesInside, said_values, said_end, said_since}
 
 -- a drain as far as it has come, and how it ends
 module _ {X T : Type 0} (R : X → Result (Next T) FlowFault → X → Type 0) where
@@ -227,21 +227,18 @@ module _ {K T S C R : Type 0} (kind : Kind T S C R) (start : K → S) (StandsAs 
       enough = t.enough;
     }
 
-    abbrev added : List T → List (Said C R)
-    added values = said_values kind n values ++ said_end kind n result
-
     given : drop (length since) new_list ≡ t.values
     given = appended_since since new_list t.values (t.appended ∙ ap (λ (l : List T). l ++ t.values) (sym same))
 
-    pub may_leave : stands_since held.first new (held.token.knows.seen ++ events_of held.token.knows.name (added (drop (length since) new_list)))
+    pub may_leave : stands_since held.first new (held.token.knows.seen ++ events_of held.token.knows.name (said_since kind n since new_list result))
     unfolding takes
-    may_leave = subst (λ (values : List T). StandsForHistory kind StandsAs (start held.first) new (held.token.knows.seen ++ events_of held.token.knows.name (added values))) (sym given)
+    may_leave = subst (λ (values : List T). StandsForHistory kind StandsAs (start held.first) new (held.token.knows.seen ++ events_of held.token.knows.name (said_values kind n values ++ said_end kind n result))) (sym given)
         (stands_then kind StandsAs law (origin held.token.table_id (start held.first)) n held.token held.token.knows.lost held.token.knows.seen held.state (omega arith) (grew_refl held.token.knows.name held.token.knows.seen, names)
         stood subscribed most some old_list new_list result new takes)
 
-    pub has_taken : (after : Token (Said C R)) → after ≡ knowing held.token (adds (added (drop (length since) new_list)) held.token.knows) → TakesInside kind n StandsAs most held old_list result new_list after
+    pub has_taken : (after : Token (Said C R)) → after ≡ knowing held.token (adds (said_since kind n since new_list result) held.token.knows) → TakesInside kind n StandsAs most held old_list result new_list after
     unfolding takes
-    has_taken _ left = record { core = new; takes = takes; left = left ∙ ap (λ (values : List T). knowing held.token (adds (added values) held.token.knows)) given }
+    has_taken _ left = record { core = new; takes = takes; left = left ∙ ap (λ (values : List T). knowing held.token (adds (said_values kind n values ++ said_end kind n result) held.token.knows)) given }
 
   -- who entered, and what the drain then is
   module _ (flow : Origin S) (gate : Origin K) (before : Token (Said C R)) (held : HeldState K (Said C R)) (is : origin gate.table_id (start gate.first) ≡ flow) (f : Finds stands_since gate before held) (subscribed : IsSubscription kind before.knows n) where

@@ -11,11 +11,10 @@ ghost use Rattle.flow_shared.specs.Calls.{SaysIn};
 
 use crate::attended::Attended;
 use flow_core::FlowCore;
-use flow_gate::{Held, Seat, Tells};
+use flow_gate::{Held, NamesEvents, Seat};
 use flow_law::Said;
 use flow_sleepers::Waiter;
 use std::alloc::Allocator;
-use std::marker::PhantomData;
 use std::snapshot::Snapshot;
 
 /// One call of a core, with its arguments.
@@ -50,28 +49,29 @@ pub(crate) trait CoreCall<S: FlowCore> {
             result ≡ S.sleeping.is_set (call c name) (reply answer.now) };
 }
 
-/// What a caller that leaves says: that it made this call, and had this answer.
+/// A call that was made, and its answer: the event with which its caller leaves.
 #[derive(Drop)]
-struct Says<'a, S: FlowCore, C: CoreCall<S>> {
+struct Called<'a, S: FlowCore, C: CoreCall<S>> {
     call: Snapshot<C>,
     answer: &'a C::Answer,
-    of: PhantomData<S>,
 }
 
-impl<'a, S: FlowCore, C: CoreCall<S>> Tells<Said<S::Call, S::Reply>> for Says<'a, S, C> {
-    ghost tells = { λ e knows. said (C.call e.call.value (subscription_name knows)) (C.reply e.answer.now) ∷ [] };
+impl<'a, S: FlowCore, C: CoreCall<S>> NamesEvents<Said<S::Call, S::Reply>> for Called<'a, S, C> {
+    ghost events = { λ e knows. said (C.call e.call.value (subscription_name knows)) (C.reply e.answer.now) ∷ [] };
 }
 
 /// Leaves the gate, and then wakes the callers that have something.
 #[inline]
-pub(crate) fn leave_and_wake<S: FlowCore, A: Allocator + Copy, X: Tells<Said<S::Call, S::Reply>>>(
+pub(crate) fn leave_and_wake<S: FlowCore, A: Allocator + Copy, X>(
     held: Held<'_, Attended<S, A>, A>,
     evidence: &X,
 ) -> Seat<Attended<S, A>, A>
+where
+    X: NamesEvents<Said<S::Call, S::Reply>>,
     requires { StandsWith (attended_stands S.sleeping S.first S.stands_as) held
-        (X.tells evidence.now held.token.knows) }
+        (X.events evidence.now held.token.knows) }
     ensures { result ≡ knowing held.entry.token
-        (adds (X.tells evidence.now held.entry.token.knows) held.entry.token.knows) }
+        (adds (X.events evidence.now held.entry.token.knows) held.entry.token.knows) }
 {
     let mut held = held;
     if held.state().wakes_any() {
@@ -83,20 +83,49 @@ pub(crate) fn leave_and_wake<S: FlowCore, A: Allocator + Copy, X: Tells<Said<S::
 /// As `leave_and_wake`, if a caller is to be woken.
 #[cold]
 #[inline(never)]
-fn leave_then_wake<S: FlowCore, A: Allocator + Copy, X: Tells<Said<S::Call, S::Reply>>>(
+fn leave_then_wake<S: FlowCore, A: Allocator + Copy, X>(
     held: Held<'_, Attended<S, A>, A>,
     evidence: &X,
 ) -> Seat<Attended<S, A>, A>
+where
+    X: NamesEvents<Said<S::Call, S::Reply>>,
     requires { StandsWith (attended_stands S.sleeping S.first S.stands_as) held
-        (X.tells evidence.now held.token.knows) }
+        (X.events evidence.now held.token.knows) }
     ensures { result ≡ knowing held.entry.token
-        (adds (X.tells evidence.now held.entry.token.knows) held.entry.token.knows) }
+        (adds (X.events evidence.now held.entry.token.knows) held.entry.token.knows) }
 {
     let mut held = held;
     let woken = held.state().take_woken();
     let seat = held.leave(evidence);
     drop(woken);
     seat
+}
+
+/// Calls the core, and leaves with the call and its answer.
+#[inline]
+pub(crate) fn call_core<S: FlowCore, A: Allocator + Copy, C: CoreCall<S>>(
+    held: Held<'_, Attended<S, A>, A>,
+    call: C,
+) -> (Seat<Attended<S, A>, A>, C::Answer)
+    requires stood { attended_stands S.sleeping S.first S.stands_as
+        held.first held.state held.token.knows.seen }
+    requires may { MayCall S.kind (C.call call (subscription_name held.token.knows))
+        held.token.knows.name held.token.knows.seen }
+    ensures said { SaysIn S.kind (S.first held.entry.first.core) held.entry
+        (C.call call (subscription_name held.entry.token.knows)) (C.reply result.1) result.0 }
+    ensures also { C.also call result.1 }
+{
+    let mut held = held;
+    let made = Snapshot::of(&call);
+    let answer = held.state().call(call);
+    let seat = leave_and_wake(
+        held,
+        &Called::<S, C> {
+            call: made,
+            answer: &answer,
+        },
+    );
+    (seat, answer)
 }
 
 /// A call whose caller sleeps if the reply is a wait.
@@ -135,41 +164,13 @@ pub(crate) fn call_core_or_sleep<
     ensures kept { W.keeps waiter.old waiter.new }
 {
     let mut held = held;
-    let named = Snapshot::of(&call);
+    let made = Snapshot::of(&call);
     let answer = call.run_or_sleep(held.state(), waiter);
     let seat = leave_and_wake(
         held,
-        &Says::<S, C> {
-            call: named,
+        &Called::<S, C> {
+            call: made,
             answer: &answer,
-            of: PhantomData,
-        },
-    );
-    (seat, answer)
-}
-
-#[inline]
-pub(crate) fn call_core<S: FlowCore, A: Allocator + Copy, C: CoreCall<S>>(
-    held: Held<'_, Attended<S, A>, A>,
-    call: C,
-) -> (Seat<Attended<S, A>, A>, C::Answer)
-    requires stood { attended_stands S.sleeping S.first S.stands_as
-        held.first held.state held.token.knows.seen }
-    requires may { MayCall S.kind (C.call call (subscription_name held.token.knows))
-        held.token.knows.name held.token.knows.seen }
-    ensures said { SaysIn S.kind (S.first held.entry.first.core) held.entry
-        (C.call call (subscription_name held.entry.token.knows)) (C.reply result.1) result.0 }
-    ensures also { C.also call result.1 }
-{
-    let mut held = held;
-    let named = Snapshot::of(&call);
-    let answer = held.state().call(call);
-    let seat = leave_and_wake(
-        held,
-        &Says::<S, C> {
-            call: named,
-            answer: &answer,
-            of: PhantomData,
         },
     );
     (seat, answer)

@@ -18,10 +18,9 @@ use crate::flow::Flow;
 use crate::subscriber::TakeNext;
 use crate::token::{FlowSeat, FlowSubscription};
 use flow_core::{FlowCore, SubId};
-use flow_gate::{Held, Seat, Tells};
+use flow_gate::{Held, NamesEvents, Seat};
 use flow_law::{Drained, FlowFault, Next, Said};
 use std::alloc::Allocator;
-use std::marker::PhantomData;
 use std::snapshot::Snapshot;
 use std::sync::Wait;
 
@@ -50,18 +49,17 @@ fn take_values<S: FlowCore, A: Allocator + Copy, B: Allocator>(
     Ok(Drained::Most)
 }
 
-/// What a caller that leaves says: that it took the values by which the list has grown, and how it ended.
+/// The values by which a list has grown, and how that ended: the events with which a caller that drains leaves.
 #[derive(Drop)]
-struct Takes<'a, S: FlowCore, B: Allocator> {
+struct Taken<'a, S: FlowCore, B: Allocator> {
     id: SubId,
     before: Snapshot<Vec<S::Item, B>>,
     values: &'a Vec<S::Item, B>,
     ended: &'a Result<Drained, FlowFault>,
-    of: PhantomData<S>,
 }
 
-impl<'a, S: FlowCore, B: Allocator> Tells<Said<S::Call, S::Reply>> for Takes<'a, S, B> {
-    ghost tells = { λ e _. said_since S.kind e.id.number e.before.value.items e.values.now.items e.ended.now };
+impl<'a, S: FlowCore, B: Allocator> NamesEvents<Said<S::Call, S::Reply>> for Taken<'a, S, B> {
+    ghost events = { λ e _. said_since S.kind e.id.number e.before.value.items e.values.now.items e.ended.now };
 }
 
 /// Takes values of the core inside a gate, and leaves with the events that name the calls.
@@ -87,12 +85,11 @@ fn take_inside<S: FlowCore, A: Allocator + Copy, B: Allocator>(
     let ended = take_values(held.state(), id, most, values);
     let seat = leave_and_wake(
         held,
-        &Takes::<S, B> {
+        &Taken::<S, B> {
             id,
             before,
             values,
             ended: &ended,
-            of: PhantomData,
         },
     );
     (seat, ended)

@@ -2,7 +2,7 @@
 ghost use Rattle.std.specs.Prelude.{◌≡◌, ◌%◌, ◌^◌, [], ◌∷◌, length};
 
 use crate::compare::compare;
-use flow_gate::{Gate, Held, Seat, Tells};
+use flow_gate::{Gate, Held, NamesEvents, Seat};
 use flow_law::Guarded;
 use std::alloc::Global;
 use std::process::Abort;
@@ -24,8 +24,8 @@ impl Guarded for Count {
 #[derive(Drop)]
 struct Once;
 
-impl Tells<()> for Once {
-    ghost tells = { λ _ _. tt ∷ [] };
+impl NamesEvents<()> for Once {
+    ghost events = { λ _ _. tt ∷ [] };
 }
 
 /// Adds one event, and leaves.
