@@ -39,7 +39,7 @@ fn add_steps<'a>(drawing: &mut Drawing<'a>, played: Played<'a>) {
     }
 }
 
-/// How far behind the subscribers are in the end. A subscriber that has received all has no mark.
+/// Marks each subscriber that still has values to receive after the last step with their number.
 fn add_last_lags<'a>(drawing: &mut Drawing<'a>, played: Played<'a>) {
     for (place, step) in played.steps.iter().enumerate() {
         drawing.add_last_lag(step, played.last_lag(place));

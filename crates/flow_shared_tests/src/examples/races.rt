@@ -8,10 +8,10 @@ use std::process::Abort;
 use std::sync::Wait;
 use std::thread::{Threads, join, yield_now};
 
-/// Two calls race at least so often,
+/// The number of races at least.
 const LEAST_RACES: u32 = 100;
 
-/// and at most so often until each of them came first.
+/// The number of races at most. They end earlier when each of the two calls has come first.
 const MOST_RACES: u32 = 10_000;
 
 /// Waits until the other thread is there. In every fourth run it lets the other thread go first.
