@@ -69,9 +69,11 @@ def build(name):
         has_ended = threading.Event()
         keeper = threading.Thread(target=keep, args=(room, kept, has_ended))
         keeper.start()
-        tried = subprocess.run(["rt", "try", "--cases", cases], cwd=crate, env={**os.environ, "TMPDIR": room}, capture_output=True)
-        has_ended.set()
-        keeper.join()
+        try:
+            tried = subprocess.run(["rt", "try", "--cases", cases], cwd=crate, env={**os.environ, "TMPDIR": room}, capture_output=True)
+        finally:
+            has_ended.set()
+            keeper.join()
     if tried.returncode != 0:
         say((tried.stdout + tried.stderr).decode(errors="replace"))
         kept.unlink(missing_ok=True)

@@ -1,4 +1,4 @@
-"""The public items of the crates, read from their `.rt` sources as `rt fmt` lays them out: for .ci/calls."""
+"""The public items of the crates, read from their `.rt` sources as `rt fmt` lays them out: for .ci/calls and .ci/believe."""
 import collections
 import functools
 import pathlib

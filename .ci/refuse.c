@@ -3,7 +3,7 @@
  * answered with NULL, or the making of a thread, which is answered with EAGAIN. Each run is a copy of the process that has its standard
  * input from its beginning on. What the runs came to is written to standard output: for each a line with its status, whether its request
  * was made and refused (0 or 1) and the number of bytes that it printed, and then these bytes. Loaded before the C library (LD_PRELOAD)
- * by .ci/refusals. */
+ * by .ci/refusing.py. */
 #define _GNU_SOURCE
 #include <dlfcn.h>
 #include <errno.h>

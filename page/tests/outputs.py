@@ -7,7 +7,6 @@ order of its calls and with it. The programs are those that `rt ci` built last. 
 from C; from C for some texts under valgrind, and with each request for memory refused in turn."""
 import concurrent.futures
 import json
-import os
 import pathlib
 import shutil
 import subprocess
@@ -19,6 +18,7 @@ tests = pathlib.Path(__file__).resolve().parent
 top = tests.parent.parent
 sys.path.insert(0, str(top / ".ci"))
 from built import programs
+from refusing import build, runs
 from scripts import all_cases, text_of, versions
 
 # What is compared, by the word that play.c takes for it, and the words of the native drawer.
@@ -91,26 +91,19 @@ def from_c(program, text, word, before=(), **how):
 
 def refused_memory(program, shim, text, word, wanted):
     """What is wrong where each request for memory is refused in turn, and how many were."""
-    for number in range(1, 100_000):
-        told, tells = os.pipe()
-        env = {"LD_PRELOAD": str(shim), "REFUSE": str(number), "TOLD": str(tells)}
-        came = from_c(program, text, word, env=env, pass_fds=[tells], stderr=subprocess.DEVNULL)
-        os.close(tells)
-        with open(told, "rb") as said:
-            is_refused = said.read() == b"r"
-        if not is_refused:
-            return [], number - 1
+    first, *tried = runs(shim, program, [word], text)
+    wrong = [] if first == (wanted, False) else [f"{word}: nothing refused: {first}"]
+    for number, (came, is_refused) in enumerate(tried, 1):
         # The explanation has no line of its own for it.
-        if came not in (wanted, OUT_OF_MEMORY, (4, b"")):
-            return [f"{word}, request {number}: {came}"], number
-    return [f"{word}: no end of requests"], 0
+        if came != wanted and not (is_refused and came in (OUT_OF_MEMORY, (4, b""))):
+            wrong.append(f"{word}, request {number}: {came}")
+    return wrong if len(tried) > 1 else [*wrong, f"{word}: nothing could be refused"], len(tried) - 1
 
 
 def check_c(built, folder, texts, wanted):
     """What is wrong with the library in a C program."""
-    program, shim = folder / "play", folder / "refuse.so"
+    program, shim = folder / "play", build(folder)
     subprocess.run(["cc", "-O2", "-Wall", "-Wextra", "-Werror", "-o", program, built / "play.c", built / "libwumsnair.a"], check=True)
-    subprocess.run(["cc", "-shared", "-fPIC", "-O1", "-o", shim, top / ".ci/refuse.c"], check=True)
     wrong = []
     with concurrent.futures.ThreadPoolExecutor() as pool:
         work = [(name, word) for name in texts for word in wanted[name]]

@@ -94,9 +94,9 @@ function showRules(lines) {
 }
 
 function draw() {
-  showDiagram(textOf(player.draw(FORM.SVG, editor.text)));
+  showDiagram(textOf(player.draw(FORM.SVG, shown.played.text)));
   markColumn(chosen);
-  byId("save").disabled = false;
+  byId("save").disabled = !refusal.hidden;
 }
 
 /** Shows why the script is refused. What it gave before it was changed stays, and is pale. */
@@ -108,6 +108,10 @@ function showRefused(line, why) {
 
 function setRefused(isRefused) {
   refusal.hidden = !isRefused;
+  if (!isRefused) {
+    // A screen reader reads it with the script even while it is hidden.
+    refusal.replaceChildren();
+  }
   editor.showRefusal(isRefused, shown.place);
   byId("right").classList.toggle("stale", isRefused);
   byId("right").classList.toggle("bare", isRefused && !shown.played);
@@ -198,6 +202,7 @@ async function takeTab(isRecord) {
 
 async function openLink() {
   links += 1;
+  const mine = links;
   const stop = stopOf(location.hash);
   if (stop !== undefined) {
     showStop(stop);
@@ -205,10 +210,15 @@ async function openLink() {
   }
   const isRecord = isRecordLink(location.hash);
   const read = (all, letters) => textIn(location.hash, all, letters).catch(() => undefined);
+  const text = await (isRecord ? read(records, RECORD_LINK) : read(examples, SCRIPT_LINK));
+  if (mine !== links) {
+    // Another link was opened meanwhile.
+    return;
+  }
   if (isRecord) {
-    openRecord((await read(records, RECORD_LINK)) ?? records[FIRST_RECORD]);
+    openRecord(text ?? records[FIRST_RECORD]);
   } else {
-    open((await read(examples, SCRIPT_LINK)) ?? examples.replay);
+    open(text ?? examples.replay);
   }
   await takeTab(isRecord);
 }
@@ -217,7 +227,7 @@ async function copyLink() {
   await keepLink();
   const isCopied = await navigator.clipboard?.writeText(location.href).then(() => true, () => false);
   said.textContent = isCopied ? "The link is copied." : "The link is in the address line.";
-  told.textContent = said.textContent;
+  told.textContent = byId("told-of-link").textContent = said.textContent;
 }
 
 function saveDiagram() {
@@ -301,7 +311,7 @@ function goToPlace() {
 
 function pressed(event) {
   const steps = { ArrowUp: -1, ArrowDown: 1 }[event.key];
-  if (event.altKey && steps && !isRecordTab()) {
+  if (event.altKey && steps && !isRecordTab() && event.target.localName !== "select") {
     choose(chosen + steps);
   } else if (event.key === "F8" && goToPlace()) {
     // The place is selected.
@@ -348,8 +358,12 @@ function listen() {
     showStop(0);
     byId("words").focus();
   });
-  byId("previous").addEventListener("click", () => showStop(stop - 1));
-  byId("next").addEventListener("click", () => showStop(stop + 1));
+  for (const [button, way] of [["previous", -1], ["next", 1]]) {
+    byId(button).addEventListener("click", () => {
+      showStop(stop + way);
+      byId("words").focus();
+    });
+  }
   byId("leave").addEventListener("click", leaveTour);
   addEventListener("keydown", pressed);
   addEventListener("hashchange", openLink);

@@ -57,6 +57,7 @@ export function judge(player) {
     showWhy(recordRefusal, status === VERDICT.REFUSED ? "refused" : told, status === VERDICT.REFUSED ? why : "");
   } else {
     const [, ...lines] = told.split("\n");
+    recordRefusal.replaceChildren();
     recordEditor.showMarks(undefined, "step", undefined);
     showVerdict(status, lines);
     showTimeline(callsOf(recordEditor.text), status === VERDICT.ILLEGAL ? numbersIn(lines) : new Set());

@@ -18,8 +18,9 @@ function answerWords(answer) {
 }
 
 /** Returns a call in words, as `set 3: done`. */
-function callWords({ call, expect, value, answer }) {
-  return `${[call, expect, value].filter((each) => each !== undefined).join(" ")}: ${answerWords(answer)}`;
+function callWords({ call, expect, value, first, answer }) {
+  const own = first && `[${first.join(", ")}]`;
+  return `${[call, expect, value, own].filter((each) => each !== undefined).join(" ")}: ${answerWords(answer)}`;
 }
 
 /** Returns the bar of a call, in columns that are the moments of the record in order. */
@@ -41,8 +42,8 @@ export function showTimeline(calls, wrong) {
   const numbered = calls.map((each, at) => ({ ...each, number: at + 1 }));
   const moments = numbered.flatMap(({ begin, end }) => (end === undefined ? [begin] : [begin, end]));
   const columns = new Map([...new Set(moments)].sort((a, b) => a - b).map((moment, at) => [moment, at]));
-  const lanes = [...byCaller(numbered)].map(([by, own]) => {
-    const name = `lane-${by}`;
+  const lanes = [...byCaller(numbered)].map(([by, own], at) => {
+    const name = `lane-${at}`;
     const list = element("ol", { "aria-labelledby": name }, ...own.map((each) => barOf(each, columns, wrong)));
     const style = `--columns: ${columns.size + 1}`;
     return element("div", { class: "lane", style }, element("h3", { id: name }, element("strong", {}, by)), list);
