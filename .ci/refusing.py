@@ -28,3 +28,19 @@ def runs(shim, program, words, text):
     for line in iter(told.readline, b""):
         status, is_refused, length = map(int, line.split())
         yield (status, told.read(length)), bool(is_refused)
+
+
+def refuse_each(shim, program, words, text, is_right, is_told):
+    """How many requests were refused, after how many of them the run came to what it comes to where nothing is refused, and the first
+    thing that was wrong, if any.
+
+    `is_right` takes what the run in which nothing is refused came to; `is_told` takes what a run came to in which a request was, and that."""
+    (wanted, _), *tried = runs(shim, program, words, text)
+    if not is_right(wanted):
+        return 0, 0, f"nothing refused: {wanted}"
+    copes = 0
+    for number, (came, is_refused) in enumerate(tried, 1):
+        if came != wanted and not (is_refused and is_told(came, wanted)):
+            return number, copes, f"request {number}: {came}"
+        copes += is_refused and came == wanted
+    return len(tried) - 1, copes, None if len(tried) > 1 else "nothing could be refused"

@@ -18,7 +18,7 @@ tests = pathlib.Path(__file__).resolve().parent
 top = tests.parent.parent
 sys.path.insert(0, str(top / ".ci"))
 from built import programs
-from refusing import build, runs
+from refusing import build, refuse_each
 from scripts import all_cases, text_of, versions
 
 # What is compared, by the word that play.c takes for it, and the words of the native drawer.
@@ -89,15 +89,9 @@ def from_c(program, text, word, before=(), **how):
     return ran.returncode, ran.stdout
 
 
-def refused_memory(program, shim, text, word, wanted):
-    """What is wrong where each request for memory is refused in turn, and how many were."""
-    first, *tried = runs(shim, program, [word], text)
-    wrong = [] if first == (wanted, False) else [f"{word}: nothing refused: {first}"]
-    for number, (came, is_refused) in enumerate(tried, 1):
-        # The explanation has no line of its own for it.
-        if came != wanted and not (is_refused and came in (OUT_OF_MEMORY, (4, b""))):
-            wrong.append(f"{word}, request {number}: {came}")
-    return wrong if len(tried) > 1 else [*wrong, f"{word}: nothing could be refused"], len(tried) - 1
+def is_told(came, wanted):
+    """Whether a run in which a request was refused says so. An explanation has no line for it."""
+    return came in (OUT_OF_MEMORY, (OUT_OF_MEMORY[0], b""))
 
 
 def check_c(built, folder, texts, wanted):
@@ -117,8 +111,9 @@ def check_c(built, folder, texts, wanted):
         wrong += [] if came == wanted[name][word] else [f"valgrind: {name}: {word}: {came!r:.300}"]
     refused = 0
     for name, word in UNDER_VALGRIND:
-        more, count = refused_memory(program, shim, texts[name], word, wanted[name][word])
-        wrong, refused = wrong + more, refused + count
+        count, _, said = refuse_each(shim, program, [word], texts[name], lambda came: came == wanted[name][word], is_told)
+        wrong += [f"C: {name}: {word}: {said}"] if said else []
+        refused += count
     return wrong, len(work), refused
 
 
