@@ -5,39 +5,65 @@
 #include <stdlib.h>
 #include <string.h>
 
-#define MOST_BYTES ((1 << 20) + 1)
+#define FIRST_ROOM (1 << 16)
 
-static uint32_t call(const char *what, const uint8_t *script, size_t bytes, uint8_t *out, size_t room, size_t *needed) {
+/* Reads standard input to its end, and says how many bytes it has. Without memory it returns NULL. */
+static uint8_t *read_all(size_t *bytes) {
+    size_t room = FIRST_ROOM;
+    uint8_t *text = malloc(room);
+    *bytes = 0;
+    while (text != NULL) {
+        *bytes += fread(text + *bytes, 1, room - *bytes, stdin);
+        if (*bytes < room) {
+            return text;
+        }
+        room *= 2;
+        uint8_t *longer = realloc(text, room);
+        if (longer == NULL) {
+            free(text);
+        }
+        text = longer;
+    }
+    return NULL;
+}
+
+static uint32_t call(const char *what, const uint8_t *text, size_t bytes, uint8_t *out, size_t room, size_t *needed) {
     static const char *const forms[] = {"svg", "text", "explain"};
     for (uint32_t form = 0; form < 3; form++) {
         if (strcmp(what, forms[form]) == 0) {
-            return wumsnair_draw(form, script, bytes, out, room, needed);
+            return wumsnair_draw(form, text, bytes, out, room, needed);
         }
     }
     if (strcmp(what, "check") == 0 || strcmp(what, "order") == 0) {
-        return wumsnair_check(what[0] == 'o', script, bytes, out, room, needed);
+        return wumsnair_check(what[0] == 'o', text, bytes, out, room, needed);
     }
     if (strcmp(what, "why") == 0) {
-        return wumsnair_explain(script, bytes, out, room, needed);
+        return wumsnair_explain(text, bytes, out, room, needed);
     }
-    return wumsnair_play(script, bytes, out, room, needed);
+    return wumsnair_play(text, bytes, out, room, needed);
 }
 
 int main(int argc, char **argv) {
-    static uint8_t script[MOST_BYTES], few[64];
-    size_t bytes = fread(script, 1, sizeof script, stdin), needed;
-    const char *what = argc > 1 ? argv[1] : "play";
-    uint32_t status = call(what, script, bytes, few, sizeof few, &needed);
-    if (status != WUMSNAIR_TOO_LONG) {
-        fwrite(few, 1, needed, stdout);
-        return (int)status;
-    }
-    uint8_t *out = malloc(needed);
-    if (out == NULL) {
+    static uint8_t few[64];
+    size_t bytes, needed;
+    uint8_t *text = read_all(&bytes);
+    if (text == NULL) {
         return WUMSNAIR_OUT_OF_MEMORY;
     }
-    status = call(what, script, bytes, out, needed, &needed);
+    const char *what = argc > 1 ? argv[1] : "play";
+    uint32_t status = call(what, text, bytes, few, sizeof few, &needed);
+    uint8_t *out = status == WUMSNAIR_TOO_LONG ? malloc(needed) : few;
+    if (out == NULL) {
+        free(text);
+        return WUMSNAIR_OUT_OF_MEMORY;
+    }
+    if (out != few) {
+        status = call(what, text, bytes, out, needed, &needed);
+    }
     fwrite(out, 1, needed, stdout);
-    free(out);
+    if (out != few) {
+        free(out);
+    }
+    free(text);
     return (int)status;
 }
