@@ -19,12 +19,21 @@ let refusedPlace;
 /** Whether the calls of the record were drawn since it was opened. */
 let isDrawn = false;
 
-/** Returns the calls of a record that was not refused. Moments from 2^53 on are only drawn near their place. */
+/** A text between quotation marks, or a whole number that may have more digits than a JavaScript number keeps. */
+const TEXT_OR_LONG_NUMBER = /"(?:[^"\\]|\\.)*"|-?\d{16,}/g;
+
+/** Parses JSON without fractions. Long numbers are of type BigInt. */
+function parsed(json) {
+  const marked = json.replace(TEXT_OR_LONG_NUMBER, (part) => (part.startsWith('"') ? part : `{"digits":"${part}"}`));
+  return JSON.parse(marked, (_, value) => (value?.digits === undefined ? value : BigInt(value.digits)));
+}
+
+/** Returns the calls of a record that was not refused. */
 function callsOf(text) {
   try {
-    return JSON.parse(text).calls ?? [];
+    return parsed(text).calls ?? [];
   } catch {
-    return text.split("\n").filter((line) => line.trim()).slice(1).map((line) => JSON.parse(line));
+    return text.split("\n").filter((line) => line.trim()).slice(1).map(parsed);
   }
 }
 

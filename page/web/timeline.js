@@ -41,7 +41,7 @@ export function showTimeline(calls, wrong) {
   }
   const numbered = calls.map((each, at) => ({ ...each, number: at + 1 }));
   const moments = numbered.flatMap(({ begin, end }) => (end === undefined ? [begin] : [begin, end]));
-  const columns = new Map([...new Set(moments)].sort((a, b) => a - b).map((moment, at) => [moment, at]));
+  const columns = new Map([...new Set(moments)].sort((a, b) => (a < b ? -1 : 1)).map((moment, at) => [moment, at]));
   const lanes = [...byCaller(numbered)].map(([by, own], at) => {
     const name = `lane-${at}`;
     const list = element("ol", { "aria-labelledby": name }, ...own.map((each) => barOf(each, columns, wrong)));
