@@ -7,6 +7,7 @@ import assert from "node:assert/strict";
 import { readFileSync, readdirSync, writeFileSync } from "node:fs";
 import { resolve } from "node:path";
 import { pathToFileURL } from "node:url";
+import { deflateRawSync } from "node:zlib";
 import { Chrome } from "./chrome.mjs";
 
 const [repository, file, shots] = process.argv.slice(2);
@@ -49,6 +50,7 @@ const SCRIPT = "document.getElementById('script')";
 const STATES = "document.getElementById('states').innerText.split('\\n').map((each) => each.trim().replaceAll(/\\s+/g, ' ')).filter(Boolean)";
 const pick = (name) => `{ const list = document.getElementById("examples"); list.value = ${JSON.stringify(name)}; list.dispatchEvent(new Event("change")); }`;
 const slide = (step) => `{ const slider = document.getElementById("step"); slider.value = ${step}; slider.dispatchEvent(new Event("input")); }`;
+const packed = (text) => deflateRawSync(text).toString("base64url");
 const plain = (text) => text.replaceAll("&lt;", "<").replaceAll("&gt;", ">").replaceAll("&amp;", "&");
 const read = (path) => readFileSync(`${repository}/${path}`, "utf8");
 
@@ -96,6 +98,15 @@ await test("what is mended is played", async () => {
   assert.deepEqual(await page.evaluate(LINES), ["true"]);
   assert.equal(await page.evaluate("document.getElementById('refusal').hidden"), true);
 });
+await test("a script that may play long is played when its button is pressed", async () => {
+  const grows = '{"op": "flat_map", "to": "repeat", "n": 1000}';
+  const chain = `{"from": {"of": [7]}, "ops": [${grows}, ${grows}, {"op": "take", "n": 2}]}`;
+  const other = await chrome.open(`${address}#s=${packed(`{"version": 1, "flow": {"kind": "none"}, "steps": [{"do": "collect", "chain": ${chain}}]}`)}`);
+  assert.equal(await other.evaluate("document.body.dataset.status"), "asked");
+  await other.evaluate("document.querySelector('#refusal button').click()");
+  assert.deepEqual(await other.evaluate(LINES), ["[7, 7] completed"]);
+  assert.equal(await other.evaluate("document.getElementById('refusal').hidden"), true);
+});
 await test("a link holds the script", async () => {
   await page.until("location.hash.startsWith('#s=')");
   const [link, text] = await page.evaluate(`[location.href, ${SCRIPT}.value]`);
@@ -103,9 +114,11 @@ await test("a link holds the script", async () => {
   assert.equal(await other.evaluate(`${SCRIPT}.value`), text);
   assert.deepEqual(await other.evaluate(LINES), ["true"]);
 });
-await test("a link that is broken opens the first example", async () => {
-  const other = await chrome.open(`${address}#s=%%%`);
-  assert.equal(await other.evaluate(`${SCRIPT}.value`), read("examples/replay.json"));
+await test("a link that is broken or too long opens the first example", async () => {
+  for (const letters of ["%%%", packed(" ".repeat(2 ** 24 + 1))]) {
+    const other = await chrome.open(`${address}#s=${letters}`);
+    assert.equal(await other.evaluate(`${SCRIPT}.value`), read("examples/replay.json"));
+  }
 });
 
 // ---- steps
@@ -247,6 +260,13 @@ await test("a record is typed, refused, and mended", async () => {
   await page.until("location.hash.startsWith('#c=')");
   const other = await chrome.open(await page.evaluate("location.href"));
   assert.equal(await other.evaluate(`${RECORD}.value`), await page.evaluate(`${RECORD}.value`));
+});
+await test("a long number of a record keeps its digits", async () => {
+  const [begin, end] = ["18446744073709551614", "18446744073709551615"];
+  const call = `{"by": "a \\"1\\"", "call": "set", "value": ${end}, "begin": ${begin}, "end": ${end}, "answer": "done"}`;
+  const other = await chrome.open(`${address}#c=${packed(`{"flow": {"kind": "state", "initial": 0}, "calls": [${call}]}`)}`);
+  assert.equal(await other.evaluate("document.querySelector('#timeline .bar').title"), `1: set ${end}: done, from ${begin} to ${end}`);
+  assert.equal(await other.evaluate("document.querySelector('#timeline h3').textContent"), 'a "1"');
 });
 await test("the order of a legal record", async () => {
   await page.evaluate(pickRecord("legal_state_overlap"));

@@ -14,9 +14,23 @@ export function bytesOf(base64) {
   return Uint8Array.from(atob(base64), (sign) => sign.charCodeAt(0));
 }
 
-/** Returns what a stream makes of these bytes. */
-export async function passed(bytes, stream) {
-  return new Uint8Array(await new Response(new Blob([bytes]).stream().pipeThrough(stream)).arrayBuffer());
+/** The most bytes that a link is unpacked to. The player refuses a script that is longer than a sixteenth of that. */
+const MOST_UNPACKED = 1 << 24;
+
+/** Returns what a stream makes of these bytes. Throws if that is more than so many bytes. */
+export async function passed(bytes, stream, most = Infinity) {
+  const reader = new Blob([bytes]).stream().pipeThrough(stream).getReader();
+  const parts = [];
+  let length = 0;
+  for (let next = await reader.read(); !next.done; next = await reader.read()) {
+    length += next.value.length;
+    if (length > most) {
+      await reader.cancel();
+      throw new RangeError(`more than ${most} bytes`);
+    }
+    parts.push(next.value);
+  }
+  return new Uint8Array(await new Blob(parts).arrayBuffer());
 }
 
 /** Returns the link of a text. */
@@ -38,7 +52,7 @@ export async function textIn(link, examples, letters) {
     return Object.hasOwn(examples, name) ? examples[name] : undefined;
   }
   if (link.startsWith(`#${letters.text}=`)) {
-    return new TextDecoder().decode(await passed(fromLetters(link.slice(3)), new DecompressionStream("deflate-raw")));
+    return new TextDecoder().decode(await passed(fromLetters(link.slice(3)), new DecompressionStream("deflate-raw"), MOST_UNPACKED));
   }
   return undefined;
 }

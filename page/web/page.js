@@ -1,13 +1,13 @@
 // The page: a script that is typed is played at once, and each step is shown in the script, in the diagram, among the lines, and by the
 // state that its flows are in after it.
 import { diagram, markColumn, offerDiagram, onColumnClick, showDiagram, widthOfNames } from "./diagram.js";
-import { bringInto, byId } from "./dom.js";
+import { bringInto, byId, element } from "./dom.js";
 import { Editor, showWhy } from "./editor.js";
 import { entriesOf, markEntry, plainEntries, showEntries, stepOfEvent } from "./lines.js";
 import { RECORD_LINK, SCRIPT_LINK, bytesOf, exampleOf, isRecordLink, linkOf, passed, stopOf, textIn } from "./link.js";
 import { FORM, Player, STATUS, hasWideMemories, textOf } from "./player.js";
 import { goToRefusal, judge, onRecordChange, openRecord, recordText } from "./record.js";
-import { placeOf, stepsOf } from "./script_text.js";
+import { mostItemsOfOne, placeOf, stepsOf } from "./script_text.js";
 import { showStates } from "./state_panel.js";
 import { PlayedScript, statesAfter } from "./states.js";
 import { isRecordTab, listenToTabs, showTab } from "./tabs.js";
@@ -16,6 +16,10 @@ import { TOUR } from "./tour.js";
 /** A script with more steps is drawn only if its button is pressed. Its rules come after its lines, and the states of its flows
  * once the step stays chosen. */
 const MOST_AT_ONCE = 1500;
+
+/** A script with a chain that makes more items of one item may play long, and the page does nothing else meanwhile: it is played
+ * only if its button is pressed. */
+const MOST_ITEMS = 100_000;
 
 /** The record that is shown first. */
 const FIRST_RECORD = "illegal_state_stale";
@@ -38,8 +42,15 @@ const stepCount = () => shown.steps?.places.length ?? 0;
 
 // ---- playing
 
+/** The script that may play long, and is to be played. */
+let allowed;
+
 /** Plays the script that is in the editor, and shows what it gave. */
 function play() {
+  if (mostItemsOfOne(editor.text) > MOST_ITEMS && editor.text !== allowed) {
+    offerToPlay();
+    return;
+  }
   const start = performance.now();
   const bytes = new TextEncoder().encode(editor.text);
   try {
@@ -57,6 +68,18 @@ function play() {
   const took = (performance.now() - start).toFixed(1);
   told.textContent = `${bytes.length} bytes, ${took} ms`;
   document.body.dataset.took = took;
+}
+
+/** Shows a button in place of what a script gives. */
+function offerToPlay() {
+  showRefused("not played yet", `A chain may make more than ${MOST_ITEMS} items of one item, which may take long.\n`);
+  const button = element("button", { type: "button" }, "Play it");
+  button.addEventListener("click", () => {
+    allowed = editor.text;
+    play();
+  });
+  refusal.append(button);
+  document.body.dataset.status = "asked";
 }
 
 function showPlayed(lines) {

@@ -1,4 +1,5 @@
-// Where the parts of a script stand in its text. The player has read the text already: here it is valid JSON.
+// Where the parts of a script stand in its text, which the player has read already, so it is valid JSON; and how many items the chains of
+// any text make.
 
 /** Returns the offset after a string that begins at `from` with its quote. */
 function endOfString(text, from) {
@@ -41,6 +42,23 @@ export function stepsOf(text) {
     }
   }
   return found;
+}
+
+/** Returns how many items a chain of a text makes of one item at most, by its `flat_map`s; of a text that is no JSON, 1. */
+export function mostItemsOfOne(text) {
+  let most = 1;
+  try {
+    JSON.parse(text, (key, value) => {
+      if (key === "ops" && Array.isArray(value)) {
+        const sizes = value.map((each) => (each?.op === "flat_map" ? Number(each.n) : 1));
+        most = Math.max(most, sizes.reduce((product, size) => product * Math.max(size, 1), 1));
+      }
+      return value;
+    });
+  } catch {
+    // The player says what is wrong with it.
+  }
+  return most;
 }
 
 function isSteps(key) {
