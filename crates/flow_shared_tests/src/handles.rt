@@ -12,6 +12,7 @@ mod shared_plays;
 mod shared_reads;
 mod state;
 mod state_calls;
+mod state_examples;
 mod state_plays;
 mod streams;
 mod tasks;

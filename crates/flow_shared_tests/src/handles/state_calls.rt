@@ -3,9 +3,14 @@ use crate::compare::compare;
 use crate::handles::answers::{length, no_such_call, pause};
 use crate::handles::flows::new_state_reader;
 use crate::handles::state::Call;
+use crate::handles::state_examples::{Reads, Sets};
+use crate::handles::streams::next_of;
 use flow_law::{OutOfMemory, Unsupported};
 use flow_shared::{Setter, StateReader};
+use futures::executor::block_on;
+use std::alloc::AllocGlobal;
 use std::process::Abort;
+use std::random::RandomSource;
 use std::sync::Wait;
 use std::time::{Clock, Duration};
 
@@ -18,23 +23,19 @@ fn one_more(value: &i64) -> Result<i64, OutOfMemory> {
     }
 }
 
-/// Makes a call that sets the value, and compares what it answers.
-pub fn set<R: Wait + Clock + Abort>(
-    rt: &R,
-    setter: &mut Setter<'_, i64>,
-    place: usize,
-    call: &Call,
-) {
-    match *call {
-        Call::Set(value) => setter.set(rt, value),
-        Call::TrySet(value) => compare(rt, place, setter.try_set(value), Ok(())),
-        Call::TryEmit(value) => compare(rt, place, setter.try_emit(rt, value), true),
-        Call::CompareAndSet(expect, value, is_set) => {
-            let answer = setter.compare_and_set(rt, &expect, value);
-            compare(rt, place, answer, is_set);
+impl<'a> Sets for Setter<'a, i64> {
+    fn set<R: Wait + Clock + Abort>(&mut self, rt: &R, place: usize, call: &Call) {
+        match *call {
+            Call::Set(value) => self.set(rt, value),
+            Call::TrySet(value) => compare(rt, place, self.try_set(value), Ok(())),
+            Call::TryEmit(value) => compare(rt, place, self.try_emit(rt, value), true),
+            Call::CompareAndSet(expect, value, is_set) => {
+                let answer = self.compare_and_set(rt, &expect, value);
+                compare(rt, place, answer, is_set);
+            }
+            Call::Reset => compare(rt, place, self.reset_replay_cache(rt), Err(Unsupported)),
+            _ => ask(rt, self, place, call),
         }
-        Call::Reset => compare(rt, place, setter.reset_replay_cache(rt), Err(Unsupported)),
-        _ => ask(rt, setter, place, call),
     }
 }
 
@@ -114,19 +115,27 @@ fn follow<R: Wait>(rt: &R, reader: &mut StateReader<'_, i64>, last: i64) -> bool
     unreachable!()
 }
 
-/// Makes a call of the reader, and compares what it answers.
-pub fn read<R: Wait + Clock + Abort>(
-    rt: &R,
-    reader: &mut StateReader<'_, i64>,
-    place: usize,
-    call: &Call,
-) {
-    match *call {
-        Call::Next(value) => compare(rt, place, reader.next(rt), Ok(value)),
-        Call::TryNext(value) => compare(rt, place, reader.try_next(), Ok(value)),
-        Call::ReaderSeen => reader.seen(),
-        Call::Follow(last) => compare(rt, place, follow(rt, reader, last), true),
-        _ => wait(rt, reader, place, call),
+impl<'a> Reads for StateReader<'a, i64> {
+    fn read<R: Wait + Clock + Abort>(&mut self, rt: &R, place: usize, call: &Call) {
+        match *call {
+            Call::Next(value) => compare(rt, place, self.next(rt), Ok(value)),
+            Call::TryNext(value) => compare(rt, place, self.try_next(), Ok(value)),
+            Call::ReaderSeen => self.seen(),
+            Call::Follow(last) => compare(rt, place, follow(rt, self, last), true),
+            _ => wait(rt, self, place, call),
+        }
+    }
+
+    fn change_and_next<R: Wait + RandomSource + AllocGlobal>(
+        self,
+        rt: &R,
+    ) -> Option<(i64, Option<i64>)> {
+        let (mut reader, value) = block_on(rt, self.into_changed()).ok()?;
+        Some((value.ok()?, reader.next(rt).ok()?))
+    }
+
+    fn next_of_stream<R: Wait + Abort + RandomSource + AllocGlobal>(self, rt: &R) -> Option<i64> {
+        next_of(rt, self.into_stream(), 1).pop()?.ok()
     }
 }
 

@@ -4,8 +4,13 @@ ghost use Rattle.std.specs.Prelude.{◌≡◌};
 use crate::compare::compare;
 use crate::handles::answers::{no_such_call, pause};
 use crate::handles::state::Call;
+use crate::handles::state_examples::{Reads, Sets};
+use crate::handles::streams::next_of;
 use flow_word::{WordReader, WordSetter};
+use futures::executor::block_on;
+use std::alloc::AllocGlobal;
 use std::process::Abort;
+use std::random::RandomSource;
 use std::sync::Wait;
 use std::time::{Clock, Duration};
 
@@ -24,22 +29,18 @@ pub fn new_word_reader<'a, R: Wait + Abort>(
     setter.subscribe(rt).expect(rt, "a reader")
 }
 
-/// Makes a call of the setter, and compares what it answers.
-pub fn set<R: Wait + Clock + Abort>(
-    rt: &R,
-    setter: &mut WordSetter<'_, i64>,
-    place: usize,
-    call: &Call,
-) {
-    match *call {
-        Call::Value(value) => compare(rt, place, setter.value(), value),
-        Call::Set(value) => setter.set(value),
-        Call::CompareAndSet(expect, value, is_set) => {
-            compare(rt, place, setter.compare_and_set(expect, value), is_set);
+impl<'a> Sets for WordSetter<'a, i64> {
+    fn set<R: Wait + Clock + Abort>(&mut self, rt: &R, place: usize, call: &Call) {
+        match *call {
+            Call::Value(value) => compare(rt, place, self.value(), value),
+            Call::Set(value) => self.set(value),
+            Call::CompareAndSet(expect, value, is_set) => {
+                compare(rt, place, self.compare_and_set(expect, value), is_set);
+            }
+            Call::Count(count) => compare(rt, place, self.subscription_count(), count),
+            Call::Seen => self.seen(),
+            _ => update(rt, self, place, call),
         }
-        Call::Count(count) => compare(rt, place, setter.subscription_count(), count),
-        Call::Seen => setter.seen(),
-        _ => update(rt, setter, place, call),
     }
 }
 
@@ -129,19 +130,27 @@ fn follow<R: Wait>(rt: &R, reader: &mut WordReader<'_, i64>, last: i64) -> bool 
     unreachable!()
 }
 
-/// Makes a call of the reader, and compares what it answers.
-pub fn read<R: Wait + Clock + Abort>(
-    rt: &R,
-    reader: &mut WordReader<'_, i64>,
-    place: usize,
-    call: &Call,
-) {
-    match *call {
-        Call::Next(value) => compare(rt, place, reader.next(), value),
-        Call::ReaderSeen => reader.seen(),
-        Call::Changed(value) => compare(rt, place, reader.changed(rt), value),
-        Call::Follow(last) => compare(rt, place, follow(rt, reader, last), true),
-        _ => wait(rt, reader, place, call),
+impl<'a> Reads for WordReader<'a, i64> {
+    fn read<R: Wait + Clock + Abort>(&mut self, rt: &R, place: usize, call: &Call) {
+        match *call {
+            Call::Next(value) => compare(rt, place, self.next(), value),
+            Call::ReaderSeen => self.seen(),
+            Call::Changed(value) => compare(rt, place, self.changed(rt), value),
+            Call::Follow(last) => compare(rt, place, follow(rt, self, last), true),
+            _ => wait(rt, self, place, call),
+        }
+    }
+
+    fn change_and_next<R: Wait + RandomSource + AllocGlobal>(
+        self,
+        rt: &R,
+    ) -> Option<(i64, Option<i64>)> {
+        let (mut reader, value) = block_on(rt, self.into_changed()).ok()?;
+        Some((value, reader.next()))
+    }
+
+    fn next_of_stream<R: Wait + Abort + RandomSource + AllocGlobal>(self, rt: &R) -> Option<i64> {
+        next_of(rt, self.into_stream(), 1).pop()
     }
 }
 
