@@ -75,30 +75,29 @@ where
 {
     let mut held = held;
     if held.state().wakes_any() {
-        return leave_then_wake(held, evidence);
+        return Attended::leave_then_wake(held, evidence);
     }
     held.leave(evidence)
 }
 
-/// As `leave_and_wake`, if a caller is to be woken.
-#[cold]
-#[inline(never)]
-fn leave_then_wake<S: FlowCore, A: Allocator + Copy, X>(
-    held: Held<'_, Attended<S, A>, A>,
-    evidence: &X,
-) -> Seat<Attended<S, A>, A>
-where
-    X: NamesEvents<Said<S::Call, S::Reply>>,
-    requires { StandsWith (attended_stands S.sleeping S.first S.stands_as) held
-        (X.events evidence.now held.token.knows) }
-    ensures { result ≡ knowing held.entry.token
-        (adds (X.events evidence.now held.entry.token.knows) held.entry.token.knows) }
-{
-    let mut held = held;
-    let woken = held.state().take_woken();
-    let seat = held.leave(evidence);
-    drop(woken);
-    seat
+impl<S: FlowCore, A: Allocator + Copy> Attended<S, A> {
+    /// As `leave_and_wake`, if a caller is to be woken.
+    #[cold]
+    #[inline(never)]
+    fn leave_then_wake<X: NamesEvents<Said<S::Call, S::Reply>>>(
+        mut held: Held<'_, Self, A>,
+        evidence: &X,
+    ) -> Seat<Self, A>
+        requires { StandsWith (attended_stands S.sleeping S.first S.stands_as) held
+            (X.events evidence.now held.token.knows) }
+        ensures { result ≡ knowing held.entry.token
+            (adds (X.events evidence.now held.entry.token.knows) held.entry.token.knows) }
+    {
+        let woken = held.state().take_woken();
+        let seat = held.leave(evidence);
+        drop(woken);
+        seat
+    }
 }
 
 /// Calls the core, and leaves with the call and its answer.
