@@ -70,10 +70,7 @@ where
             }
             match self.upstream.next() {
                 Ok(item) => match images_of(&self.closure, item) {
-                    Ok(mut images) => {
-                        images.reverse();
-                        self.images = Some(images);
-                    }
+                    Ok(images) => keep_images(&mut self.images, images),
                     Err(fault) => return self.upstream.fail(fault),
                 },
                 Err(asked) => return asked,
@@ -100,6 +97,14 @@ fn next_image<U: FlowValue>(images: &mut Option<Vec<U>>) -> Option<U>
     let image = kept.pop()?;
     *images = Some(kept);
     Some(image)
+}
+
+/// Keeps a list of images, in reverse.
+fn keep_images<U: FlowValue>(kept: &mut Option<Vec<U>>, mut images: Vec<U>)
+    ensures { images_left (λ v. v.items) kept.new ≡ images.items }
+{
+    images.reverse();
+    *kept = Some(images);
 }
 
 /// Returns the list of an item's images, which each function that the closure computes gives.
