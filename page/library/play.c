@@ -52,18 +52,17 @@ int main(int argc, char **argv) {
     }
     const char *what = argc > 1 ? argv[1] : "play";
     uint32_t status = call(what, text, bytes, few, sizeof few, &needed);
-    uint8_t *out = status == WUMSNAIR_TOO_LONG ? malloc(needed) : few;
-    if (out == NULL) {
-        free(text);
-        return WUMSNAIR_OUT_OF_MEMORY;
+    uint8_t *longer = NULL;
+    if (status == WUMSNAIR_TOO_LONG) {
+        longer = malloc(needed);
+        if (longer == NULL) {
+            free(text);
+            return WUMSNAIR_OUT_OF_MEMORY;
+        }
+        status = call(what, text, bytes, longer, needed, &needed);
     }
-    if (out != few) {
-        status = call(what, text, bytes, out, needed, &needed);
-    }
-    fwrite(out, 1, needed, stdout);
-    if (out != few) {
-        free(out);
-    }
+    fwrite(longer == NULL ? few : longer, 1, needed, stdout);
+    free(longer);
     free(text);
     return (int)status;
 }
