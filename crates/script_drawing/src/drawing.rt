@@ -54,6 +54,24 @@ fn framed(
     Ok(drawn)
 }
 
+/// The picture of a script, or its rules, around its lines.
+fn pictured(
+    alloc: Global,
+    form: Form,
+    script: &Value,
+    played: Played<'_>,
+) -> Result<String, AllocError>
+    ensures { IfOk result (λ drawn.
+        TellsInOrder (told played.entry.lines.now) (string_bytes drawn)) }
+{
+    let frame = frame_of(alloc, form, script, played)?;
+    let rules = match form {
+        Form::Explained => rules_of(alloc, script, played.steps, played.answers.steps.as_slice())?,
+        Form::Text | Form::Svg => Vec::new(alloc),
+    };
+    framed(alloc, frame, played, rules.as_slice())
+}
+
 /// What is drawn of the script of these bytes, by its answers.
 fn drawn(alloc: Global, form: Form, bytes: &[u8], answers: &Answers) -> Result<String, ScriptFault>
     ensures { IfOk result (λ drawn. TellsLines (text_of (said answers.now)) (string_bytes drawn)) }
@@ -70,12 +88,7 @@ fn drawn(alloc: Global, form: Form, bytes: &[u8], answers: &Answers) -> Result<S
         answers,
         lines: lines.as_slice(),
     };
-    let frame = frame_of(alloc, form, &script, played)?;
-    let rules = match form {
-        Form::Explained => rules_of(alloc, &script, played.steps, answers.steps.as_slice())?,
-        Form::Text | Form::Svg => Vec::new(alloc),
-    };
-    match framed(alloc, frame, played, rules.as_slice()) {
+    match pictured(alloc, form, &script, played) {
         Ok(drawn) => Ok(drawn),
         Err(_) => Err(ScriptFault::OutOfMemory),
     }
