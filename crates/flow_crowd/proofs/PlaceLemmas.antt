@@ -46,3 +46,15 @@ module _ {X : Type 0} where
     (λ d. ap (λ l. get_or l 0 d) (sym e) ∙ left 0 d (omega arith) ∙ ap (λ i. get_or xs i d) (let z : done + 0 ≡ done = omega arith in z)),
     (λ k d l. ap (λ l. get_or l (suc k) d) (sym e) ∙ left (suc k) d (omega arith) ∙ ap (λ i. get_or xs i d) (let z : done + suc k ≡ done + 1 + k = omega arith in z)),
   )
+
+-- an element was added at the end of each of two lists
+pub pushed_pair : {X Y : Type 0} (P : ℕ → X → Y → Type 0) (xs xs-after : List X) (ys ys-after : List Y) (x : X) (y : Y) (n : ℕ) → length xs ≡ n → length ys ≡ n → xs-after ≡ xs ++ x ∷ [] → ys-after ≡ ys ++ y ∷ []
+    → ((k : ℕ) (d : X) (e : Y) → k < n → P k (get_or xs k d) (get_or ys k e)) → P n x y → (k : ℕ) (d : X) (e : Y) → k < n + 1 → P k (get_or xs-after k d) (get_or ys-after k e)
+pushed_pair P xs xs-after ys ys-after x y n lx ly ex ey each last k d e l =
+    let us = xs ++ x ∷ [] in let vs = ys ++ y ∷ [] in
+    subst (λ zs. P k (get_or zs k d) (get_or ys-after k e)) (sym ex) (subst (λ zs. P k (get_or us k d) (get_or zs k e)) (sym ey)
+    (below_more (λ i. P i (get_or us i d) (get_or vs i e)) n
+    (λ i low. subst (λ a. P i a (get_or vs i e)) (sym (get_or-append xs (x ∷ []) d i (omega arith)))
+    (subst (P i (get_or xs i d)) (sym (get_or-append ys (y ∷ []) e i (omega arith))) (each i d e low)))
+    (subst (λ a. P n a (get_or vs n e)) (sym (ap (λ i. get_or us i d) (sym lx) ∙ get_or-append_seam xs x [] d))
+    (subst (P n x) (sym (ap (λ i. get_or vs i e) (sym ly) ∙ get_or-append_seam ys y [] e)) last)) k (omega arith)))

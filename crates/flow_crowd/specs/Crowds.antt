@@ -1,5 +1,5 @@
 -- A crowd: what each subscriber gets, and what each token of it did. Begin with `GotAll`.
-use Rattle.std.specs.Prelude.{◌≡◌, ℕ, suc, ◌+◌, ◌*◌, ◌<◌, leb, ltb, ◌&&◌, All, Bool, List, [], Vec, length, filter, vec_len}
+use Rattle.std.specs.Prelude.{◌≡◌, ℕ, suc, ◌+◌, ◌*◌, ◌<◌, leb, ltb, ◌&&◌, All, Bool, List, [], Vec, length, filter, slice_index_or, vec_len}
 use Rattle.std.specs.List.{AllByRecursion}
 use Rattle.atomic_table.specs.Seated.{TableId}
 use Rattle.flow_gate.specs.Tokens.{Origin}
@@ -9,13 +9,14 @@ use Rattle.flow_law.specs.declared.states.SharedFlowState.{SharedFlowState}
 use Rattle.flow_law.specs.declared.call.SharedCall.{SharedCall}
 use Rattle.flow_law.specs.declared.call.SharedCall.TheVariants as call
 use Rattle.flow_law.specs.Growth.{child_name, first_knowledge}
+use Rattle.flow_law.specs.Handles.{CallerOf, ReaderOf}
 use Rattle.flow_law.specs.Tokens.{Token, NumberedToken}
 use Rattle.flow_law.specs.Closed.{nth_child}
 use Rattle.flow_law.specs.Done.{done_by}
 use Rattle.flow_crowd.specs.declared.emitters.EmitsAll.{EmitsAll}
 use Rattle.flow_crowd.specs.declared.size.CrowdSize.{CrowdSize}
 use Rattle.flow_crowd.specs.declared.subscribers.ReadsAll.{ReadsAll}
-use Rattle.flow_crowd.specs.Callers.{Says, Emits, HasSubscribed, taken_by}
+use Rattle.flow_crowd.specs.Callers.{Says, Emits, Reads, HasSubscribed, taken_by}
 use Rattle.flow_crowd.specs.Numbers.{numbers_from}
 
 -- ---- what a subscriber gets
@@ -46,6 +47,13 @@ pub record IsNewFlow (flow : Origin (SharedFlowState ℕ)) (seat : Token TableId
   pub first : seat.knows ≡ first_knowledge
 
 -- ---- what the tokens did
+
+-- an emitter and a subscriber, each with its flow
+abbrev pub Caller : Type 0
+Caller = CallerOf TableId (SharedFlowState ℕ) (Says ℕ)
+
+abbrev pub Subscriber : Type 0
+Subscriber = ReaderOf TableId (SharedFlowState ℕ) (Says ℕ)
 
 -- a subscription without first values
 abbrev pub IsSubscribing : {T : Type 0} → SharedCall T → Type 0
@@ -78,6 +86,42 @@ module _ {T : Type 0} where
 abbrev pub HasEmitted : ℕ → ℕ → Knowledge (Says ℕ) → Type 0
 HasEmitted values i k = Emits (numbers_from (i * values) values) (nth_child i first_knowledge) k
 
+-- the emitter is of this flow, and has emitted so many numbers, from the first one on, since its token knew this
+abbrev pub HasSent : Origin (SharedFlowState ℕ) → ℕ → ℕ → Knowledge (Says ℕ) → Caller → Type 0
+HasSent flow first count before c = (c.flow ≡ flow) × Emits (numbers_from first count) before c.token.knows
+
+-- the subscriber is of this flow, was this subscription, and has only read since, and got so many values: these
+abbrev pub HasTaken : Origin (SharedFlowState ℕ) → ℕ → NumberedToken TableId (Says ℕ) → Subscriber → List ℕ → Type 0
+HasTaken flow count before r got =
+    (r.flow ≡ flow) × (r.subscription.number ≡ before.number)
+    × Reads before.number got before.token.knows r.subscription.token.knows × (length got ≡ count)
+
+-- ---- all callers
+
+-- The first seat, which knows this now, has made the emitters and then the subscribers of a crowd. It has only subscribed.
+pub record AreMade (size : CrowdSize) (flow : Origin (SharedFlowState ℕ)) (now : Knowledge (Says ℕ)) (es : List Caller) (rs : List Subscriber) : Type 0 where
+  pub maker : IsMaker now
+  pub made : now.made ≡ size.emitters + size.subscribers
+  pub emitters : length es ≡ size.emitters
+  pub subscribers : length rs ≡ size.subscribers
+  -- an emitter has done nothing
+  pub emitter : (i : ℕ) (d : Caller) → i < size.emitters →
+      ((slice_index_or es i d).flow ≡ flow) × ((slice_index_or es i d).token.knows ≡ nth_child i first_knowledge)
+  -- a subscriber has done nothing
+  pub subscriber : (i : ℕ) (d : Subscriber) → i < size.subscribers → ((slice_index_or rs i d).flow ≡ flow)
+      × IsSubscribed (done_by now) (size.emitters + i) (slice_index_or rs i d).subscription
+
+-- The threads of these callers have ended: each emitter has emitted its values, and each subscriber has read as many
+-- values as all of them emit.
+pub record HaveRun {Z : Type 0} (size : CrowdSize) (flow : Origin (SharedFlowState ℕ)) (es : List Caller) (rs : List Subscriber) (es-after : List Caller) (rs-after : List Subscriber) (got : List (Vec ℕ Z)) : Type 0 where
+  pub emitters : length es-after ≡ length es
+  pub subscribers : length rs-after ≡ length rs
+  pub lists : length got ≡ length rs
+  pub sent : (i : ℕ) (d e : Caller) → i < length es →
+      HasSent flow (i * size.values) size.values (slice_index_or es i e).token.knows (slice_index_or es-after i d)
+  pub taken : (i : ℕ) (d r : Subscriber) (v : Vec ℕ Z) → i < length rs →
+      HasTaken flow (size.emitters * size.values) (slice_index_or rs i r).subscription (slice_index_or rs-after i d) (slice_index_or got i v).items
+
 -- ---- what the threads promise
 
 -- to emit so many numbers, from the first one on, through this seat of the flow
@@ -89,3 +133,11 @@ WillEmit flow seat first count p =
 abbrev pub WillRead : TableId → NumberedToken TableId (Says ℕ) → ℕ → ReadsAll → Type 0
 WillRead flow subscription count p =
     (subscription.token.table_id ≡ flow) × (p.subscription.value ≡ subscription) × (p.count ≡ count)
+
+-- the emitter has sent what its thread promised
+abbrev pub HasSentAs : Origin (SharedFlowState ℕ) → EmitsAll → Caller → Type 0
+HasSentAs flow p c = HasSent flow p.first p.count p.seat.value.knows c
+
+-- the subscriber has read what its thread promised, and got these values
+abbrev pub HasTakenAs : Origin (SharedFlowState ℕ) → ReadsAll → Subscriber → List ℕ → Type 0
+HasTakenAs flow p r got = HasTaken flow p.count p.subscription.value r got

@@ -2,18 +2,18 @@
 ghost use Rattle.std.specs.Prelude.{◌≡◌, All, IfErr, IfOk, IfSome, vec_len};
 ghost use Rattle.flow_crowd.specs.Crowds.{EachGotAll, GotAll, IsNewFlow};
 
-use crate::emitters::{emitters_of, start_emitters};
+use crate::callers::callers_of;
+use crate::running::{Ended, run_threads};
 use crate::size::CrowdSize;
-use crate::subscribers::{Ended, apart, start_subscribers, subscribe_all};
 use flow_law::{Config, FlowFault};
 use flow_shared::{Seat, SharedFlow};
 use std::alloc::Global;
 use std::sync::Wait;
 use std::thread;
-use std::thread::{Scope, Threads, join_promised};
+use std::thread::{Scope, Threads};
 
-/// Runs a crowd in a scope, through the first seat of its flow. All subscribe before any thread starts; those that emit
-/// start first. If a thread cannot be made, the subscribers without one are dropped, and no emitter waits for them.
+/// Runs a crowd in a scope, through the first seat of its flow. All subscribe before any thread starts, and all callers
+/// meet once their threads have ended.
 fn run_in<'s, E, R: Threads + Wait + Sync>(
     rt: &'s R,
     alloc: Global,
@@ -26,17 +26,13 @@ fn run_in<'s, E, R: Threads + Wait + Sync>(
     ensures { IfSome result (EachGotAll size) }
 {
     let mut maker = flow.emitter(seat);
-    let Ok(emitters) = maker.others(alloc, size.emitters) else {
-        return None;
-    };
-    let readers = subscribe_all(rt, alloc, &mut maker, size.subscribers)?;
-    let emitting = start_emitters(rt, alloc, scope, flow, emitters, u64::from(size.values))?;
-    let reading = start_subscribers(rt, alloc, scope, flow, readers, size.emitted())?;
-    let (Ok(seats), Ok(ended)) = (join_promised(rt, emitting), join_promised(rt, reading)) else {
-        return None;
-    };
-    let mut emitters = emitters_of(alloc, flow, seats)?;
-    let Ended { mut readers, got } = apart(alloc, flow, ended)?;
+    let callers = callers_of(rt, alloc, &mut maker, size)?;
+    let ended = run_threads(rt, alloc, scope, flow, callers, size)?;
+    let Ended {
+        mut emitters,
+        mut readers,
+        got,
+    } = ended;
     maker.meet_twice(rt, &mut emitters, &mut readers);
     Some(got)
 }

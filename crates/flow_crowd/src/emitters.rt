@@ -1,8 +1,7 @@
 //! The threads of a crowd that emit.
 ghost use Rattle.std.specs.Prelude.{◌≡◌, ◌+◌, ◌*◌, ◌<◌, ◌≤◌, ◌^◌, All, ℕ, IfSome, slice_index_or, vec_len};
-ghost use Rattle.flow_law.specs.Handles.{called_by};
 ghost use Rattle.flow_crowd.specs.Callers.{Emits};
-ghost use Rattle.flow_crowd.specs.Crowds.{WillEmit};
+ghost use Rattle.flow_crowd.specs.Crowds.{HasSentAs, WillEmit};
 ghost use Rattle.flow_crowd.specs.Numbers.{numbers_from};
 
 use crate::sending::send_all;
@@ -10,7 +9,7 @@ use flow_shared::{Emitter, Seat, SharedFlow};
 use std::alloc::Global;
 use std::snapshot::Snapshot;
 use std::sync::Wait;
-use std::thread::{Promise, PromisedHandle, Scope};
+use std::thread::{Promise, PromisedHandle, Scope, Threads};
 
 /// A thread that emits returns its seat, through which it has sent `count` numbers, from `first` on.
 #[derive(Drop)]
@@ -103,21 +102,22 @@ pub fn start_emitters<'s, E, R: Wait + Sync>(
     Some(threads)
 }
 
-/// Binds each seat to its flow. `None` if memory was refused.
-pub fn emitters_of<'a>(
+/// Waits until all threads have ended, and returns their emitters. `None` if memory was refused.
+pub fn join_emitters<'a, R: Threads>(
+    rt: &R,
     alloc: Global,
     flow: &'a SharedFlow<u64>,
-    seats: Vec<Seat<u64>>,
+    threads: Vec<Emitting>,
 ) -> Option<Vec<Emitter<'a, u64>>>
-    requires { All (λ s. s.table_id ≡ flow.now.table_id) seats.items }
-    ensures count { IfSome result (λ emitters. vec_len emitters ≡ vec_len seats) }
-    ensures bound { IfSome result (λ emitters. (i : ℕ) (d e : _) → i < vec_len seats →
-        slice_index_or emitters.items i d ≡
-        called_by flow.entry.now (slice_index_or seats.items i e)) }
+    requires { All (λ t. t.promise.seat.value.table_id ≡ flow.now.table_id) threads.items }
+    ensures count { IfSome result (λ emitters. vec_len emitters ≡ vec_len threads) }
+    ensures sent { IfSome result (λ emitters. (i : ℕ) (d t : _) → i < vec_len threads →
+        HasSentAs flow.entry.now
+        (slice_index_or threads.items i t).promise (slice_index_or emitters.items i d)) }
 {
-    let mut emitters = Vec::with_capacity(alloc, seats.len()).ok()?;
-    for seat in seats {
-        emitters.push_reserved(flow.emitter(seat));
+    let mut emitters = Vec::with_capacity(alloc, threads.len()).ok()?;
+    for thread in threads {
+        emitters.push_reserved(flow.emitter(thread.join(rt)));
     }
     Some(emitters)
 }

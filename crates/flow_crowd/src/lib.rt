@@ -14,10 +14,12 @@
 //! one are dropped: no emitter waits for them, the threads that were made end, and the answer is out of memory.
 #![tactic(auto)]
 
+mod callers;
 mod crowd;
 mod emitters;
 mod pair;
 mod receiving;
+mod running;
 mod sending;
 mod size;
 mod subscribers;

@@ -1,16 +1,15 @@
 //! The subscribers of a crowd, and their threads.
 ghost use Rattle.std.specs.Prelude.{◌≡◌, [], ◌+◌, ◌<◌, ◌≤◌, All, ℕ, IfSome, length, slice_index_or, vec_capacity, vec_len};
 ghost use Rattle.flow_law.specs.Done.{done_by};
-ghost use Rattle.flow_law.specs.Handles.{read_by};
 ghost use Rattle.flow_crowd.specs.Callers.{Reads};
-ghost use Rattle.flow_crowd.specs.Crowds.{IsMaker, IsSubscribed, WillRead};
+ghost use Rattle.flow_crowd.specs.Crowds.{HasTakenAs, IsMaker, IsSubscribed, WillRead};
 
 use crate::receiving::receive_all;
 use flow_shared::{Emitter, Reader, SharedFlow, Subscription};
 use std::alloc::Global;
 use std::snapshot::Snapshot;
 use std::sync::Wait;
-use std::thread::{Promise, PromisedHandle, Scope};
+use std::thread::{Promise, PromisedHandle, Scope, Threads};
 
 /// Subscribes so many times. `None` if memory was refused.
 pub fn subscribe_all<'a, R: Wait>(
@@ -134,34 +133,40 @@ pub fn start_subscribers<'s, E, R: Wait + Sync>(
     Some(threads)
 }
 
-/// The subscribers of a crowd that has ended, and what each of them got.
-#[derive(Drop)]
-pub struct Ended<'a> {
-    pub readers: Vec<Reader<'a, u64>>,
-    pub got: Vec<Vec<u64>>,
+/// Subscribers, and a list for each.
+type Subscribers<'a> = (Vec<Reader<'a, u64>>, Vec<Vec<u64>>);
+
+/// Returns room for so many subscribers and their lists. `None` if memory was refused.
+fn room_for<'a>(alloc: Global, count: usize) -> Option<Subscribers<'a>>
+    ensures readers { IfSome result (λ r. (r.0.items ≡ []) × (count ≤ vec_capacity r.0)) }
+    ensures lists { IfSome result (λ r. (r.1.items ≡ []) × (count ≤ vec_capacity r.1)) }
+{
+    let readers = Vec::with_capacity(alloc, count).ok()?;
+    let got = Vec::with_capacity(alloc, count).ok()?;
+    Some((readers, got))
 }
 
-/// Binds each subscription to its flow, and returns the subscribers and their lists apart. `None` if memory was refused.
-pub fn apart<'a>(
+/// Waits until all threads have ended, and returns their subscribers, and what each of them got. `None` if memory was
+/// refused.
+pub fn join_subscribers<'a, R: Threads>(
+    rt: &R,
     alloc: Global,
     flow: &'a SharedFlow<u64>,
-    ended: Vec<(Subscription<u64>, Vec<u64>)>,
-) -> Option<Ended<'a>>
-    requires { All (λ e. e.0.token.table_id ≡ flow.now.table_id) ended.items }
-    ensures readers { IfSome result (λ r. vec_len r.readers ≡ vec_len ended) }
-    ensures got { IfSome result (λ r. vec_len r.got ≡ vec_len ended) }
-    ensures reader { IfSome result (λ r. (i : ℕ) (d e : _) → i < vec_len ended →
-        slice_index_or r.readers.items i d ≡
-        read_by flow.entry.now (slice_index_or ended.items i e).0) }
-    ensures list { IfSome result (λ r. (i : ℕ) (d e : _) → i < vec_len ended →
-        slice_index_or r.got.items i d ≡ (slice_index_or ended.items i e).1) }
+    threads: Vec<Reading>,
+) -> Option<Subscribers<'a>>
+    requires { All
+        (λ t. t.promise.subscription.value.token.table_id ≡ flow.now.table_id) threads.items }
+    ensures readers { IfSome result (λ r. vec_len r.0 ≡ vec_len threads) }
+    ensures lists { IfSome result (λ r. vec_len r.1 ≡ vec_len threads) }
+    ensures taken { IfSome result (λ r. (i : ℕ) (d v t : _) → i < vec_len threads →
+        HasTakenAs flow.entry.now (slice_index_or threads.items i t).promise
+        (slice_index_or r.0.items i d) (slice_index_or r.1.items i v).items) }
 {
-    let mut readers = Vec::with_capacity(alloc, ended.len()).ok()?;
-    let mut got = Vec::with_capacity(alloc, ended.len()).ok()?;
-    for each in ended {
-        let (subscription, list) = each;
+    let (mut readers, mut got) = room_for(alloc, threads.len())?;
+    for thread in threads {
+        let (subscription, list) = thread.join(rt);
         readers.push_reserved(flow.reader(subscription));
         got.push_reserved(list);
     }
-    Some(Ended { readers, got })
+    Some((readers, got))
 }

@@ -1,0 +1,49 @@
+//! The threads of a crowd, from their start to their end.
+ghost use Rattle.std.specs.Prelude.{◌≡◌, All, IfSome, vec_len};
+ghost use Rattle.flow_crowd.specs.Crowds.{HaveRun};
+
+use crate::callers::Callers;
+use crate::emitters::{join_emitters, start_emitters};
+use crate::size::CrowdSize;
+use crate::subscribers::{join_subscribers, start_subscribers};
+use flow_shared::{Emitter, Reader, SharedFlow};
+use std::alloc::Global;
+use std::sync::Wait;
+use std::thread::{Scope, Threads};
+
+/// The callers of a crowd whose threads have ended, and what each of its subscribers got.
+#[derive(Drop)]
+pub struct Ended<'a> {
+    pub emitters: Vec<Emitter<'a, u64>>,
+    pub readers: Vec<Reader<'a, u64>>,
+    pub got: Vec<Vec<u64>>,
+}
+
+/// Runs a thread for each caller of a crowd. Those that emit start first. If a thread cannot be made, the subscribers
+/// without one are dropped, and no emitter waits for them.
+pub fn run_threads<'s, E, R: Threads + Wait + Sync>(
+    rt: &'s R,
+    alloc: Global,
+    scope: &Scope<'s, E>,
+    flow: &'s SharedFlow<u64>,
+    callers: Callers<'s>,
+    size: CrowdSize,
+) -> Option<Ended<'s>>
+    requires count { vec_len callers.emitters ≡ size.emitters }
+    requires emitters { All (λ c. c.flow.table_id ≡ flow.now.table_id) callers.emitters.items }
+    requires readers { All (λ r. r.flow.table_id ≡ flow.now.table_id) callers.readers.items }
+    ensures { IfSome result (λ r. HaveRun size flow.entry.now
+        callers.entry.emitters.items callers.entry.readers.items
+        r.emitters.items r.readers.items r.got.items) }
+{
+    let Callers { emitters, readers } = callers;
+    let emitting = start_emitters(rt, alloc, scope, flow, emitters, u64::from(size.values))?;
+    let reading = start_subscribers(rt, alloc, scope, flow, readers, size.emitted())?;
+    let emitters = join_emitters(rt, alloc, flow, emitting)?;
+    let (readers, got) = join_subscribers(rt, alloc, flow, reading)?;
+    Some(Ended {
+        emitters,
+        readers,
+        got,
+    })
+}
