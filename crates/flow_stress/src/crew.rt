@@ -160,25 +160,40 @@ fn join_all<C: Drop, R: Threads>(
     Some(workers)
 }
 
+/// Returns the turns of all workers, and drops their callers. Returns None if memory is refused.
+fn turns_of<C: Drop>(alloc: Global, workers: Vec<Worker<C>>) -> Option<Vec<Turn>> {
+    let mut turns = Vec::new(alloc);
+    for worker in workers {
+        let Ok(()) = turns.push(worker.turn) else {
+            return None;
+        };
+    }
+    Some(turns)
+}
+
 fn run_in<'s, E, C, R>(
     rt: &'s R,
     alloc: Global,
     scope: &Scope<'s, E>,
     start: &'s Start,
     workers: Vec<Worker<C>>,
-) -> Option<Vec<Worker<C>>>
+) -> Option<Vec<Turn>>
 where
     C: Caller + 's,
     R: Threads + Wait + Clock + RandomSource + AllocGlobal + Sync,
 {
     let threads = make_threads(rt, alloc, scope, start, workers);
     start.open(threads.is_some());
-    join_all(rt, alloc, threads?)
+    let Some(workers) = join_all(rt, alloc, threads?) else {
+        return None;
+    };
+    turns_of(alloc, workers)
 }
 
-/// Lets each worker do its work in a thread of its own, and returns all workers then. All begin once all threads are
-/// made. Returns None if memory is refused, or a thread: then no worker begins.
-pub fn run_all<C, R>(rt: &R, alloc: Global, workers: Vec<Worker<C>>) -> Option<Vec<Worker<C>>>
+/// Lets each worker do its work in a thread of its own, and returns the turns of all workers then. All begin once all
+/// threads are made, and their callers are dropped once all have ended. Returns None if memory is refused, or a thread:
+/// then no worker begins.
+pub fn run_all<C, R>(rt: &R, alloc: Global, workers: Vec<Worker<C>>) -> Option<Vec<Turn>>
 where
     C: Caller,
     R: Threads + Wait + Clock + RandomSource + AllocGlobal + Sync,
@@ -188,18 +203,16 @@ where
         clock: AtomicU64::new(0),
     };
     let held = &start;
-    thread::scope(
-        thread::scope_env(),
-        rt,
-        move |scope| -> Option<Vec<Worker<C>>> { run_in(rt, alloc, scope, held, workers) },
-    )
+    thread::scope(thread::scope_env(), rt, move |scope| -> Option<Vec<Turn>> {
+        run_in(rt, alloc, scope, held, workers)
+    })
 }
 
-/// Returns what all workers found.
-pub fn found_by_all<C: Drop>(workers: &[Worker<C>]) -> Found {
+/// Returns what all threads found.
+pub fn found_by_all(turns: &[Turn]) -> Found {
     let mut all = NOTHING;
-    for worker in workers {
-        all = all.plus(worker.turn.found);
+    for turn in turns {
+        all = all.plus(turn.found);
     }
     all
 }

@@ -3,12 +3,20 @@ use crate::crew::Turn;
 use crate::found::Found;
 use crate::order::{Gets, Order, value_of};
 use flow_core::SharedCore;
+use flow_law::OutOfMemory;
 use flow_shared::{Emitter, FlowValues, Sent};
-use futures::StreamExt;
 use futures::executor::block_on;
+use futures::{Future, Stream, StreamExt};
 use std::alloc::AllocGlobal;
 use std::random::RandomSource;
 use std::sync::Wait;
+
+/// Waits for a future. Returns None if memory is refused.
+fn wait_for<R: Wait + RandomSource + AllocGlobal, F: Future>(rt: &R, future: F) -> Option<F::Output>
+    requires { F.can_poll future }
+{
+    block_on(rt, future).ok()
+}
 
 /// Emits a value. Returns None if memory is refused.
 fn send<R: Wait + RandomSource + AllocGlobal>(
@@ -16,25 +24,27 @@ fn send<R: Wait + RandomSource + AllocGlobal>(
     emitter: &mut Emitter<'_, u64>,
     value: u64,
 ) -> Option<()> {
-    match block_on(rt, emitter.another().into_send(value)) {
-        Ok(Sent::Done(_seat)) => Some(()),
+    match wait_for(rt, emitter.another().into_send(value)) {
+        Some(Sent::Done(_seat)) => Some(()),
         _ => None,
     }
 }
 
-/// Receives the next value. Returns None if memory is refused.
-fn receive<R: Wait + RandomSource + AllocGlobal>(
+/// Receives the next value of a stream. Returns None if memory is refused.
+fn receive<R: Wait + RandomSource + AllocGlobal, S: Stream<Item = Result<u64, OutOfMemory>>>(
     rt: &R,
-    values: &mut FlowValues<'_, SharedCore<u64>>,
-) -> Option<u64> {
-    match block_on(rt, values.next()) {
-        Ok(Some(Ok(value))) => Some(value),
+    values: &mut S,
+) -> Option<u64>
+    requires { S.can_poll values.old }
+{
+    match wait_for(rt, values.next()) {
+        Some(Some(Ok(value))) => Some(value),
         _ => None,
     }
 }
 
-/// Emits the values of this emitter, and receives one after each: its own, or another one. Returns None if memory is
-/// refused.
+/// Emits the values of this emitter, and receives one after each, which it must: its own, or another one. Returns None
+/// if memory is refused.
 fn exchange<R: Wait + RandomSource + AllocGlobal>(
     rt: &R,
     emitter: &mut Emitter<'_, u64>,
@@ -46,6 +56,8 @@ fn exchange<R: Wait + RandomSource + AllocGlobal>(
         send(rt, emitter, value_of(turn.number, u64::from(place)))?;
         order.add(receive(rt, values)?);
     }
+    let has_read_each = order.found.read == u64::from(turn.rounds);
+    order.found.check(has_read_each);
     Some(order.found)
 }
 
@@ -55,9 +67,9 @@ pub fn exchange_all<R: Wait + RandomSource + AllocGlobal>(
     emitter: &mut Emitter<'_, u64>,
     turn: &Turn,
 ) -> Option<Found> {
-    let mut values = emitter.subscribe(rt).ok()?.into_stream();
-    let mut found = exchange(rt, emitter, &mut values, turn)?;
-    let has_read_each = found.read == u64::from(turn.rounds);
-    found.check(has_read_each);
-    Some(found)
+    let Ok(reader) = emitter.subscribe(rt) else {
+        return None;
+    };
+    let mut values = reader.into_stream();
+    exchange(rt, emitter, &mut values, turn)
 }

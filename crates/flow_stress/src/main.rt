@@ -52,9 +52,10 @@ mod state;
 mod subscriber;
 mod word;
 
-use arguments::{CrowdSize, Size, Task, task_of};
-use flows::{crowd, record_kind, stress};
+use arguments::{CrowdSize, Kind, Size, Task, task_of};
+use flows::{crowd, record, stress};
 use found::Found;
+use recorder::{write_calls, write_flow};
 use std::alloc::AllocGlobal;
 use std::env::args;
 use std::io::{self, ErrorKind};
@@ -127,21 +128,33 @@ fn tell_usage(rt: &HostRuntime) -> io::Result<u8> {
     Ok(REFUSED)
 }
 
+/// Prints a record of calls of all threads, and answers the status.
+fn tell_record<R: Threads + Wait + Clock + RandomSource + AllocGlobal + Sync>(
+    rt: &HostRuntime,
+    threads: &R,
+    kind: Kind,
+    size: Size,
+) -> io::Result<u8> {
+    let out = &mut rt.stdout();
+    write_flow(out, kind)?;
+    let Some(turns) = record(threads, rt.alloc(), kind, size) else {
+        return Ok(OUT_OF_MEMORY);
+    };
+    write_calls(out, &turns)?;
+    Ok(0)
+}
+
 /// Does what was asked. The threads are those of `threads`.
 fn do_task<R: Threads + Wait + Clock + RandomSource + AllocGlobal + Sync>(
     rt: &HostRuntime,
     threads: &R,
     task: Task,
 ) -> io::Result<u8> {
-    let out = &mut rt.stdout();
     let alloc = rt.alloc();
     match task {
-        Task::Stress(size) => tell(rt, size, stress(threads, alloc, size, out)),
-        Task::Crowd(size) => tell_crowd(rt, size, crowd(threads, alloc, size, out)),
-        Task::Record(kind, size) => match record_kind(threads, alloc, kind, size, out) {
-            Some(found) => Ok(status_of(found)),
-            None => Ok(OUT_OF_MEMORY),
-        },
+        Task::Stress(size) => tell(rt, size, stress(threads, alloc, size)),
+        Task::Crowd(size) => tell_crowd(rt, size, crowd(threads, alloc, size)),
+        Task::Record(kind, size) => tell_record(rt, threads, kind, size),
     }
 }
 

@@ -1,16 +1,13 @@
 //! Records what threads call of a flow.
-use crate::arguments::{Job, Size};
-use crate::crew::{Caller, Recorded, Turn, Worker, run_all, workers};
+use crate::arguments::Kind;
+use crate::crew::{Recorded, Turn};
 use crate::found::{Found, NOTHING};
 use crate::order::value_of;
 use crate::recording::{Call, Entry};
 use rand_core::utils::NextWord;
-use std::alloc::{AllocGlobal, Global};
 use std::io::{self, Write};
-use std::random::RandomSource;
 use std::sync::Wait;
 use std::sync::atomic::{AtomicU64, Ordering};
-use std::thread::Threads;
 use std::time::Clock;
 
 /// Chooses a call. A caller without a subscription subscribes before it reads or leaves.
@@ -62,33 +59,32 @@ pub fn record_all<C: Recorded, R: Wait + Clock>(
     Some(NOTHING)
 }
 
+/// Returns the record's text of a flow of this kind.
+fn words_of(kind: Kind) -> &'static str {
+    match kind {
+        Kind::Word | Kind::State => "\"kind\": \"state\", \"initial\": 0",
+        Kind::Shared =>
+            "\"kind\": \"shared\", \"replay\": 1, \"extra\": 2, \"overflow\": \"suspend\"",
+        Kind::Dropping => {
+            "\"kind\": \"shared\", \"replay\": 1, \"extra\": 1, \"overflow\": \"drop_oldest\""
+        }
+        Kind::Rendezvous => {
+            "\"kind\": \"shared\", \"replay\": 0, \"extra\": 0, \"overflow\": \"suspend\""
+        }
+    }
+}
+
+/// Writes the first line of a record, which says what flow of this kind is called.
+pub fn write_flow<W: Write>(out: &mut W, kind: Kind) -> io::Result<()> {
+    writeln!(out, "{{\"flow\": {{{}}}}}", words_of(kind))
+}
+
 /// Writes what all threads have recorded.
-fn write_all<C: Caller, W: Write>(out: &mut W, workers: &[Worker<C>]) -> io::Result<()> {
-    for worker in workers {
-        let turn = &worker.turn;
+pub fn write_calls<W: Write>(out: &mut W, turns: &[Turn]) -> io::Result<()> {
+    for turn in turns {
         for entry in &turn.entries {
             entry.write(out, turn.number)?;
         }
     }
     Ok(())
-}
-
-/// Records the calls of all threads, and writes them once all have ended: a reader that is dropped leaves the flow,
-/// which no record tells. Returns None if memory or a thread is refused.
-pub fn record<C, R, W>(
-    rt: &R,
-    alloc: Global,
-    first: &mut C,
-    size: Size,
-    out: &mut W,
-) -> Option<Found>
-where
-    C: Caller,
-    R: Threads + Wait + Clock + RandomSource + AllocGlobal + Sync,
-    W: Write,
-{
-    let workers = workers(rt, alloc, first, Job::Record, size)?;
-    let workers = run_all(rt, alloc, workers)?;
-    write_all(out, &workers).ok()?;
-    Some(NOTHING)
 }

@@ -20,18 +20,33 @@ const LIMIT: u64 = 100;
 
 fn emit<R: Wait + Clock>(rt: &R, emitter: &mut Emitter<'_, u64>, value: u64) -> Option<Answer> {
     let limit = Duration::from_micros(LIMIT);
-    match emitter.send_timeout(rt, value, limit).ok()? {
-        SendEnd::Done => Some(Answer::Done),
-        SendEnd::Cancelled => Some(Answer::Cancelled),
+    match emitter.send_timeout(rt, value, limit) {
+        Ok(SendEnd::Done) => Some(Answer::Done),
+        Ok(SendEnd::Cancelled) => Some(Answer::Cancelled),
+        Err(_rejected) => None,
+    }
+}
+
+fn try_emit<R: Wait>(rt: &R, emitter: &mut Emitter<'_, u64>, value: u64) -> Option<Answer> {
+    match emitter.try_emit(rt, value) {
+        Ok(is_taken) => Some(Answer::Truth(is_taken)),
+        Err(_rejected) => None,
     }
 }
 
 fn replay_cache<R: Wait>(rt: &R, emitter: &mut Emitter<'_, u64>) -> Option<Answer> {
-    let cache = emitter.replay_cache(rt).ok()?;
+    let Ok(cache) = emitter.replay_cache(rt) else {
+        return None;
+    };
     Some(match cache.as_slice().first() {
         Some(value) => Answer::Cache(*value),
         None => Answer::EmptyCache,
     })
+}
+
+fn reset_replay_cache<R: Wait>(rt: &R, emitter: &mut Emitter<'_, u64>) -> Answer {
+    emitter.reset_replay_cache(rt);
+    Answer::Done
 }
 
 impl Caller for Subscriber<'_, SharedCore<u64>> {
@@ -80,13 +95,10 @@ impl Recorded for Subscriber<'_, SharedCore<u64>> {
 
     fn make<R: Wait + Clock>(&mut self, rt: &R, call: Call) -> Option<Answer> {
         match call {
-            Call::TryEmit(value) => Some(Answer::Truth(self.caller.try_emit(rt, value).ok()?)),
+            Call::TryEmit(value) => try_emit(rt, &mut self.caller, value),
             Call::Emit(value) => emit(rt, &mut self.caller, value),
             Call::ReplayCache => replay_cache(rt, &mut self.caller),
-            Call::ResetReplayCache => {
-                self.caller.reset_replay_cache(rt);
-                Some(Answer::Done)
-            }
+            Call::ResetReplayCache => Some(reset_replay_cache(rt, &mut self.caller)),
             _ => self.make_of_subscriber(rt, call),
         }
     }
