@@ -25,11 +25,9 @@ fn main(rt: HostRuntime) -> Result<()> {
     let shared = chains::between_threads::add_up(&rt, rt.alloc())?;
     print_sums(&rt, sum, consumers, shared)?;
     sensor::show(&rt)?;
-    let page = screen::show_page(&rt, rt.alloc(), page(&rt)?)?;
-    println!(rt; "ready: {}", page.as_str())?;
+    print_page(&rt, screen::show_page(&rt, rt.alloc(), page(&rt)?)?)?;
     show_best(&rt)?;
-    print!(rt; "{}", played::lines(rt.alloc())?)?;
-    Ok(())
+    show_script(&rt)
 }
 
 /// Prints what threads have added up.
@@ -46,6 +44,17 @@ fn show_best(rt: &HostRuntime) -> Result<()> {
     let read = setting::set_and_read(&mut flow, 7)?;
     let best = setting::raise(&mut flow, 5)?;
     println!(rt; "set and read: {read}, and the best is {best}")?;
+    Ok(())
+}
+
+/// Prints the page that a thread has seen.
+fn print_page(rt: &HostRuntime, page: Text) -> io::Result<()> {
+    println!(rt; "ready: {}", page.as_str())
+}
+
+/// Prints the lines of a script.
+fn show_script(rt: &HostRuntime) -> Result<()> {
+    print!(rt; "{}", played::lines(rt.alloc())?)?;
     Ok(())
 }
 

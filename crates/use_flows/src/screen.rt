@@ -1,7 +1,7 @@
 //! The state of a screen: one thread sets it, and another one follows it until a page is there.
 ghost use Rattle.std.proofs.Common.{rules};
 
-use flow_law::{FlowFault, FlowValue, OutOfMemory, Text};
+use flow_law::{FlowFault, FlowValue, Text};
 use flow_shared::{Setter, StateFlow, StateReader};
 use std::alloc::Global;
 use std::sync::Wait;
@@ -40,7 +40,7 @@ fn load<R: Wait>(rt: &R, screen: &mut Setter<'_, Screen>, page: Text) {
 }
 
 /// Waits for a page. A slow reader skips states, and always gets the most recent one.
-fn page_of<R: Wait>(rt: &R, screen: &mut StateReader<'_, Screen>) -> Result<Text, OutOfMemory> {
+fn page_of<R: Wait>(rt: &R, screen: &mut StateReader<'_, Screen>) -> Result<Text, FlowFault> {
     for _ in rt.forever() {
         if let Screen::Ready(page) = screen.changed(rt)? {
             return Ok(page);
@@ -63,5 +63,5 @@ pub fn show_page<R: Wait + Threads + Sync>(
         || page_of(rt, &mut reader),
         || load(rt, &mut setter, page),
     );
-    Ok(shown?)
+    shown
 }

@@ -1,5 +1,5 @@
 //! A flow between two threads: one sends the numbers from 1 to 5, the other receives them and adds them up.
-use flow_law::{Config, FlowFault, NumberError, OutOfMemory, Rejected};
+use flow_law::{Config, FlowFault};
 use flow_shared::{Emitter, Reader, SharedFlow};
 use std::alloc::Global;
 use std::ops::Range;
@@ -18,7 +18,7 @@ pub fn add_up<R: Wait + Threads + Sync>(rt: &R, alloc: Global) -> Result<i64, Fl
         || send(rt, &mut emitter, 1..6),
     );
     sent?;
-    Ok(sum?)
+    sum
 }
 
 /// Sends the values one after the other, and waits where there is no room.
@@ -26,7 +26,7 @@ fn send<R: Wait>(
     rt: &R,
     emitter: &mut Emitter<'_, i64>,
     values: Range<i64>,
-) -> Result<(), Rejected<i64, NumberError>> {
+) -> Result<(), FlowFault> {
     for value in values {
         emitter.send(rt, value)?;
     }
@@ -34,7 +34,7 @@ fn send<R: Wait>(
 }
 
 /// Adds up the next values, so many. The thread sleeps until each is there.
-fn sum_of<R: Wait>(rt: &R, reader: &mut Reader<'_, i64>, count: u32) -> Result<i64, OutOfMemory> {
+fn sum_of<R: Wait>(rt: &R, reader: &mut Reader<'_, i64>, count: u32) -> Result<i64, FlowFault> {
     let mut sum = 0i64;
     for _ in 0..count {
         sum = sum.wrapping_add(reader.receive(rt)?);

@@ -24,8 +24,16 @@ pub fn add_up<R: Wait + Clock + Threads + Sync>(rt: &R, alloc: Global) -> Result
     let hub = SharedFlowHub::new(&flow, &mut seat);
     let mut reader = flow.emitter(seat).subscribe(rt)?;
     let mut sharing = Sharing::new(OfRange::new(1, 20), Started::Lazily, hub);
-    let read = || sum_of(rt, &mut reader, 20);
-    let (sum, ran) = join(rt, read, || sharing.run_to_end(rt));
+    run_both(rt, &mut sharing, &mut reader)
+}
+
+/// Runs the sharing, and meanwhile adds up all items.
+fn run_both<R: Wait + Clock + Threads + Sync>(
+    rt: &R,
+    sharing: &mut Sharing<OfRange, SharedFlowHub<'_, i64>>,
+    reader: &mut Reader<'_, i64>,
+) -> Result<i64> {
+    let (sum, ran) = join(rt, || sum_of(rt, reader, 20), || sharing.run_to_end(rt));
     ran?;
     Ok(sum?)
 }

@@ -4,44 +4,47 @@ use flow_cold::{Chain, ChainFault, Collected, OfList, OfRange, Terminal, collect
 use std::alloc::Global;
 
 /// Returns the first three even numbers from 1 to `last`, times `k`.
-fn even_times(alloc: Global, last: i64, k: i64) -> Result<Collected<i64>> {
+fn even_times(alloc: Global, last: i64, k: i64) -> Result<Collected<i64>, ChainFault> {
     let mut chain = OfRange::new(1, last)
         .filter(|x| x % 2 == 0)
         .map(|x| x.checked_mul(k).ok_or(ChainFault::Overflow))
         .take(3)?;
-    Ok(collect_all(alloc, &mut chain)?)
+    collect_all(alloc, &mut chain)
 }
 
 /// From `first` to each number up to `last`.
-fn counted_up(alloc: Global, first: i64, last: i64) -> Result<Collected<i64>> {
+fn counted_up(alloc: Global, first: i64, last: i64) -> Result<Collected<i64>, ChainFault> {
     let mut chain = OfRange::new(first, last).flat_map_concat(|x| Ok(OfRange::new(first, x)));
-    Ok(collect_all(alloc, &mut chain)?)
+    collect_all(alloc, &mut chain)
 }
 
 /// Returns what is saved after each payment, and at first.
-fn savings(alloc: Global, saved: i64, payments: Vec<i64>) -> Result<Collected<i64>> {
+fn savings(alloc: Global, saved: i64, payments: Vec<i64>) -> Result<Collected<i64>, ChainFault> {
     let mut chain = OfList::new(payments).scan(saved, |all, payment| {
         all.checked_add(payment).ok_or(ChainFault::Overflow)
     });
-    Ok(collect_all(alloc, &mut chain)?)
+    collect_all(alloc, &mut chain)
 }
 
 /// Returns each amount at its price.
-fn priced(alloc: Global, amounts: Vec<i64>, prices: Vec<i64>) -> Result<Collected<i64>> {
+fn priced(
+    alloc: Global,
+    amounts: Vec<i64>,
+    prices: Vec<i64>,
+) -> Result<Collected<i64>, ChainFault> {
     let mut chain = OfList::new(amounts).zip(OfList::new(prices), |amount, price| {
         amount.checked_mul(price).ok_or(ChainFault::Overflow)
     });
-    Ok(collect_all(alloc, &mut chain)?)
+    collect_all(alloc, &mut chain)
 }
 
 /// Returns the sum of the numbers from 1 to `last` that are not below `least`.
-fn sum_from(least: i64, last: i64) -> Result<i64> {
+fn sum_from(least: i64, last: i64) -> Result<i64, ChainFault> {
     let mut chain = OfRange::new(1, last).filter(|x| *x >= least);
-    let sum = chain.fold(
+    chain.fold(
         0,
         |all: i64, x| all.checked_add(x).ok_or(ChainFault::Overflow),
-    )?;
-    Ok(sum)
+    )
 }
 
 fn print(rt: &HostRuntime, collected: &Collected<i64>) -> Result<()> {
