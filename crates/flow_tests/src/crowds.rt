@@ -37,6 +37,14 @@ fn check_order(rt: &impl Abort, place: usize, got: &[u64], size: CrowdSize) {
     }
 }
 
+/// Each list has so many values, those of each emitter in its order.
+fn check_lists(rt: &impl Abort, place: usize, lists: &[Vec<u64>], size: CrowdSize, count: u64) {
+    for list in lists {
+        compare(rt, place, list.len() as u64, count);
+        check_order(rt, place, list.as_slice(), size);
+    }
+}
+
 #[test]
 fn each_subscriber_gets_all_in_order(rt: HostRuntime) {
     for (place, crowd) in CROWDS.iter().enumerate() {
@@ -45,10 +53,7 @@ fn each_subscriber_gets_all_in_order(rt: HostRuntime) {
         compare(&rt, place, size.emitted(), count);
         let got = run_crowd(&rt, rt.alloc(), size).expect(&rt, "memory and threads");
         compare(&rt, place, got.len(), subscribers as usize);
-        for list in &got {
-            compare(&rt, place, list.len() as u64, count);
-            check_order(&rt, place, list.as_slice(), size);
-        }
+        check_lists(&rt, place, &got, size, count);
     }
 }
 

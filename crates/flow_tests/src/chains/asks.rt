@@ -49,15 +49,19 @@ impl<'a, C: Cold> Cold for Counted<'a, C> {
     ghost limited = { λ l s. C.limited l s.chain };
 }
 
+/// The numbers from 1 to 5.
+fn one_to_five(asks: &Cell<u32>) -> Counted<'_, OfRange> {
+    Counted {
+        chain: OfRange::new(1, 5),
+        asks,
+    }
+}
+
 /// Nothing is asked after the last item of a take.
 #[test]
 fn a_take_asks_no_more_than_it_gives(rt: HostRuntime) {
     let asks = Cell::new(0);
-    let counted = Counted {
-        chain: OfRange::new(1, 5),
-        asks: &asks,
-    };
-    begins_with(&rt, rt.alloc(), 0, counted, 2, &[1, 2]);
+    begins_with(&rt, rt.alloc(), 0, one_to_five(&asks), 2, &[1, 2]);
     compare(&rt, 0, asks.get(), 2 * COLLECTIONS);
 }
 
@@ -65,11 +69,8 @@ fn a_take_asks_no_more_than_it_gives(rt: HostRuntime) {
 #[test]
 fn a_scan_asks_once_less_than_it_gives(rt: HostRuntime) {
     let asks = Cell::new(0);
-    let counted = Counted {
-        chain: OfRange::new(1, 5),
-        asks: &asks,
-    };
-    begins_with(&rt, rt.alloc(), 0, counted.scan(0, sum), 3, &[0, 1, 3]);
+    let scanned = one_to_five(&asks).scan(0, sum);
+    begins_with(&rt, rt.alloc(), 0, scanned, 3, &[0, 1, 3]);
     compare(&rt, 0, asks.get(), 2 * COLLECTIONS);
 }
 

@@ -3,7 +3,7 @@ use crate::checker::records::{call, callers_of, wrong_moment};
 use crate::checker::shared_records;
 use flow_check::StateAnswer::{Done, Value};
 use flow_check::StateOperation::{Set, Value as Read};
-use flow_check::{Cut, Record, SharedAnswer, SharedOperation, StateEntry, known_record};
+use flow_check::{Cut, Record, SharedAnswer, SharedOperation, StateEntry, Timed, known_record};
 use flow_law::Config;
 use std::alloc::{AllocError, Global};
 use std::process::Abort;
@@ -58,12 +58,14 @@ type Ends = (Option<Option<u64>>, Option<Option<u64>>);
 
 fn ends_of(known: &Record<StateEntry>) -> Ends {
     match known.callers().first() {
-        Some(calls) => (
-            calls.get(0).map(|call| call.end),
-            calls.get(1).map(|call| call.end),
-        ),
+        Some(calls) => (end_of(calls, 0), end_of(calls, 1)),
         None => (None, None),
     }
+}
+
+/// When the call at this place ended.
+fn end_of(calls: &[Timed<StateEntry>], place: usize) -> Option<Option<u64>> {
+    Some(calls.get(place)?.end)
 }
 
 fn is_cut(

@@ -168,17 +168,25 @@ impl<'a> Caller<'a> {
         }
     }
 
+    fn next(&mut self, rt: &impl Abort, index: usize) -> Result<Next<i64>, FlowFault> {
+        let id = self.subscriber(rt, index);
+        number_of(self.flow.next(id))
+    }
+
+    fn drain(&mut self, rt: &impl Abort, index: usize, most: usize) -> Result<Drained, FlowFault> {
+        let id = self.subscriber(rt, index);
+        self.flow.drain(id, most, &mut self.drained)
+    }
+
     /// Makes a call of a subscriber, and compares what it answers.
     fn receive(&mut self, rt: &impl Abort, place: usize, call: &Call) {
         match *call {
             Call::Next(index, ref next) => {
-                let id = self.subscriber(rt, index);
-                let answer = number_of(self.flow.next(id));
+                let answer = self.next(rt, index);
                 compare(rt, place, answer.as_ref(), Ok(next));
             }
             Call::NextRefused(index) => {
-                let id = self.subscriber(rt, index);
-                let answer = number_of(self.flow.next(id));
+                let answer = self.next(rt, index);
                 compare(rt, place, answer, Err(FlowFault::OutOfMemory));
             }
             Call::Unsubscribe(index, was_there) => {
@@ -186,9 +194,7 @@ impl<'a> Caller<'a> {
                 compare(rt, place, self.flow.unsubscribe(id), was_there);
             }
             Call::Drain(index, most, wanted) => {
-                let id = self.subscriber(rt, index);
-                let answer = self.flow.drain(id, most, &mut self.drained);
-                compare(rt, place, answer, wanted);
+                compare(rt, place, self.drain(rt, index, most), wanted);
             }
             _ => self.ask(rt, place, call),
         }

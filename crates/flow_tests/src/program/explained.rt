@@ -69,11 +69,13 @@ static RULES: &[(&str, &str, bool, &str)] = &[
     ),
 ];
 
-/// Compares the rule of an answer with the one that is wanted.
-fn expect_rule<H: Host>(rt: &H, script: &str, step: &str, test: bool, rule: &str) {
-    let script = Value::from_str(rt.alloc(), script).expect(rt, "a script");
-    let step = Value::from_str(rt.alloc(), step).expect(rt, "a step");
-    let told = Told {
+fn json<H: Host>(rt: &H, text: &str) -> Value {
+    Value::from_str(rt.alloc(), text).expect(rt, "a value")
+}
+
+/// What was recorded of a step that was answered so.
+fn tested(test: bool) -> Told {
+    Told {
         answer: Answer::Tested(test),
         seen: Seen {
             emitted: Some(1),
@@ -81,8 +83,14 @@ fn expect_rule<H: Host>(rt: &H, script: &str, step: &str, test: bool, rule: &str
             at: None,
         },
         subscriber: None,
-    };
-    let rules = rules_of(rt.alloc(), &script, &[step], &[told]).expect(rt, "memory");
+    }
+}
+
+/// Compares the rule of an answer with the one that is wanted.
+fn expect_rule<H: Host>(rt: &H, script: &str, step: &str, test: bool, rule: &str) {
+    let script = json(rt, script);
+    let step = json(rt, step);
+    let rules = rules_of(rt.alloc(), &script, &[step], &[tested(test)]).expect(rt, "memory");
     let [found] = rules.as_slice() else {
         panic!(rt; "a rule");
     };
