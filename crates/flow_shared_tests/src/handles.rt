@@ -2,9 +2,9 @@
 //! documentation.
 mod answers;
 mod dropping;
-mod emissions;
+pub mod emissions;
 mod errors;
-mod flows;
+mod players;
 mod refusals;
 mod shared;
 mod shared_calls;

@@ -17,6 +17,10 @@ mod compare;
 #[cfg(test)]
 mod examples;
 #[cfg(test)]
+mod flows;
+#[cfg(test)]
+mod handle_calls;
+#[cfg(test)]
 mod handles;
 #[cfg(test)]
 mod lent;

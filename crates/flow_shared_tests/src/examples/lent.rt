@@ -1,10 +1,10 @@
 //! Callers to whom a flow was lent, by the values that they get.
 use crate::compare::compare;
 use crate::examples::subscribed::{Subscribed, lend};
+use crate::flows::new_word_state;
 use crate::lent::{emit_one, next_in_order, read_newest};
 use flow_law::Config;
 use flow_law::Next::{Empty, Value};
-use flow_word::WordState;
 use std::process::Abort;
 use std::sync::Wait;
 
@@ -26,7 +26,7 @@ fn subscriber_of_a_lent_flow_receives_all(rt: HostRuntime) {
 /// A word state of 5 is set to 9.
 #[test]
 fn reader_of_a_lent_word_state_gets_the_newest_value(rt: HostRuntime) {
-    let (flow, mut seat) = WordState::<i64>::new(rt.alloc(), 5, 1).expect(&rt, "a word state");
+    let (flow, mut seat) = new_word_state(&rt, rt.alloc(), 5, 1);
     compare(&rt, 0, read_newest(&flow, &mut seat), 5);
     flow.set(&mut seat, 9);
     compare(&rt, 1, read_newest(&flow, &mut seat), 9);

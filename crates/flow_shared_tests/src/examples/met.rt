@@ -3,24 +3,11 @@ ghost use Rattle.std.specs.Prelude.{◌≡◌};
 
 use crate::compare::compare;
 use crate::examples::subscribed::{Subscribed, lend};
+use crate::flows::{new_state_flow, reads_cache};
 use flow_law::{Config, Next};
 use flow_shared::{Seat, SharedFlow, StateFlow, StateSeat};
 use std::process::Abort;
 use std::sync::Wait;
-
-/// Compares the cache that a caller reads.
-fn reads_cache<R: Wait + Abort>(
-    rt: &R,
-    flow: &SharedFlow<i64>,
-    seat: &mut Seat<i64>,
-    wanted: &[i64],
-)
-    requires { seat.old.table_id ≡ flow.now.table_id }
-    ensures { seat.new.table_id ≡ flow.entry.now.table_id }
-{
-    let cache = flow.replay_cache(rt, seat).expect(rt, "memory");
-    compare(rt, 0, cache.as_slice(), wanted);
-}
 
 /// Two seats each emit a value, and meet: both read both values.
 fn emit_and_meet<R: Wait + Abort>(
@@ -91,7 +78,7 @@ fn set_and_receive<R: Wait + Abort>(
 
 #[test]
 fn seats_and_a_subscription_of_a_state_flow_have_met(rt: HostRuntime) {
-    let (flow, mut seat) = StateFlow::new(rt.alloc(), 0, u64::MAX).expect(&rt, "a flow");
+    let (flow, mut seat) = new_state_flow(&rt, rt.alloc(), 0, u64::MAX);
     let mut other = flow.seat(&mut seat);
     set_and_meet(&rt, &flow, &mut seat, &mut other);
     set_and_receive(&rt, &flow, &mut seat, &mut other);

@@ -4,6 +4,7 @@ ghost use Rattle.std.specs.Prelude.{◌≡◌};
 use crate::awaiting::send;
 use crate::compare::compare;
 use crate::examples::subscribed::{Subscribed, lend, new_subscription};
+use crate::flows::new_flow;
 use flow_law::Config;
 use flow_shared::{EmitFuture, NextFuture, Seat, Sent, SharedFlow, Subscription};
 use futures::Future;
@@ -90,7 +91,7 @@ fn receives<R: Wait + RandomSource + AllocGlobal>(
 /// An emitter on one thread and a subscriber on another wait for each other.
 #[test]
 fn an_emission_and_its_receiver_are_awaited(rt: HostRuntime) {
-    let (flow, mut seat) = SharedFlow::new(rt.alloc(), Config::new()).expect(&rt, "a flow");
+    let (flow, mut seat) = new_flow(&rt, rt.alloc(), Config::new());
     let subscription = new_subscription(&rt, &flow, &mut seat);
     let done = join(
         &rt,

@@ -1,7 +1,10 @@
 //! A cancel and a read that race on two threads: whichever comes first, the subscribers get what is documented of the flow.
 use crate::compare::compare;
+use crate::flows::{new_flow, new_reader};
+use crate::handle_calls::{next, try_emit};
+use crate::handles::emissions::{cancel, emission_of};
 use flow_law::Config;
-use flow_shared::{BoundEmission, EmitAnswer, Emitter, Reader, SharedFlow};
+use flow_shared::{BoundEmission, Emitter, Reader};
 use flow_testing::Start;
 use std::alloc::Global;
 use std::process::Abort;
@@ -27,14 +30,13 @@ fn begin(start: &Start, run: u32) {
 /// What the reader receives, if anything.
 fn read<R: Wait>(rt: &R, start: &Start, run: u32, reader: &mut Reader<'_, i64>) -> Option<i64> {
     begin(start, run);
-    reader.next(rt).unwrap_or(None)
+    next(rt, reader).unwrap_or(None)
 }
 
 /// Whether the emission waited until it was cancelled.
-fn cancel<R: Wait>(rt: &R, start: &Start, run: u32, emission: BoundEmission<'_, i64>) -> bool {
+fn waited<R: Wait>(rt: &R, start: &Start, run: u32, emission: BoundEmission<'_, i64>) -> bool {
     begin(start, run);
-    let (_emitter, was_waiting) = emission.cancel(rt);
-    was_waiting
+    cancel(rt, emission)
 }
 
 /// Reads on one thread, and cancels the emission of this value on another one.
@@ -45,14 +47,12 @@ fn read_beside_cancel<R: Threads + Wait + Abort + Sync>(
     emitter: &mut Emitter<'_, i64>,
     value: i64,
 ) -> (Option<i64>, bool) {
-    let EmitAnswer::Queued(emission) = emitter.another().emit(rt, value) else {
-        panic!(rt; "it waits")
-    };
+    let emission = emission_of(rt, emitter, value);
     let start = Start::new(2);
     join(
         rt,
         || read(rt, &start, run, reader),
-        || cancel(rt, &start, run.wrapping_add(2), emission),
+        || waited(rt, &start, run.wrapping_add(2), emission),
     )
 }
 
@@ -63,12 +63,12 @@ fn waits_for_room<R: Threads + Wait + Abort + Sync>(
     run: u32,
     emitter: &mut Emitter<'_, i64>,
 ) -> bool {
-    let mut reader = emitter.subscribe(rt).expect(rt, "a reader");
-    compare(rt, 0, emitter.try_emit(rt, 1), Ok(true));
+    let mut reader = new_reader(rt, emitter);
+    compare(rt, 0, try_emit(rt, emitter, 1), Ok(true));
     let (first, was_waiting) = read_beside_cancel(rt, run, &mut reader, emitter, 2);
     compare(rt, 1, first, Some(1));
-    let next = if was_waiting { None } else { Some(2) };
-    compare(rt, 2, reader.next(rt), Ok(next));
+    let second = if was_waiting { None } else { Some(2) };
+    compare(rt, 2, next(rt, &mut reader), Ok(second));
     was_waiting
 }
 
@@ -79,24 +79,19 @@ fn is_offered<R: Threads + Wait + Abort + Sync>(
     run: u32,
     emitter: &mut Emitter<'_, i64>,
 ) -> bool {
-    let mut other = emitter.subscribe(rt).expect(rt, "a reader");
-    let mut reader = emitter.subscribe(rt).expect(rt, "a reader");
+    let mut other = new_reader(rt, emitter);
+    let mut reader = new_reader(rt, emitter);
     let (taken, was_waiting) = read_beside_cancel(rt, run, &mut reader, emitter, 7);
     compare(rt, 3, was_waiting, true);
     compare(rt, 4, taken == None || taken == Some(7), true);
-    compare(
-        rt,
-        5,
-        (other.next(rt), reader.next(rt)),
-        (Ok(None), Ok(None)),
-    );
+    compare(rt, 5, next(rt, &mut other), Ok(None));
+    compare(rt, 5, next(rt, &mut reader), Ok(None));
     taken == None
 }
 
 /// Races the two calls at a new flow with room for so many values. Returns whether the cancel came first.
 fn race<R: Threads + Wait + Abort + Sync>(rt: &R, alloc: Global, run: u32, room: u32) -> bool {
-    let made = SharedFlow::new(alloc, Config::new().extra(room));
-    let (flow, seat) = made.expect(rt, "a flow");
+    let (flow, seat) = new_flow(rt, alloc, Config::new().extra(room));
     let mut emitter = flow.emitter(seat);
     match room {
         0 => is_offered(rt, run, &mut emitter),

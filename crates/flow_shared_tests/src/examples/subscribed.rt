@@ -1,6 +1,7 @@
 //! A caller of a new flow, and a subscriber, which tests borrow.
 ghost use Rattle.std.specs.Prelude.{◌≡◌};
 
+use crate::flows::new_flow;
 use flow_law::Config;
 use flow_shared::{Seat, SharedFlow, Subscription};
 use std::alloc::AllocGlobal;
@@ -37,7 +38,7 @@ where
     F: FnOnce(&R, &mut Subscribed<'_>),
     requires { F.IsAlwaysCallable call }
 {
-    let (flow, mut seat) = SharedFlow::new(rt.alloc(), config).expect(rt, "a flow");
+    let (flow, mut seat) = new_flow(rt, rt.alloc(), config);
     let subscription = new_subscription(rt, &flow, &mut seat);
     let mut subscribed = Subscribed {
         flow: &flow,

@@ -2,6 +2,7 @@
 ghost use Rattle.std.specs.Prelude.{◌≡◌};
 
 use crate::compare::compare;
+use crate::flows::{new_flow, new_state_flow};
 use crate::reading::set_and_read;
 use flow_law::Config;
 use flow_shared::{Seat, SharedFlow, StateFlow, StateSeat};
@@ -42,7 +43,7 @@ fn set_from_two_threads<R: Threads + Wait + Abort + Sync>(
 /// The core of a closed flow has the value that was set last.
 #[test]
 fn a_thread_reads_what_it_set_or_what_another_set(rt: HostRuntime) {
-    let (flow, mut seat) = StateFlow::new(rt.alloc(), 0, u64::MAX).expect(&rt, "a flow");
+    let (flow, mut seat) = new_state_flow(&rt, rt.alloc(), 0, u64::MAX);
     let mut own = flow.seat(&mut seat);
     set_from_two_threads(&rt, &flow, &mut own);
     let core = flow.close(seat).expect(&rt, "no caller is inside");
@@ -77,8 +78,7 @@ fn emit_on_a_thread<R: Wait + Threads + Abort + Sync>(
 /// The flow that is closed then has what both threads emitted, and no subscriber.
 #[test]
 fn a_seat_goes_to_two_threads_in_turn(rt: HostRuntime) {
-    let made = SharedFlow::new(rt.alloc(), Config::new().replay(2));
-    let (flow, seat) = made.expect(&rt, "a flow");
+    let (flow, seat) = new_flow(&rt, rt.alloc(), Config::new().replay(2));
     let seat = emit_on_a_thread(&rt, &flow, seat, 1);
     let seat = emit_on_a_thread(&rt, &flow, seat, 2);
     let core = flow.close(seat).expect(&rt, "no caller is inside");

@@ -2,7 +2,7 @@
 ghost use Rattle.std.specs.Prelude.{◌≡◌};
 
 use crate::compare::compare;
-use crate::handles::flows::new_reader;
+use crate::flows::{new_flow, new_reader};
 use flow_law::Config;
 use flow_shared::{ReceiveFuture, Seat, SharedFlow};
 use futures::test::MockTask;
@@ -35,7 +35,7 @@ fn leave_waker<R: Wait + Abort>(
 /// A flow that ends wakes the tasks whose wakers it has.
 #[test]
 fn the_end_of_a_flow_wakes_its_sleepers(rt: HostRuntime) {
-    let (flow, seat) = SharedFlow::new(rt.alloc(), Config::new()).expect(&rt, "a flow");
+    let (flow, seat) = new_flow(&rt, rt.alloc(), Config::new());
     let task = MockTask::new(&rt).expect(&rt, "a task");
     let seat = leave_waker(&rt, &task, &flow, seat);
     compare(&rt, 1, task.is_woken(), false);

@@ -1,5 +1,6 @@
 //! Emissions that wait, through a handle.
 use crate::compare::compare;
+use crate::handle_calls::next;
 use crate::handles::answers::pause;
 use flow_shared::{BoundEmission, EmitAnswer, Emitter, PollAnswer, Reader};
 use std::process::Abort;
@@ -27,20 +28,21 @@ pub fn emission_of<'a, R: Wait + Abort>(
     queued(rt, emitter.another().emit(rt, value))
 }
 
-/// Returns the emission if it still waits.
-fn waiting<'a>(answer: PollAnswer<'a, i64>) -> Option<BoundEmission<'a, i64>> {
-    match answer {
+/// Polls an emission, and returns it if it still waits.
+fn poll<'a, R: Wait>(rt: &R, emission: BoundEmission<'a, i64>) -> Option<BoundEmission<'a, i64>> {
+    match emission.poll(rt) {
         PollAnswer::Waiting(emission) => Some(emission),
         PollAnswer::Done(_emitter) => None,
     }
 }
 
-/// Polls an emission twice, which waits.
-fn poll_twice<'a, R: Wait>(
-    rt: &R,
-    emission: BoundEmission<'a, i64>,
-) -> Option<BoundEmission<'a, i64>> {
-    waiting(waiting(emission.poll(rt))?.try_poll().ok()?)
+/// Polls an emission without waiting for other callers, and returns it if it still waits.
+fn try_poll<'a>(emission: BoundEmission<'a, i64>) -> Option<BoundEmission<'a, i64>> {
+    match emission.try_poll() {
+        Ok(PollAnswer::Waiting(emission)) => Some(emission),
+        Ok(PollAnswer::Done(_emitter)) => None,
+        Err(_emission) => None,
+    }
 }
 
 /// Emits a value without a buffer: the emission waits until the subscriber has it.
@@ -51,9 +53,10 @@ pub fn poll_until_received<R: Wait + Abort>(
     place: usize,
     value: i64,
 ) {
-    let emission = poll_twice(rt, emission_of(rt, emitter, value)).expect(rt, "it waits");
-    compare(rt, place, reader.next(rt), Ok(Some(value)));
-    compare(rt, place, waiting(emission.poll(rt)).is_none(), true);
+    let emission = poll(rt, emission_of(rt, emitter, value)).expect(rt, "it waits");
+    let emission = try_poll(emission).expect(rt, "it waits");
+    compare(rt, place, next(rt, reader), Ok(Some(value)));
+    compare(rt, place, poll(rt, emission).is_none(), true);
 }
 
 /// Cancels an emission. Returns whether it waited.

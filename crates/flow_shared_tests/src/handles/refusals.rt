@@ -1,7 +1,7 @@
 //! Waits whose requests for memory are refused, each in turn. A thread without memory for its waker lets other threads go
 //! first and asks again, so the answer is the one that it has with memory.
 use crate::compare::compare;
-use crate::handles::flows::{new_reader, new_state_reader};
+use crate::flows::{new_reader, new_state_reader};
 use flow_law::{Config, Rejected};
 use flow_shared::{Emitter, Reader, SendEnd, Setter, SharedFlow, StateFlow, StateReader};
 use flow_testing::Refusing;

@@ -1,8 +1,10 @@
 //! Calls on an emitter of a shared flow, each with what it is to answer.
 use crate::compare::compare;
+use crate::flows::new_reader;
+use crate::handle_calls::{send, try_emit};
 use crate::handles::answers::{length, no_such_call, pause};
 use crate::handles::emissions::{cancel, cancel_late, emission_of, queued, try_cancel};
-use crate::handles::flows::new_reader;
+use crate::handles::players::Makes;
 use crate::handles::shared::Call;
 use crate::handles::tasks::{lose_select, poll_receive, poll_send};
 use flow_law::{Exhausted, NumberError, Rejected};
@@ -13,32 +15,33 @@ use std::random::RandomSource;
 use std::sync::Wait;
 use std::time::{Clock, Duration};
 
-/// Makes a call that emits, and compares what it answers.
-pub fn emit<R: Wait + Clock + Abort + RandomSource + AllocGlobal>(
-    rt: &R,
-    emitter: &mut Emitter<'_, i64>,
-    place: usize,
-    call: &Call,
-) {
-    match *call {
-        Call::TryEmit(value, taken) => compare(rt, place, emitter.try_emit(rt, value), Ok(taken)),
-        Call::TryEmitRefused(value) => {
-            let error = Exhausted;
-            let refused = Err(Rejected { value, error });
-            compare(rt, place, emitter.try_emit(rt, value), refused);
+impl<'a> Makes<Call> for Emitter<'a, i64> {
+    fn make<R: Wait + Clock + Abort + RandomSource + AllocGlobal>(
+        &mut self,
+        rt: &R,
+        place: usize,
+        call: &Call,
+    ) {
+        match *call {
+            Call::TryEmit(value, taken) => compare(rt, place, try_emit(rt, self, value), Ok(taken)),
+            Call::TryEmitRefused(value) => {
+                let error = Exhausted;
+                let refused = Err(Rejected { value, error });
+                compare(rt, place, try_emit(rt, self, value), refused);
+            }
+            Call::Send(value) => compare(rt, place, send(rt, self, value), Ok(())),
+            Call::SendRefused(value) => {
+                let error = NumberError::Exhausted;
+                let refused = Err(Rejected { value, error });
+                compare(rt, place, send(rt, self, value), refused);
+            }
+            Call::SendInTime(limit, value) => {
+                let limit = Duration::from_millis(limit);
+                let sent = self.send_timeout(rt, value, limit);
+                compare(rt, place, sent, Ok(SendEnd::Done));
+            }
+            _ => ask(rt, self, place, call),
         }
-        Call::Send(value) => compare(rt, place, emitter.send(rt, value), Ok(())),
-        Call::SendRefused(value) => {
-            let error = NumberError::Exhausted;
-            let refused = Err(Rejected { value, error });
-            compare(rt, place, emitter.send(rt, value), refused);
-        }
-        Call::SendInTime(limit, value) => {
-            let limit = Duration::from_millis(limit);
-            let sent = emitter.send_timeout(rt, value, limit);
-            compare(rt, place, sent, Ok(SendEnd::Done));
-        }
-        _ => ask(rt, emitter, place, call),
     }
 }
 
@@ -65,7 +68,7 @@ fn ask<R: Wait + Clock + Abort + RandomSource + AllocGlobal>(
 /// Emits a value while there is another reader, which is dropped. Returns whether it was taken.
 fn emit_beside_reader<R: Wait + Abort>(rt: &R, emitter: &mut Emitter<'_, i64>, value: i64) -> bool {
     let _reader = new_reader(rt, emitter);
-    emitter.try_emit(rt, value) == Ok(true)
+    try_emit(rt, emitter, value) == Ok(true)
 }
 
 /// Another emitter and another reader meet the emitter, and leave.
@@ -133,7 +136,7 @@ fn wait<R: Wait + Clock + Abort + RandomSource + AllocGlobal>(
 /// Sends the numbers from 1 to the last one. Returns whether all were taken.
 fn send_up_to<R: Wait>(rt: &R, emitter: &mut Emitter<'_, i64>, last: i64) -> bool {
     for value in 1..=last {
-        if emitter.send(rt, value).is_err() {
+        if send(rt, emitter, value).is_err() {
             return false;
         }
     }

@@ -1,10 +1,11 @@
 //! Calls on a reader of a shared flow, each with what it is to answer.
 use crate::compare::compare;
+use crate::flows::new_reader;
+use crate::handle_calls::{next, receive, try_emit};
 use crate::handles::answers::no_such_call;
 use crate::handles::emissions::poll_until_received;
-use crate::handles::flows::new_reader;
+use crate::handles::players::{Ends, Makes};
 use crate::handles::shared::{Call, End};
-use crate::handles::shared_calls::emit;
 use crate::handles::streams::next_of;
 use flow_law::OutOfMemory;
 use flow_shared::{DrainEnd, Emitter, Reader};
@@ -27,29 +28,29 @@ fn drain<R: Wait + AllocGlobal>(
 
 /// Emits a value by an emitter that is made through the reader. Returns whether it was taken.
 fn emit_by_reader<R: Wait>(rt: &R, reader: &mut Reader<'_, i64>, value: i64) -> bool {
-    reader.another().try_emit(rt, value) == Ok(true)
+    try_emit(rt, &mut reader.another(), value) == Ok(true)
 }
 
 /// Returns whether the last value comes, as the next one or after the first one.
 fn receive_after<R: Wait>(rt: &R, reader: &mut Reader<'_, i64>, first: i64, last: i64) -> bool {
-    let received = reader.receive(rt);
+    let received = receive(rt, reader);
     if received == Ok(first) {
-        return reader.receive(rt) == Ok(last);
+        return receive(rt, reader) == Ok(last);
     }
     received == Ok(last)
 }
 
 /// Makes a call of the reader, and compares what it answers.
-fn receive<R: Wait + Clock + Abort + AllocGlobal>(
+fn read<R: Wait + Clock + Abort + AllocGlobal>(
     rt: &R,
     reader: &mut Reader<'_, i64>,
     place: usize,
     call: &Call,
 ) {
     match *call {
-        Call::Next(value) => compare(rt, place, reader.next(rt), Ok(value)),
+        Call::Next(value) => compare(rt, place, next(rt, reader), Ok(value)),
         Call::TryNext(value) => compare(rt, place, reader.try_next(), Ok(value)),
-        Call::Receive(value) => compare(rt, place, reader.receive(rt), Ok(value)),
+        Call::Receive(value) => compare(rt, place, receive(rt, reader), Ok(value)),
         Call::ReceiveInTime(limit, value) => {
             let limit = Duration::from_millis(limit);
             compare(rt, place, reader.receive_timeout(rt, limit), Ok(value));
@@ -77,35 +78,55 @@ fn receive_beside_readers<R: Wait + Abort>(
 ) -> bool {
     for value in 1..=last {
         drop(new_reader(rt, emitter));
-        if reader.receive(rt) != Ok(value) {
+        if receive(rt, reader) != Ok(value) {
             return false;
         }
     }
     true
 }
 
-/// Makes a call, and compares what it answers.
-pub fn make<R: Wait + Clock + Abort + RandomSource + AllocGlobal>(
-    rt: &R,
-    emitter: &mut Emitter<'_, i64>,
-    reader: &mut Reader<'_, i64>,
-    place: usize,
-    call: &Call,
-) {
-    match *call {
-        Call::Next(_)
-        | Call::TryNext(_)
-        | Call::Receive(_)
-        | Call::ReceiveInTime(_, _)
-        | Call::ReceiveAfter(_, _)
-        | Call::Drain(_, _, _)
-        | Call::EmitByReader(_) => receive(rt, reader, place, call),
-        Call::PollUntilReceived(value) => poll_until_received(rt, emitter, reader, place, value),
-        Call::ReceiveBesideReaders(last) => {
-            let is_right = receive_beside_readers(rt, emitter, reader, last);
-            compare(rt, place, is_right, true);
+/// An emitter and a reader of one flow.
+#[derive(Drop)]
+pub struct Handles<'a> {
+    pub emitter: Emitter<'a, i64>,
+    pub reader: Reader<'a, i64>,
+}
+
+impl<'a> Handles<'a> {
+    /// A reader, and an emitter that is made through it.
+    pub fn of(mut reader: Reader<'a, i64>) -> Handles<'a> {
+        Handles {
+            emitter: reader.another(),
+            reader,
         }
-        _ => emit(rt, emitter, place, call),
+    }
+}
+
+impl<'a> Makes<Call> for Handles<'a> {
+    fn make<R: Wait + Clock + Abort + RandomSource + AllocGlobal>(
+        &mut self,
+        rt: &R,
+        place: usize,
+        call: &Call,
+    ) {
+        let Handles { emitter, reader } = self;
+        match *call {
+            Call::Next(_)
+            | Call::TryNext(_)
+            | Call::Receive(_)
+            | Call::ReceiveInTime(_, _)
+            | Call::ReceiveAfter(_, _)
+            | Call::Drain(_, _, _)
+            | Call::EmitByReader(_) => read(rt, reader, place, call),
+            Call::PollUntilReceived(value) => poll_until_received(
+                rt, emitter, reader, place, value,
+            ),
+            Call::ReceiveBesideReaders(last) => {
+                let is_right = receive_beside_readers(rt, emitter, reader, last);
+                compare(rt, place, is_right, true);
+            }
+            _ => emitter.make(rt, place, call),
+        }
     }
 }
 
@@ -120,16 +141,13 @@ fn read_stream<R: Wait + Abort + RandomSource + AllocGlobal>(
     compare(rt, place, given.as_slice(), wanted);
 }
 
-/// Makes an end of a reader.
-pub fn end<R: Wait + Abort + RandomSource + AllocGlobal>(
-    rt: &R,
-    reader: Reader<'_, i64>,
-    place: usize,
-    end: &End,
-) {
-    match *end {
-        End::Unsubscribe => drop(reader.unsubscribe(rt)),
-        End::Drop => drop(reader),
-        End::Stream(wanted) => read_stream(rt, reader, place, wanted),
+impl<'a> Ends<End> for Handles<'a> {
+    fn end<R: Wait + Abort + RandomSource + AllocGlobal>(self, rt: &R, place: usize, end: &End) {
+        let Handles { emitter: _, reader } = self;
+        match *end {
+            End::Unsubscribe => drop(reader.unsubscribe(rt)),
+            End::Drop => drop(reader),
+            End::Stream(wanted) => read_stream(rt, reader, place, wanted),
+        }
     }
 }

@@ -1,9 +1,9 @@
 //! Calls on a setter and a reader of a state flow, each with what it is to answer.
 use crate::compare::compare;
+use crate::flows::new_state_reader;
 use crate::handles::answers::{length, no_such_call, pause};
-use crate::handles::flows::new_state_reader;
-use crate::handles::state::Call;
-use crate::handles::state_examples::{Reads, Sets};
+use crate::handles::players::{Ends, Makes};
+use crate::handles::state::{Call, End};
 use crate::handles::streams::next_of;
 use flow_law::{OutOfMemory, Unsupported};
 use flow_shared::{Setter, StateReader};
@@ -23,8 +23,13 @@ fn one_more(value: &i64) -> Result<i64, OutOfMemory> {
     }
 }
 
-impl<'a> Sets for Setter<'a, i64> {
-    fn set<R: Wait + Clock + Abort>(&mut self, rt: &R, place: usize, call: &Call) {
+impl<'a> Makes<Call> for Setter<'a, i64> {
+    fn make<R: Wait + Clock + Abort + RandomSource + AllocGlobal>(
+        &mut self,
+        rt: &R,
+        place: usize,
+        call: &Call,
+    ) {
         match *call {
             Call::Set(value) => self.set(rt, value),
             Call::TrySet(value) => compare(rt, place, self.try_set(value), Ok(())),
@@ -115,8 +120,13 @@ fn follow<R: Wait>(rt: &R, reader: &mut StateReader<'_, i64>, last: i64) -> bool
     unreachable!()
 }
 
-impl<'a> Reads for StateReader<'a, i64> {
-    fn read<R: Wait + Clock + Abort>(&mut self, rt: &R, place: usize, call: &Call) {
+impl<'a> Makes<Call> for StateReader<'a, i64> {
+    fn make<R: Wait + Clock + Abort + RandomSource + AllocGlobal>(
+        &mut self,
+        rt: &R,
+        place: usize,
+        call: &Call,
+    ) {
         match *call {
             Call::Next(value) => compare(rt, place, self.next(rt), Ok(value)),
             Call::TryNext(value) => compare(rt, place, self.try_next(), Ok(value)),
@@ -125,17 +135,34 @@ impl<'a> Reads for StateReader<'a, i64> {
             _ => wait(rt, self, place, call),
         }
     }
+}
 
-    fn change_and_next<R: Wait + RandomSource + AllocGlobal>(
-        self,
-        rt: &R,
-    ) -> Option<(i64, Option<i64>)> {
-        let (mut reader, value) = block_on(rt, self.into_changed()).ok()?;
-        Some((value.ok()?, reader.next(rt).ok()?))
-    }
+/// Awaits a change, and looks for another one.
+fn change_and_next<R: Wait + RandomSource + AllocGlobal>(
+    rt: &R,
+    reader: StateReader<'_, i64>,
+) -> Option<(i64, Option<i64>)> {
+    let (mut reader, value) = block_on(rt, reader.into_changed()).ok()?;
+    Some((value.ok()?, reader.next(rt).ok()?))
+}
 
-    fn next_of_stream<R: Wait + Abort + RandomSource + AllocGlobal>(self, rt: &R) -> Option<i64> {
-        next_of(rt, self.into_stream(), 1).pop()?.ok()
+/// The next value of a stream of the reader.
+fn next_of_stream<R: Wait + Abort + RandomSource + AllocGlobal>(
+    rt: &R,
+    reader: StateReader<'_, i64>,
+) -> Option<i64> {
+    next_of(rt, reader.into_stream(), 1).pop()?.ok()
+}
+
+impl<'a> Ends<End> for StateReader<'a, i64> {
+    fn end<R: Wait + Abort + RandomSource + AllocGlobal>(self, rt: &R, place: usize, end: &End) {
+        match *end {
+            End::Drop => drop(self),
+            End::Changed(value) => {
+                compare(rt, place, change_and_next(rt, self), Some((value, None)));
+            }
+            End::Stream(value) => compare(rt, place, next_of_stream(rt, self), Some(value)),
+        }
     }
 }
 

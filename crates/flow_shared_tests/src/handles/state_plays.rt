@@ -1,9 +1,8 @@
 //! The worked examples over state flows are played.
-use crate::compare::compare;
-use crate::handles::flows::new_state_reader;
+use crate::flows::{new_state_flow, new_state_reader};
+use crate::handles::players::{Makes, make_all, meet};
 use crate::handles::state::{Call, MEETINGS, Meeting, STATE, WAITS};
-use crate::handles::state_examples::{make_all, meet};
-use flow_shared::StateFlow;
+use crate::handles::state_examples::Handles;
 use std::alloc::AllocGlobal;
 use std::process::Abort;
 use std::random::RandomSource;
@@ -12,12 +11,16 @@ use std::thread::Threads;
 use std::time::Clock;
 
 /// Plays an example on a new flow.
-fn play<R: Wait + Clock + Abort + AllocGlobal>(rt: &R, example: usize, calls: &[Call]) {
-    let (flow, seat) = StateFlow::new(rt.alloc(), 7, 99).expect(rt, "a flow");
+fn play<R: Wait + Clock + Abort + RandomSource + AllocGlobal>(
+    rt: &R,
+    example: usize,
+    calls: &[Call],
+) {
+    let (flow, seat) = new_state_flow(rt, rt.alloc(), 7, 99);
     let mut setter = flow.setter(seat);
-    let mut reader = new_state_reader(rt, &mut setter);
+    let reader = new_state_reader(rt, &mut setter);
     let place = example.saturating_mul(100);
-    make_all(rt, &mut setter, &mut reader, place, calls);
+    make_all(rt, &mut Handles { setter, reader }, place, calls);
 }
 
 #[test]
@@ -40,11 +43,12 @@ fn play_meeting<R: Wait + Clock + Threads + Abort + RandomSource + AllocGlobal +
     place: usize,
     meeting: &Meeting,
 ) {
-    let (flow, seat) = StateFlow::new(rt.alloc(), 7, 1).expect(rt, "a flow");
+    let (flow, seat) = new_state_flow(rt, rt.alloc(), 7, 1);
     let mut setter = flow.setter(seat);
     let mut reader = new_state_reader(rt, &mut setter);
-    compare(rt, place, reader.next(rt), Ok(Some(7)));
-    meet(rt, &mut setter, reader, place, meeting);
+    reader.make(rt, place, &Call::Next(Some(7)));
+    let Meeting { sets, reads, end } = meeting;
+    meet(rt, &mut setter, sets, reader, reads, end, place);
 }
 
 #[test]

@@ -1,5 +1,5 @@
 //! Futures of an emitter and of readers of one shared flow, on one thread.
-use crate::handles::flows::new_reader;
+use crate::flows::new_reader;
 use flow_shared::{Emitter, ReceiveFuture, Received};
 use futures::Future;
 use futures::future::{ready, select};

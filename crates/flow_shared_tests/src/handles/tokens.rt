@@ -2,6 +2,7 @@
 ghost use Rattle.std.specs.Prelude.{◌≡◌};
 
 use crate::compare::compare;
+use crate::flows::new_flow;
 use flow_law::Config;
 use flow_shared::{EmitAnswer, Seat, SharedFlow};
 use std::sync::Wait;
@@ -19,7 +20,7 @@ fn is_bound_again<R: Wait>(rt: &R, flow: &SharedFlow<i64>, seat: Seat<i64>) -> b
 
 #[test]
 fn an_emission_gives_its_token_back(rt: HostRuntime) {
-    let (flow, mut seat) = SharedFlow::new(rt.alloc(), Config::new()).expect(&rt, "a flow");
+    let (flow, mut seat) = new_flow(&rt, rt.alloc(), Config::new());
     compare(&rt, 0, flow.subscribe(&rt, &mut seat).is_ok(), true);
     compare(&rt, 1, is_bound_again(&rt, &flow, seat), true);
 }

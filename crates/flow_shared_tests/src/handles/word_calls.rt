@@ -1,10 +1,9 @@
 //! Calls on a setter and a reader of a word state, each with what it is to answer.
-ghost use Rattle.std.specs.Prelude.{◌≡◌};
-
 use crate::compare::compare;
+use crate::flows::new_word_reader;
 use crate::handles::answers::{no_such_call, pause};
-use crate::handles::state::Call;
-use crate::handles::state_examples::{Reads, Sets};
+use crate::handles::players::{Ends, Makes};
+use crate::handles::state::{Call, End};
 use crate::handles::streams::next_of;
 use flow_word::{WordReader, WordSetter};
 use futures::executor::block_on;
@@ -18,19 +17,13 @@ fn one_more(value: i64) -> i64 {
     value.wrapping_add(1)
 }
 
-/// Subscribes, which is not refused.
-pub fn new_word_reader<'a, R: Wait + Abort>(
-    rt: &R,
-    setter: &mut WordSetter<'a, i64>,
-) -> WordReader<'a, i64>
-    ensures flow { setter.new.flow ≡ setter.old.flow }
-    ensures made { result.flow ≡ setter.old.flow }
-{
-    setter.subscribe(rt).expect(rt, "a reader")
-}
-
-impl<'a> Sets for WordSetter<'a, i64> {
-    fn set<R: Wait + Clock + Abort>(&mut self, rt: &R, place: usize, call: &Call) {
+impl<'a> Makes<Call> for WordSetter<'a, i64> {
+    fn make<R: Wait + Clock + Abort + RandomSource + AllocGlobal>(
+        &mut self,
+        rt: &R,
+        place: usize,
+        call: &Call,
+    ) {
         match *call {
             Call::Value(value) => compare(rt, place, self.value(), value),
             Call::Set(value) => self.set(value),
@@ -130,8 +123,13 @@ fn follow<R: Wait>(rt: &R, reader: &mut WordReader<'_, i64>, last: i64) -> bool 
     unreachable!()
 }
 
-impl<'a> Reads for WordReader<'a, i64> {
-    fn read<R: Wait + Clock + Abort>(&mut self, rt: &R, place: usize, call: &Call) {
+impl<'a> Makes<Call> for WordReader<'a, i64> {
+    fn make<R: Wait + Clock + Abort + RandomSource + AllocGlobal>(
+        &mut self,
+        rt: &R,
+        place: usize,
+        call: &Call,
+    ) {
         match *call {
             Call::Next(value) => compare(rt, place, self.next(), value),
             Call::ReaderSeen => self.seen(),
@@ -140,17 +138,34 @@ impl<'a> Reads for WordReader<'a, i64> {
             _ => wait(rt, self, place, call),
         }
     }
+}
 
-    fn change_and_next<R: Wait + RandomSource + AllocGlobal>(
-        self,
-        rt: &R,
-    ) -> Option<(i64, Option<i64>)> {
-        let (mut reader, value) = block_on(rt, self.into_changed()).ok()?;
-        Some((value, reader.next()))
-    }
+/// Awaits a change, and looks for another one.
+fn change_and_next<R: Wait + RandomSource + AllocGlobal>(
+    rt: &R,
+    reader: WordReader<'_, i64>,
+) -> Option<(i64, Option<i64>)> {
+    let (mut reader, value) = block_on(rt, reader.into_changed()).ok()?;
+    Some((value, reader.next()))
+}
 
-    fn next_of_stream<R: Wait + Abort + RandomSource + AllocGlobal>(self, rt: &R) -> Option<i64> {
-        next_of(rt, self.into_stream(), 1).pop()
+/// The next value of a stream of the reader.
+fn next_of_stream<R: Wait + Abort + RandomSource + AllocGlobal>(
+    rt: &R,
+    reader: WordReader<'_, i64>,
+) -> Option<i64> {
+    next_of(rt, reader.into_stream(), 1).pop()
+}
+
+impl<'a> Ends<End> for WordReader<'a, i64> {
+    fn end<R: Wait + Abort + RandomSource + AllocGlobal>(self, rt: &R, place: usize, end: &End) {
+        match *end {
+            End::Drop => drop(self),
+            End::Changed(value) => {
+                compare(rt, place, change_and_next(rt, self), Some((value, None)));
+            }
+            End::Stream(value) => compare(rt, place, next_of_stream(rt, self), Some(value)),
+        }
     }
 }
 

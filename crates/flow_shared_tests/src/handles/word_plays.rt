@@ -1,10 +1,12 @@
 //! The worked examples over word states are played.
-use crate::compare::compare;
+ghost use Rattle.std.specs.Prelude.{◌≡◌};
+
+use crate::flows::{new_word_reader, new_word_state};
+use crate::handles::players::{Makes, make_all, meet};
 use crate::handles::state::{Call, MEETINGS, Meeting, WAITS};
-use crate::handles::state_examples::{make_all, meet};
+use crate::handles::state_examples::Handles;
 use crate::handles::word::WORD;
-use crate::handles::word_calls::new_word_reader;
-use flow_word::WordState;
+use flow_word::{WordReader, WordSetter, WordState};
 use std::alloc::AllocGlobal;
 use std::process::Abort;
 use std::random::RandomSource;
@@ -12,13 +14,28 @@ use std::sync::Wait;
 use std::thread::Threads;
 use std::time::Clock;
 
+/// Subscribes. Returns the reader that the subscription makes when it is bound again.
+fn bound_again<'a, R: Wait + Abort>(
+    rt: &R,
+    flow: &'a WordState<i64>,
+    setter: &mut WordSetter<'_, i64>,
+) -> WordReader<'a, i64>
+    requires { setter.old.flow ≡ flow.now }
+{
+    flow.reader(new_word_reader(rt, setter).into_subscription())
+}
+
 /// Plays an example on a new state. Its handles are those that their tokens make when they are bound again.
-fn play<R: Wait + Clock + Abort + AllocGlobal>(rt: &R, example: usize, calls: &[Call]) {
-    let (flow, seat) = WordState::new(rt.alloc(), 7, 9).expect(rt, "a flow");
+fn play<R: Wait + Clock + Abort + RandomSource + AllocGlobal>(
+    rt: &R,
+    example: usize,
+    calls: &[Call],
+) {
+    let (flow, seat) = new_word_state(rt, rt.alloc(), 7, 9);
     let mut setter = flow.setter(flow.setter(seat).into_seat());
-    let mut reader = flow.reader(new_word_reader(rt, &mut setter).into_subscription());
+    let reader = bound_again(rt, &flow, &mut setter);
     let place = example.saturating_mul(100);
-    make_all(rt, &mut setter, &mut reader, place, calls);
+    make_all(rt, &mut Handles { setter, reader }, place, calls);
 }
 
 #[test]
@@ -41,11 +58,12 @@ fn play_meeting<R: Wait + Clock + Threads + Abort + RandomSource + AllocGlobal +
     place: usize,
     meeting: &Meeting,
 ) {
-    let (flow, seat) = WordState::new(rt.alloc(), 7, 1).expect(rt, "a flow");
+    let (flow, seat) = new_word_state(rt, rt.alloc(), 7, 1);
     let mut setter = flow.setter(seat);
     let mut reader = new_word_reader(rt, &mut setter);
-    compare(rt, place, reader.next(), Some(7));
-    meet(rt, &mut setter, reader, place, meeting);
+    reader.make(rt, place, &Call::Next(Some(7)));
+    let Meeting { sets, reads, end } = meeting;
+    meet(rt, &mut setter, sets, reader, reads, end, place);
 }
 
 #[test]

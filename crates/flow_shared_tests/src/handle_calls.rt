@@ -1,0 +1,32 @@
+//! Calls on handles of shared flows by tests that compare what is answered, and use no clause of the contracts.
+use flow_law::{Exhausted, NumberError, OutOfMemory, Rejected};
+use flow_shared::{Emitter, Reader};
+use std::sync::Wait;
+
+/// Takes the next value, if there is one.
+pub fn next<R: Wait>(rt: &R, reader: &mut Reader<'_, i64>) -> Result<Option<i64>, OutOfMemory> {
+    reader.next(rt)
+}
+
+/// Waits for the next value.
+pub fn receive<R: Wait>(rt: &R, reader: &mut Reader<'_, i64>) -> Result<i64, OutOfMemory> {
+    reader.receive(rt)
+}
+
+/// Emits a value if it need not wait for room. Returns whether the flow took it.
+pub fn try_emit<R: Wait>(
+    rt: &R,
+    emitter: &mut Emitter<'_, i64>,
+    value: i64,
+) -> Result<bool, Rejected<i64, Exhausted>> {
+    emitter.try_emit(rt, value)
+}
+
+/// Emits a value, and waits until the emission is done.
+pub fn send<R: Wait>(
+    rt: &R,
+    emitter: &mut Emitter<'_, i64>,
+    value: i64,
+) -> Result<(), Rejected<i64, NumberError>> {
+    emitter.send(rt, value)
+}
