@@ -22,7 +22,7 @@ pub const AT_ONCE: Started = Started::WhileSubscribed {
 /// A caller of a flow into which a run shares a chain of 3, 3 and 4.
 pub trait Caller {
     /// Subscribes, receives what the flow gives up to the last item, and unsubscribes. Returns whether that was right.
-    fn receives<R: Wait>(&mut self, rt: &R) -> bool;
+    fn receives<R: Wait + Abort>(&mut self, rt: &R) -> bool;
 
     /// Returns whether the flow has no item of the chain any more.
     fn is_reset<R: Wait>(&mut self, rt: &R) -> bool;
@@ -32,7 +32,7 @@ pub trait Caller {
 pub trait Follows<C>: StopSignal {
     /// Follows the run on another thread, and asks it to stop at last. Returns whether the caller received what it was to
     /// receive.
-    fn follow<R: Wait + Clock>(&self, rt: &R, caller: &mut C) -> bool;
+    fn follow<R: Wait + Clock + Abort>(&self, rt: &R, caller: &mut C) -> bool;
 }
 
 fn nap<R: Clock>(rt: &R) {
@@ -52,7 +52,7 @@ fn waits_for_reset<R: Wait + Clock, C: Caller>(rt: &R, caller: &mut C) -> bool {
 
 /// Subscribes twice, each time while the run sleeps, so that the run is woken by a subscriber after a stop, too. Returns
 /// whether each subscriber got the items, and the flow was reset once it had gone.
-pub fn receives_twice<R: Wait + Clock, C: Caller>(rt: &R, caller: &mut C) -> bool {
+pub fn receives_twice<R: Wait + Clock + Abort, C: Caller>(rt: &R, caller: &mut C) -> bool {
     let mut is_right = true;
     for _ in 0..2 {
         nap(rt);
@@ -65,7 +65,7 @@ impl<'a, S: FlowCore + Drop> Follows<FlowCaller<'a, S>> for FlowStop
 where
     FlowCaller<'a, S>: Caller,
 {
-    fn follow<R: Wait + Clock>(&self, rt: &R, caller: &mut FlowCaller<'a, S>) -> bool {
+    fn follow<R: Wait + Clock + Abort>(&self, rt: &R, caller: &mut FlowCaller<'a, S>) -> bool {
         let follows = receives_twice(rt, caller);
         self.ask(rt, caller);
         follows

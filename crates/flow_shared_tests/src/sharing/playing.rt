@@ -2,6 +2,7 @@
 ghost use Rattle.std.specs.Prelude.{◌≡◌};
 
 use crate::compare::compare;
+use crate::flows::{new_flow, new_state_flow};
 use crate::playing::{FlowPlayer, Played};
 use crate::sharing::sharing_steps::{Step, turn};
 use flow_cold::{Entry, Scripted};
@@ -95,26 +96,36 @@ fn play_on<R: Wait + Abort, S: Played<i64, Global>, H: Hub<Item = i64>>(
     take_steps(rt, first, steps, sharing, &mut player);
 }
 
-/// Takes the steps of an example of a shared flow.
+/// Shares the chain of an example into the shared flow, and takes the steps.
 fn play_shared<R: Wait + Abort>(
     rt: &R,
     alloc: Global,
     first: usize,
     example: &Example,
-    config: Config,
-) {
-    let (flow, mut seat) = SharedFlow::new(alloc, config).expect(rt, "a flow");
+    flow: &SharedFlow<i64>,
+    mut seat: Seat<i64>,
+)
+    requires { seat.table_id ≡ flow.now.table_id }
+{
     let chain = example.chain.make(rt, alloc);
-    let mut sharing = share_into(&flow, &mut seat, chain, example.started);
-    play_on(rt, alloc, first, example.steps, &flow, seat, &mut sharing);
+    let mut sharing = share_into(flow, &mut seat, chain, example.started);
+    play_on(rt, alloc, first, example.steps, flow, seat, &mut sharing);
 }
 
-/// Takes the steps of an example of a state flow, which has the value 0 first.
-fn play_state<R: Wait + Abort>(rt: &R, alloc: Global, first: usize, example: &Example) {
-    let (flow, mut seat) = StateFlow::new(alloc, 0, u64::MAX).expect(rt, "a flow");
+/// Shares the chain of an example into the state flow, which has the value 0 first, and takes the steps.
+fn play_state<R: Wait + Abort>(
+    rt: &R,
+    alloc: Global,
+    first: usize,
+    example: &Example,
+    flow: &StateFlow<i64>,
+    mut seat: StateSeat<i64>,
+)
+    requires { seat.table_id ≡ flow.now.table_id }
+{
     let chain = example.chain.make(rt, alloc);
-    let mut sharing = share_into_state(&flow, &mut seat, chain, example.started);
-    play_on(rt, alloc, first, example.steps, &flow, seat, &mut sharing);
+    let mut sharing = share_into_state(flow, &mut seat, chain, example.started);
+    play_on(rt, alloc, first, example.steps, flow, seat, &mut sharing);
 }
 
 /// Shares a chain into the flow.
@@ -154,9 +165,13 @@ pub fn play<R: Wait + Abort>(rt: &R, alloc: Global, first: usize, examples: &[Ex
         let place = first.saturating_add(number.saturating_mul(100));
         match example.flow {
             FlowKind::Shared(replay) => {
-                play_shared(rt, alloc, place, example, config_of(replay));
+                let (flow, seat) = new_flow(rt, alloc, config_of(replay));
+                play_shared(rt, alloc, place, example, &flow, seat);
             }
-            FlowKind::State => play_state(rt, alloc, place, example),
+            FlowKind::State => {
+                let (flow, seat) = new_state_flow(rt, alloc, 0, u64::MAX);
+                play_state(rt, alloc, place, example, &flow, seat);
+            }
         }
     }
 }

@@ -1,10 +1,16 @@
 //! Sharings over shared flows that are run by one call.
+ghost use Rattle.std.specs.Prelude.{◌≡◌};
+
 use crate::compare::compare;
+use crate::flows::{new_flow, new_reader, reads_cache};
+use crate::handle_calls::receive;
 use crate::sharing::beside::{AT_ONCE, Caller, Follows, SHORTLY, run_beside};
 use crate::sharing::playing::{Chain, share_into};
+use flow_cold::Scripted;
 use flow_law::{Config, Started};
-use flow_shared::{Emitter, Reader, SharedFlow};
-use flow_sharing::{FlowStop, StopSignal};
+use flow_shared::{Emitter, Reader, Seat, SharedFlow};
+use flow_sharing::{FlowStop, SharedFlowHub, Sharing, StopSignal};
+use std::process::Abort;
 use std::sync::Wait;
 use std::sync::atomic::{AtomicU64, Ordering};
 use std::thread::sleep;
@@ -14,17 +20,14 @@ use std::time::{Clock, Duration};
 fn receives_all<R: Wait>(rt: &R, reader: &mut Reader<'_, i64>) -> bool {
     let mut is_right = true;
     for item in [3, 3, 4] {
-        is_right &= reader.receive(rt) == Ok(item);
+        is_right &= receive(rt, reader) == Ok(item);
     }
     is_right
 }
 
 impl<'a> Caller for Emitter<'a, i64> {
-    fn receives<R: Wait>(&mut self, rt: &R) -> bool {
-        match self.subscribe(rt) {
-            Ok(mut reader) => receives_all(rt, &mut reader),
-            Err(_) => false,
-        }
+    fn receives<R: Wait + Abort>(&mut self, rt: &R) -> bool {
+        receives_all(rt, &mut new_reader(rt, self))
     }
 
     fn is_reset<R: Wait>(&mut self, rt: &R) -> bool {
@@ -61,21 +64,18 @@ impl CountedStop {
     fn sleeps_between<R: Wait + Clock>(&self, rt: &R, reader: &mut Reader<'_, i64>) -> bool {
         let mut is_right = true;
         for item in 1..4 {
-            is_right &= self.sleeps(rt) && reader.receive(rt) == Ok(item);
+            is_right &= self.sleeps(rt) && receive(rt, reader) == Ok(item);
         }
         is_right && self.sleeps(rt)
     }
 
     /// Subscribes, receives the items, and leaves.
-    fn sleeps_beside_reader<R: Wait + Clock>(
+    fn sleeps_beside_reader<R: Wait + Clock + Abort>(
         &self,
         rt: &R,
         emitter: &mut Emitter<'_, i64>,
     ) -> bool {
-        match emitter.subscribe(rt) {
-            Ok(mut reader) => self.sleeps_between(rt, &mut reader),
-            Err(_) => false,
-        }
+        self.sleeps_between(rt, &mut new_reader(rt, emitter))
     }
 }
 
@@ -87,7 +87,7 @@ impl StopSignal for CountedStop {
 }
 
 impl<'a> Follows<Emitter<'a, i64>> for CountedStop {
-    fn follow<R: Wait + Clock>(&self, rt: &R, caller: &mut Emitter<'a, i64>) -> bool {
+    fn follow<R: Wait + Clock + Abort>(&self, rt: &R, caller: &mut Emitter<'a, i64>) -> bool {
         let before = self.sleeps(rt);
         let is_right = before && self.sleeps_beside_reader(rt, caller) && self.sleeps(rt);
         self.stop.ask(rt, caller);
@@ -95,15 +95,30 @@ impl<'a> Follows<Emitter<'a, i64>> for CountedStop {
     }
 }
 
+/// Shares a chain into the flow, and binds the seat.
+fn share<'a>(
+    flow: &'a SharedFlow<i64>,
+    mut seat: Seat<i64>,
+    chain: Scripted<i64>,
+    started: Started,
+) -> (
+    Sharing<Scripted<i64>, SharedFlowHub<'a, i64>>,
+    Emitter<'a, i64>,
+)
+    requires { seat.table_id ≡ flow.now.table_id }
+{
+    let sharing = share_into(flow, &mut seat, chain, started);
+    (sharing, flow.emitter(seat))
+}
+
 /// `shareIn` with `replay = 1` and `WhileSubscribed(stopTimeoutMillis = 3, replayExpirationMillis = 3)`: once a subscriber
 /// has gone for six milliseconds the replay cache is empty. The next subscriber starts the chain anew.
 #[test]
 fn a_shared_flows_run_is_woken_by_subscribers_and_at_the_expiry(rt: HostRuntime) {
     let chain = Chain::List(&[3, 3, 4]).make(&rt, rt.alloc());
-    let made = SharedFlow::new(rt.alloc(), Config::new().replay(1).extra(2));
-    let (flow, mut seat) = made.expect(&rt, "a flow");
-    let mut sharing = share_into(&flow, &mut seat, chain, SHORTLY);
-    run_beside(&rt, &mut sharing, &FlowStop::new(), &mut flow.emitter(seat));
+    let (flow, seat) = new_flow(&rt, rt.alloc(), Config::new().replay(1).extra(2));
+    let (mut sharing, mut emitter) = share(&flow, seat, chain, SHORTLY);
+    run_beside(&rt, &mut sharing, &FlowStop::new(), &mut emitter);
 }
 
 /// A flow without a buffer: each of three emissions waits for the slow subscriber. The run sleeps before it comes, while an
@@ -111,24 +126,30 @@ fn a_shared_flows_run_is_woken_by_subscribers_and_at_the_expiry(rt: HostRuntime)
 #[test]
 fn a_run_sleeps_while_there_is_nothing_to_do(rt: HostRuntime) {
     let chain = Chain::List(&[1, 2, 3]).make(&rt, rt.alloc());
-    let (flow, mut seat) = SharedFlow::new(rt.alloc(), Config::new()).expect(&rt, "a flow");
-    let mut sharing = share_into(&flow, &mut seat, chain, AT_ONCE);
-    run_beside(
-        &rt,
-        &mut sharing,
-        &CountedStop::new(),
-        &mut flow.emitter(seat),
-    );
+    let (flow, seat) = new_flow(&rt, rt.alloc(), Config::new());
+    let (mut sharing, mut emitter) = share(&flow, seat, chain, AT_ONCE);
+    run_beside(&rt, &mut sharing, &CountedStop::new(), &mut emitter);
+}
+
+/// Shares a chain into the flow until it has ended.
+fn share_to_end<R: Wait + Clock + Abort>(
+    rt: &R,
+    flow: &SharedFlow<i64>,
+    seat: &mut Seat<i64>,
+    chain: Scripted<i64>,
+)
+    requires { seat.old.table_id ≡ flow.now.table_id }
+    ensures { seat.new.table_id ≡ flow.entry.now.table_id }
+{
+    let mut sharing = share_into(flow, seat, chain, Started::Eagerly);
+    compare(rt, 0, sharing.run_to_end(rt), Ok(()));
 }
 
 /// The run ends once the chain has. A program of use_flows has a subscriber for which it waits.
 #[test]
 fn a_run_to_the_end_emits_each_item(rt: HostRuntime) {
     let chain = Chain::List(&[1, 2, 3]).make(&rt, rt.alloc());
-    let made = SharedFlow::new(rt.alloc(), Config::new().replay(3));
-    let (flow, mut seat) = made.expect(&rt, "a flow");
-    let mut sharing = share_into(&flow, &mut seat, chain, Started::Eagerly);
-    compare(&rt, 0, sharing.run_to_end(&rt), Ok(()));
-    let cache = flow.replay_cache(&rt, &mut seat).expect(&rt, "memory");
-    compare(&rt, 1, cache.as_slice(), [1, 2, 3].as_slice());
+    let (flow, mut seat) = new_flow(&rt, rt.alloc(), Config::new().replay(3));
+    share_to_end(&rt, &flow, &mut seat, chain);
+    reads_cache(&rt, &flow, &mut seat, &[1, 2, 3]);
 }

@@ -1,8 +1,12 @@
 //! Sharings over state flows that are run by one call, on a thread of its own.
+ghost use Rattle.std.specs.Prelude.{◌≡◌};
+
+use crate::flows::{new_state_flow, new_state_reader};
 use crate::sharing::beside::{AT_ONCE, Caller, Follows, SHORTLY, run_beside};
 use crate::sharing::playing::{Chain, share_into_state};
 use flow_cold::Scripted;
-use flow_shared::{Setter, StateFlow, StateReader};
+use flow_law::Started;
+use flow_shared::{Setter, StateFlow, StateReader, StateSeat};
 use flow_sharing::{FlowStop, Sharing, StateFlowHub, StopSignal};
 use std::process::Abort;
 use std::sync::Wait;
@@ -14,15 +18,11 @@ fn waits_for_last<R: Wait>(rt: &R, reader: &mut StateReader<'_, i64>) -> bool {
 }
 
 impl<'a> Caller for Setter<'a, i64> {
-    fn receives<R: Wait>(&mut self, rt: &R) -> bool {
-        match self.subscribe(rt) {
-            Ok(mut reader) => {
-                let is_right = waits_for_last(rt, &mut reader);
-                drop(reader.unsubscribe(rt));
-                is_right
-            }
-            Err(_) => false,
-        }
+    fn receives<R: Wait + Abort>(&mut self, rt: &R) -> bool {
+        let mut reader = new_state_reader(rt, self);
+        let is_right = waits_for_last(rt, &mut reader);
+        drop(reader.unsubscribe(rt));
+        is_right
     }
 
     fn is_reset<R: Wait>(&mut self, rt: &R) -> bool {
@@ -44,7 +44,7 @@ impl StopSignal for LateStop {
 }
 
 impl<'a> Follows<Setter<'a, i64>> for LateStop {
-    fn follow<R: Wait + Clock>(&self, rt: &R, caller: &mut Setter<'a, i64>) -> bool {
+    fn follow<R: Wait + Clock + Abort>(&self, rt: &R, caller: &mut Setter<'a, i64>) -> bool {
         for _ in 0..self.yields {
             yield_now();
         }
@@ -53,14 +53,30 @@ impl<'a> Follows<Setter<'a, i64>> for LateStop {
     }
 }
 
+/// Shares a chain into the flow, and binds the seat.
+fn share<'a>(
+    flow: &'a StateFlow<i64>,
+    mut seat: StateSeat<i64>,
+    chain: Scripted<i64>,
+    started: Started,
+) -> (
+    Sharing<Scripted<i64>, StateFlowHub<'a, i64>>,
+    Setter<'a, i64>,
+)
+    requires { seat.table_id ≡ flow.now.table_id }
+{
+    let sharing = share_into_state(flow, &mut seat, chain, started);
+    (sharing, flow.setter(seat))
+}
+
 /// `stateIn` with `WhileSubscribed(stopTimeoutMillis = 3, replayExpirationMillis = 3)`: once a subscriber has gone for six
 /// milliseconds the state is the first one, 0. The next subscriber starts the chain anew.
 #[test]
 fn a_state_flows_run_is_woken_by_subscribers_and_at_the_expiry(rt: HostRuntime) {
     let chain = Chain::List(&[3, 3, 4]).make(&rt, rt.alloc());
-    let (flow, mut seat) = StateFlow::new(rt.alloc(), 0, u64::MAX).expect(&rt, "a flow");
-    let mut sharing = share_into_state(&flow, &mut seat, chain, SHORTLY);
-    run_beside(&rt, &mut sharing, &FlowStop::new(), &mut flow.setter(seat));
+    let (flow, seat) = new_state_flow(&rt, rt.alloc(), 0, u64::MAX);
+    let (mut sharing, mut setter) = share(&flow, seat, chain, SHORTLY);
+    run_beside(&rt, &mut sharing, &FlowStop::new(), &mut setter);
 }
 
 /// Runs a sharing again and again, and asks for a stop a little later each time.
@@ -82,7 +98,7 @@ fn run_often<R: Threads + Wait + Clock + Abort + Sync>(
 #[test]
 fn a_stop_that_comes_before_the_sleep_is_not_missed(rt: HostRuntime) {
     let chain = Chain::List(&[1]).make(&rt, rt.alloc());
-    let (flow, mut seat) = StateFlow::new(rt.alloc(), 0, u64::MAX).expect(&rt, "a flow");
-    let mut sharing = share_into_state(&flow, &mut seat, chain, AT_ONCE);
-    run_often(&rt, &mut sharing, &mut flow.setter(seat));
+    let (flow, seat) = new_state_flow(&rt, rt.alloc(), 0, u64::MAX);
+    let (mut sharing, mut setter) = share(&flow, seat, chain, AT_ONCE);
+    run_often(&rt, &mut sharing, &mut setter);
 }

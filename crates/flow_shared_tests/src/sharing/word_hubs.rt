@@ -2,6 +2,7 @@
 ghost use Rattle.std.specs.Prelude.{◌≡◌};
 
 use crate::compare::compare;
+use crate::flows::{new_word_reader, new_word_state};
 use crate::sharing::playing::Chain;
 use crate::sharing::sharing_steps::Step::{self, Turn};
 use crate::sharing::sharing_steps::turn;
@@ -44,7 +45,7 @@ fn comes_and_goes<R: Wait + Abort>(
     sharing: &mut Sharing<Scripted<i64>, WordHub<'_, i64>>,
     setter: &mut WordSetter<'_, i64>,
 ) {
-    let mut reader = setter.subscribe(rt).expect(rt, "a subscription");
+    let mut reader = new_word_reader(rt, setter);
     follows(rt, sharing, &mut reader);
     reader.unsubscribe();
     compare(rt, 5, setter.value(), 4);
@@ -69,7 +70,7 @@ pub fn share_into_word<'a>(
 #[test]
 fn a_chain_is_shared_into_a_word_state(rt: HostRuntime) {
     let chain = Chain::List(&[3, 3, 4]).make(&rt, rt.alloc());
-    let (flow, mut seat) = WordState::new(rt.alloc(), 0, u32::MAX).expect(&rt, "a flow");
+    let (flow, mut seat) = new_word_state(&rt, rt.alloc(), 0, u32::MAX);
     let mut sharing = share_into_word(&flow, &mut seat, chain, AT_ONCE);
     comes_and_goes(&rt, &mut sharing, &mut flow.setter(seat));
 }
