@@ -74,6 +74,22 @@ fn emits<R: Abort, T: Numbered<Memory = A>, A: Allocator + Copy>(
     compare(rt, 3, refusing.is_waiting(), true);
 }
 
+/// Polls a future that receives, which is done: its subscription, and what it received.
+fn poll_next<R: Abort, T: Numbered<Memory = A>, A: Allocator + Copy>(
+    rt: &R,
+    task: &MockTask,
+    flow: &SharedFlow<T, A>,
+    subscription: Subscription<T, A>,
+) -> (Subscription<T, A>, Result<T, FlowFault>)
+    requires { subscription.token.table_id ≡ flow.now.table_id }
+    ensures { result.0.token.table_id ≡ flow.entry.now.table_id }
+{
+    match task.poll(&mut NextFuture::new(flow, subscription)) {
+        Poll::Ready(received) => received,
+        Poll::Pending => panic!(rt; "it is done"),
+    }
+}
+
 /// A future that receives the first value is refused, and its subscription comes back.
 fn receive_later<R: Abort, T: Numbered<Memory = A>, A: Allocator + Copy>(
     rt: &R,
@@ -86,13 +102,9 @@ fn receive_later<R: Abort, T: Numbered<Memory = A>, A: Allocator + Copy>(
     ensures { result.token.table_id ≡ flow.entry.now.table_id }
 {
     refusing.refuse(1);
-    match task.poll(&mut NextFuture::new(flow, subscription)) {
-        Poll::Ready((subscription, refused)) => {
-            compare(rt, 5, refused.err(), Some(FlowFault::OutOfMemory));
-            subscription
-        }
-        Poll::Pending => panic!(rt; "it is refused"),
-    }
+    let (subscription, refused) = poll_next(rt, task, flow, subscription);
+    compare(rt, 5, refused.err(), Some(FlowFault::OutOfMemory));
+    subscription
 }
 
 /// The subscriber receives the first value: its future asks for memory once.
@@ -106,15 +118,27 @@ fn receives<R: Abort, T: Numbered<Memory = A>, A: Allocator + Copy>(
     requires { subscription.token.table_id ≡ flow.now.table_id }
 {
     refusing.refuse(2);
-    let Poll::Ready((_subscription, received)) = task.poll(&mut NextFuture::new(flow, subscription))
-    else {
-        panic!(rt; "it is received")
-    };
+    let (_subscription, received) = poll_next(rt, task, flow, subscription);
     match received {
         Ok(value) => compare(rt, 6, value.number(), 1),
         Err(_fault) => panic!(rt; "it is received"),
     }
     compare(rt, 6, refusing.is_waiting(), true);
+}
+
+/// Emits the value with this number, which the flow takes.
+fn fill<R: Wait + Abort, T: Numbered<Memory = A>, A: Allocator + Copy>(
+    rt: &R,
+    memory: A,
+    flow: &SharedFlow<T, A>,
+    seat: &mut Seat<T, A>,
+    number: i64,
+)
+    requires { seat.old.table_id ≡ flow.now.table_id }
+    ensures { seat.new.table_id ≡ flow.entry.now.table_id }
+{
+    let taken = flow.try_emit(rt, seat, T::of(rt, memory, number));
+    compare(rt, 0, taken.ok(), Some(true));
 }
 
 /// A flow, a seat, and a subscriber that has not read 1 and 2.
@@ -131,10 +155,8 @@ fn full_flow<R: Wait + Abort, T: Numbered<Memory = A>, A: Allocator + Copy>(
     let Ok(subscription) = flow.subscribe(rt, &mut seat) else {
         panic!(rt; "a subscription")
     };
-    let first = flow.try_emit(rt, &mut seat, T::of(rt, memory, 1));
-    compare(rt, 0, first.ok(), Some(true));
-    let second = flow.try_emit(rt, &mut seat, T::of(rt, memory, 2));
-    compare(rt, 0, second.ok(), Some(true));
+    fill(rt, memory, &flow, &mut seat, 1);
+    fill(rt, memory, &flow, &mut seat, 2);
     (flow, seat, subscription)
 }
 
