@@ -1,5 +1,5 @@
 //! Worked examples by one caller. The values come from kotlinx.coroutines' documentation of
-//! `MutableStateFlow`. flow_shared_tests has more of them, by handles.
+//! `MutableStateFlow`. The tests of handles have more of them.
 ghost use Rattle.std.specs.Prelude.{◌≡◌};
 
 use crate::compare::compare;

@@ -39,7 +39,7 @@ use Rattle.flow_gate.specs.Tokens as gated
 use Rattle.flow_shared.specs.Calls.{Nexts}
 use Rattle.flow_shared.specs.Futures.{SharedNumbered}
 use Rattle.flow_word.specs.Tokens.{Token, Origin}
-use Rattle.flow_shared_tests.specs.LentFlows.{HasAll, ReadsInOrder, beside_after, IsNewest}
+use Rattle.flow_tests.specs.LentFlows.{HasAll, ReadsInOrder, beside_after, IsNewest}
 
 module _ {T : Type 0} (u : ℕ) where
   -- u is there and has nothing to receive, and nothing changes

@@ -2,9 +2,9 @@ use Rattle.std.proofs.Common.{◌≡◌, ap, subst}
 use Rattle.std.specs.Prelude.{Ok}
 use Rattle.flow_law.specs.SharedHistory.{shared_flow}
 use Rattle.flow_shared.specs.Calls.{Nexts}
-use Rattle.flow_shared_tests.specs.LentFlows.{HasAll}
-use Rattle.flow_shared_tests.proofs.LentLemmas.{has_all_now, reads_in_order}
-use Rattle.flow_shared_tests.proofs.lent.next_in_order.Goals as goal
+use Rattle.flow_tests.specs.LentFlows.{HasAll}
+use Rattle.flow_tests.proofs.LentLemmas.{has_all_now, reads_in_order}
+use Rattle.flow_tests.proofs.lent.next_in_order.Goals as goal
 
 pub returns-clause-in_order : goal.returns-clause-in_order
 returns-clause-in_order g c = reads_in_order _ _ _ (c.seen_by_subscription.ensures.lagged _ c.seen_by_subscription.ensures.subscribed)

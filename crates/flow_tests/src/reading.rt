@@ -1,6 +1,6 @@
 //! A caller who sets a value and reads the current one.
 ghost use Rattle.std.specs.Prelude.{◌≡◌, IfOk};
-ghost use Rattle.flow_shared_tests.specs.ReadingBack.{ReadsBack};
+ghost use Rattle.flow_tests.specs.ReadingBack.{ReadsBack};
 
 use flow_law::{FlowFault, FlowValue};
 use flow_shared::{StateFlow, StateSeat};

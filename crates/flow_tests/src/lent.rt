@@ -3,7 +3,7 @@ ghost use Rattle.std.specs.Prelude.{◌≡◌, Ok};
 ghost use Rattle.flow_law.specs.declared.outcome.Next.TheVariants.{Empty};
 ghost use Rattle.flow_law.specs.Laws.{NoIdleQueue};
 ghost use Rattle.flow_law.specs.SharedHistory.{state_after};
-ghost use Rattle.flow_shared_tests.specs.LentFlows.{HasAll, IsNewest, ReadsInOrder};
+ghost use Rattle.flow_tests.specs.LentFlows.{HasAll, IsNewest, ReadsInOrder};
 
 use flow_law::{FlowFault, FlowValue, Next, Packed, Refused};
 use flow_shared::{Seat, SharedFlow, Subscription};

@@ -17,7 +17,7 @@ use Rattle.flow_law.proofs.Owners.{after_all-append, legal_right}
 use Rattle.flow_gate.specs.Tokens.{Token, Origin}
 use Rattle.flow_core.specs.StateCore.{value_reply}
 use Rattle.flow_shared.specs.StateReplies.{StateToken, StateCalls}
-use Rattle.flow_shared_tests.specs.ReadingBack.{value_by, value_after, ReadsBack}
+use Rattle.flow_tests.specs.ReadingBack.{value_by, value_after, ReadsBack}
 
 module _ {T : Type 0} where
   value_kept : (s : StateFlowState T) (c : StateCall T) (r : StateReply T) → (after s c r).value ≡ value_by s.value c r
