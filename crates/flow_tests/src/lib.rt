@@ -5,7 +5,8 @@
 //! comes of several threads that do more than `run_count`, `run_crowd` and `run_pair`, for which it is proved.
 //!
 //! A worked example is a list of calls, each with what it is to answer. Another module makes the calls. All tests are in
-//! this crate: each crate of tests is linked, and proves anew how the values of flows are dropped.
+//! this crate: each crate of tests is linked, and proves anew how the values of flows are dropped. `word` is no
+//! `cfg(test)`: `./wrong_bodies` tries an edit of its `celsius.rt`, and proves only what the library has.
 #![tactic(auto)]
 
 #[cfg(test)]

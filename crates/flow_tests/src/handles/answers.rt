@@ -1,13 +1,7 @@
 //! What the players of calls by handles share.
 use flow_law::OutOfMemory;
-use std::process::Abort;
 use std::thread::sleep;
 use std::time::{Clock, Duration};
-
-/// Ends the test: the handle that got the call at this place has no such call.
-pub fn no_such_call(rt: &impl Abort, place: usize) {
-    panic!(rt; "call {place} is no such call")
-}
 
 /// How many values a cache has, or 99 if there was no memory for them.
 pub fn length(cache: Result<Vec<i64>, OutOfMemory>) -> usize {

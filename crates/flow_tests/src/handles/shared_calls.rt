@@ -1,8 +1,8 @@
 //! Calls on an emitter of a shared flow, each with what it is to answer.
-use crate::compare::compare;
+use crate::compare::{compare, no_such_call};
 use crate::flows::new_reader;
 use crate::handle_calls::{send, try_emit};
-use crate::handles::answers::{length, no_such_call, pause};
+use crate::handles::answers::{length, pause};
 use crate::handles::emissions::{cancel, cancel_late, emission_of, queued, try_cancel};
 use crate::handles::players::Makes;
 use crate::handles::shared::Call;

@@ -1,8 +1,7 @@
 //! Calls on a reader of a shared flow, each with what it is to answer.
-use crate::compare::compare;
+use crate::compare::{compare, no_such_call};
 use crate::flows::new_reader;
 use crate::handle_calls::{next, receive, try_emit};
-use crate::handles::answers::no_such_call;
 use crate::handles::emissions::poll_until_received;
 use crate::handles::players::{Ends, Makes};
 use crate::handles::shared::{Call, End};

@@ -1,7 +1,7 @@
 //! Calls on a setter and a reader of a state flow, each with what it is to answer.
-use crate::compare::compare;
+use crate::compare::{compare, no_such_call};
 use crate::flows::new_state_reader;
-use crate::handles::answers::{length, no_such_call, pause};
+use crate::handles::answers::{length, pause};
 use crate::handles::players::{Ends, Makes};
 use crate::handles::state::{Call, End};
 use crate::handles::streams::next_of;
