@@ -1,5 +1,5 @@
 //! The threads of a crowd that emit.
-ghost use Rattle.std.specs.Prelude.{◌≡◌, ◌+◌, ◌*◌, ◌<◌, ◌≤◌, ◌^◌, All, ℕ, IfSome, slice_index_or, vec_len};
+ghost use Rattle.std.specs.Prelude.{◌≡◌, [], ◌+◌, ◌*◌, ◌<◌, ◌≤◌, ◌^◌, All, ℕ, IfSome, slice_index_or, vec_capacity, vec_len};
 ghost use Rattle.flow_crowd.specs.Callers.{Emits};
 ghost use Rattle.flow_crowd.specs.Crowds.{HasSentAs, WillEmit};
 ghost use Rattle.flow_crowd.specs.Numbers.{numbers_from};
@@ -102,22 +102,22 @@ pub fn start_emitters<'s, E, R: Wait + Sync>(
     Some(threads)
 }
 
-/// Waits until all threads have ended, and returns their emitters. `None` if memory was refused.
+/// Waits until all threads have ended, and adds their emitters to a list that is empty and has room for them.
 pub fn join_emitters<'a, R: Threads>(
     rt: &R,
-    alloc: Global,
     flow: &'a SharedFlow<u64>,
     threads: Vec<Emitting>,
-) -> Option<Vec<Emitter<'a, u64>>>
-    requires { All (λ t. t.promise.seat.value.table_id ≡ flow.now.table_id) threads.items }
-    ensures count { IfSome result (λ emitters. vec_len emitters ≡ vec_len threads) }
-    ensures sent { IfSome result (λ emitters. (i : ℕ) (d t : _) → i < vec_len threads →
-        HasSentAs flow.entry.now
-        (slice_index_or threads.items i t).promise (slice_index_or emitters.items i d)) }
+    emitters: &mut Vec<Emitter<'a, u64>>,
+)
+    requires table { All
+        (λ t. t.promise.seat.value.table_id ≡ flow.now.table_id) threads.items }
+    requires empty { emitters.old.items ≡ [] }
+    requires room { vec_len threads ≤ vec_capacity emitters.old }
+    ensures count { vec_len emitters.new ≡ vec_len threads }
+    ensures sent { (i : ℕ) (d t : _) → i < vec_len threads → HasSentAs flow.entry.now
+        (slice_index_or threads.items i t).promise (slice_index_or emitters.new.items i d) }
 {
-    let mut emitters = Vec::with_capacity(alloc, threads.len()).ok()?;
     for thread in threads {
         emitters.push_reserved(flow.emitter(thread.join(rt)));
     }
-    Some(emitters)
 }

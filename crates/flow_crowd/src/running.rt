@@ -1,5 +1,5 @@
 //! The threads of a crowd, from their start to their end.
-ghost use Rattle.std.specs.Prelude.{◌≡◌, All, IfSome, vec_len};
+ghost use Rattle.std.specs.Prelude.{◌≡◌, [], ◌≤◌, All, IfSome, vec_capacity, vec_len};
 ghost use Rattle.flow_crowd.specs.Crowds.{HaveRun};
 
 use crate::callers::Callers;
@@ -17,6 +17,29 @@ pub struct Ended<'a> {
     pub emitters: Vec<Emitter<'a, u64>>,
     pub readers: Vec<Reader<'a, u64>>,
     pub got: Vec<Vec<u64>>,
+}
+
+/// Returns room for so many callers, and for the lists of the subscribers among them. `None` if memory was refused.
+fn room_for<'a>(alloc: Global, emitters: usize, subscribers: usize) -> Option<Ended<'a>>
+    ensures emitters { IfSome result
+        (λ r. (r.emitters.items ≡ []) × (emitters ≤ vec_capacity r.emitters)) }
+    ensures readers { IfSome result
+        (λ r. (r.readers.items ≡ []) × (subscribers ≤ vec_capacity r.readers)) }
+    ensures lists { IfSome result
+        (λ r. (r.got.items ≡ []) × (subscribers ≤ vec_capacity r.got)) }
+{
+    let (Ok(emitters), Ok(readers), Ok(got)) = (
+        Vec::with_capacity(alloc, emitters),
+        Vec::with_capacity(alloc, subscribers),
+        Vec::with_capacity(alloc, subscribers),
+    ) else {
+        return None;
+    };
+    Some(Ended {
+        emitters,
+        readers,
+        got,
+    })
 }
 
 /// Runs a thread for each caller of a crowd. Those that emit start first. If a thread cannot be made, the subscribers
@@ -39,8 +62,14 @@ pub fn run_threads<'s, E, R: Threads + Wait + Sync>(
     let Callers { emitters, readers } = callers;
     let emitting = start_emitters(rt, alloc, scope, flow, emitters, u64::from(size.values))?;
     let reading = start_subscribers(rt, alloc, scope, flow, readers, size.emitted())?;
-    let emitters = join_emitters(rt, alloc, flow, emitting)?;
-    let (readers, got) = join_subscribers(rt, alloc, flow, reading)?;
+    let room = room_for(alloc, emitting.len(), reading.len())?;
+    let Ended {
+        mut emitters,
+        mut readers,
+        mut got,
+    } = room;
+    join_emitters(rt, flow, emitting, &mut emitters);
+    join_subscribers(rt, flow, reading, &mut readers, &mut got);
     Some(Ended {
         emitters,
         readers,

@@ -133,40 +133,28 @@ pub fn start_subscribers<'s, E, R: Wait + Sync>(
     Some(threads)
 }
 
-/// Subscribers, and a list for each.
-type Subscribers<'a> = (Vec<Reader<'a, u64>>, Vec<Vec<u64>>);
-
-/// Returns room for so many subscribers and their lists. `None` if memory was refused.
-fn room_for<'a>(alloc: Global, count: usize) -> Option<Subscribers<'a>>
-    ensures readers { IfSome result (λ r. (r.0.items ≡ []) × (count ≤ vec_capacity r.0)) }
-    ensures lists { IfSome result (λ r. (r.1.items ≡ []) × (count ≤ vec_capacity r.1)) }
-{
-    let readers = Vec::with_capacity(alloc, count).ok()?;
-    let got = Vec::with_capacity(alloc, count).ok()?;
-    Some((readers, got))
-}
-
-/// Waits until all threads have ended, and returns their subscribers, and what each of them got. `None` if memory was
-/// refused.
+/// Waits until all threads have ended, and adds their subscribers, and what each of them got, to two lists that are empty
+/// and have room for them.
 pub fn join_subscribers<'a, R: Threads>(
     rt: &R,
-    alloc: Global,
     flow: &'a SharedFlow<u64>,
     threads: Vec<Reading>,
-) -> Option<Subscribers<'a>>
-    requires { All
+    readers: &mut Vec<Reader<'a, u64>>,
+    got: &mut Vec<Vec<u64>>,
+)
+    requires table { All
         (λ t. t.promise.subscription.value.token.table_id ≡ flow.now.table_id) threads.items }
-    ensures readers { IfSome result (λ r. vec_len r.0 ≡ vec_len threads) }
-    ensures lists { IfSome result (λ r. vec_len r.1 ≡ vec_len threads) }
-    ensures taken { IfSome result (λ r. (i : ℕ) (d v t : _) → i < vec_len threads →
-        HasTakenAs flow.entry.now (slice_index_or threads.items i t).promise
-        (slice_index_or r.0.items i d) (slice_index_or r.1.items i v).items) }
+    requires readers { (readers.old.items ≡ []) × (vec_len threads ≤ vec_capacity readers.old) }
+    requires lists { (got.old.items ≡ []) × (vec_len threads ≤ vec_capacity got.old) }
+    ensures readers { vec_len readers.new ≡ vec_len threads }
+    ensures lists { vec_len got.new ≡ vec_len threads }
+    ensures taken { (i : ℕ) (d v t : _) → i < vec_len threads → HasTakenAs flow.entry.now
+        (slice_index_or threads.items i t).promise
+        (slice_index_or readers.new.items i d) (slice_index_or got.new.items i v).items }
 {
-    let (mut readers, mut got) = room_for(alloc, threads.len())?;
     for thread in threads {
         let (subscription, list) = thread.join(rt);
         readers.push_reserved(flow.reader(subscription));
         got.push_reserved(list);
     }
-    Some((readers, got))
 }

@@ -8,7 +8,7 @@ reader-requires g c =
     let at = c.loop-thread in let was = at.invariant in let step = c.in-Some.ensures.steps in let thread = c.in-Some.thread in
     let done = vec_len at.readers in let next = taken_next (vec_items c.args.threads) _ _ thread done _ _ step.0 step.1 was.2 in
     c.join-subscription.ensures.0 ∙ ap (λ t. t.promise.subscription.value.token.table_id) (next.0 thread)
-    ∙ c.requires done thread (let a = was.0 in let b = step.1 in let o = c.args.threads.ok.0 in omega (arith, a, b, o))
+    ∙ c.requires.table done thread (let a = was.0 in let b = step.1 in let o = c.args.threads.ok.0 in omega (arith, a, b, o))
 
 pub loop-thread-preserved : goal.loop-thread-preserved
 loop-thread-preserved g c =
