@@ -1,3 +1,13 @@
 pub mod ArgumentsLemmas
+pub mod CallerLemmas
 pub mod CrowdLemmas
+pub mod EndLemmas
+pub mod LineLemmas
+pub mod NumberLemmas
+pub mod PairLemmas
+pub mod PlaceLemmas
 pub mod ProgramLemmas
+pub mod ReceivedLemmas
+pub mod SubscribedLemmas
+pub mod SubscriberLineLemmas
+pub mod WaitLemmas

@@ -3,9 +3,9 @@ use Rattle.std.specs.Prelude.{ℕ, leb, ◌&&◌, cond, List, [], ◌∷◌, len
 use Rattle.std.specs.Option.{option_or}
 use Rattle.std.specs.Str.{all_ascii_digits}
 use Rattle.std.specs.Str.Parse.{digits_value}
-use Rattle.flow_count.specs.Counting.{Counting, count_size}
-use Rattle.flow_crowd.specs.Sizes.{crowd_size}
-use Rattle.flow_crowd.specs.declared.size.CrowdSize.{CrowdSize}
+use Rattle.flow_program.specs.Counting.{Counting, count_size}
+use Rattle.flow_program.specs.CrowdSizes.{crowd_size}
+use Rattle.flow_program.specs.declared.crowd.size.CrowdSize.{CrowdSize}
 
 -- the number that one to five ASCII digits write
 abbrev pub number_in : List ℕ → Option ℕ

@@ -1,8 +1,8 @@
 -- The lines that a crowd or a count prints, and how the program then ends. Begin with `Runs`.
 use Rattle.std.specs.Prelude.{◌≡◌, ◌⊎◌, ℕ, zero, suc, ℤ, pos, ◌+◌, ◌*◌, Bool, List, [], ◌++◌, Option, codes, decimal}
 use Rattle.std.specs.Fmt.{signed_decimal}
-use Rattle.flow_count.specs.Counting.{Counting}
-use Rattle.flow_crowd.specs.declared.size.CrowdSize.{CrowdSize}
+use Rattle.flow_program.specs.Counting.{Counting}
+use Rattle.flow_program.specs.declared.crowd.size.CrowdSize.{CrowdSize}
 use Rattle.flow_script.specs.Lines.{lined}
 use Rattle.flow_script.specs.Telling.{Tells, memory_line}
 use Rattle.flow_program.specs.Arguments.{Command, Crowd, Count}

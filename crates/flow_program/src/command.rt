@@ -4,8 +4,8 @@ ghost use Rattle.std.specs.Str.{all_ascii_digits};
 ghost use Rattle.std.specs.Str.Parse.{digits_value};
 ghost use Rattle.flow_program.specs.Arguments.{count_of, count_sized, crowd_of, crowd_sized, number_in};
 
-use flow_count::CountSize;
-use flow_crowd::CrowdSize;
+use crate::count::CountSize;
+use crate::crowd::CrowdSize;
 
 /// Returns the crowd that the arguments name: the word `crowd`, and how many emitters, subscribers, and values of each
 /// emitter. `None` for other arguments, or if a number is out of its range.

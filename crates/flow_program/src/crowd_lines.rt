@@ -1,9 +1,9 @@
 //! The lines of a crowd.
 ghost use Rattle.std.specs.Prelude.{◌≡◌, ◌++◌, ◌*◌, All, OnOk, IfOk, length, string_bytes};
-ghost use Rattle.flow_crowd.specs.Crowds.{GotAll};
+ghost use Rattle.flow_program.specs.Crowds.{GotAll};
 ghost use Rattle.flow_program.specs.CrowdLines.{crowd_lines, subscriber_line, subscriber_lines};
 
-use flow_crowd::CrowdSize;
+use crate::crowd::CrowdSize;
 use std::alloc::{AllocError, Global};
 
 /// Returns what each subscriber got, by its number from 1, and how many values were emitted.

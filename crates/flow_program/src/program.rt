@@ -7,9 +7,9 @@ ghost use Rattle.flow_program.specs.CrowdLines.{Runs, RunsCount, RunsCrowd, coun
 ghost use Rattle.flow_program.specs.Program.{RunsScript, usage_line};
 
 use crate::command::{count_of, crowd_of};
+use crate::count::{CountSize, run_count};
+use crate::crowd::{CrowdSize, run_crowd};
 use crate::crowd_lines::crowd_text;
-use flow_count::{CountSize, run_count};
-use flow_crowd::{CrowdSize, run_crowd};
 use flow_script::{REFUSED, Watched, play, tell, tell_arguments, tell_fault, tell_memory};
 use std::alloc::{AllocError, AllocGlobal, Global};
 use std::io::{ErrorKind, Read, Write};

@@ -31,8 +31,8 @@
 //!
 //! # What is proved
 //! Two parts, for every schedule. If callers only update a state flow without a lock, no update is lost (`run_count` of
-//! flow_count). If threads only emit into a flow that suspends, and others receive as many values as all of these emit,
-//! each of them receives all values, each emitter's in its order (`run_crowd` of flow_crowd). Here each thread does
+//! flow_program). If threads only emit into a flow that suspends, and others receive as many values as all of these emit,
+//! each of them receives all values, each emitter's in its order (`run_crowd` of flow_program). Here each thread does
 //! other things, too, and all is tested; so is that a sleeper is woken.
 #![tactic(auto)]
 

@@ -1,6 +1,6 @@
 //! Crowds and pairs of threads.
 use crate::compare::compare;
-use flow_crowd::{CrowdSize, run_crowd, run_pair};
+use flow_program::{CrowdSize, run_crowd, run_pair};
 use std::process::Abort;
 
 /// Emitters, subscribers, values of each emitter, and what each subscriber is to get.

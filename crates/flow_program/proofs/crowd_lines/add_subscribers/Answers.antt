@@ -1,5 +1,5 @@
 use Rattle.std.proofs.Common.{arith, ◌≡◌, ◌+◌, ◌-◌, ◌*◌, ap, ◌∙◌, length, string_bytes}
-use Rattle.flow_program.proofs.CrowdLemmas.{line_added}
+use Rattle.flow_program.proofs.SubscriberLineLemmas.{line_added}
 use Rattle.flow_program.proofs.crowd_lines.add_subscribers.Goals as goal
 
 pub loop-index-preserved : goal.loop-index-preserved

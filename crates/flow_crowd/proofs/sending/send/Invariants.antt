@@ -1,7 +1,0 @@
-use Rattle.std.proofs.Common.{◌≡◌, []}
-use Rattle.flow_crowd.specs.Callers.{Emits}
-use Rattle.flow_crowd.proofs.sending.send.Given as goal
-
-abbrev pub invariant-loop : goal.invariant-loop
-invariant-loop g l =
-    (l.emitter.flow ≡ l.fn.emitter.flow) × Emits [] l.fn.emitter.token.knows l.emitter.token.knows

@@ -1,8 +1,0 @@
-use Rattle.std.proofs.Common.{◌≡◌}
-use Rattle.flow_crowd.specs.Callers.{Emits}
-use Rattle.flow_crowd.specs.Numbers.{numbers_from}
-use Rattle.flow_crowd.proofs.sending.send_all.Given as goal
-
-abbrev pub invariant-loop-sent : goal.invariant-loop-sent
-invariant-loop-sent g l =
-    (l.emitter.flow ≡ l.fn.emitter.flow) × Emits (numbers_from l.first l.sent) l.fn.emitter.token.knows l.emitter.token.knows

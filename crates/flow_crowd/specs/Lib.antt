@@ -1,4 +1,0 @@
-pub mod Callers
-pub mod Crowds
-pub mod Numbers
-pub mod Sizes

@@ -1,0 +1,143 @@
+-- A crowd: what each subscriber gets, and what each token of it did. Begin with `GotAll`.
+use Rattle.std.specs.Prelude.{◌≡◌, ℕ, suc, ◌+◌, ◌*◌, ◌<◌, leb, ltb, ◌&&◌, All, Bool, List, [], Vec, length, filter, slice_index_or, vec_len}
+use Rattle.std.specs.List.{AllByRecursion}
+use Rattle.atomic_table.specs.Seated.{TableId}
+use Rattle.flow_gate.specs.Tokens.{Origin}
+use Rattle.flow_law.specs.declared.config.Overflow.TheVariants.{Suspend}
+use Rattle.flow_law.specs.declared.history.Knowledge.{Knowledge}
+use Rattle.flow_law.specs.declared.states.SharedFlowState.{SharedFlowState}
+use Rattle.flow_law.specs.declared.call.SharedCall.{SharedCall}
+use Rattle.flow_law.specs.declared.call.SharedCall.TheVariants as call
+use Rattle.flow_law.specs.Growth.{child_name, first_knowledge}
+use Rattle.flow_law.specs.Handles.{CallerOf, ReaderOf}
+use Rattle.flow_law.specs.Tokens.{Token, NumberedToken}
+use Rattle.flow_law.specs.Closed.{nth_child}
+use Rattle.flow_law.specs.Done.{done_by}
+use Rattle.flow_program.specs.declared.crowd.emitters.EmitsAll.{EmitsAll}
+use Rattle.flow_program.specs.declared.crowd.size.CrowdSize.{CrowdSize}
+use Rattle.flow_program.specs.declared.crowd.subscribers.ReadsAll.{ReadsAll}
+use Rattle.flow_program.specs.Callers.{Says, Emits, Reads, HasSubscribed, taken_by}
+use Rattle.flow_program.specs.Numbers.{numbers_from}
+
+-- ---- what a subscriber gets
+
+-- the number is one of so many, from the first one on
+abbrev pub is_within : ℕ → ℕ → ℕ → Bool
+is_within first n v = leb first v && ltb v (first + n)
+
+-- as many values as all emitters emit, and of each emitter all that it emits, in its order
+pub record GotAll (size : CrowdSize) (got : List ℕ) : Type 0 where
+  pub count : length got ≡ size.emitters * size.values
+  -- of the j-th emitter, from 0
+  pub in_order : (j : ℕ) → j < size.emitters →
+      filter (is_within (j * size.values) size.values) got ≡ numbers_from (j * size.values) size.values
+
+-- all of so many subscribers did
+pub record EachGotAll {Z : Type 0} (size : CrowdSize) (got : Vec (Vec ℕ Z) Z) : Type 0 where
+  pub count : vec_len got ≡ size.subscribers
+  pub each : All (λ (list : Vec ℕ Z). GotAll size list.items) got.items
+
+-- ---- where a crowd begins
+
+-- a flow that suspends emitters and has a buffer, and its first seat, through which nothing was done
+pub record IsNewFlow (flow : Origin (SharedFlowState ℕ)) (seat : Token TableId (Says ℕ)) : Type 0 where
+  pub suspends : flow.first.config.overflow ≡ Suspend
+  pub buffer : 0 < flow.first.config.replay + flow.first.config.extra
+  pub table : seat.table_id ≡ flow.table_id
+  pub first : seat.knows ≡ first_knowledge
+
+-- ---- what the tokens did
+
+-- an emitter and a subscriber, each with its flow
+abbrev pub Caller : Type 0
+Caller = CallerOf TableId (SharedFlowState ℕ) (Says ℕ)
+
+abbrev pub Subscriber : Type 0
+Subscriber = ReaderOf TableId (SharedFlowState ℕ) (Says ℕ)
+
+-- a subscription without first values
+abbrev pub IsSubscribing : {T : Type 0} → SharedCall T → Type 0
+IsSubscribing (call.Subscribe name first) = first ≡ []
+IsSubscribing _ = ⊥
+
+module _ {T : Type 0} where
+  -- it is the first seat, which has only subscribed
+  pub record IsMaker (k : Knowledge (Says T)) : Type 0 where
+    pub name : k.name ≡ []
+    pub did : AllByRecursion (λ (e : Says T). IsSubscribing e.call) (done_by k)
+
+  -- a new subscription: the n-th token, from 0, that the first seat made, by these calls
+  pub record IsSubscribed {Id : Type 0} (did : List (Says T)) (n : ℕ) (s : NumberedToken Id (Says T)) : Type 0 where
+    pub name : s.token.knows.name ≡ child_name [] (suc n)
+    pub made : s.token.knows.made ≡ 0
+    pub silent : done_by s.token.knows ≡ []
+    pub subscribed : HasSubscribed s.token.knows.name s.number did
+
+  -- The token is the n-th, from 0, that the first seat made by these calls, and the subscriber u. It has only read, and
+  -- this is what it got.
+  pub record HasRead (did : List (Says T)) (n u : ℕ) (got : List T) (k : Knowledge (Says T)) : Type 0 where
+    pub name : k.name ≡ child_name [] (suc n)
+    pub made : k.made ≡ 0
+    pub subscribed : HasSubscribed k.name u did
+    pub only : AllByRecursion (λ (e : Says T). e.call ≡ call.TakeNext u) (done_by k)
+    pub taken : taken_by u (done_by k) ≡ got
+
+-- the i-th emitter of a crowd, from 0, has emitted its values
+abbrev pub HasEmitted : ℕ → ℕ → Knowledge (Says ℕ) → Type 0
+HasEmitted values i k = Emits (numbers_from (i * values) values) (nth_child i first_knowledge) k
+
+-- the emitter is of this flow, and has emitted so many numbers, from the first one on, since its token knew this
+abbrev pub HasSent : Origin (SharedFlowState ℕ) → ℕ → ℕ → Knowledge (Says ℕ) → Caller → Type 0
+HasSent flow first count before c = (c.flow ≡ flow) × Emits (numbers_from first count) before c.token.knows
+
+-- the subscriber is of this flow, was this subscription, and has only read since, and got so many values: these
+abbrev pub HasTaken : Origin (SharedFlowState ℕ) → ℕ → NumberedToken TableId (Says ℕ) → Subscriber → List ℕ → Type 0
+HasTaken flow count before r got =
+    (r.flow ≡ flow) × (r.subscription.number ≡ before.number)
+    × Reads before.number got before.token.knows r.subscription.token.knows × (length got ≡ count)
+
+-- ---- all callers
+
+-- The first seat, which knows this now, has made the emitters and then the subscribers of a crowd. It has only subscribed.
+pub record AreMade (size : CrowdSize) (flow : Origin (SharedFlowState ℕ)) (now : Knowledge (Says ℕ)) (es : List Caller) (rs : List Subscriber) : Type 0 where
+  pub maker : IsMaker now
+  pub made : now.made ≡ size.emitters + size.subscribers
+  pub emitters : length es ≡ size.emitters
+  pub subscribers : length rs ≡ size.subscribers
+  -- an emitter has done nothing
+  pub emitter : (i : ℕ) (d : Caller) → i < size.emitters →
+      ((slice_index_or es i d).flow ≡ flow) × ((slice_index_or es i d).token.knows ≡ nth_child i first_knowledge)
+  -- a subscriber has done nothing
+  pub subscriber : (i : ℕ) (d : Subscriber) → i < size.subscribers → ((slice_index_or rs i d).flow ≡ flow)
+      × IsSubscribed (done_by now) (size.emitters + i) (slice_index_or rs i d).subscription
+
+-- The threads of these callers have ended: each emitter has emitted its values, and each subscriber has read as many
+-- values as all of them emit.
+pub record HaveRun {Z : Type 0} (size : CrowdSize) (flow : Origin (SharedFlowState ℕ)) (es : List Caller) (rs : List Subscriber) (es-after : List Caller) (rs-after : List Subscriber) (got : List (Vec ℕ Z)) : Type 0 where
+  pub emitters : length es-after ≡ length es
+  pub subscribers : length rs-after ≡ length rs
+  pub lists : length got ≡ length rs
+  pub sent : (i : ℕ) (d e : Caller) → i < length es →
+      HasSent flow (i * size.values) size.values (slice_index_or es i e).token.knows (slice_index_or es-after i d)
+  pub taken : (i : ℕ) (d r : Subscriber) (v : Vec ℕ Z) → i < length rs →
+      HasTaken flow (size.emitters * size.values) (slice_index_or rs i r).subscription (slice_index_or rs-after i d) (slice_index_or got i v).items
+
+-- ---- what the threads promise
+
+-- to emit so many numbers, from the first one on, through this seat of the flow
+abbrev pub WillEmit : TableId → Token TableId (Says ℕ) → ℕ → ℕ → EmitsAll → Type 0
+WillEmit flow seat first count p =
+    (seat.table_id ≡ flow) × (p.seat.value ≡ seat) × (p.first ≡ first) × (p.count ≡ count)
+
+-- to read so many values by this subscription of the flow
+abbrev pub WillRead : TableId → NumberedToken TableId (Says ℕ) → ℕ → ReadsAll → Type 0
+WillRead flow subscription count p =
+    (subscription.token.table_id ≡ flow) × (p.subscription.value ≡ subscription) × (p.count ≡ count)
+
+-- the emitter has sent what its thread promised
+abbrev pub HasSentAs : Origin (SharedFlowState ℕ) → EmitsAll → Caller → Type 0
+HasSentAs flow p c = HasSent flow p.first p.count p.seat.value.knows c
+
+-- the subscriber has read what its thread promised, and got these values
+abbrev pub HasTakenAs : Origin (SharedFlowState ℕ) → ReadsAll → Subscriber → List ℕ → Type 0
+HasTakenAs flow p r got = HasTaken flow p.count p.subscription.value r got

@@ -1,0 +1,40 @@
+//! Threads that count by one state flow without a lock.
+ghost use Rattle.std.specs.Prelude.{◌≡◌, ◌*◌, pos, IfOk, IfErr};
+ghost use Rattle.flow_word.specs.Updating.{HasUpdated, plus_one};
+
+mod size;
+
+use flow_law::FlowFault;
+use flow_word::{WordSetter, WordState};
+pub use size::CountSize;
+use std::alloc::Global;
+use std::sync::Wait;
+use std::thread::{Threads, for_each_mut};
+
+/// Makes so many updates by one.
+fn count_up<R: Wait>(rt: &R, caller: &mut WordSetter<'_, i64>, updates: u32)
+    ensures { HasUpdated plus_one updates caller.old caller.new }
+{
+    for _done in 0..updates {
+        caller.update(rt, |value| value.wrapping_add(1));
+    }
+}
+
+/// Lets threads update a new state flow by one, all at once (`MutableStateFlow.update`), and returns the value once they have
+/// ended: no update is lost. Another thread does the part of one that cannot be made. `OutOfMemory` comes before they begin.
+pub fn run_count<R: Threads + Wait + Sync>(
+    rt: &R,
+    alloc: Global,
+    size: CountSize,
+) -> Result<i64, FlowFault>
+    ensures counted { IfOk result (λ value. value ≡ pos (size.threads * size.updates)) }
+    ensures memory { IfErr result (λ fault. fault ≡ FlowFault.OutOfMemory) }
+{
+    let (flow, seat) = WordState::new(alloc, 0, 0)?;
+    let mut maker = flow.setter(seat);
+    let mut callers = maker.others(alloc, size.threads)?;
+    let callers = callers.as_mut_slice();
+    let count = |_: usize, caller: &mut WordSetter<'_, i64>| count_up(rt, caller, size.updates);
+    for_each_mut(rt, callers, 8, &count);
+    Ok(maker.final_value(callers))
+}

@@ -1,0 +1,160 @@
+//! The subscribers of a crowd, and their threads.
+ghost use Rattle.std.specs.Prelude.{◌≡◌, [], ◌+◌, ◌<◌, ◌≤◌, All, ℕ, IfSome, length, slice_index_or, vec_capacity, vec_len};
+ghost use Rattle.flow_law.specs.Done.{done_by};
+ghost use Rattle.flow_program.specs.Callers.{Reads};
+ghost use Rattle.flow_program.specs.Crowds.{HasTakenAs, IsMaker, IsSubscribed, WillRead};
+
+use crate::crowd::receiving::receive_all;
+use flow_shared::{Emitter, Reader, SharedFlow, Subscription};
+use std::alloc::Global;
+use std::snapshot::Snapshot;
+use std::sync::Wait;
+use std::thread::{Promise, PromisedHandle, Scope, Threads};
+
+/// Subscribes so many times. `None` if memory was refused.
+pub fn subscribe_all<'a, R: Wait>(
+    rt: &R,
+    alloc: Global,
+    maker: &mut Emitter<'a, u64>,
+    count: u32,
+) -> Option<Vec<Reader<'a, u64>>>
+    requires { IsMaker maker.old.token.knows }
+    ensures flow { maker.new.flow ≡ maker.old.flow }
+    ensures maker { IfSome result (λ readers. IsMaker maker.new.token.knows) }
+    ensures made { IfSome result (λ readers.
+        maker.new.token.knows.made ≡ maker.old.token.knows.made + count) }
+    ensures count { IfSome result (λ readers. vec_len readers ≡ count) }
+    ensures flows { IfSome result (λ readers. (i : ℕ) (d : _) → i < count →
+        (slice_index_or readers.items i d).flow ≡ maker.old.flow) }
+    ensures subscribed { IfSome result (λ readers. (i : ℕ) (d : _) → i < count →
+        IsSubscribed (done_by maker.new.token.knows) (maker.old.token.knows.made + i)
+        (slice_index_or readers.items i d).subscription) }
+{
+    let mut readers = Vec::with_capacity(alloc, count as usize).ok()?;
+    for _subscribed in 0..count {
+        let Ok(reader) = maker.subscribe(rt) else {
+            return None;
+        };
+        readers.push_reserved(reader);
+    }
+    Some(readers)
+}
+
+/// A thread that reads returns its subscription, which has received `count` values, and these.
+#[derive(Drop)]
+pub struct ReadsAll {
+    pub subscription: Snapshot<Subscription<u64>>,
+    pub count: u64,
+}
+
+impl Promise<(Subscription<u64>, Vec<u64>)> for ReadsAll {
+    ghost use Rattle.std.specs.Prelude.{◌≡◌, length};
+    ghost use Rattle.flow_program.specs.Callers.{Reads};
+
+    ghost kept_by = { λ p ended. (ended.0.token.table_id ≡ p.subscription.value.token.table_id)
+        × (ended.0.number ≡ p.subscription.value.number)
+        × Reads p.subscription.value.number ended.1.items
+        p.subscription.value.token.knows ended.0.token.knows
+        × (length ended.1.items ≡ p.count) };
+}
+
+/// A thread that reads.
+pub type Reading = PromisedHandle<(Subscription<u64>, Vec<u64>), ReadsAll>;
+
+/// Receives `count` values into a list that is empty and has room for them. Returns the subscription and the list.
+fn read_all<R: Wait>(
+    rt: &R,
+    flow: &SharedFlow<u64>,
+    subscription: Subscription<u64>,
+    count: u64,
+    list: Vec<u64>,
+) -> (Subscription<u64>, Vec<u64>)
+    requires table { subscription.token.table_id ≡ flow.now.table_id }
+    requires empty { list.items ≡ [] }
+    requires room { count ≤ vec_capacity list }
+    ensures table { result.0.token.table_id ≡ flow.entry.now.table_id }
+    ensures number { result.0.number ≡ subscription.number }
+    ensures received { Reads subscription.number
+        result.1.items subscription.token.knows result.0.token.knows }
+    ensures count { length result.1.items ≡ count }
+{
+    let mut reader = flow.reader(subscription);
+    let got = receive_all(rt, &mut reader, count, list);
+    (reader.into_subscription(), got)
+}
+
+/// Starts a thread that receives `count` values. `None` if memory or a thread was refused.
+fn start_subscriber<'s, E, R: Wait + Sync>(
+    rt: &'s R,
+    alloc: Global,
+    scope: &Scope<'s, E>,
+    flow: &'s SharedFlow<u64>,
+    subscription: Subscription<u64>,
+    count: u64,
+) -> Option<Reading>
+    requires { subscription.token.table_id ≡ flow.now.table_id }
+    ensures { IfSome result (λ thread.
+        WillRead flow.entry.now.table_id subscription count thread.promise) }
+{
+    let list = Vec::with_capacity(alloc, count as usize).ok()?;
+    let promise = ReadsAll {
+        subscription: Snapshot::of(&subscription),
+        count,
+    };
+    scope
+        .spawn_with(
+            promise,
+            move || read_all(rt, flow, subscription, count, list),
+        )
+        .ok()
+}
+
+/// Starts a thread for each subscriber, which receives `count` values. `None` if memory or a thread was refused: then the
+/// others are dropped, and unsubscribe.
+pub fn start_subscribers<'s, E, R: Wait + Sync>(
+    rt: &'s R,
+    alloc: Global,
+    scope: &Scope<'s, E>,
+    flow: &'s SharedFlow<u64>,
+    readers: Vec<Reader<'s, u64>>,
+    count: u64,
+) -> Option<Vec<Reading>>
+    requires { All (λ r. r.flow.table_id ≡ flow.now.table_id) readers.items }
+    ensures count { IfSome result (λ threads. vec_len threads ≡ vec_len readers.entry) }
+    ensures promised { IfSome result (λ threads. (i : ℕ) (d r : _) → i < vec_len readers.entry →
+        WillRead flow.entry.now.table_id (slice_index_or readers.entry.items i r).subscription count
+        (slice_index_or threads.items i d).promise) }
+{
+    let mut threads = Vec::with_capacity(alloc, readers.len()).ok()?;
+    for reader in readers {
+        let thread = start_subscriber(rt, alloc, scope, flow, reader.into_subscription(), count)?;
+        threads.push_reserved(thread);
+    }
+    Some(threads)
+}
+
+/// Waits until all threads have ended, and adds their subscribers, and what each of them got, to two lists that are empty
+/// and have room for them.
+pub fn join_subscribers<'a, R: Threads>(
+    rt: &R,
+    flow: &'a SharedFlow<u64>,
+    threads: Vec<Reading>,
+    readers: &mut Vec<Reader<'a, u64>>,
+    got: &mut Vec<Vec<u64>>,
+)
+    requires table { All
+        (λ t. t.promise.subscription.value.token.table_id ≡ flow.now.table_id) threads.items }
+    requires readers { (readers.old.items ≡ []) × (vec_len threads ≤ vec_capacity readers.old) }
+    requires lists { (got.old.items ≡ []) × (vec_len threads ≤ vec_capacity got.old) }
+    ensures readers { vec_len readers.new ≡ vec_len threads }
+    ensures lists { vec_len got.new ≡ vec_len threads }
+    ensures taken { (i : ℕ) (d v t : _) → i < vec_len threads → HasTakenAs flow.entry.now
+        (slice_index_or threads.items i t).promise
+        (slice_index_or readers.new.items i d) (slice_index_or got.new.items i v).items }
+{
+    for thread in threads {
+        let (subscription, list) = thread.join(rt);
+        readers.push_reserved(flow.reader(subscription));
+        got.push_reserved(list);
+    }
+}
