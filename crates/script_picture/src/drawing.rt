@@ -5,7 +5,7 @@ use crate::picture::{Label, Note, Picture, Sign, Words};
 use crate::turns::Asking;
 use flow_law::{Command, Event, Report};
 use flow_script::{Answer, Loss, Losses, Told, number_at, text_at};
-use indexmap::{IndexMap, IndexSet};
+use indexmap::IndexMap;
 use script_chain_format::Version;
 use serde_json::Value;
 use std::alloc::{AllocError, Global};
@@ -20,6 +20,16 @@ struct Inside {
     asking: Option<Asking>,
     /// What subscribers lose, by their lanes, in a flow that drops its oldest values.
     losses: Option<Losses<usize>>,
+}
+
+impl Inside {
+    /// The item that the flow accepted in a turn.
+    fn item(&mut self, report: Report) -> Result<Option<i64>, AllocError> {
+        match &mut self.asking {
+            Some(asking) => asking.item(report),
+            None => Ok(None),
+        }
+    }
 }
 
 /// Marks a value on the lanes of the subscribers that lose it.
@@ -51,10 +61,8 @@ pub struct Drawing<'a> {
     alloc: Global,
     version: Version,
     picture: Picture<'a>,
-    /// The names of the flows: their lanes come first.
-    flows: IndexSet<&'a str>,
-    /// What is shown of each flow.
-    insides: Vec<Inside>,
+    /// What is shown of each flow, by name: the lanes of the flows come first, in this order.
+    flows: IndexMap<&'a str, Inside>,
     /// The lanes of the subscribers and the emissions, by name. An emission that was done at once has none.
     lanes: IndexMap<&'a str, usize>,
 }
@@ -74,8 +82,7 @@ impl<'a> Drawing<'a> {
             alloc,
             version,
             picture: Picture::new(alloc),
-            flows: IndexSet::new(alloc),
-            insides: Vec::new(alloc),
+            flows: IndexMap::new(alloc),
             lanes: IndexMap::new(alloc),
         }
     }
@@ -88,17 +95,14 @@ impl<'a> Drawing<'a> {
     /// A lane for a flow.
     pub fn add_flow(&mut self, name: &'a str, flow: &Value) {
         self.picture.add_lane(Label::of(name), None);
-        let Ok(asking) = Asking::new(self.alloc, self.version, flow) else {
-            self.fail();
-            return;
+        let added = match Asking::new(self.alloc, self.version, flow) {
+            Ok(asking) => {
+                let losses = Losses::new(self.alloc, flow);
+                self.flows.insert(name, Inside { asking, losses }).is_ok()
+            }
+            Err(_) => false,
         };
-        let inside = Inside {
-            asking,
-            losses: Losses::new(self.alloc, flow),
-        };
-        if self.flows.insert(name).is_err() || self.insides.push(inside).is_err() {
-            self.fail();
-        }
+        self.picture.failed = self.picture.failed || !added;
     }
 
     /// The lane of the flow that a step is about.
@@ -108,33 +112,20 @@ impl<'a> Drawing<'a> {
 
     /// The lane of the subscriber or the emission that a step is about.
     fn named_lane(&self, step: &Value) -> Option<usize> {
-        Some(*self.lanes.get(text_at(step, "name"))?)
+        self.lanes.get(text_at(step, "name")).copied()
     }
 
-    /// The label of a name that a step introduces.
-    fn label_of(&self, step: &'a Value) -> Label<'a> {
+    /// A lane for the name that a step introduces: of a subscriber, or of an emission whose value waits.
+    fn add_name(&mut self, step: &'a Value, waits: Option<i64>) {
+        let name = text_at(step, "name");
         let flow = if self.flows.len() > 1 {
             Some(text_at(step, "flow"))
         } else {
             None
         };
-        Label {
-            name: text_at(step, "name"),
-            flow,
-        }
-    }
-
-    /// A lane for the name that a step introduces, unless it is that of an emission that is done at once.
-    fn add_name(&mut self, step: &'a Value, answer: &Answer) {
-        let waits = match text_at(step, "do") {
-            "emit" if !matches!(answer, Answer::Done) => Some(number_at(step, "value")),
-            "subscribe" => None,
-            _ => return,
-        };
-        let label = self.label_of(step);
         let lane = self.picture.lanes.len();
-        self.picture.add_lane(label, waits);
-        if self.lanes.insert(label.name, lane).is_err() {
+        self.picture.add_lane(Label { name, flow }, waits);
+        if self.lanes.insert(name, lane).is_err() {
             self.fail();
         }
     }
@@ -198,7 +189,7 @@ impl<'a> Drawing<'a> {
                 losses: Some(losses),
                 ..
             },
-        ) = self.insides.get_mut(flow)
+        ) = self.flows.get_index_mut(flow)
         else {
             return;
         };
@@ -207,39 +198,30 @@ impl<'a> Drawing<'a> {
         }
     }
 
-    /// The item that a flow accepted in a turn.
-    fn item_of(&mut self, flow: usize, report: Report) -> Option<i64> {
-        let asking = self.insides.get_mut(flow)?.asking.as_mut()?;
-        match asking.item(report) {
-            Ok(item) => item,
-            Err(_) => {
-                self.fail();
-                None
-            }
-        }
-    }
-
     /// The mark of a turn: the item that the flow accepted, or what else came of it.
     fn mark_turn(&mut self, flow: usize, report: Report, line: &'a str) {
+        let item = match self.flows.get_index_mut(flow) {
+            Some(inside) => inside.item(report),
+            None => Ok(None),
+        };
         let note = command_note(report.command);
-        match (report.event, self.item_of(flow, report)) {
-            (Event::Put, Some(item)) => {
-                self.picture
-                    .add_mark(flow, Sign::Value, Words::Number(item), note);
-            }
-            (Event::Queued, Some(item)) => {
-                self.picture
-                    .add_mark(flow, Sign::Waits, Words::Number(item), note);
-            }
-            _ => self
-                .picture
-                .add_mark(flow, Sign::Told, Words::Text(line), Note::None),
-        }
+        let (sign, words, note) = match (report.event, item) {
+            (Event::Put, Ok(Some(item))) => (Sign::Value, Words::Number(item), note),
+            (Event::Queued, Ok(Some(item))) => (Sign::Waits, Words::Number(item), note),
+            (_, Ok(_)) => (Sign::Told, Words::Text(line), Note::None),
+            (_, Err(_)) => return self.fail(),
+        };
+        self.picture.add_mark(flow, sign, words, note);
     }
 
-    /// The marks of one step more.
+    /// The marks of one step more. An emission that is done at once has no lane.
     pub fn add_step(&mut self, step: &'a Value, told: &Told, line: &'a str) {
-        self.add_name(step, &told.answer);
+        match (text_at(step, "do"), &told.answer) {
+            ("emit", Answer::Done) => {}
+            ("emit", _) => self.add_name(step, Some(number_at(step, "value"))),
+            ("subscribe", _) => self.add_name(step, None),
+            _ => {}
+        }
         let flow = self.flow_lane(step);
         match &told.answer {
             Answer::Turned(report) => self.mark_turn(flow, *report, line),

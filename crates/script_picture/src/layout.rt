@@ -36,6 +36,14 @@ pub struct Axis<'a> {
 }
 
 impl<'a> Axis<'a> {
+    /// No steps.
+    pub fn none() -> Self {
+        Axis {
+            steps: &[],
+            told: &[],
+        }
+    }
+
     /// The moment of the turn in a column.
     fn moment(&self, column: usize) -> Option<u64> {
         self.told.get(column)?.seen.at
@@ -111,10 +119,8 @@ fn widths_of(
 ) -> Result<Vec<usize>, AllocError> {
     let mut widths = head_widths(alloc, picture.columns, axis)?;
     for mark in &picture.marks {
-        let width = mark_width(*mark).saturating_add(3);
-        if mark.column < widths.len() {
-            let least = widths[mark.column];
-            widths[mark.column] = least.max(width);
+        if let Some(width) = widths.get_mut(mark.column) {
+            *width = (*width).max(mark_width(*mark).saturating_add(3));
         }
     }
     Ok(widths)
@@ -240,26 +246,26 @@ fn add_bands<'a>(
     axis: Axis<'a>,
     widths: &[usize],
 ) {
-    let labels = labels_width(picture.lanes.as_slice());
+    let lanes = picture.lanes.as_slice();
+    let marks = picture.marks.as_slice();
+    let labels = labels_width(lanes);
     let mut from = 0;
     let mut first = 0;
+    // There are at most as many bands as columns.
     for _ in 0..widths.len() {
         let to = band_end(widths, from, labels);
-        let last = marks_before(picture.marks.as_slice(), first, to);
+        let last = marks_before(marks, first, to);
         if last > first {
             let band = Band {
                 labels,
                 from,
                 widths: widths.get(from..to).unwrap_or(&[]),
-                marks: picture.marks.get(first..last).unwrap_or(&[]),
+                marks: marks.get(first..last).unwrap_or(&[]),
             };
-            band.add_to(alloc, parts, picture.lanes.as_slice(), axis);
+            band.add_to(alloc, parts, lanes, axis);
         }
         from = to;
         first = last;
-        if from >= widths.len() {
-            break;
-        }
     }
 }
 

@@ -61,11 +61,7 @@ fn add_collections<'a>(alloc: Global, parts: &mut Parts<'a>, played: Played<'a>)
         if let (Some(chain), Some(told)) = (step.get("chain"), played.told(place)) {
             parts.push(Part::Collection(place.saturating_add(1), chain));
             let picture = collection_picture(alloc, chain, &told.answer, played.line(place));
-            let axis = Axis {
-                steps: &[],
-                told: &[],
-            };
-            add_picture(alloc, parts, picture, axis);
+            add_picture(alloc, parts, picture, Axis::none());
         }
     }
 }

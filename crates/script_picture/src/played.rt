@@ -43,15 +43,11 @@ impl<'a> Played<'a> {
         }
     }
 
-    /// The step that wrote the line at a place, and how many came before it. A flow that was refused wrote its line itself.
-    fn step_at(&self, place: usize) -> Option<(usize, &'a Value)> {
-        let step = place.checked_sub(self.refused())?;
-        Some((step, self.steps.get(step)?))
-    }
-
-    /// The step that wrote the line at a place, in words.
+    /// The step that wrote the line at a place, in words. A flow that was refused wrote its line itself.
     fn begin_line(&self, page: &mut Page, place: usize) {
-        if let Some((before, step)) = self.step_at(place) {
+        if let Some(before) = place.checked_sub(self.refused())
+            && let Some(step) = self.steps.get(before)
+        {
             write!(page, "{:>5}  ", before.saturating_add(1));
             add_step(page, step);
             page.push_str(": ");

@@ -54,15 +54,14 @@ fn add_items(page: &mut Page, items: &[Value]) {
 
 /// The members of an object but one, each with its key.
 fn add_members(page: &mut Page, object: &Value, but: &str) {
-    let Some(members) = object.as_object() else {
-        return;
-    };
-    for (key, value) in members {
-        if key.as_str() != but {
-            page.push(' ');
-            page.push_str(key.as_str());
-            page.push(' ');
-            add_value(page, value);
+    if let Value::Object(members) = object {
+        for (key, value) in members {
+            if key.as_str() != but {
+                page.push(' ');
+                page.push_str(key.as_str());
+                page.push(' ');
+                add_value(page, value);
+            }
         }
     }
 }

@@ -60,7 +60,7 @@ pub fn begin_step_number(page: &mut Page, step: usize, x: usize, y: usize) {
 type Look = (&'static str, &'static str, usize);
 
 /// The classes of values, so that one value has one colour.
-const COLOURS: [&str; 6] = ["m c0", "m c1", "m c2", "m c3", "m c4", "m c5"];
+static COLOURS: [&str; 6] = ["m c0", "m c1", "m c2", "m c3", "m c4", "m c5"];
 
 fn look_of(mark: Mark<'_>) -> Look {
     match mark.sign {

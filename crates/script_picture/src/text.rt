@@ -65,12 +65,6 @@ fn add_number(page: &mut Page, numbered: Numbered<'_>) {
     page.push_times(' ', numbered.width.saturating_sub(taken));
 }
 
-/// A collection in words, on a line of its own.
-fn add_collection_line(page: &mut Page, step: usize, chain: &Value) {
-    add_collection(page, step, chain);
-    page.push('\n');
-}
-
 fn add_part(page: &mut Page, part: Part<'_>) {
     match part {
         Part::Numbers(width) => add_name(page, Label::of("step"), width),
@@ -79,7 +73,10 @@ fn add_part(page: &mut Page, part: Part<'_>) {
         Part::Cell(cell) => add_cell(page, cell),
         Part::EndNumbers | Part::EndLane => end_line(page),
         Part::EndBand(_) => page.push('\n'),
-        Part::Collection(step, chain) => add_collection_line(page, step, chain),
+        Part::Collection(step, chain) => {
+            add_collection(page, step, chain);
+            page.push('\n');
+        }
     }
 }
 

@@ -25,15 +25,6 @@ impl Asking {
         }
     }
 
-    /// Asks the chain for an item.
-    fn ask(&mut self) -> Result<Option<i64>, AllocError> {
-        match self.chain.ask() {
-            Asked::Item(item) => Ok(Some(item)),
-            Asked::Fault(ChainFault::OutOfMemory) => Err(AllocError),
-            Asked::Pending | Asked::End | Asked::Fault(_) => Ok(None),
-        }
-    }
-
     /// Returns the item that the flow accepted in a turn, by its report. The chain is asked in the turns that asked it.
     ///
     /// # Errors
@@ -44,7 +35,13 @@ impl Asking {
         }
         match report.event {
             Event::Busy | Event::Idle | Event::Waiting => Ok(None),
-            Event::Put | Event::Queued | Event::Pending | Event::Completed => self.ask(),
+            Event::Put | Event::Queued | Event::Pending | Event::Completed => {
+                match self.chain.ask() {
+                    Asked::Item(item) => Ok(Some(item)),
+                    Asked::Fault(ChainFault::OutOfMemory) => Err(AllocError),
+                    Asked::Pending | Asked::End | Asked::Fault(_) => Ok(None),
+                }
+            }
         }
     }
 }
