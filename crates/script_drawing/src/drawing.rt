@@ -5,11 +5,15 @@ ghost use Rattle.flow_script.specs.ScriptMeaning.{meaning, text_of};
 ghost use Rattle.script_drawing.specs.Drawing.{Pictures, TellsInOrder, TellsLines};
 ghost use Rattle.script_drawing.specs.Listing.{told};
 
+use crate::frame::{Frame, explained_frame};
 use crate::lines::split_lines;
 use crate::listing::add_listing;
+use crate::played::Played;
+use crate::script_words::items_of;
+use crate::svg::svg_frame;
+use crate::text::text_frame;
 use flow_script::{Answers, ScriptFault, answers_of, text_of};
 use script_explain::rules_of;
-use script_picture::{Frame, Played, explained_frame, items_of, svg_frame, text_frame};
 use serde_json::Value;
 use std::alloc::{AllocError, Global};
 

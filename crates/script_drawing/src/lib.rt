@@ -2,12 +2,52 @@
 //!
 //! `drawing_of` draws the script of some bytes. What is drawn has each line of the script, in order (`Pictures`). `run` is the
 //! program `flow_draw` over any reader and writer.
+//!
+//! # Lanes and marks
+//! `steps_picture` has a lane for each flow, each subscriber and each emission that was not done at once, and a column for each step
+//! that was played; `collection_picture` has two lanes, one for a chain's source and one for what it gave. The table in `marks` has the
+//! marks of a step, and `turns` finds the items that turns put into their flows.
+//!
+//! # Where the marks stand
+//! `add_parts` gives each column of a picture a width in characters, cuts the picture into bands of at most `MOST_WIDTH`, and lists
+//! its parts from left to right, line by line. `parts_of` has the parts of all pictures of a script.
+//!
+//! # How they are written
+//! `text_frame` and `svg_frame` write the same parts each in their way, around the lines of the script: a `Frame` is what stands
+//! before the lines, and what stands after them. `explained_frame` is the frame of lines with their rules, which have no picture.
+//! `add_listing` writes the lines, and before each what `Played::add_words_before` says: the step that writes it, in words.
+//!
+//! # Scripts
+//! A script is a JSON value that was read and played. In another value a member that is missing, or has another form, counts as an
+//! empty text, an empty list or 0; no call fails for it.
 #![tactic(auto)]
 
+mod collection;
 mod drawing;
+mod frame;
+mod growing;
+mod layout;
 mod lines;
 mod listing;
+mod marks;
+mod page;
+mod parts;
+mod picture;
+mod played;
 mod program;
+mod script_words;
+mod steps;
+mod style;
+mod svg;
+mod svg_marks;
+mod text;
+mod turns;
+mod widths;
 
 pub use drawing::{Form, drawing_of};
+pub use frame::{Frame, explained_frame};
+pub use played::Played;
 pub use program::{refuse_arguments, run};
+pub use script_words::items_of;
+pub use svg::svg_frame;
+pub use text::text_frame;

@@ -2,7 +2,7 @@
 ghost use Rattle.std.specs.Prelude.{OnOk, string_bytes};
 ghost use Rattle.script_drawing.specs.Listing.{AddsLast, AddsLines, told};
 
-use script_picture::Played;
+use crate::played::Played;
 use std::alloc::{AllocError, Global};
 
 /// The rule of the step that wrote the line before that of a place. A line without a step has none.

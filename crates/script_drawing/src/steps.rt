@@ -1,6 +1,6 @@
 //! The picture of a script's steps, and its flows in words.
 
-use crate::drawing::Drawing;
+use crate::growing::GrowingPicture;
 use crate::page::Page;
 use crate::picture::Picture;
 use crate::played::Played;
@@ -21,28 +21,28 @@ fn single_flow(script: &Value) -> Option<&Value> {
 }
 
 /// The lanes of the flows.
-fn add_lanes<'a>(drawing: &mut Drawing<'a>, script: &'a Value) {
+fn add_lanes<'a>(picture: &mut GrowingPicture<'a>, script: &'a Value) {
     if let Some(flow) = single_flow(script) {
-        drawing.add_flow("flow", flow);
+        picture.add_flow("flow", flow);
     } else if let Some(Value::Object(flows)) = script.get("flows") {
         for (name, flow) in flows {
-            drawing.add_flow(name.as_str(), flow);
+            picture.add_flow(name.as_str(), flow);
         }
     }
 }
 
-fn add_steps<'a>(drawing: &mut Drawing<'a>, played: Played<'a>) {
+fn add_steps<'a>(picture: &mut GrowingPicture<'a>, played: Played<'a>) {
     for (place, step) in played.steps.iter().enumerate() {
         if let Some(told) = played.told(place) {
-            drawing.add_step(step, told, played.line(place));
+            picture.add_step(step, told, played.line(place));
         }
     }
 }
 
 /// Marks each subscriber that still has values to receive after the last step with their number.
-fn add_last_lags<'a>(drawing: &mut Drawing<'a>, played: Played<'a>) {
+fn add_last_lags<'a>(picture: &mut GrowingPicture<'a>, played: Played<'a>) {
     for (place, step) in played.steps.iter().enumerate() {
-        drawing.add_last_lag(step, played.last_lag(place));
+        picture.add_last_lag(step, played.last_lag(place));
     }
 }
 
@@ -57,11 +57,11 @@ pub fn steps_picture<'a>(
     played: Played<'a>,
 ) -> Result<Picture<'a>, AllocError> {
     let version = version_of(script).unwrap_or(Version::One);
-    let mut drawing = Drawing::new(alloc, version);
-    add_lanes(&mut drawing, script);
-    add_steps(&mut drawing, played);
-    add_last_lags(&mut drawing, played);
-    drawing.finish()
+    let mut picture = GrowingPicture::new(alloc, version);
+    add_lanes(&mut picture, script);
+    add_steps(&mut picture, played);
+    add_last_lags(&mut picture, played);
+    picture.finish()
 }
 
 /// What the flows of a script are, a line for each, which ends with a line feed. Of a script whose steps only collect chains it is nothing.

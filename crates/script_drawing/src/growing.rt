@@ -57,7 +57,7 @@ fn mark_losses(
 
 /// A picture that grows by a column with each step.
 #[derive(Drop)]
-pub struct Drawing<'a> {
+pub struct GrowingPicture<'a> {
     alloc: Global,
     version: Version,
     picture: Picture<'a>,
@@ -75,10 +75,10 @@ fn command_note(command: Command) -> Note {
     }
 }
 
-impl<'a> Drawing<'a> {
+impl<'a> GrowingPicture<'a> {
     /// A picture without lanes, of a script of a version.
     pub fn new(alloc: Global, version: Version) -> Self {
-        Drawing {
+        GrowingPicture {
             alloc,
             version,
             picture: Picture::new(alloc),
@@ -242,7 +242,7 @@ impl<'a> Drawing<'a> {
 
     /// The picture, where there was memory for all of it. What is marked in the end has a column of its own.
     pub fn finish(self) -> Result<Picture<'a>, AllocError> {
-        let Drawing { mut picture, .. } = self;
+        let GrowingPicture { mut picture, .. } = self;
         picture.end_column();
         picture.finish()
     }
