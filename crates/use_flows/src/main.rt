@@ -25,7 +25,8 @@ fn main(rt: HostRuntime) -> Result<()> {
     let shared = chains::between_threads::add_up(&rt, rt.alloc())?;
     print_sums(&rt, sum, consumers, shared)?;
     sensor::show(&rt)?;
-    print_page(&rt, screen::show_page(&rt, rt.alloc(), page(&rt)?)?)?;
+    let page = Text::from_str(rt.alloc(), "page 1")?;
+    print_page(&rt, screen::show_page(&rt, rt.alloc(), page)?)?;
     show_best(&rt)?;
     show_script(&rt)
 }
@@ -56,10 +57,4 @@ fn print_page(rt: &HostRuntime, page: Text) -> io::Result<()> {
 fn show_script(rt: &HostRuntime) -> Result<()> {
     print!(rt; "{}", played::lines(rt.alloc())?)?;
     Ok(())
-}
-
-fn page(rt: &HostRuntime) -> Result<Text> {
-    let mut name = String::new(rt.alloc());
-    name.push_str("page 1")?;
-    Ok(Text::new(name))
 }

@@ -1,5 +1,6 @@
 //! Two producers and three consumers of one flow, each on a thread of its own. Each consumer gets all ten values.
-use flow_law::{Config, FlowFault, NumberError, OutOfMemory};
+use crate::threads::{send, sum_of};
+use flow_law::{Config, FlowFault, NumberError};
 use flow_shared::{Emitter, Reader, SharedFlow};
 use std::alloc::Global;
 use std::sync::Wait;
@@ -11,9 +12,9 @@ type Consumers<'a> = (Reader<'a, i64>, Reader<'a, i64>, Reader<'a, i64>);
 pub fn add_up<R: Wait + Threads + Sync>(rt: &R, alloc: Global) -> Result<[i64; 3], FlowFault> {
     let (flow, seat) = SharedFlow::new(alloc, Config::new().extra(16))?;
     let mut p = flow.emitter(seat);
+    let mut consumers = subscribe_all(rt, &mut p)?;
     let mut q = p.another();
-    let (mut a, mut b, mut c) = subscribe_all(rt, &mut p)?;
-    run_all(rt, &mut p, &mut q, &mut a, &mut b, &mut c)
+    run_all(rt, &mut p, &mut q, &mut consumers)
 }
 
 /// Makes a reader for each consumer.
@@ -29,14 +30,10 @@ fn run_all<R: Wait + Threads + Sync>(
     rt: &R,
     p: &mut Emitter<'_, i64>,
     q: &mut Emitter<'_, i64>,
-    a: &mut Reader<'_, i64>,
-    b: &mut Reader<'_, i64>,
-    c: &mut Reader<'_, i64>,
+    consumers: &mut Consumers<'_>,
 ) -> Result<[i64; 3], FlowFault> {
-    let consumers = || consume_all(rt, a, b, c);
-    let (sums, produced) = join(rt, consumers, || produce_all(rt, p, q));
-    produced?;
-    Ok(sums?)
+    let (sums, produced) = join(rt, || consume_all(rt, consumers), || produce_all(rt, p, q));
+    produced.and(sums)
 }
 
 /// Runs both producers.
@@ -45,33 +42,17 @@ fn produce_all<R: Wait + Threads + Sync>(
     p: &mut Emitter<'_, i64>,
     q: &mut Emitter<'_, i64>,
 ) -> Result<(), FlowFault> {
-    let (first, second) = join(rt, || produce(rt, p, 1), || produce(rt, q, 6));
+    let (first, second) = join(rt, || send(rt, p, 1..6), || send(rt, q, 6..11));
     first.and(second)
 }
 
 /// Runs all consumers.
 fn consume_all<R: Wait + Threads + Sync>(
     rt: &R,
-    a: &mut Reader<'_, i64>,
-    b: &mut Reader<'_, i64>,
-    c: &mut Reader<'_, i64>,
-) -> Result<[i64; 3], OutOfMemory> {
-    let two = || join(rt, || consume(rt, a), || consume(rt, b));
-    let ((a, b), c) = join(rt, two, || consume(rt, c));
+    consumers: &mut Consumers<'_>,
+) -> Result<[i64; 3], FlowFault> {
+    let (a, b, c) = consumers;
+    let two = || join(rt, || sum_of(rt, a, 10), || sum_of(rt, b, 10));
+    let ((a, b), c) = join(rt, two, || sum_of(rt, c, 10));
     Ok([a?, b?, c?])
-}
-
-fn produce<R: Wait>(rt: &R, to: &mut Emitter<'_, i64>, first: i64) -> Result<(), FlowFault> {
-    for step in 0..5 {
-        to.send(rt, first.wrapping_add(step))?;
-    }
-    Ok(())
-}
-
-fn consume<R: Wait>(rt: &R, from: &mut Reader<'_, i64>) -> Result<i64, OutOfMemory> {
-    let mut sum = 0i64;
-    for _ in 0..10 {
-        sum = sum.wrapping_add(from.receive(rt)?);
-    }
-    Ok(sum)
 }

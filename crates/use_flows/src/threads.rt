@@ -17,12 +17,11 @@ pub fn add_up<R: Wait + Threads + Sync>(rt: &R, alloc: Global) -> Result<i64, Fl
         || sum_of(rt, &mut reader, 5),
         || send(rt, &mut emitter, 1..6),
     );
-    sent?;
-    sum
+    sent.and(sum)
 }
 
 /// Sends the values one after the other, and waits where there is no room.
-fn send<R: Wait>(
+pub fn send<R: Wait>(
     rt: &R,
     emitter: &mut Emitter<'_, i64>,
     values: Range<i64>,
@@ -34,7 +33,7 @@ fn send<R: Wait>(
 }
 
 /// Adds up the next values, so many. The thread sleeps until each is there.
-fn sum_of<R: Wait>(rt: &R, reader: &mut Reader<'_, i64>, count: u32) -> Result<i64, FlowFault> {
+pub fn sum_of<R: Wait>(rt: &R, reader: &mut Reader<'_, i64>, count: u32) -> Result<i64, FlowFault> {
     let mut sum = 0i64;
     for _ in 0..count {
         sum = sum.wrapping_add(reader.receive(rt)?);

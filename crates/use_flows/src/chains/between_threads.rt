@@ -1,7 +1,8 @@
 //! A chain that is shared into a flow for threads: one thread runs the sharing, another one reads.
+use crate::threads::sum_of;
 use anyhow::Result;
 use flow_cold::OfRange;
-use flow_law::{Config, OutOfMemory};
+use flow_law::Config;
 use flow_shared::{Reader, SharedFlow};
 use flow_sharing::{SharedFlowHub, Sharing, Started};
 use std::alloc::Global;
@@ -9,20 +10,12 @@ use std::sync::Wait;
 use std::thread::{Threads, join};
 use std::time::Clock;
 
-fn sum_of<R: Wait>(rt: &R, reader: &mut Reader<'_, i64>, count: u32) -> Result<i64, OutOfMemory> {
-    let mut sum = 0i64;
-    for _ in 0..count {
-        sum = sum.wrapping_add(reader.receive(rt)?);
-    }
-    Ok(sum)
-}
-
 /// Returns what the reading thread has added up. The flow has room for all items, so no emission waits for the reader: if
 /// no thread can be made, `join` runs the reader after the sharing.
 pub fn add_up<R: Wait + Clock + Threads + Sync>(rt: &R, alloc: Global) -> Result<i64> {
     let (flow, mut seat) = SharedFlow::new(alloc, Config::new().extra(20))?;
+    let mut reader = flow.reader(flow.subscribe(rt, &mut seat)?);
     let hub = SharedFlowHub::new(&flow, &mut seat);
-    let mut reader = flow.emitter(seat).subscribe(rt)?;
     let mut sharing = Sharing::new(OfRange::new(1, 20), Started::Lazily, hub);
     run_both(rt, &mut sharing, &mut reader)
 }

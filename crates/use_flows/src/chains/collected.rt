@@ -7,8 +7,8 @@ use std::alloc::Global;
 fn even_times(alloc: Global, last: i64, k: i64) -> Result<Collected<i64>, ChainFault> {
     let mut chain = OfRange::new(1, last)
         .filter(|x| x % 2 == 0)
-        .map(|x| x.checked_mul(k).ok_or(ChainFault::Overflow))
-        .take(3)?;
+        .take(3)?
+        .map(|x| x.checked_mul(k).ok_or(ChainFault::Overflow));
     collect_all(alloc, &mut chain)
 }
 
@@ -47,21 +47,20 @@ fn sum_from(least: i64, last: i64) -> Result<i64, ChainFault> {
     )
 }
 
-fn print(rt: &HostRuntime, collected: &Collected<i64>) -> Result<()> {
+fn print(rt: &HostRuntime, collected: Result<Collected<i64>, ChainFault>) -> Result<()> {
+    let collected = collected?;
     println!(rt; "{:?}, {:?}", collected.items.as_slice(), collected.end)?;
     Ok(())
 }
 
 pub fn show(rt: &HostRuntime) -> Result<()> {
     let alloc = rt.alloc();
-    print(rt, &even_times(alloc, 10, 3)?)?;
-    print(rt, &even_times(alloc, 10, i64::MAX)?)?;
-    print(rt, &counted_up(alloc, 1, 3)?)?;
-    print(rt, &savings(alloc, 10, vec![in alloc; 5, 1]?)?)?;
-    print(
-        rt,
-        &priced(alloc, vec![in alloc; 3, 1]?, vec![in alloc; 2, 7, 9]?)?,
-    )?;
+    print(rt, even_times(alloc, 10, 3))?;
+    print(rt, even_times(alloc, 10, i64::MAX))?;
+    print(rt, counted_up(alloc, 1, 3))?;
+    print(rt, savings(alloc, 10, vec![in alloc; 5, 1]?))?;
+    let (amounts, prices) = (vec![in alloc; 3, 1]?, vec![in alloc; 2, 7, 9]?);
+    print(rt, priced(alloc, amounts, prices))?;
     println!(rt; "{}", sum_from(3, 5)?)?;
     Ok(())
 }

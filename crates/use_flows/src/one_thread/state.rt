@@ -2,27 +2,23 @@
 use anyhow::Result;
 use flow_core::StateCore;
 use flow_law::{Next, Text};
-use std::alloc::AllocError;
 use std::io;
 
 pub fn show(rt: &HostRuntime) -> Result<()> {
-    let mut flow = StateCore::new(rt.alloc(), text(rt, "loading")?, u64::MAX);
+    let loading = Text::from_str(rt.alloc(), "loading")?;
+    let mut flow = StateCore::new(rt.alloc(), loading, u64::MAX);
     set_and_read(rt, &mut flow)
 }
 
 fn set_and_read(rt: &HostRuntime, flow: &mut StateCore<Text>) -> Result<()> {
     let reader = flow.subscribe()?;
     for word in ["page 1", "page 2", "page 3"] {
-        flow.set(text(rt, word)?);
+        flow.set(Text::from_str(rt.alloc(), word)?);
     }
     for _ in 0..2 {
         print(rt, flow.next(reader)?)?;
     }
     Ok(())
-}
-
-fn text(rt: &HostRuntime, word: &str) -> Result<Text, AllocError> {
-    Ok(Text::new(String::from_str(rt.alloc(), word)?))
 }
 
 fn print(rt: &HostRuntime, next: Next<Text>) -> io::Result<()> {
