@@ -16,13 +16,12 @@ pub fn show(rt: &HostRuntime) -> Result<()> {
 
 fn take_turns(rt: &HostRuntime, sharing: &mut Sharing<OfRange, CoreHub<i64>>) -> Result<()> {
     let reader = sharing.subscribe()?;
-    for moment in 0..4 {
+    for moment in 0..8 {
+        if moment == 4 {
+            sharing.unsubscribe(reader);
+        }
         print(rt, moment, sharing.turn(moment)?)?;
         print_value(rt, sharing.next(reader)?)?;
-    }
-    sharing.unsubscribe(reader);
-    for moment in 4..8 {
-        print(rt, moment, sharing.turn(moment)?)?;
     }
     Ok(())
 }
