@@ -113,21 +113,22 @@ impl Conflict {
             out,
             "by moment {moment} no order explains the calls; from {from} on there were:"
         )?;
-        for caller in 0..sheet.names.len() {
-            self.write_calls(out, sheet, caller)?;
+        for (caller, calls) in sheet.rows.iter().enumerate() {
+            self.write_calls(out, sheet, caller, calls.as_slice())?;
         }
         Ok(())
     }
 
-    fn write_calls<W: Write>(&self, out: &mut W, sheet: &Sheet, caller: usize) -> io::Result<()> {
-        let Some(row) = sheet.rows.get(caller) else {
-            return Ok(());
-        };
-        for call in row {
+    fn write_calls<W: Write>(
+        &self,
+        out: &mut W,
+        sheet: &Sheet,
+        caller: usize,
+        calls: &[WrittenCall],
+    ) -> io::Result<()> {
+        for call in calls {
             if self.needs(*call) {
-                write!(out, "  ")?;
-                write_line(out, sheet, caller, *call)?;
-                writeln!(out)?;
+                write_line(out, "  ", sheet, caller, *call)?;
             }
         }
         Ok(())

@@ -162,26 +162,25 @@ fn column_of(moments: &[u64], moment: u64) -> usize {
 /// Writes the line of a call over so many columns: `|---|`, or `|--->` if it is not over.
 fn write_bar<W: Write>(out: &mut W, bar: &Bar, columns: usize) -> io::Result<()> {
     for column in 0..columns {
+        let is_edge = column == bar.from || column == bar.to;
         let is_inside = bar.from <= column && column < bar.to;
-        let edge = if column == bar.from || column == bar.to {
-            "|"
-        } else if is_inside {
-            "-"
-        } else {
-            " "
+        let cell = match (is_edge, is_inside) {
+            (true, true) => "|-",
+            (true, false) => "| ",
+            (false, true) => "--",
+            (false, false) => "  ",
         };
-        write!(out, "{edge}{}", if is_inside { "-" } else { " " })?;
+        write!(out, "{cell}")?;
     }
-    write!(out, "{}", if bar.to >= columns { ">" } else { " " })
+    let end = if bar.to >= columns { ">" } else { " " };
+    write!(out, "{end}")
 }
 
 /// Writes a call after its line over so many columns.
 fn write_row<W: Write>(out: &mut W, sheet: &Sheet, bar: &Bar, columns: usize) -> io::Result<()> {
     write_bar(out, bar, columns)?;
-    let mark = if bar.is_marked { "!" } else { " " };
-    write!(out, " {mark} ")?;
-    write_line(out, sheet, bar.caller, bar.call)?;
-    writeln!(out)
+    let mark = if bar.is_marked { " ! " } else { "   " };
+    write_line(out, mark, sheet, bar.caller, bar.call)
 }
 
 fn write_text<W: Write>(

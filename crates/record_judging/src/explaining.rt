@@ -1,5 +1,5 @@
 //! Explains where and why a record is refused.
-use crate::reading::{has_lines, is_blank, value_of};
+use crate::reading::{has_lines, is_blank, is_newline, line_at, value_of};
 use crate::refusal::{Part, Refusal, Unread, Wrong};
 use crate::words::is_one_of;
 use json_places::{Place, Spot, Text, nearest, not_json};
@@ -26,23 +26,10 @@ fn part_in<'a>(
 
 /// Returns where the line of this part begins, and where it ends.
 fn line_of(bytes: &[u8], part: Part) -> (usize, usize) {
-    let wanted = match part {
-        Part::Head | Part::Flow => 0,
-        Part::Call(number) => number,
-    };
-    let mut begin: usize = 0;
-    let mut lines: usize = 0;
-    for line in bytes.split(|byte| *byte == b'\n') {
-        let end = begin.saturating_add(line.len());
-        if !is_blank(line) {
-            if lines == wanted {
-                return (begin, end);
-            }
-            lines = lines.saturating_add(1);
-        }
-        begin = end.saturating_add(1);
+    match part {
+        Part::Head | Part::Flow => line_at(bytes, 0),
+        Part::Call(number) => line_at(bytes, number),
     }
-    (begin, begin)
 }
 
 /// The words that explain the verdict on a record.
@@ -62,11 +49,10 @@ impl<'a> Report<'a> {
 
     fn add_place(&mut self, at: usize, part: Part) -> Result<(), AllocError> {
         let place = Place::at(self.text.bytes, at);
-        write!(self.words, "{place}: ")?;
-        if let Part::Call(number) = part {
-            write!(self.words, "call {number}: ")?;
+        match part {
+            Part::Head | Part::Flow => write!(self.words, "{place}: "),
+            Part::Call(number) => write!(self.words, "{place}: call {number}: "),
         }
-        Ok(())
     }
 
     /// Adds the key or the value that begins here.
@@ -81,16 +67,17 @@ impl<'a> Report<'a> {
         word: &str,
         choices: &'static [&'static str],
     ) -> Result<(), AllocError> {
-        if let Some(near) = nearest(self.text.alloc, word, choices)? {
-            self.add(&["\n  nearest: \"", near, "\""])?;
+        match nearest(self.text.alloc, word, choices)? {
+            Some(near) => self.add(&["\n  nearest: \"", near, "\""]),
+            None => Ok(()),
         }
-        Ok(())
     }
 
-    fn add_choices(&mut self, choices: &'static [&'static str]) -> Result<(), AllocError> {
-        let mut opening = "one of \"";
-        for choice in choices {
-            self.add(&[opening, *choice, "\""])?;
+    /// Adds that it is no key, and which keys there are.
+    fn add_keys(&mut self, keys: &'static [&'static str]) -> Result<(), AllocError> {
+        let mut opening = " is no key here\n  expected: one of \"";
+        for key in keys {
+            self.add(&[opening, *key, "\""])?;
             opening = ", \"";
         }
         Ok(())
@@ -126,8 +113,7 @@ impl<'a> Report<'a> {
     ) -> Result<(), AllocError> {
         self.add_place(at, part)?;
         self.add_value(at)?;
-        self.add(&[" is no key here\n  expected: "])?;
-        self.add_choices(keys)?;
+        self.add_keys(keys)?;
         self.add_nearest(name, keys)
     }
 
@@ -143,7 +129,10 @@ impl<'a> Report<'a> {
         let found = self.text.member(object, key)?.unwrap_or(object);
         self.add_place(found.at, part)?;
         self.add_value(found.at)?;
-        self.add(&[" is no value of \"", key, "\"\n  expected: ", expected])?;
+        write!(
+            self.words,
+            " is no value of \"{key}\"\n  expected: {expected}"
+        )?;
         self.add_nearest(found.value.as_str().unwrap_or(""), words)
     }
 
@@ -151,7 +140,7 @@ impl<'a> Report<'a> {
     fn tell_no_object(&mut self, at: usize, part: Part) -> Result<(), AllocError> {
         self.add_place(at, part)?;
         self.add_value(at)?;
-        self.add(&[" is no object\n  expected: an object"])
+        self.words.push_str(" is no object\n  expected: an object")
     }
 
     /// Tells of a key that the object has not.
@@ -166,9 +155,12 @@ impl<'a> Report<'a> {
         self.add(&["\"", key, "\" is missing\n  expected: ", expected])
     }
 
-    /// Tells why a part is refused that begins here.
-    fn tell(&mut self, refusal: Refusal, object: Spot<'_>) -> Result<(), AllocError> {
+    /// Tells why a part of the record is refused, whose head or line begins here.
+    fn tell(&mut self, refusal: Refusal, root: Spot<'_>, in_lines: bool) -> Result<(), AllocError> {
         let part = refusal.part;
+        let Some(object) = part_in(self.text, root, part, in_lines)? else {
+            return self.words.push_str("the record is refused");
+        };
         match refusal.wrong {
             Wrong::Key { known } => self.tell_key(object, part, known),
             Wrong::NoObject => self.tell_no_object(object.at, part),
@@ -183,7 +175,7 @@ impl<'a> Report<'a> {
 
     fn tell_stop(&mut self) -> Result<(), AllocError> {
         let Some(stop) = not_json(self.text)? else {
-            return self.add(&["the record is no JSON"]);
+            return self.words.push_str("the record is no JSON");
         };
         self.add_place(stop.at, Part::Head)?;
         if stop.tells_value {
@@ -193,21 +185,20 @@ impl<'a> Report<'a> {
     }
 }
 
-/// Returns the first line that is no JSON, as a range.
-fn bad_line(alloc: Global, bytes: &[u8]) -> Result<(usize, usize), AllocError> {
+/// Returns where the first line begins that is no JSON.
+fn bad_line(alloc: Global, bytes: &[u8]) -> Result<usize, AllocError> {
     let mut begin: usize = 0;
-    for line in bytes.split(|byte| *byte == b'\n') {
-        let end = begin.saturating_add(line.len());
+    for line in bytes.split(is_newline) {
         if !is_blank(line) {
             match value_of(alloc, line) {
                 Ok(_) => {}
                 Err(Unread::OutOfMemory) => return Err(AllocError),
-                Err(_) => return Ok((begin, end)),
+                Err(_) => return Ok(begin),
             }
         }
-        begin = end.saturating_add(1);
+        begin = begin.saturating_add(line.len()).saturating_add(1);
     }
-    Ok((begin, begin))
+    Ok(begin)
 }
 
 fn tell_refusal(
@@ -225,33 +216,36 @@ fn tell_refusal(
         return Err(AllocError);
     };
     let at = text.part_from(begin).unwrap_or(begin);
-    let root = Spot { value: &value, at };
-    match part_in(text, root, refusal.part, in_lines)? {
-        Some(object) => report.tell(refusal, object),
-        None => report.add(&["the record is refused"]),
+    report.tell(refusal, Spot { value: &value, at }, in_lines)
+}
+
+/// Tells why these bytes are no record.
+fn tell_unread(report: &mut Report<'_>, unread: Unread) -> Result<(), AllocError> {
+    let text = report.text;
+    let Ok(in_lines) = has_lines(text.alloc, text.bytes) else {
+        return Err(AllocError);
+    };
+    match unread {
+        Unread::OutOfMemory => Err(AllocError),
+        Unread::Refused(refusal) => tell_refusal(report, refusal, in_lines),
+        Unread::NotJson if in_lines => {
+            let begin = bad_line(text.alloc, text.bytes)?;
+            report.add_place(begin, Part::Head)?;
+            report
+                .words
+                .push_str("this line is no JSON\n  expected: a call, an object")
+        }
+        Unread::NotJson => report.tell_stop(),
     }
 }
 
 /// Explains in a few lines why these bytes are no record.
 pub fn explain(alloc: Global, bytes: &[u8], unread: Unread) -> Result<String, AllocError> {
-    let in_lines = match has_lines(alloc, bytes) {
-        Ok(in_lines) => in_lines,
-        Err(_) => return Err(AllocError),
-    };
     let mut report = Report {
         text: Text { alloc, bytes },
         words: String::new(alloc),
     };
-    match unread {
-        Unread::OutOfMemory => return Err(AllocError),
-        Unread::Refused(refusal) => tell_refusal(&mut report, refusal, in_lines)?,
-        Unread::NotJson if in_lines => {
-            let (begin, _end) = bad_line(alloc, bytes)?;
-            report.add_place(begin, Part::Head)?;
-            report.add(&["this line is no JSON\n  expected: a call, an object"])?;
-        }
-        Unread::NotJson => report.tell_stop()?,
-    }
-    report.add(&["\n"])?;
+    tell_unread(&mut report, unread)?;
+    report.words.push_str("\n")?;
     Ok(report.words)
 }

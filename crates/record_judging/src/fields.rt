@@ -20,11 +20,11 @@ impl<'a> Fields<'a> {
     /// Asks that it is an object whose keys are all among these.
     pub fn has_only(self, keys: &'static [&'static str]) -> Result<(), Unread> {
         let Some(members) = self.value.as_object() else {
-            return no_object(self.part);
+            return Err(no_object(self.part));
         };
         for (name, _value) in members {
             if !is_one_of(name.as_str(), keys) {
-                return unknown_key(self.part, keys);
+                return Err(unknown_key(self.part, keys));
             }
         }
         Ok(())
@@ -39,22 +39,21 @@ impl<'a> Fields<'a> {
     pub fn need(self, key: &'static str, expected: &'static str) -> Result<&'a Value, Unread> {
         match self.value.get(key) {
             Some(value) => Ok(value),
-            None => missing(self.part, key, expected),
+            None => Err(missing(self.part, key, expected)),
         }
     }
 
     pub fn whole(self, key: &'static str) -> Result<u64, Unread> {
         match self.need(key, WHOLE)?.as_u64() {
             Some(number) => Ok(number),
-            None => unfit(self.part, key, WHOLE, &[]),
+            None => Err(unfit(self.part, key, WHOLE, &[])),
         }
     }
 
     pub fn small(self, key: &'static str) -> Result<u32, Unread> {
-        let number = self.need(key, SMALL)?.as_u64();
-        match number {
+        match self.need(key, SMALL)?.as_u64() {
             Some(number) if number <= 0xFFFF_FFFF => Ok(number as u32),
-            _ => unfit(self.part, key, SMALL, &[]),
+            _ => Err(unfit(self.part, key, SMALL, &[])),
         }
     }
 
@@ -66,7 +65,7 @@ impl<'a> Fields<'a> {
     ) -> Result<&'a str, Unread> {
         match self.need(key, TEXT)?.as_str() {
             Some(word) => Ok(word),
-            None => unfit(self.part, key, TEXT, words),
+            None => Err(unfit(self.part, key, TEXT, words)),
         }
     }
 }

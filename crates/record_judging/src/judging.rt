@@ -35,23 +35,19 @@ pub fn parts_of(call: WrittenCall, is_state: bool) -> usize {
     }
 }
 
-/// Returns the number of the call that has a caller's part of this index, or 0.
-pub fn number_at(sheet: &Sheet, caller: usize, index: usize) -> usize {
-    let Some(row) = sheet.rows.get(caller) else {
+/// Returns the number of the call that has the faulty part, or 0.
+fn number_of(sheet: &Sheet, fault: Fault) -> usize {
+    let Some(row) = sheet.rows.get(fault.caller) else {
         return 0;
     };
     let mut before: usize = 0;
     for call in row.as_slice() {
         before = before.saturating_add(parts_of(*call, sheet.flow.is_state()));
-        if index < before {
+        if fault.index < before {
             return call.number;
         }
     }
     0
-}
-
-fn number_of(sheet: &Sheet, fault: Fault) -> usize {
-    number_at(sheet, fault.caller, fault.index)
 }
 
 /// Judges these calls of the callers of a record.
@@ -62,19 +58,15 @@ pub fn judge(
 ) -> Result<Outcome, AllocError> {
     let lists = sheet.lists.as_slice();
     let budget = turns(sheet.count);
-    let judged = match sheet.flow {
+    match sheet.flow {
         WrittenFlow::State { initial } => match Record::new(state_callers(alloc, rows, lists)?) {
-            Ok(record) => Ok(check_state(alloc, initial, &record, budget)?),
-            Err(fault) => Err(fault),
+            Ok(record) => check_state(alloc, initial, &record, budget).map(Outcome::Judged),
+            Err(fault) => Ok(Outcome::Faulty(fault, number_of(sheet, fault))),
         },
         WrittenFlow::Shared(config) => match Record::new(shared_callers(alloc, rows, lists)?) {
-            Ok(record) => Ok(check_shared(alloc, config, &record, budget)?),
-            Err(fault) => Err(fault),
+            Ok(record) => check_shared(alloc, config, &record, budget).map(Outcome::Judged),
+            Err(fault) => Ok(Outcome::Faulty(fault, number_of(sheet, fault))),
         },
-    };
-    match judged {
-        Ok(verdict) => Ok(Outcome::Judged(verdict)),
-        Err(fault) => Ok(Outcome::Faulty(fault, number_of(sheet, fault))),
     }
 }
 

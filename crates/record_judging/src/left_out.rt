@@ -6,7 +6,7 @@
 //! A *change* may have been seen by others. But an order that explains calls also explains them if a change may have happened
 //! at any moment after it began, or not at all. So if the calls are illegal with that, it is not needed.
 use crate::judging::{Outcome, judge};
-use crate::looks::{changes_within, looks_by};
+use crate::looks::{Tried, numbers_of};
 use crate::written::{Sheet, WrittenCall};
 use flow_check::Verdict;
 use std::alloc::{AllocError, Global};
@@ -49,10 +49,7 @@ pub struct Roles {
 impl Roles {
     /// Needs all calls.
     pub fn new(alloc: Global, sheet: &Sheet, moment: u64) -> Result<Roles, AllocError> {
-        let mut roles = Vec::new(alloc);
-        for _ in 0..sheet.count.saturating_add(1) {
-            roles.push(Role::Needed)?;
-        }
+        let roles = vec![in alloc; Role::Needed; sheet.count.saturating_add(1)]?;
         Ok(Roles { moment, roles })
     }
 
@@ -102,9 +99,7 @@ impl Roles {
     ) -> Result<(), AllocError> {
         for call in calls {
             if self.role(call.number) == Role::Free {
-                let mut row = Vec::new(alloc);
-                row.push(WrittenCall { end: None, ..*call })?;
-                rows.push(row)?;
+                rows.push(vec![in alloc; WrittenCall { end: None, ..*call }]?)?;
             }
         }
         Ok(())
@@ -127,10 +122,8 @@ impl Roles {
     /// Returns whether it is sure that no order explains the calls.
     fn are_illegal(&self, alloc: Global, sheet: &Sheet) -> Result<bool, AllocError> {
         let rows = self.asked_rows(alloc, sheet)?;
-        match judge(alloc, sheet, rows.as_slice())? {
-            Outcome::Judged(Verdict::Illegal) => Ok(true),
-            Outcome::Judged(_) | Outcome::Faulty(_, _) => Ok(false),
-        }
+        let outcome = judge(alloc, sheet, rows.as_slice())?;
+        Ok(matches!(outcome, Outcome::Judged(Verdict::Illegal)))
     }
 
     /// Gives these calls a role, if the calls are illegal with it. Returns whether they are.
@@ -206,7 +199,7 @@ impl Roles {
 
     /// Leaves out the looks that are not needed.
     pub fn leave_out_looks(&mut self, alloc: Global, sheet: &Sheet) -> Result<(), AllocError> {
-        let looks = looks_by(alloc, sheet, self.moment)?;
+        let looks = numbers_of(alloc, sheet, Tried::Looks { by: self.moment })?;
         let (early, last) = looks
             .as_slice()
             .split_at(looks.len().saturating_sub(LAST_LOOKS));
@@ -221,7 +214,11 @@ impl Roles {
         sheet: &Sheet,
         from: u64,
     ) -> Result<(), AllocError> {
-        let changes = changes_within(alloc, sheet, from, self.moment)?;
+        let within = Tried::Changes {
+            after: from,
+            by: self.moment,
+        };
+        let changes = numbers_of(alloc, sheet, within)?;
         let tried = changes.get(..MOST_CHANGES).unwrap_or(changes.as_slice());
         self.try_each(alloc, sheet, tried, Role::Free)
     }

@@ -26,53 +26,47 @@ fn is_change_of_any(call: WrittenCall) -> bool {
     }
 }
 
-/// Adds the numbers of a caller's looks that began by a moment.
-fn add_looks(looks: &mut Vec<usize>, calls: &[WrittenCall], moment: u64) -> Result<(), AllocError> {
-    for call in calls {
-        if call.begin <= moment && is_look(*call) {
-            looks.push(call.number)?;
+/// Calls that a conflict may not need.
+#[derive(Clone, Copy)]
+pub enum Tried {
+    /// The looks that began by a moment.
+    Looks { by: u64 },
+    /// The changes of any caller that were over after a moment and by another one.
+    Changes { after: u64, by: u64 },
+}
+
+impl Tried {
+    fn has(self, call: WrittenCall) -> bool {
+        match self {
+            Tried::Looks { by } => call.begin <= by && is_look(call),
+            Tried::Changes { after, by } => {
+                let end = call.end.unwrap_or(after);
+                after < end && end <= by && is_change_of_any(call)
+            }
         }
     }
-    Ok(())
 }
 
-/// Returns the numbers of the looks that began by a moment, in order.
-pub fn looks_by(alloc: Global, sheet: &Sheet, moment: u64) -> Result<Vec<usize>, AllocError> {
-    let mut looks = Vec::new(alloc);
-    for calls in sheet.rows.as_slice() {
-        add_looks(&mut looks, calls.as_slice(), moment)?;
-    }
-    looks.sort()?;
-    Ok(looks)
-}
-
-/// Adds the numbers of a caller's changes that others may have seen and that were over after a moment and by another one.
-fn add_changes(
-    changes: &mut Vec<usize>,
+/// Adds the numbers of those of a caller's calls that are tried.
+fn add_numbers(
+    numbers: &mut Vec<usize>,
     calls: &[WrittenCall],
-    from: u64,
-    moment: u64,
+    tried: Tried,
 ) -> Result<(), AllocError> {
     for call in calls {
-        let is_within = matches!(call.end, Some(end) if from < end && end <= moment);
-        if is_within && is_change_of_any(*call) {
-            changes.push(call.number)?;
+        if tried.has(*call) {
+            numbers.push(call.number)?;
         }
     }
     Ok(())
 }
 
-/// Returns the numbers of the changes of any caller that were over after a moment and by another one, in order.
-pub fn changes_within(
-    alloc: Global,
-    sheet: &Sheet,
-    from: u64,
-    moment: u64,
-) -> Result<Vec<usize>, AllocError> {
-    let mut changes = Vec::new(alloc);
+/// Returns the numbers of the calls that are tried, in order.
+pub fn numbers_of(alloc: Global, sheet: &Sheet, tried: Tried) -> Result<Vec<usize>, AllocError> {
+    let mut numbers = Vec::new(alloc);
     for calls in sheet.rows.as_slice() {
-        add_changes(&mut changes, calls.as_slice(), from, moment)?;
+        add_numbers(&mut numbers, calls.as_slice(), tried)?;
     }
-    changes.sort()?;
-    Ok(changes)
+    numbers.sort()?;
+    Ok(numbers)
 }

@@ -1,7 +1,7 @@
 //! Tells an order of calls in words.
 use crate::judging::parts_of;
 use crate::words::CallWord;
-use crate::written::{Range, Sheet, WrittenAnswer, WrittenCall};
+use crate::written::{Sheet, WrittenAnswer, WrittenCall};
 use std::alloc::{AllocError, Global};
 use std::io::{self, Write};
 
@@ -48,76 +48,64 @@ pub fn word_of(call: CallWord) -> &'static str {
     }
 }
 
-fn write_list<W: Write>(out: &mut W, lists: &[u64], range: Range) -> io::Result<()> {
-    write!(out, "[")?;
-    let mut separator = "";
-    for value in range.of(lists) {
-        write!(out, "{separator}{value}")?;
-        separator = ", ";
-    }
-    write!(out, "]")
-}
-
 fn write_answer<W: Write>(out: &mut W, lists: &[u64], call: WrittenCall) -> io::Result<()> {
-    let Some(answer) = call.answer else {
-        return write!(out, " (pending)");
+    let words = match call.answer {
+        None => " (pending)",
+        Some(WrittenAnswer::Done) => ": done",
+        Some(WrittenAnswer::Cancelled) => ": cancelled",
+        Some(WrittenAnswer::Empty) => ": empty",
+        Some(WrittenAnswer::Truth(true)) => ": true",
+        Some(WrittenAnswer::Truth(false)) => ": false",
+        Some(WrittenAnswer::Value(number) | WrittenAnswer::Number(number)) => {
+            return write!(out, ": {number}");
+        }
+        Some(WrittenAnswer::Values(range)) => return write!(out, ": {:?}", range.of(lists)),
+        Some(WrittenAnswer::Exchange(old, new)) => return write!(out, ": {old} to {new}"),
     };
-    write!(out, ": ")?;
-    match answer {
-        WrittenAnswer::Done => write!(out, "done"),
-        WrittenAnswer::Cancelled => write!(out, "cancelled"),
-        WrittenAnswer::Empty => write!(out, "empty"),
-        WrittenAnswer::Value(number) | WrittenAnswer::Number(number) => write!(out, "{number}"),
-        WrittenAnswer::Truth(truth) => write!(out, "{truth}"),
-        WrittenAnswer::Values(range) => write_list(out, lists, range),
-        WrittenAnswer::Exchange(old, new) => write!(out, "{old} to {new}"),
-    }
+    write!(out, "{words}")
 }
 
 /// Writes a call with its values and its answer.
 pub fn write_call<W: Write>(out: &mut W, sheet: &Sheet, call: WrittenCall) -> io::Result<()> {
+    let lists = sheet.lists.as_slice();
     let word = word_of(call.call);
-    write!(out, "{word}")?;
-    match call.call {
-        CallWord::Set | CallWord::TryEmit | CallWord::Emit => write!(out, " {}", call.value)?,
-        CallWord::CompareAndSet => write!(out, " {} {}", call.expect, call.value)?,
+    let written = match call.call {
+        CallWord::Set | CallWord::TryEmit | CallWord::Emit => write!(out, "{word} {}", call.value),
+        CallWord::CompareAndSet => write!(out, "{word} {} {}", call.expect, call.value),
         CallWord::Subscribe if call.first.count > 0 => {
-            write!(out, " ")?;
-            write_list(out, sheet.lists.as_slice(), call.first)?;
+            write!(out, "{word} {:?}", call.first.of(lists))
         }
-        _ => {}
-    }
-    write_answer(out, sheet.lists.as_slice(), call)
+        _ => write!(out, "{word}"),
+    };
+    written?;
+    write_answer(out, lists, call)
 }
 
-/// Writes the number of a caller's call, the caller, and the call.
+/// Writes these words, the number of a caller's call, the caller, and the call.
 fn write_numbered<W: Write>(
     out: &mut W,
+    front: &str,
     sheet: &Sheet,
     caller: usize,
     call: WrittenCall,
 ) -> io::Result<()> {
     let name = sheet.name(caller);
-    write!(out, "{}  {name} ", call.number)?;
+    write!(out, "{front}{}  {name} ", call.number)?;
     write_call(out, sheet, call)
 }
 
-/// Writes the number of a caller's call, the caller, the call, and its moments.
+/// Writes a line of these words, the number of a caller's call, the caller, the call, and its moments.
 pub fn write_line<W: Write>(
     out: &mut W,
+    front: &str,
     sheet: &Sheet,
     caller: usize,
     call: WrittenCall,
 ) -> io::Result<()> {
-    write_numbered(out, sheet, caller, call)?;
-    write_moments(out, call)
-}
-
-/// Writes when a call began and ended.
-fn write_moments<W: Write>(out: &mut W, call: WrittenCall) -> io::Result<()> {
+    write_numbered(out, front, sheet, caller, call)?;
     match call.end {
-        Some(end) => write!(out, "  [{}, {end}]", call.begin),
-        None => write!(out, "  [{}, ..]", call.begin),
+        Some(end) => writeln!(out, "  [{}, {end}]", call.begin),
+        None => writeln!(out, "  [{}, ..]", call.begin),
     }
 }
 
@@ -144,19 +132,10 @@ fn write_turn<W: Write>(
     let Some(call) = cursor.call_in(sheet, caller) else {
         return Ok(());
     };
-    write!(out, "  ")?;
-    write_numbered(out, sheet, caller, call)?;
+    write_numbered(out, "  ", sheet, caller, call)?;
     writeln!(out, "{}", part_words(call, cursor.part))?;
     cursor.pass(parts_of(call, sheet.flow.is_state()));
     Ok(())
-}
-
-fn cursors(alloc: Global, sheet: &Sheet) -> Result<Vec<Cursor>, AllocError> {
-    let mut cursors = Vec::new(alloc);
-    for _name in sheet.names.as_slice() {
-        cursors.push(Cursor { call: 0, part: 0 })?;
-    }
-    Ok(cursors)
 }
 
 /// Writes a line for each turn of an order: the number of the call, its caller, and the call.
@@ -166,7 +145,7 @@ pub fn write_order<W: Write>(
     sheet: &Sheet,
     order: &[usize],
 ) -> io::Result<()> {
-    let mut cursors = cursors(alloc, sheet)?;
+    let mut cursors = vec![in alloc; Cursor { call: 0, part: 0 }; sheet.names.len()]?;
     for caller in order {
         if let Some(cursor) = cursors.get_mut(*caller) {
             write_turn(out, sheet, *caller, cursor)?;

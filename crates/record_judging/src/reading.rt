@@ -2,13 +2,15 @@
 use crate::fields::Fields;
 use crate::reading_answer::{end_of, list_of};
 use crate::reading_flow::flow_of;
-use crate::refusal::{Part, Unread, unfit};
+use crate::refusal::{Part, Unread, no_object, unfit};
 use crate::words::{CallRow, HEAD_KEYS, LINE_KEYS, SHARED_CALLS, STATE_CALLS, is_one_of, row_of};
-use crate::written::{Range, Sheet, WrittenCall, WrittenFlow};
+use crate::written::{Range, Sheet, WrittenCall};
 use serde_json::Value;
 use std::alloc::{AllocError, Global};
 
 const A_CALL: &str = "a call of this kind of flow";
+
+const CALLS: &str = "a list of calls";
 
 fn row_in(sheet: &Sheet, call: Fields<'_>) -> Result<CallRow, Unread> {
     let is_state = sheet.flow.is_state();
@@ -16,7 +18,7 @@ fn row_in(sheet: &Sheet, call: Fields<'_>) -> Result<CallRow, Unread> {
     let word = call.word("call", words)?;
     match row_of(word, is_state) {
         Some(row) => Ok(row),
-        None => unfit(call.part, "call", A_CALL, words),
+        None => Err(unfit(call.part, "call", A_CALL, words)),
     }
 }
 
@@ -69,15 +71,13 @@ fn add_call(alloc: Global, sheet: &mut Sheet, value: &Value) -> Result<(), Unrea
         part: Part::Call(number),
     };
     if !value.is_object() {
-        return call.has_only(&[]);
+        return Err(no_object(call.part));
     }
     let row = row_in(sheet, call)?;
     call.has_only(row.keys)?;
     let name = call.word("by", &[])?;
     let written = call_of(sheet, call, row, number)?;
-    let place = sheet.place_of(alloc, name)?;
-    sheet.add(place, written)?;
-    Ok(())
+    Ok(sheet.add(alloc, name, written)?)
 }
 
 /// Reads a value, or tells that it is no JSON.
@@ -89,37 +89,43 @@ pub fn value_of(alloc: Global, bytes: &[u8]) -> Result<Value, Unread> {
     }
 }
 
-/// Reads the flow of a head that has only these keys.
-fn flow_in(value: &Value, keys: &'static [&'static str]) -> Result<WrittenFlow, Unread> {
+/// Makes the sheet of a head that has only these keys, with no calls.
+fn sheet_of(alloc: Global, value: &Value, keys: &'static [&'static str]) -> Result<Sheet, Unread> {
     let head = Fields {
         value,
         part: Part::Head,
     };
     head.has_only(keys)?;
-    flow_of(head.need("flow", "an object")?)
+    let flow = flow_of(head.need("flow", "an object")?)?;
+    Ok(Sheet::new(alloc, flow))
 }
 
-fn calls_in(value: &Value) -> Result<&[Value], Unread> {
+/// Adds the calls of a head.
+fn add_calls(alloc: Global, sheet: &mut Sheet, value: &Value) -> Result<(), Unread> {
     let head = Fields {
         value,
         part: Part::Head,
     };
-    match head.need("calls", "a list of calls")?.as_array() {
-        Some(calls) => Ok(calls.as_slice()),
-        None => unfit(Part::Head, "calls", "a list of calls", &[]),
+    let Some(calls) = head.need("calls", CALLS)?.as_array() else {
+        return Err(unfit(Part::Head, "calls", CALLS, &[]));
+    };
+    for call in calls.as_slice() {
+        add_call(alloc, sheet, call)?;
     }
+    Ok(())
 }
 
 /// Reads a record that is one object.
 fn read_whole(alloc: Global, bytes: &[u8]) -> Result<Sheet, Unread> {
     let value = value_of(alloc, bytes)?;
-    let flow = flow_in(&value, HEAD_KEYS)?;
-    let calls = calls_in(&value)?;
-    let mut sheet = Sheet::new(alloc, flow);
-    for call in calls {
-        add_call(alloc, &mut sheet, call)?;
-    }
+    let mut sheet = sheet_of(alloc, &value, HEAD_KEYS)?;
+    add_calls(alloc, &mut sheet, &value)?;
     Ok(sheet)
+}
+
+/// Returns whether a byte ends a line.
+pub fn is_newline(byte: &u8) -> bool {
+    *byte == b'\n'
 }
 
 /// Returns whether a line has only spaces.
@@ -132,14 +138,36 @@ pub fn is_blank(line: &[u8]) -> bool {
     true
 }
 
+/// Returns where the line of this number begins and ends, from 0. Lines that are blank do not count.
+pub fn line_at(bytes: &[u8], number: usize) -> (usize, usize) {
+    let mut begin: usize = 0;
+    let mut lines: usize = 0;
+    for line in bytes.split(is_newline) {
+        let end = begin.saturating_add(line.len());
+        if !is_blank(line) {
+            if lines == number {
+                return (begin, end);
+            }
+            lines = lines.saturating_add(1);
+        }
+        begin = end.saturating_add(1);
+    }
+    (begin, begin)
+}
+
+/// Returns the first line that is not blank, or no byte.
+fn first_line(bytes: &[u8]) -> &[u8] {
+    let (begin, end) = line_at(bytes, 0);
+    bytes.get(begin..end).unwrap_or(&[])
+}
+
 /// Reads a line: the flow if it is the first one, else a call.
 fn read_line(alloc: Global, read: &mut Option<Sheet>, line: &[u8]) -> Result<(), Unread> {
     let value = value_of(alloc, line)?;
     match read {
         Some(sheet) => add_call(alloc, sheet, &value),
         None => {
-            let flow = flow_in(&value, LINE_KEYS)?;
-            *read = Some(Sheet::new(alloc, flow));
+            *read = Some(sheet_of(alloc, &value, LINE_KEYS)?);
             Ok(())
         }
     }
@@ -148,7 +176,7 @@ fn read_line(alloc: Global, read: &mut Option<Sheet>, line: &[u8]) -> Result<(),
 /// Reads a record that has its flow in the first line, and a call in each other one.
 fn read_lines(alloc: Global, bytes: &[u8]) -> Result<Sheet, Unread> {
     let mut read = None;
-    for line in bytes.split(|byte| *byte == b'\n') {
+    for line in bytes.split(is_newline) {
         if !is_blank(line) {
             read_line(alloc, &mut read, line)?;
         }
@@ -157,16 +185,6 @@ fn read_lines(alloc: Global, bytes: &[u8]) -> Result<Sheet, Unread> {
         Some(sheet) => Ok(sheet),
         None => Err(Unread::NotJson),
     }
-}
-
-/// Returns the first line that is not blank, or no byte.
-fn first_line(bytes: &[u8]) -> &[u8] {
-    for line in bytes.split(|byte| *byte == b'\n') {
-        if !is_blank(line) {
-            return line;
-        }
-    }
-    &[]
 }
 
 /// Returns whether the first line is all of a record's head, so that its calls stand in lines.

@@ -31,11 +31,11 @@ pub fn list_of(
     key: &'static str,
 ) -> Result<Range, Unread> {
     let Some(items) = value.as_array() else {
-        return unfit(part, key, A_LIST, &[]);
+        return Err(unfit(part, key, A_LIST, &[]));
     };
     let from = sheet.lists.len();
     if !push_values(&mut sheet.lists, items.as_slice())? {
-        return unfit(part, key, A_LIST, &[]);
+        return Err(unfit(part, key, A_LIST, &[]));
     }
     Ok(Range {
         from,
@@ -65,10 +65,10 @@ fn answer_in(answer: &Value, form: AnswerForm) -> Option<WrittenAnswer> {
     }
     match form {
         AnswerForm::Value | AnswerForm::Next => {
-            Some(WrittenAnswer::Value(value_in(answer, "value")?))
+            value_in(answer, "value").map(WrittenAnswer::Value)
         }
-        AnswerForm::Truth => Some(WrittenAnswer::Truth(answer.as_bool()?)),
-        AnswerForm::Number => Some(WrittenAnswer::Number(answer.as_u64()?)),
+        AnswerForm::Truth => answer.as_bool().map(WrittenAnswer::Truth),
+        AnswerForm::Number => answer.as_u64().map(WrittenAnswer::Number),
         AnswerForm::Exchange => Some(WrittenAnswer::Exchange(
             value_in(answer, "old")?,
             value_in(answer, "value")?,
@@ -90,17 +90,17 @@ fn answer_of(
     }
     match answer_in(value, form) {
         Some(answer) => Ok(answer),
-        None => unfit(call.part, "answer", form.expected(), form.words()),
+        None => Err(unfit(call.part, "answer", form.expected(), form.words())),
     }
 }
 
 /// Asks that a call may have no end.
 fn ask_pending(call: Fields<'_>, row: CallRow) -> Result<(), Unread> {
     if call.get("answer").is_some() {
-        return unfit(call.part, "answer", NO_ANSWER, &[]);
+        return Err(unfit(call.part, "answer", NO_ANSWER, &[]));
     }
     if row.call == CallWord::Update {
-        return unfit(call.part, "call", NOT_PENDING, &[]);
+        return Err(unfit(call.part, "call", NOT_PENDING, &[]));
     }
     Ok(())
 }

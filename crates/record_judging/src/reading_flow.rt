@@ -22,7 +22,7 @@ fn overflow_of(flow: Fields<'_>) -> Result<Overflow, Unread> {
         "suspend" => Ok(Overflow::Suspend),
         "drop_oldest" => Ok(Overflow::DropOldest),
         "drop_latest" => Ok(Overflow::DropLatest),
-        _ => unfit(Part::Flow, "overflow", AN_OVERFLOW, OVERFLOWS),
+        _ => Err(unfit(Part::Flow, "overflow", AN_OVERFLOW, OVERFLOWS)),
     }
 }
 
@@ -30,20 +30,28 @@ fn overflow_of(flow: Fields<'_>) -> Result<Overflow, Unread> {
 fn ask_buffer(replay: u32, extra: u32, overflow: Overflow) -> Result<(), Unread> {
     let capacity = replay as u64 + extra as u64;
     if capacity > MOST_CAPACITY {
-        return unfit(Part::Flow, "extra", A_CAPACITY, &[]);
+        return Err(unfit(Part::Flow, "extra", A_CAPACITY, &[]));
     }
     if capacity == 0 && overflow != Overflow::Suspend {
-        return unfit(Part::Flow, "overflow", NO_BUFFER, &[]);
+        return Err(unfit(Part::Flow, "overflow", NO_BUFFER, &[]));
     }
     Ok(())
 }
 
-fn config_of(flow: Fields<'_>) -> Result<Config, Unread> {
+fn state_of(flow: Fields<'_>) -> Result<WrittenFlow, Unread> {
+    flow.has_only(STATE_KEYS)?;
+    let initial = flow.whole("initial")?;
+    Ok(WrittenFlow::State { initial })
+}
+
+fn shared_of(flow: Fields<'_>) -> Result<WrittenFlow, Unread> {
+    flow.has_only(SHARED_KEYS)?;
     let replay = flow.small("replay")?;
     let extra = flow.small("extra")?;
     let overflow = overflow_of(flow)?;
     ask_buffer(replay, extra, overflow)?;
-    Ok(Config::new().replay(replay).extra(extra).overflow(overflow))
+    let config = Config::new().replay(replay).extra(extra).overflow(overflow);
+    Ok(WrittenFlow::Shared(config))
 }
 
 /// Reads the value of `flow`.
@@ -53,16 +61,8 @@ pub fn flow_of(value: &Value) -> Result<WrittenFlow, Unread> {
         part: Part::Flow,
     };
     match flow.word("kind", KINDS)? {
-        "state" => {
-            flow.has_only(STATE_KEYS)?;
-            let initial = flow.whole("initial")?;
-            Ok(WrittenFlow::State { initial })
-        }
-        "shared" => {
-            flow.has_only(SHARED_KEYS)?;
-            let config = config_of(flow)?;
-            Ok(WrittenFlow::Shared(config))
-        }
-        _ => unfit(Part::Flow, "kind", A_KIND, KINDS),
+        "state" => state_of(flow),
+        "shared" => shared_of(flow),
+        _ => Err(unfit(Part::Flow, "kind", A_KIND, KINDS)),
     }
 }

@@ -55,36 +55,35 @@ impl From<AllocError> for Unread {
     }
 }
 
-fn refused<T>(part: Part, wrong: Wrong) -> Result<T, Unread> {
-    Err(Unread::Refused(Refusal { part, wrong }))
-}
-
 /// The value of a key is not what is expected.
-pub fn unfit<T>(
+pub fn unfit(
     part: Part,
     key: &'static str,
     expected: &'static str,
     words: &'static [&'static str],
-) -> Result<T, Unread> {
+) -> Unread {
     let wrong = Wrong::Value {
         key,
         expected,
         words,
     };
-    refused(part, wrong)
+    Unread::Refused(Refusal { part, wrong })
 }
 
 /// The object has no such key.
-pub fn missing<T>(part: Part, key: &'static str, expected: &'static str) -> Result<T, Unread> {
-    refused(part, Wrong::Missing { key, expected })
+pub fn missing(part: Part, key: &'static str, expected: &'static str) -> Unread {
+    let wrong = Wrong::Missing { key, expected };
+    Unread::Refused(Refusal { part, wrong })
 }
 
 /// The object has a key that is none of these.
-pub fn unknown_key<T>(part: Part, known: &'static [&'static str]) -> Result<T, Unread> {
-    refused(part, Wrong::Key { known })
+pub fn unknown_key(part: Part, known: &'static [&'static str]) -> Unread {
+    let wrong = Wrong::Key { known };
+    Unread::Refused(Refusal { part, wrong })
 }
 
 /// The part is no object.
-pub fn no_object<T>(part: Part) -> Result<T, Unread> {
-    refused(part, Wrong::NoObject)
+pub fn no_object(part: Part) -> Unread {
+    let wrong = Wrong::NoObject;
+    Unread::Refused(Refusal { part, wrong })
 }

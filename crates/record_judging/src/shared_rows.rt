@@ -37,7 +37,8 @@ fn shared_operation(call: WrittenCall, lists: &[u64]) -> SharedOperation<'_> {
     }
 }
 
-fn push_shared<'a>(
+/// Adds a part of a call.
+fn push_part<'a>(
     row: &mut Vec<Timed<SharedEntry<'a>>>,
     call: WrittenCall,
     operation: SharedOperation<'a>,
@@ -51,31 +52,13 @@ fn push_shared<'a>(
     Ok(())
 }
 
-/// Adds a part of a call that is answered `Done`, if an answer is known.
-fn push_part(
-    row: &mut Vec<Timed<SharedEntry<'_>>>,
-    call: WrittenCall,
-    operation: SharedOperation<'static>,
-) -> Result<(), AllocError> {
-    let answer = if call.answer.is_some() {
+/// What is answered to a part of a call: `Done`, or nothing if no answer is known.
+fn done_of(call: WrittenCall) -> Option<SharedAnswer<'static>> {
+    if call.answer.is_some() {
         Some(SharedAnswer::Done)
     } else {
         None
-    };
-    push_shared(row, call, operation, answer)
-}
-
-/// Adds a call with its answer, if one is known.
-fn push_call<'a>(
-    row: &mut Vec<Timed<SharedEntry<'a>>>,
-    call: WrittenCall,
-    lists: &'a [u64],
-) -> Result<(), AllocError> {
-    let answer = match call.answer {
-        Some(answer) => Some(shared_answer(answer, lists)),
-        None => None,
-    };
-    push_shared(row, call, shared_operation(call, lists), answer)
+    }
 }
 
 /// Returns the last part of a call that has several.
@@ -96,11 +79,16 @@ fn shared_row<'a>(
     let mut row = Vec::new(alloc);
     for call in calls {
         if call.call == CallWord::First {
-            push_part(&mut row, *call, SharedOperation::Subscribe(&[]))?;
+            let subscribed = SharedOperation::Subscribe(&[]);
+            push_part(&mut row, *call, subscribed, done_of(*call))?;
         }
-        push_call(&mut row, *call, lists)?;
+        let answer = match call.answer {
+            Some(answer) => Some(shared_answer(answer, lists)),
+            None => None,
+        };
+        push_part(&mut row, *call, shared_operation(*call, lists), answer)?;
         if let Some(operation) = last_part(*call) {
-            push_part(&mut row, *call, operation)?;
+            push_part(&mut row, *call, operation, done_of(*call))?;
         }
     }
     Ok(row)

@@ -38,18 +38,17 @@ fn state_operation(call: WrittenCall) -> StateOperation {
     }
 }
 
-fn push_state(
-    row: &mut Vec<Timed<StateEntry>>,
+/// Makes a part of a call.
+fn part_of(
     call: WrittenCall,
     operation: StateOperation,
     answer: Option<StateAnswer>,
-) -> Result<(), AllocError> {
-    row.push(Timed {
+) -> Timed<StateEntry> {
+    Timed {
         call: StateEntry { operation, answer },
         begin: call.begin,
         end: call.end,
-    })?;
-    Ok(())
+    }
 }
 
 /// What is answered to a part of a call: `Done`, or nothing if no answer is known.
@@ -70,15 +69,15 @@ fn state_row(
     for call in calls {
         let is_first = call.call == CallWord::First;
         if is_first {
-            push_state(&mut row, *call, StateOperation::Subscribe, done_of(*call))?;
+            row.push(part_of(*call, StateOperation::Subscribe, done_of(*call)))?;
         }
         let answer = match call.answer {
             Some(answer) => Some(state_answer(answer, lists)),
             None => None,
         };
-        push_state(&mut row, *call, state_operation(*call), answer)?;
+        row.push(part_of(*call, state_operation(*call), answer))?;
         if is_first {
-            push_state(&mut row, *call, StateOperation::Unsubscribe, done_of(*call))?;
+            row.push(part_of(*call, StateOperation::Unsubscribe, done_of(*call)))?;
         }
     }
     Ok(row)

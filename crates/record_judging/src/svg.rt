@@ -175,7 +175,7 @@ fn write_name<W: Write>(out: &mut W, sheet: &Sheet, bar: &Bar) -> io::Result<()>
     writeln!(out, "</text>")
 }
 
-/// Writes a box of this width, with the corner of its lane here.
+/// Writes a box of this width, with the corner of its lane here, and begins the text in it.
 fn write_box<W: Write>(
     out: &mut W,
     class: &str,
@@ -185,19 +185,20 @@ fn write_box<W: Write>(
 ) -> io::Result<()> {
     let top = y.saturating_add(5);
     let height = LANE - 10;
-    write!(out, "<rect class=\"{class}\" x=\"{x}\" y=\"{top}\"")?;
-    write!(out, " width=\"{width}\" height=\"{height}\" rx=\"3\"/>")
+    write!(
+        out,
+        "<rect class=\"{class}\" x=\"{x}\" y=\"{top}\" width=\"{width}\" height=\"{height}\" rx=\"3\"/>"
+    )?;
+    let left = x.saturating_add(MARGIN / 2);
+    let bottom = y.saturating_add(LANE / 2 + 5);
+    write!(out, "<text x=\"{left}\" y=\"{bottom}\">")
 }
 
 fn write_bar<W: Write>(out: &mut W, sheet: &Sheet, columns: &Columns, bar: &Bar) -> io::Result<()> {
     let x = columns.x_of(bar.from);
     let width = columns.x_of(bar.to).saturating_sub(x).max(4);
-    let y = y_of(bar.lane);
     let class = if bar.is_marked { "w" } else { "c" };
-    write_box(out, class, x, y, width)?;
-    let left = x.saturating_add(MARGIN / 2);
-    let bottom = y.saturating_add(LANE / 2 + 5);
-    write!(out, "<text x=\"{left}\" y=\"{bottom}\">")?;
+    write_box(out, class, x, y_of(bar.lane), width)?;
     write_words(out, sheet, bar.call)?;
     writeln!(out, "</text>")
 }
@@ -226,11 +227,9 @@ fn write_head<W: Write>(out: &mut W, width: usize, height: usize, word: &str) ->
         out,
         "<svg xmlns=\"http://www.w3.org/2000/svg\" viewBox=\"0 0 {width} {height}\" width=\"{width}\" height=\"{height}\" role=\"img\">"
     )?;
-    writeln!(out, "<title>Recorded calls over time: {word}</title>")?;
-    writeln!(out, "{STYLE}")?;
     writeln!(
         out,
-        "<rect class=\"p\" width=\"100%\" height=\"100%\"/><text x=\"{MARGIN}\" y=\"24\">{word}</text>"
+        "<title>Recorded calls over time: {word}</title>\n{STYLE}\n<rect class=\"p\" width=\"100%\" height=\"100%\"/><text x=\"{MARGIN}\" y=\"24\">{word}</text>"
     )
 }
 

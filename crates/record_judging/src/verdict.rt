@@ -93,7 +93,7 @@ fn tell_legal(alloc: Global, sheet: &Sheet, order: &[usize], with_order: bool) -
 fn tell_verdict(
     alloc: Global,
     sheet: &Sheet,
-    verdict: Verdict,
+    verdict: &Verdict,
     with_order: bool,
 ) -> io::Result<Told>
     ensures { IfOk result (λ told. TellsVerdict with_order told.status told.words.items) }
@@ -111,19 +111,22 @@ fn tell_verdict(
     }
 }
 
+/// Reads the record of these bytes, and judges it.
+fn judge_bytes(alloc: Global, bytes: &[u8]) -> Result<(Sheet, Verdict), Unread> {
+    let sheet = read_sheet(alloc, bytes)?;
+    match judge(alloc, &sheet, sheet.rows.as_slice())? {
+        Outcome::Judged(verdict) => Ok((sheet, verdict)),
+        Outcome::Faulty(fault, number) => Err(faulty(fault, number)),
+    }
+}
+
 /// Tells what comes of the record of these bytes.
 fn tell_record(alloc: Global, bytes: &[u8], with_order: bool) -> io::Result<Told>
     ensures { IfOk result (λ told. TellsVerdict with_order told.status told.words.items) }
 {
-    let sheet = match read_sheet(alloc, bytes) {
-        Ok(sheet) => sheet,
-        Err(unread) => return Ok(tell_refusal(alloc, bytes, unread, with_order)?),
-    };
-    match judge(alloc, &sheet, sheet.rows.as_slice())? {
-        Outcome::Judged(verdict) => tell_verdict(alloc, &sheet, verdict, with_order),
-        Outcome::Faulty(fault, number) => {
-            Ok(tell_refusal(alloc, bytes, faulty(fault, number), with_order)?)
-        }
+    match judge_bytes(alloc, bytes) {
+        Ok((sheet, verdict)) => tell_verdict(alloc, &sheet, &verdict, with_order),
+        Err(unread) => Ok(tell_refusal(alloc, bytes, unread, with_order)?),
     }
 }
 
@@ -146,18 +149,6 @@ pub fn judge_record<W: Write>(
     Ok(told.status)
 }
 
-/// Writes why these bytes are no record.
-fn write_refusal<W: Write>(
-    alloc: Global,
-    out: &mut W,
-    bytes: &[u8],
-    unread: Unread,
-) -> io::Result<u8> {
-    let told = tell_refusal(alloc, bytes, unread, false)?;
-    out.write_all(told.words.as_slice())?;
-    Ok(REFUSED)
-}
-
 /// Draws the calls of a record of this verdict.
 fn draw_verdict<W: Write>(
     alloc: Global,
@@ -166,15 +157,10 @@ fn draw_verdict<W: Write>(
     verdict: &Verdict,
     form: Form,
 ) -> io::Result<u8> {
-    let (word, status) = match verdict {
-        Verdict::Legal(_) => ("legal", LEGAL),
-        Verdict::Illegal => ("illegal", ILLEGAL),
-        Verdict::GaveUp => ("gave up", GAVE_UP),
-    };
-    let conflict = if status == ILLEGAL {
-        Conflict::find(alloc, sheet)?
-    } else {
-        None
+    let (word, status, conflict) = match verdict {
+        Verdict::Legal(_) => ("legal", LEGAL, None),
+        Verdict::Illegal => ("illegal", ILLEGAL, Conflict::find(alloc, sheet)?),
+        Verdict::GaveUp => ("gave up", GAVE_UP, None),
     };
     let picture = Picture::new(alloc, sheet, conflict)?;
     write_picture(alloc, out, sheet, &picture, word, form)?;
@@ -192,12 +178,12 @@ pub fn draw_record<W: Write>(
     bytes: &[u8],
     form: Form,
 ) -> io::Result<u8> {
-    let sheet = match read_sheet(alloc, bytes) {
-        Ok(sheet) => sheet,
-        Err(unread) => return write_refusal(alloc, out, bytes, unread),
-    };
-    match judge(alloc, &sheet, sheet.rows.as_slice())? {
-        Outcome::Judged(verdict) => draw_verdict(alloc, out, &sheet, &verdict, form),
-        Outcome::Faulty(fault, number) => write_refusal(alloc, out, bytes, faulty(fault, number)),
+    match judge_bytes(alloc, bytes) {
+        Ok((sheet, verdict)) => draw_verdict(alloc, out, &sheet, &verdict, form),
+        Err(unread) => {
+            let told = tell_refusal(alloc, bytes, unread, false)?;
+            out.write_all(told.words.as_slice())?;
+            Ok(REFUSED)
+        }
     }
 }

@@ -91,26 +91,21 @@ impl Sheet {
         }
     }
 
-    fn add_caller(&mut self, alloc: Global, name: &str) -> Result<(), AllocError> {
-        self.names.push(String::from_str(alloc, name)?)?;
-        self.rows.push(Vec::new(alloc))?;
-        Ok(())
-    }
-
     /// Returns the place of a caller, which is a new one if it has not come up yet.
-    pub fn place_of(&mut self, alloc: Global, name: &str) -> Result<usize, AllocError> {
-        let key = String::from_str(alloc, name)?;
-        if let Some(place) = self.places.get(&key).copied() {
-            return Ok(place);
+    fn place_of(&mut self, alloc: Global, name: &str) -> Result<usize, AllocError> {
+        if let Some(place) = self.places.get(name) {
+            return Ok(*place);
         }
         let place = self.names.len();
-        self.add_caller(alloc, name)?;
-        let _ = self.places.insert(key, place)?;
+        self.names.push(String::from_str(alloc, name)?)?;
+        self.rows.push(Vec::new(alloc))?;
+        let _ = self.places.insert(String::from_str(alloc, name)?, place)?;
         Ok(place)
     }
 
-    /// Adds a call of the caller at this place.
-    pub fn add(&mut self, place: usize, call: WrittenCall) -> Result<(), AllocError> {
+    /// Adds a call of the caller of this name.
+    pub fn add(&mut self, alloc: Global, name: &str, call: WrittenCall) -> Result<(), AllocError> {
+        let place = self.place_of(alloc, name)?;
         if let Some(row) = self.rows.get_mut(place) {
             row.push(call)?;
         }
