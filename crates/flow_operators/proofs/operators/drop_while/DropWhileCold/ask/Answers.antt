@@ -30,3 +30,9 @@ returns-in-Err-next_where-clause-behind g c = λ running m r.
     let dropping : c.args.self.now.dropping ≡ true = grind (arith, common_steps) in
     rw (dropping, dropping-after m.1 (g.C.Cold.rest (chain_of c.args.self.now.upstream) m.0))
     (passed-leaves _ _ c.in-Err-next_where.asked (c.in-Err-next_where.ensures.behind running m.0 m.1 r.0 r.1))
+
+pub returns-in-Ok : goal.returns-in-Ok
+returns-in-Ok g c = grind (arith, common_steps)
+
+pub returns-in-Err : goal.returns-in-Err
+returns-in-Err g c = grind (arith, common_steps)

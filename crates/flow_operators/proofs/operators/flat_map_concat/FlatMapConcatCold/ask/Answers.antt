@@ -72,3 +72,9 @@ returns-in-Err-clause-fewer g c = elim c.in-Err.ensures.pends [
   | inl final ↦ inl final
   | inr fewer ↦ inr (let most = opened-fewer _ _ g.D.Cold.limit 0 fewer (omega arith) in grind (arith, common_steps))
 ]
+
+pub returns-then-self : goal.returns-then-self
+returns-then-self g c = grind (arith, common_steps)
+
+pub loop-item-preserved-in-Ok-open : goal.loop-item-preserved-in-Ok-open
+loop-item-preserved-in-Ok-open g c = grind (arith, common_steps)

@@ -13,3 +13,6 @@ returns-in-Ok-2-clause-gives g c = λ m r.
     let passes = c.passes.ensures m.1 r.1 in
     let gives = c.in-Ok-2.ensures.gives m.0 r.0 in
     grind (arith, common_steps)
+
+pub returns-in-Err : goal.returns-in-Err
+returns-in-Err g c = grind (arith, common_steps)

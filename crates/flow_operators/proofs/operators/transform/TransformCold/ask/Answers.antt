@@ -10,3 +10,15 @@ returns-in-Some-clause-gives g c = λ m r. grind (arith, common_steps, c.loop-it
 
 pub returns-in-Some-clause-behind : goal.returns-in-Some-clause-behind
 returns-in-Some-clause-behind g c = λ running m r. grind (arith, common_steps, c.loop-item.invariant.behind m.0 m.1 r.0 r.1, c.in-Some.ensures)
+
+pub returns-then-self : goal.returns-then-self
+returns-then-self g c = grind (arith, common_steps)
+
+pub returns-in-Err-images_of : goal.returns-in-Err-images_of
+returns-in-Err-images_of g c = grind (arith, common_steps)
+
+pub returns-in-Err : goal.returns-in-Err
+returns-in-Err g c = grind (arith, common_steps)
+
+pub loop-item-preserved : goal.loop-item-preserved
+loop-item-preserved g c = grind (arith, common_steps)

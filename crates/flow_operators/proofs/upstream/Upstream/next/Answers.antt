@@ -1,0 +1,12 @@
+use Rattle.std.proofs.Common.{arith}
+use Rattle.std.proofs.lemmas.Grind.{common_steps}
+use Rattle.flow_operators.proofs.upstream.Upstream.next.Goals as goal
+
+pub returns-in-Item : goal.returns-in-Item
+returns-in-Item g c = grind (arith, common_steps)
+
+pub returns-in-Pending : goal.returns-in-Pending
+returns-in-Pending g c = grind (arith, common_steps)
+
+pub returns-in-Fault : goal.returns-in-Fault
+returns-in-Fault g c = grind (arith, common_steps)
