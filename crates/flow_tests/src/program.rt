@@ -10,6 +10,7 @@ use std::sync::Wait;
 use std::thread::Threads;
 
 mod explained;
+mod played;
 mod streams;
 mod vectors;
 

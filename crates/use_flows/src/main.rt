@@ -4,7 +4,6 @@
 
 mod chains;
 mod one_thread;
-mod played;
 mod producers;
 mod readings;
 mod screen;
@@ -27,8 +26,7 @@ fn main(rt: HostRuntime) -> Result<()> {
     sensor::show(&rt)?;
     let page = Text::from_str(rt.alloc(), "page 1")?;
     print_page(&rt, screen::show_page(&rt, rt.alloc(), page)?)?;
-    show_best(&rt)?;
-    show_script(&rt)
+    show_best(&rt)
 }
 
 /// Prints what threads have added up.
@@ -51,10 +49,4 @@ fn show_best(rt: &HostRuntime) -> Result<()> {
 /// Prints the page that a thread has seen.
 fn print_page(rt: &HostRuntime, page: Text) -> io::Result<()> {
     println!(rt; "ready: {}", page.as_str())
-}
-
-/// Prints the lines of a script.
-fn show_script(rt: &HostRuntime) -> Result<()> {
-    print!(rt; "{}", played::lines(rt.alloc())?)?;
-    Ok(())
 }

@@ -1,6 +1,6 @@
 //! Plays a script, and one that is refused, and compares what they print, byte for byte.
 use crate::program::streams::{LINES, SCRIPT};
-use crate::program::{Host, compare};
+use crate::program::{Host, compare, played};
 use flow_script::{ScriptFault, Watched, play};
 
 /// The name of an emission does not name a subscriber.
@@ -21,4 +21,13 @@ fn plays<H: Host>(rt: &H, script: &str, lines: &str, wanted: Result<(), ScriptFa
 fn a_script_prints_its_lines_or_is_refused(rt: HostRuntime) {
     plays(&rt, SCRIPT, LINES, Ok(()));
     plays(&rt, UNKNOWN, "", Err(ScriptFault::UnknownName(2)));
+}
+
+#[test]
+fn a_program_plays_a_script_of_its_own(rt: HostRuntime) {
+    let lines = played::lines(rt.alloc()).expect(&rt, "lines");
+    assert_eq!(rt;
+        lines.as_str(),
+        "true\nsubscribed\ntrue\nvalue 10\nvalue 20\nempty\n"
+    );
 }
