@@ -10,6 +10,7 @@ use std::alloc::Global;
 use std::snapshot::Snapshot;
 use std::sync::Wait;
 use std::thread::{Promise, PromisedHandle, Scope, Threads};
+use std::vec::IntoIter;
 
 /// Subscribes so many times. `None` if memory was refused.
 pub fn subscribe_all<'a, R: Wait>(
@@ -83,34 +84,46 @@ fn read_all<R: Wait>(
     (reader.into_subscription(), got)
 }
 
-/// Starts a thread that receives `count` values. `None` if memory or a thread was refused.
+/// Starts a thread that receives `count` values into this list, and hands the readers back that have no thread yet. If no
+/// thread can be made they are dropped, and unsubscribe; the values are then received here, since the emitters wait for
+/// this subscriber, too.
 fn start_subscriber<'s, E, R: Wait + Sync>(
     rt: &'s R,
-    alloc: Global,
     scope: &Scope<'s, E>,
     flow: &'s SharedFlow<u64>,
     subscription: Subscription<u64>,
     count: u64,
-) -> Option<Reading>
-    requires { subscription.token.table_id ≡ flow.now.table_id }
-    ensures { IfSome result (λ thread.
-        WillRead flow.entry.now.table_id subscription count thread.promise) }
+    list: Vec<u64>,
+    left: IntoIter<Reader<'s, u64>>,
+) -> Option<(Reading, IntoIter<Reader<'s, u64>>)>
+    requires table { subscription.token.table_id ≡ flow.now.table_id }
+    requires empty { list.items ≡ [] }
+    requires room { count ≤ vec_capacity list }
+    ensures thread { IfSome result (λ started.
+        WillRead flow.entry.now.table_id subscription count started.0.promise) }
+    ensures left { IfSome result (λ started. started.1 ≡ left.entry) }
 {
-    let list = Vec::with_capacity(alloc, count as usize).ok()?;
     let promise = ReadsAll {
         subscription: Snapshot::of(&subscription),
         count,
     };
-    scope
-        .spawn_with(
-            promise,
-            move || read_all(rt, flow, subscription, count, list),
-        )
-        .ok()
+    let started = scope.spawn_with(
+        promise,
+        move || read_all(rt, flow, subscription, count, list),
+    );
+    match started {
+        Ok(thread) => Some((thread, left)),
+        Err(refused) => {
+            drop(left);
+            let (subscription, _got) = (refused.value)();
+            drop(flow.reader(subscription));
+            None
+        }
+    }
 }
 
-/// Starts a thread for each subscriber, which receives `count` values. `None` if memory or a thread was refused: then the
-/// others are dropped, and unsubscribe.
+/// Starts a thread for each subscriber, which receives `count` values. `None` if memory or a thread was refused: then no
+/// subscriber is left without a thread.
 pub fn start_subscribers<'s, E, R: Wait + Sync>(
     rt: &'s R,
     alloc: Global,
@@ -126,9 +139,13 @@ pub fn start_subscribers<'s, E, R: Wait + Sync>(
         (slice_index_or threads.items i d).promise) }
 {
     let mut threads = Vec::with_capacity(alloc, readers.len()).ok()?;
-    for reader in readers {
-        let thread = start_subscriber(rt, alloc, scope, flow, reader.into_subscription(), count)?;
+    let mut left = readers.into_iter();
+    while let Some(reader) = left.next() {
+        let list = Vec::with_capacity(alloc, count as usize).ok()?;
+        let subscription = reader.into_subscription();
+        let (thread, others) = start_subscriber(rt, scope, flow, subscription, count, list, left)?;
         threads.push_reserved(thread);
+        left = others;
     }
     Some(threads)
 }
