@@ -21,6 +21,8 @@ VERSION = "0.1.0"
 # Status of the command itself. The programs use 0, 2, 3 and 4.
 FAILED = 1
 REFUSED = 2
+# What a program reads of a script at most: a byte more than one may have.
+MOST_READ = 1_048_577
 # In place of the moment of a watched file's last change.
 GONE = -1
 
@@ -77,6 +79,8 @@ def build(name):
     if tried.returncode != 0:
         say((tried.stdout + tried.stderr).decode(errors="replace"))
         kept.unlink(missing_ok=True)
+    elif not kept.exists():
+        say(f"`rt try` left no program where this command looks for it; `rt run` in crates/{name} builds it, too")
     return kept if kept.exists() else None
 
 
@@ -113,7 +117,16 @@ def opened(file, what):
 def script_of(words):
     """The text of the script that the words name, or of standard input, and the words that are left."""
     file, words = file_of(words, "script")
-    return opened(file, "script").read(), words
+    return opened(file, "script").read(MOST_READ), words
+
+
+def run(words, script, **how):
+    """Runs a program on a script. If it does not read all of that, the broken pipe must not end this command, too."""
+    signal.signal(signal.SIGPIPE, signal.SIG_IGN)
+    try:
+        return subprocess.run(words, input=script, **how)
+    finally:
+        signal.signal(signal.SIGPIPE, signal.SIG_DFL)
 
 
 def watched(words):
