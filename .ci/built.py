@@ -27,9 +27,10 @@ def programs(name):
     newest = max(file.stat().st_mtime for file in sources(name))
     fresh = [file for file in built if file.exists() and file.stat().st_mtime >= newest]
     if not fresh:
-        given = crate / "stdin"
+        given, args = crate / "stdin", crate / "args"
         script = given.read_bytes() if given.exists() else b""
-        said = subprocess.run(["rt", "run"], cwd=crate, input=script, capture_output=True)
+        words = args.read_text().splitlines() if args.exists() else []
+        said = subprocess.run(["rt", "run", "--", *words], cwd=crate, input=script, capture_output=True)
         if said.returncode != 0:
             sys.exit((said.stdout + said.stderr).decode(errors="replace"))
         fresh = built[:1]

@@ -1,5 +1,6 @@
 """Runs a program with each request for memory or for a thread refused in turn, by refuse.c."""
 import io
+import pathlib
 import shutil
 import subprocess
 import sys
@@ -23,7 +24,9 @@ def runs(shim, program, words, text):
     with tempfile.TemporaryFile() as given:
         given.write(text)
         given.seek(0)
-        ran = subprocess.run([program, *words], stdin=given, stdout=subprocess.PIPE, env={"LD_PRELOAD": shim}, check=True)
+        # By a name without spaces and colons, at which the loader would split it.
+        where = {"cwd": pathlib.Path(shim).parent, "env": {"LD_PRELOAD": f"./{pathlib.Path(shim).name}"}}
+        ran = subprocess.run([program, *words], stdin=given, stdout=subprocess.PIPE, check=True, **where)
     told = io.BytesIO(ran.stdout)
     for line in iter(told.readline, b""):
         status, is_refused, length = map(int, line.split())
