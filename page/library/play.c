@@ -27,6 +27,11 @@ static uint8_t *read_all(size_t *bytes) {
     return NULL;
 }
 
+/* The status of flow_play and flow_draw, or of flow_judge, if a read or a write fails. */
+static int failed(const char *what) {
+    return strcmp(what, "check") == 0 || strcmp(what, "order") == 0 ? 4 : 3;
+}
+
 static uint32_t call(const char *what, const uint8_t *text, size_t bytes, uint8_t *out, size_t room, size_t *needed) {
     static const char *const forms[] = {"svg", "text", "explain"};
     for (uint32_t form = 0; form < 3; form++) {
@@ -51,6 +56,10 @@ int main(int argc, char **argv) {
         return WUMSNAIR_OUT_OF_MEMORY;
     }
     const char *what = argc > 1 ? argv[1] : "play";
+    if (ferror(stdin)) {
+        free(text);
+        return failed(what);
+    }
     uint32_t status = call(what, text, bytes, few, sizeof few, &needed);
     uint8_t *longer = NULL;
     if (status == WUMSNAIR_TOO_LONG) {
@@ -61,8 +70,8 @@ int main(int argc, char **argv) {
         }
         status = call(what, text, bytes, longer, needed, &needed);
     }
-    fwrite(longer == NULL ? few : longer, 1, needed, stdout);
+    size_t written = fwrite(longer == NULL ? few : longer, 1, needed, stdout);
     free(longer);
     free(text);
-    return (int)status;
+    return written == needed && fflush(stdout) == 0 ? (int)status : failed(what);
 }

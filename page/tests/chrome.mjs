@@ -70,6 +70,11 @@ export class Chrome {
   constructor() {
     const words = [...FLAGS, `--user-data-dir=${this.#folder}`, "about:blank"];
     this.#process = spawn(process.env.CHROMIUM ?? "chromium", words, { stdio: ["ignore", "ignore", "ignore", "pipe", "pipe"] });
+    // For a run that ends before it closes the browser.
+    process.on("exit", () => {
+      this.#process.kill("SIGKILL");
+      this.#remove();
+    });
     let rest = Buffer.alloc(0);
     this.#process.stdio[4].on("data", (bytes) => {
       rest = Buffer.concat([rest, bytes]);
@@ -119,6 +124,11 @@ export class Chrome {
   async close() {
     await this.#send("Browser.close").catch(() => {});
     await new Promise((done) => (this.#process.exitCode === null ? this.#process.on("exit", done) : done()));
-    rmSync(this.#folder, { recursive: true, force: true });
+    this.#remove();
+  }
+
+  #remove() {
+    // Processes of the browser may still write there for a moment.
+    rmSync(this.#folder, { recursive: true, force: true, maxRetries: 20, retryDelay: 100 });
   }
 }

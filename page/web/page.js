@@ -40,6 +40,9 @@ let shown = { ...NOTHING };
 
 const stepCount = () => shown.steps?.places.length ?? 0;
 
+/** Whether the script in the editor is the one that was played. */
+const isPlayed = () => !shown.place && editor.text === shown.played?.text;
+
 // ---- playing
 
 /** The script that may play long, and is to be played. */
@@ -173,8 +176,8 @@ function choose(step, scrolls = true) {
   byId("after").textContent = chosen ? `after step ${chosen}` : "before the first step";
   const row = markEntry(chosen);
   const mark = markColumn(chosen);
-  if (!shown.place) {
-    editor.showMarks(shown.steps?.places[chosen - 1], "step", undefined);
+  if (isPlayed()) {
+    editor.showMarks(shown.steps.places[chosen - 1], "step", undefined);
   }
   askStates();
   if (scrolls) {
@@ -305,7 +308,7 @@ function typed() {
 
 /** Chooses the step that the caret is in. */
 function followCaret() {
-  if (document.activeElement !== editor.area || shown.place || editor.text !== shown.played?.text) {
+  if (document.activeElement !== editor.area || !isPlayed()) {
     return;
   }
   const caret = editor.area.selectionStart;
