@@ -1,5 +1,6 @@
 /* Plays the script of standard input as flow_play does. With a word, svg, text or explain, prints what flow_draw prints; with
- * why, where and why the script is refused. With check or order, judges the record of standard input as flow_judge does. */
+ * why, where and why the script is refused. With check or order, judges the record of standard input and prints what flow_judge
+ * prints; the status of an illegal record is 5, and not 1. Any other word plays the script. */
 #include "wumsnair.h"
 #include <stdio.h>
 #include <stdlib.h>
@@ -62,7 +63,8 @@ int main(int argc, char **argv) {
     }
     uint32_t status = call(what, text, bytes, few, sizeof few, &needed);
     uint8_t *longer = NULL;
-    if (status == WUMSNAIR_TOO_LONG) {
+    while (status == WUMSNAIR_TOO_LONG) {
+        free(longer);
         longer = malloc(needed);
         if (longer == NULL) {
             free(text);

@@ -2,8 +2,14 @@
  *
  * Each function reads `script_bytes` bytes at `script`, or `record_bytes` at `record`, writes at most `out_bytes` bytes at `out`, and
  * sets `*needed` to the number of bytes that there are to give. If these do not fit, nothing is written and the result is
- * WUMSNAIR_TOO_LONG: call once more with more room. No text ends with a zero byte. `script` or `record`, `out` and `needed` do not
- * overlap, and none is null, even for zero bytes.
+ * WUMSNAIR_TOO_LONG: call again with more room, until the result is another one. Each call does all its work again. No text ends
+ * with a zero byte. `script` or `record`, `out` and `needed` do not overlap, and none is null, even for zero bytes.
+ *
+ * A script (docs/SCRIPTS.md, at most 1,048,576 bytes) and a record (docs/RECORDS.md) are JSON in UTF-8; other bytes are refused.
+ * What is given is UTF-8. If memory is refused, that is the line `out of memory`, and nothing from wumsnair_explain.
+ *
+ * A short script can take any time and any memory, since its chains may make very many items of one, and a call cannot be stopped:
+ * call with a stranger's script in a process that has limits.
  *
  * Memory comes from the program's malloc, realloc and free. A function keeps nothing between calls, so several threads may call
  * at once, each with its own buffers. No function may be called in a signal handler. */
@@ -28,7 +34,9 @@ enum wumsnair_verdict { WUMSNAIR_LEGAL = 0, WUMSNAIR_GAVE_UP = 3, WUMSNAIR_ILLEG
 
 enum wumsnair_form { WUMSNAIR_SVG = 0, WUMSNAIR_TEXT = 1, WUMSNAIR_EXPLAINED = 2 };
 
-/* Gives the lines that a script writes, one for each step. If the script is refused, gives the line that says so. */
+/* Gives the lines that a script writes: one for each flow that is refused, and then one for each step. If the flow of a script of
+ * version 1 is refused, its line is the only one. If the script is refused, gives the line that says so, and the result is
+ * WUMSNAIR_REFUSED. */
 uint32_t wumsnair_play(const uint8_t *script, size_t script_bytes, uint8_t *out, size_t out_bytes, size_t *needed);
 
 /* Gives a picture of a script, or its lines with their rules. If the script is refused, gives the line that says so. Any other

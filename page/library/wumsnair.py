@@ -1,10 +1,10 @@
-"""The proved player of flow scripts and the checker of records, by ctypes: `play`, `draw`, `explain` and `check` return a status
-and bytes.
+"""The proved player of flow scripts and the checker of records, by ctypes: `play`, `draw`, `explain` and `check` take the bytes of
+a script or a record, JSON in UTF-8, and return a status and bytes. If memory is refused, the status is OUT_OF_MEMORY.
 
     import wumsnair
     status, lines = wumsnair.play(b'{"version": 1, ..}')
 
-It needs libwumsnair.so beside it; `./page/build` makes both."""
+It needs libwumsnair.so beside it; after `rt ci`, `page/build` puts both into page/out."""
 import ctypes
 import pathlib
 
@@ -40,10 +40,10 @@ def draw(script, form=SVG):
 
 
 def explain(script):
-    """Returns where and why a script is refused."""
+    """Returns where and why a script is refused; nothing if it is not."""
     return _given(_library.wumsnair_explain, script)
 
 
 def check(record, with_order=False):
-    """Returns the verdict on recorded calls: LEGAL, ILLEGAL, GAVE_UP or REFUSED, and what is to say of it."""
+    """Returns the verdict on recorded calls, LEGAL, ILLEGAL, GAVE_UP or REFUSED, and what flow_judge prints."""
     return _given(lambda *rest: _library.wumsnair_check(int(with_order), *rest), record)

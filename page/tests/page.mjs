@@ -98,15 +98,18 @@ await test("what is mended is played", async () => {
   assert.deepEqual(await page.evaluate(LINES), ["true"]);
   assert.equal(await page.evaluate("document.getElementById('refusal').hidden"), true);
 });
-await test("a script that may play long is played when its button is pressed", async () => {
-  const grows = '{"op": "flat_map", "to": "repeat", "n": 1000}';
-  const chain = `{"from": {"of": [7]}, "ops": [${grows}, ${grows}, {"op": "take", "n": 2}]}`;
-  const other = await chrome.open(`${address}#s=${packed(`{"version": 1, "flow": {"kind": "none"}, "steps": [{"do": "collect", "chain": ${chain}}]}`)}`);
-  assert.equal(await other.evaluate("document.body.dataset.status"), "asked");
-  await other.evaluate("document.querySelector('#refusal button').click()");
-  assert.deepEqual(await other.evaluate(LINES), ["[7, 7] completed"]);
-  assert.equal(await other.evaluate("document.getElementById('refusal').hidden"), true);
-});
+const flatMap = '{"op": "flat_map", "to": "repeat", "n": 1000}';
+const transform = `{"op": "transform", "add": [${"0, ".repeat(15)}0]}`;
+for (const [what, grows] of [["flat_map", [flatMap, flatMap]], ["transform", Array(5).fill(transform)]]) {
+  await test(`a script that may play long by ${what} is played when its button is pressed`, async () => {
+    const chain = `{"from": {"of": [7]}, "ops": [${grows}, {"op": "take", "n": 2}]}`;
+    const other = await chrome.open(`${address}#s=${packed(`{"version": 1, "flow": {"kind": "none"}, "steps": [{"do": "collect", "chain": ${chain}}]}`)}`);
+    assert.equal(await other.evaluate("document.body.dataset.status"), "asked");
+    await other.evaluate("document.querySelector('#refusal button').click()");
+    assert.deepEqual(await other.evaluate(LINES), ["[7, 7] completed"]);
+    assert.equal(await other.evaluate("document.getElementById('refusal').hidden"), true);
+  });
+}
 await test("a link holds the script", async () => {
   await page.until("location.hash.startsWith('#s=')");
   const [link, text] = await page.evaluate(`[location.href, ${SCRIPT}.value]`);

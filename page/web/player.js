@@ -77,7 +77,7 @@ export class Player {
   #place(bytes) {
     const at = this.#calls.wumsnair_room(BigInt(bytes));
     if (at === 0n) {
-      throw new RangeError("the player has no memory for this script");
+      throw new RangeError("the player has no memory for this text");
     }
     return at;
   }

@@ -7,10 +7,11 @@ import { showTimeline } from "./timeline.js";
 
 const WORDS = {
   [VERDICT.LEGAL]: ["legal", "Some order of the calls has these answers, so the documented flow may have answered so."],
-  [VERDICT.ILLEGAL]: ["illegal", "No order of the calls has these answers, so this is not the documented flow."],
-  [VERDICT.GAVE_UP]: ["gave up", "The search took too long."],
-  [VERDICT.REFUSED]: ["refused", "The text is not a record. The reason is below it."],
+  [VERDICT.ILLEGAL]: ["illegal", "No order of the calls has these answers. If the record is right, this is not the documented flow."],
+  [VERDICT.GAVE_UP]: ["gave up", "The search took too long, so it is not known whether some order has these answers."],
+  [VERDICT.REFUSED]: ["refused", "The text is not a record. The reason is below the text."],
   [VERDICT.OUT_OF_MEMORY]: ["out of memory", "The record was not judged."],
+  stopped: ["stopped", "The checker stopped, so the record was not judged. The reason is below the text."],
 };
 
 const recordRefusal = byId("record-refusal");
@@ -55,9 +56,9 @@ export function judge(player) {
     const answer = player.check(recordEditor.text, byId("with-order").checked);
     [told, status] = [textOf(answer).trimEnd(), answer.status];
   } catch (error) {
-    [told, status] = [`refused: the checker stopped: ${error.message}`, VERDICT.REFUSED];
+    [told, status] = [error.message, "stopped"];
   }
-  const isRefused = status === VERDICT.REFUSED || status === VERDICT.OUT_OF_MEMORY;
+  const isRefused = [VERDICT.REFUSED, VERDICT.OUT_OF_MEMORY, "stopped"].includes(status);
   refusedPlace = undefined;
   if (isRefused) {
     const why = told.replace(/^refused: /, "");

@@ -44,14 +44,26 @@ export function stepsOf(text) {
   return found;
 }
 
-/** Returns how many items a chain of a text makes of one item at most, by its `flat_map`s; of a text that is no JSON, 1. */
+/** Returns how many items an operator makes of one item at most. */
+function itemsOfOne(operator) {
+  switch (operator?.op) {
+    case "flat_map":
+      return Number(operator.n);
+    case "transform":
+      return operator.add?.length;
+    default:
+      return 1;
+  }
+}
+
+/** Returns how many items a chain of a text makes of one item at most; of a text that is no JSON, 1. */
 export function mostItemsOfOne(text) {
   let most = 1;
   try {
     JSON.parse(text, (key, value) => {
       if (key === "ops" && Array.isArray(value)) {
-        const sizes = value.map((each) => (each?.op === "flat_map" ? Number(each.n) : 1));
-        most = Math.max(most, sizes.reduce((product, size) => product * Math.max(size, 1), 1));
+        // What is no number is refused by the player.
+        most = Math.max(most, value.map(itemsOfOne).reduce((product, size) => product * (size > 1 ? size : 1), 1));
       }
       return value;
     });
