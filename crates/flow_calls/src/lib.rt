@@ -111,8 +111,9 @@ pub extern "C" fn wumsnair_explain(
 
 /// Gives what `flow_judge` prints of a record of calls; of a legal one with the order of its calls if `with_order` is not 0.
 ///
-/// Returns 0 for a record that is legal, 1 if the buffer is too short, 2 for one that is refused, 3 if the search gave up, 4 if
-/// it is out of memory, and 5 for a record that is illegal.
+/// Returns 0 for a record that is legal, 1 if the buffer is too short, 2 for one that is refused, 3 if the search gave up, 4
+/// with the line `out of memory` if it is out of memory (`flow_judge` prints nothing then), and 5 for a record that is
+/// illegal, for which `flow_judge` has the status 1.
 #[unsafe(no_mangle)]
 pub extern "C" fn wumsnair_check(
     alloc: Global,

@@ -8,6 +8,6 @@ pub enum Verdict {
     Legal(Vec<usize>),
     /// No legal history explains the calls, in any order.
     Illegal,
-    /// The search took more turns than were allowed.
+    /// The search took more turns than were allowed, or what it found was not confirmed. Nothing is known of the calls.
     GaveUp,
 }

@@ -25,7 +25,7 @@ pub enum Command {
     Start,
     /// Stop running.
     Stop,
-    /// Reset the flow. The sharing does not run: it stops now, or has stopped before.
+    /// Stop running, unless it has stopped before, and reset the flow.
     StopAndReset,
     /// Go on running, or not running.
     Keep,
