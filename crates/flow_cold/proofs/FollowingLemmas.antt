@@ -1,4 +1,4 @@
--- The numbers that follow an item, where there are to be some.
+-- The `count` numbers from an item on, if the count is not 0.
 use Rattle.std.proofs.Common.{◌≡◌, ℕ, zero, suc, ◌-◌, ℤ, pos, ◌+ℤ◌, Ok, Err, refl, arith}
 use Rattle.std.proofs.lemmas.Grind.{common_steps}
 use Rattle.flow_law.specs.declared.chain.ChainFault.{ChainFault}

@@ -1,4 +1,4 @@
--- What an operator of a script makes of a chain means what the lists say.
+-- The run of a script's operator has the meaning of `op_meaning`.
 use Rattle.std.proofs.Common.{◌≡◌, ℤ, rules}
 use Rattle.std.specs.Bool.{IsTrue}
 use Rattle.std.specs.Ordering.{int_eq}

@@ -1,4 +1,4 @@
--- How the numbers from one to another begin.
+-- The first number of a range, and the rest of its run.
 use Rattle.std.proofs.Common.{◌≡◌, ℤ, pos, ◌+ℤ◌, true, false, arith, w64}
 use Rattle.std.specs.Int.Signed.{lt_z}
 use Rattle.std.proofs.lemmas.Grind.{common_steps}

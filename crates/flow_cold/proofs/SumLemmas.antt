@@ -1,4 +1,4 @@
--- The sums of an item and a list of entries, all of which are in range.
+-- The sums of an item and a list of entries, if all are in range.
 use Rattle.std.proofs.Common.{◌≡◌, ◌<◌, ◌+◌, ℕ, ℤ, ◌+ℤ◌, Bool, true, false, cond, ◌&&◌, List, [], ◌∷◌, length, get_or, drop, drop-cons, add-one, map, Ok, Err, refl, ap, arith, w64}
 use Rattle.std.proofs.lemmas.Grind.{common_steps}
 use Rattle.std.specs.List.{list_all}
@@ -30,6 +30,6 @@ fits_i64 x fits = grind (arith, common_steps)
 pub over_i64 : (x : ℤ) → (SFits w64 x → ⊥) → is_i64 x ≡ false
 over_i64 x over = grind (arith, common_steps)
 
--- the entry at i is the next one
+-- the list from i on begins with its entry at i
 pub drop_here : (xs : List ℤ) (i : ℕ) (d : ℤ) → i < length xs → d ≡ get_or xs i d → drop i xs ≡ d ∷ drop (i + 1) xs
 drop_here xs i d here is = rw (add-one, drop-cons xs i d, ← is)

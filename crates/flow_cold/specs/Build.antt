@@ -31,15 +31,15 @@ op_run with_run (op.FlatMap to count) r = flat_map_run (spread_run to count) r
 op_run with_run (op.Zip with by) r = zip_run (joined by) r (with_run with)
 op_run with_run op.Distinct r = distinct_run int_eq None r
 
--- the whole run of the operator on this run
+-- the whole run of the operator on this run, with the whole run of a zip's other chain
 abbrev pub op_whole : Op → ChainRun ℤ → ChainRun ℤ
 op_whole = op_run (λ with. node_whole with.node)
 
--- the same, where a `zip` takes what its other chain has left
+-- the run of the operator on this run, with the rest of a zip's other chain
 abbrev pub op_rest : Op → ChainRun ℤ → ChainRun ℤ
 op_rest = op_run (λ with. node_rest with.node)
 
--- an operator adds 1, and a zip counts from its deeper side
+-- the depth with the operator on a chain of this depth: one more, and for a zip one more than its deeper side
 abbrev pub op_depth : Op → ℕ → ℕ
 op_depth (op.Zip with by) depth = max depth (depth_of with) + 1
 op_depth _ depth = depth + 1
@@ -49,7 +49,7 @@ abbrev pub TakesNone : Op → Type 0
 TakesNone (op.Take count) = count ≡ 0
 TakesNone _ = ⊥
 
--- refused before anything is made: a take of nothing comes first
+-- the operator is refused on a chain of this depth: as NotPositive if it takes no items, else as TooDeep
 abbrev pub RefusesDepth : Op → ℕ → ChainFault → Type 0
 RefusesDepth o depth NotPositive = TakesNone o
 RefusesDepth o depth TooDeep = (¬ TakesNone o) × (64 < op_depth o depth)
@@ -60,13 +60,13 @@ abbrev pub Refuses : Op → ScriptChain → ChainFault → Type 0
 Refuses o chain OutOfMemory = (¬ TakesNone o) × (op_depth o (depth_of chain) ≤ 64)
 Refuses o chain fault = RefusesDepth o (depth_of chain) fault
 
--- the depth with an operator that is not refused
+-- the operator is not refused, and the depth with it is `new`
 pub record AddsDepth (o : Op) (old new : ℕ) : Type 0 where
   pub depth : new ≡ op_depth o old
   pub shallow : new ≤ 64
   pub positive : ¬ TakesNone o
 
--- the same by lists
+-- the meaning of the operator on a chain with this meaning
 abbrev pub op_meaning : Op → Meaning ℤ → Meaning ℤ
 op_meaning (op.Map by k) m = map_meaning (λ x. computed by (x, k)) m
 op_meaning (op.Filter test) m = filter_meaning (passes test) m

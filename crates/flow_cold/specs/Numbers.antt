@@ -37,16 +37,16 @@ passes (test.Less k) x = int_lt x k
 passes (test.Greater k) x = int_lt k x
 passes (test.NotEqual k) x = not (int_eq x k)
 
--- each entry of the list added to x
+-- x plus each entry of the list, or Overflow if a sum is no i64
 abbrev pub sums : List ℤ → ℤ → Result (List ℤ) ChainFault
 sums entries x = cond (list_all (λ d. is_i64 (x +ℤ d)) entries) (Ok (map (λ d. x +ℤ d) entries)) (Err Overflow)
 
--- x and the numbers that follow it, count of them
+-- the `count` numbers from x on, or Overflow if the last is no i64
 abbrev pub following : ℕ → ℤ → Result (ChainRun ℤ) ChainFault
 following zero x = Ok (ends Completed)
 following (suc n) x = cond (is_i64 (x +ℤ pos n)) (Ok (range_run x (x +ℤ pos n))) (Err Overflow)
 
--- what an item is replaced by
+-- the inner chain that replaces an item
 abbrev pub spread_run : Spread → ℕ → ℤ → Result (ChainRun ℤ) ChainFault
 spread_run spread.Range count x = following count x
 spread_run spread.Repeat count x = Ok (list_run (replicate count x))

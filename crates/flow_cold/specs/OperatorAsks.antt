@@ -1,4 +1,4 @@
--- How far the operators on whole numbers take their upstream off in one ask, in the state that each keeps.
+-- What one ask of each operator on whole numbers takes from its upstream, by the state that the operator keeps.
 use Rattle.std.specs.Prelude.{◌≡◌, ℤ, Option, Some, None, Result, drop, replicate}
 use Rattle.std.specs.Ordering.{int_eq}
 use Rattle.flow_law.specs.declared.chain.ChainFault.{ChainFault}
@@ -19,19 +19,19 @@ use Rattle.flow_cold.specs.declared.script_chain.operator.Step.TheVariants.{Noth
 use Rattle.flow_cold.specs.Numbers.{passes, sums, spread_run}
 use Rattle.flow_operators.specs.Sources.{range_run}
 
--- what the upstream has left after one ask of a `transform`
+-- the rest of the upstream after one ask of a `transform`
 abbrev pub after_adding : Adding → ChainRun ℤ → ChainRun ℤ
 after_adding s r = unless_empty (drop s.at s.entries.items) r (after_transform (sums s.entries.items) r)
 
--- what the upstream has left after one ask of a `flatMapConcat` to ranges
+-- the rest of the upstream after one ask of a `flatMapConcat` to ranges
 abbrev pub after_following : Following → ChainRun ℤ → ChainRun ℤ
 after_following s r = unless_completed (unless_ended s.closed (range_run s.next s.last)) r (after_flat_map (spread_run spread.Range s.count) r)
 
--- what the upstream has left after one ask of a `flatMapConcat` to repeated items
+-- the rest of the upstream after one ask of a `flatMapConcat` to repeated items
 abbrev pub after_repeating : Repeating → ChainRun ℤ → ChainRun ℤ
 after_repeating s r = unless_completed (list_run (replicate s.left s.item)) r (after_flat_map (spread_run spread.Repeat s.count) r)
 
--- what the upstream has left once the operator was asked, where it had left r and nothing is held back
+-- the rest of the upstream after one ask of an operator that holds nothing back; r is the rest before
 abbrev pub after_ready : Operator → ChainRun ℤ → ChainRun ℤ
 after_ready (Map s) r = after_ask r
 after_ready (Filter test) r = after_filter (passes test) r
@@ -46,7 +46,7 @@ after_ready (FlatMapRange s) r = after_flat_map (spread_run spread.Range s.count
 after_ready (FlatMapRepeat s) r = after_flat_map (spread_run spread.Repeat s.count) r
 after_ready (Distinct s) r = after_distinct int_eq s.last r
 
--- what it has left with what is held back
+-- the rest of the upstream after one ask of an operator that may hold numbers back
 abbrev pub after_held : Operator → ChainRun ℤ → ChainRun ℤ
 after_held (Transform s) r = after_adding s r
 after_held (Scan s) r = after_scan s.begun r
@@ -54,23 +54,24 @@ after_held (FlatMapRange s) r = after_following s r
 after_held (FlatMapRepeat s) r = after_repeating s r
 after_held o r = after_ready o r
 
--- what the upstream has left after one ask in this phase
+-- the rest of the upstream after one ask in this phase
 abbrev pub after_in : Phase → Operator → ChainRun ℤ → ChainRun ℤ
 after_in Ready o r = after_ready o r
 after_in Holding o r = after_held o r
 after_in Over o r = r
 
--- what the upstream has left after one ask of the stage
+-- the rest of the upstream after one ask of the stage
 abbrev pub after_stage : Stage → ChainRun ℤ → ChainRun ℤ
 after_stage stage r = after_in stage.phase stage.operator r
 
--- With an answer nothing more is asked: what is due is r, what the upstream has left. With none it is what further asks leave.
+-- `due` is the rest of the upstream after the whole ask. If the step is an answer, that is r, since nothing more is asked; else it is what
+-- further asks leave.
 abbrev pub StepLeaves : ChainRun ℤ → Step → ChainRun ℤ → ChainRun ℤ → Type 0
 StepLeaves due Nothing r further = due ≡ further
 StepLeaves due Held r further = due ≡ further
 StepLeaves due _ r further = due ≡ r
 
--- the same, for a number that was held back: with one, nothing more is asked
+-- `due` is r if the next held number is the answer, else what further asks leave
 abbrev pub HeldLeaves : ChainRun ℤ → Option (Result ℤ ChainFault) → ChainRun ℤ → ChainRun ℤ → Type 0
 HeldLeaves due None r further = due ≡ further
 HeldLeaves due (Some y) r further = due ≡ r

@@ -1,4 +1,4 @@
--- The operators on whole numbers, in the state that each keeps. No public clause cites this module but by `node_whole`.
+-- The operators on whole numbers, by the state that each keeps. Public clauses reach this module only through definitions of `ScriptChain`.
 use Rattle.std.specs.Prelude.{◌≡◌, suc, ℤ, ◌+ℤ◌, cond, List, [], ◌∷◌, drop, replicate, Option, Some, None, Result, Ok, Err}
 use Rattle.std.specs.Ordering.{int_eq}
 use Rattle.flow_law.specs.declared.chain.ChainFault.{ChainFault}
@@ -41,23 +41,23 @@ abbrev pub with_sums : ℤ → List ℤ → ChainRun ℤ → ChainRun ℤ
 with_sums x [] r = r
 with_sums x (d ∷ ds) r = continued (ranged (x +ℤ d)) (λ y. gives y (with_sums x ds r))
 
--- what those that hold numbers back have left, where r is what the upstream has left
+-- the rest of a `transform`; r is the rest of its upstream
 abbrev pub adding_rest : Adding → ChainRun ℤ → ChainRun ℤ
 adding_rest s r = with_sums s.item (drop s.at s.entries.items) (transform_run (sums s.entries.items) r)
 
--- what a `scan` has left
+-- the rest of a `scan`
 abbrev pub scanning_rest : Scanning → ChainRun ℤ → ChainRun ℤ
 scanning_rest s r = cond s.begun (scan_run (computed s.by) s.last r) (gives s.initial (scan_run (computed s.by) s.initial r))
 
--- what a `flatMapConcat` to ranges has left
+-- the rest of a `flatMapConcat` to ranges
 abbrev pub following_rest : Following → ChainRun ℤ → ChainRun ℤ
 following_rest s r = followed (unless_ended s.closed (range_run s.next s.last)) (flat_map_run (spread_run spread.Range s.count) r)
 
--- what a `flatMapConcat` to repeated items has left
+-- the rest of a `flatMapConcat` to repeated items
 abbrev pub repeating_rest : Repeating → ChainRun ℤ → ChainRun ℤ
 repeating_rest s r = followed (list_run (replicate s.left s.item)) (flat_map_run (spread_run spread.Repeat s.count) r)
 
--- what an operator has left that holds nothing back
+-- the rest of an operator that holds nothing back
 abbrev pub ready_rest : Operator → ChainRun ℤ → ChainRun ℤ
 ready_rest (Map s) r = map_run (λ x. computed s.by (x, s.k)) r
 ready_rest (Filter test) r = filter_run (passes test) r
@@ -72,7 +72,7 @@ ready_rest (FlatMapRange s) r = flat_map_run (spread_run spread.Range s.count) r
 ready_rest (FlatMapRepeat s) r = flat_map_run (spread_run spread.Repeat s.count) r
 ready_rest (Distinct s) r = distinct_run int_eq s.last r
 
--- what it has left with what it holds back
+-- the rest of an operator that may hold numbers back
 abbrev pub held_rest : Operator → ChainRun ℤ → ChainRun ℤ
 held_rest (Transform s) r = adding_rest s r
 held_rest (Scan s) r = scanning_rest s r
@@ -80,18 +80,18 @@ held_rest (FlatMapRange s) r = following_rest s r
 held_rest (FlatMapRepeat s) r = repeating_rest s r
 held_rest o r = ready_rest o r
 
--- what is left before and after a number that was held back; None where none is left
+-- the rest before and after the next held number, or the fault in its place; None if no number is held
 abbrev pub HeldGives : ChainRun ℤ → Option (Result ℤ ChainFault) → ChainRun ℤ → Type 0
 HeldGives before (Some (Ok y)) after = before ≡ gives y after
 HeldGives before (Some (Err fault)) after = before ≡ ends (Failed fault)
 HeldGives before None after = before ≡ after
 
--- what follows such a number: `held` where there was one, `ready` where there was none
+-- `held` after a held number or a fault in its place, `ready` if no number was held
 abbrev pub after_number : {A : Type 0} → Option (Result ℤ ChainFault) → A → A → A
 after_number (Some y) held ready = held
 after_number None held ready = ready
 
--- what is left before and after a step on an item
+-- the rest before and after a step on an item
 abbrev pub StepGives : ChainRun ℤ → Step → ChainRun ℤ → Type 0
 StepGives before (Item y) after = before ≡ gives y after
 StepGives before (Last y) after = before ≡ gives y (ends Completed)
@@ -100,26 +100,26 @@ StepGives before Held after = before ≡ after
 StepGives before End after = before ≡ ends Completed
 StepGives before (Fault fault) after = before ≡ ends (Failed fault)
 
--- what follows a step: numbers are held back where it says so
+-- `held` after a step that holds numbers back, else `ready`
 abbrev pub after_step : {A : Type 0} → Step → A → A → A
 after_step Held held ready = held
 after_step _ held ready = ready
 
--- what the operator has left in this phase
+-- the rest of the operator in this phase
 abbrev pub rest_in : Phase → Operator → ChainRun ℤ → ChainRun ℤ
 rest_in Ready o r = ready_rest o r
 rest_in Holding o r = held_rest o r
 rest_in Over o r = ends Completed
 
--- what the stage has left
+-- the rest of the stage
 abbrev pub stage_rest : Stage → ChainRun ℤ → ChainRun ℤ
 stage_rest stage r = rest_in stage.phase stage.operator r
 
--- a take is over as soon as it has given its last item
+-- the stage has ended; a `take` ends with its last item
 abbrev pub IsStageOver : Stage → Type 0
 IsStageOver stage = stage.phase ≡ Over
 
--- where an operator begins
+-- the phase in which an operator begins
 abbrev pub first_phase : Operator → Phase
 first_phase (Scan s) = Holding
 first_phase _ = Ready

@@ -13,12 +13,12 @@ abbrev pub part_whole : Part → ChainRun ℤ → ChainRun ℤ
 part_whole (On operator) r = operator_whole operator r
 part_whole (With chain by) r = zip_run (joined by) r (node_whole chain.node)
 
--- what the part has left, on what is left of the chain
+-- the rest of the part, before it is asked, on this rest of the upstream
 abbrev pub part_rest : Part → ChainRun ℤ → ChainRun ℤ
 part_rest (On operator) r = rest_in (first_phase operator) operator r
 part_rest (With chain by) r = zip_run (joined by) r (node_rest chain.node)
 
--- how deep a chain of this depth is with the part
+-- the depth with the part on a chain of this depth
 abbrev pub part_depth : Part → ℕ → ℕ
 part_depth (On operator) depth = depth + 1
 part_depth (With chain by) depth = max depth chain.depth + 1

@@ -1,4 +1,4 @@
--- Chains of whole numbers that are built at run time: how deep they are, and what they mean.
+-- Chains of whole numbers that are built at run time: their depths and their runs.
 use Rattle.std.specs.Prelude.{◌≡◌, ℕ, ◌+◌, max, ℤ, true}
 use Rattle.flow_law.specs.ChainRun.{ChainRun}
 use Rattle.flow_law.specs.OperatorRuns.{zip_run}
@@ -12,25 +12,25 @@ use Rattle.flow_cold.specs.OperatorAsks.{after_stage}
 use Rattle.flow_cold.specs.Pairing.{pairing_rest}
 use Rattle.flow_cold.specs.Sources.{source_whole, source_rest, IsSourceOver}
 
--- a source is 1 deep, an operator one deeper than its deeper side
+-- the depth of a chain: 1 for a source, one more than its deeper side for an operator
 abbrev pub node_depth : Node → ℕ
 node_depth (Source source) = 1
 node_depth (On' p upstream stage) = node_depth upstream + 1
 node_depth (Zip' p left q right pairing) = max (node_depth left) (node_depth right) + 1
 
--- what a chain means from the start
+-- the whole run of a chain
 abbrev pub node_whole : Node → ChainRun ℤ
 node_whole (Source source) = source_whole source
 node_whole (On' p upstream stage) = operator_whole stage.operator (node_whole upstream)
 node_whole (Zip' p left q right pairing) = zip_run (joined pairing.by) (node_whole left) (node_whole right)
 
--- what is left of it
+-- the rest of a chain's run
 abbrev pub node_rest : Node → ChainRun ℤ
 node_rest (Source source) = source_rest source
 node_rest (On' p upstream stage) = stage_rest stage (node_rest upstream)
 node_rest (Zip' p left q right pairing) = pairing_rest pairing (node_rest left) (node_rest right)
 
--- the node gives nothing any more
+-- the chain has nothing left to emit
 abbrev pub IsNodeOver : Node → Type 0
 IsNodeOver (Source source) = IsSourceOver source
 IsNodeOver (On' p upstream stage) = IsStageOver stage

@@ -1,4 +1,4 @@
--- What a source is as a chain.
+-- The runs of the sources.
 use Rattle.std.specs.Prelude.{◌≡◌, ◌≤◌, ℤ, drop, length}
 use Rattle.flow_law.specs.ChainRun.{ChainRun, list_run}
 use Rattle.flow_cold.specs.declared.script_chain.op.Source.{Source}
@@ -11,13 +11,13 @@ source_whole (List s) = list_run s.items.items
 source_whole (Range s) = range_run s.first s.last
 source_whole (Scripted s) = scripted_run s.entries.items
 
--- of a source that was asked before
+-- the rest of a source's run
 abbrev pub source_rest : Source → ChainRun ℤ
 source_rest (List s) = list_run (drop s.at s.items.items)
 source_rest (Range s) = range_rest s
 source_rest (Scripted s) = scripted_run (drop s.at s.entries.items)
 
--- the source gives nothing any more
+-- the source has nothing left to emit
 abbrev pub IsSourceOver : Source → Type 0
 IsSourceOver (List s) = length s.items.items ≤ s.at
 IsSourceOver (Range s) = range_left s ≡ 0

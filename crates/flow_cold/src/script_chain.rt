@@ -31,7 +31,7 @@ pub struct ScriptChain {
     ghost bounded: { depth ≤ 64 },
 }
 
-// Not derived: each crate that drops a chain would prove again how its operators are dropped.
+// Not derived: otherwise each crate that drops a chain would prove again how its operators are dropped.
 impl Drop for ScriptChain {
     fn drop(self) {
         let Self { depth: _, node: _ } = self;

@@ -1,4 +1,4 @@
--- How an answer shortens what is left of a run.
+-- How an ask shortens the rest of a run.
 use Rattle.std.proofs.Common.{◌<◌, inl, inr, ap, arith}
 use Rattle.flow_law.specs.ChainRun.{ChainRun, entries, asks}
 use Rattle.flow_law.proofs.ChainLemmas.{asks_entries}

@@ -1,4 +1,4 @@
--- How often chains are asked that are opened one after the other, each at most so often.
+-- A bound on the asks of inner chains that are opened one after the other, each asked at most `limit` times.
 use Rattle.std.proofs.Common.{◌<◌, ◌≤◌, ◌+◌, ◌*◌, ℕ, arith}
 use Rattle.std.proofs.lemmas.Nat.{mul-add-lt}
 

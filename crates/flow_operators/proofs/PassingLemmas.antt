@@ -1,4 +1,4 @@
--- What a filter and a drop while make of the first item that they let through. Begin with `filter-item` and `drop_while-item`.
+-- What a `filter` and a `dropWhile` make of the first item that they emit. Begin with `filter-item` and `drop_while-item`.
 use Rattle.std.proofs.Common.{◌≡◌, Bool, true, false, cond, not, inl, inr, refl, ap, ◌∙◌, arith}
 use Rattle.std.proofs.lemmas.Grind.{common_steps}
 use Rattle.flow_law.specs.ChainRun.{ChainRun, gives, pends, ends}
@@ -18,7 +18,8 @@ passed-leaves before after Ended ended = inl (rw (ended.0, ended.1) refl)
 passed-leaves before after (Fault fault) (inl is, over) = inl (rw (is, over) refl)
 passed-leaves before after (Fault fault) (inr memory, over) = inr (rw memory refl)
 
--- an operator that makes the same of a run from its first passing item on passes on what is no item; it keeps turns and ends
+-- if `run` gives the same for a run and for its rest from the first passing item, and keeps pending turns and ends, then it passes on an
+-- answer that is no item
 pub passed-on : {A : Type 0} (run : ChainRun A → ChainRun A) → ((r : ChainRun A) → run (pends r) ≡ pends (run r)) → ((e : _) → run (ends e) ≡ ends e)
     → (from before after : ChainRun A) (asked : Asked A) → run before ≡ run from → PassesOn from asked after → AskGives (run before) asked (run after)
 passed-on run turns over from before after (Item y) same never = absurd never
@@ -54,7 +55,7 @@ module _ {A : Type 0} (test : A → Bool) where
   filter-step true x r is h = rw is refl
   filter-step false x r is h = h
 
-  -- what does not pass adds nothing
+  -- the items before the first one that passes do not change the run of a filter
   pub filter-from : (r : ChainRun A) → filter_run test r ≡ filter_run test (from_passing test r)
   filter-from (gives x r) = filter-step (test x) x r refl (filter-from r)
   filter-from (pends r) = refl
@@ -81,7 +82,7 @@ module _ {A : Type 0} (test : A → Bool) where
   drop_while-step true x r is h = h
   drop_while-step false x r is h = rw is refl
 
-  -- what passes adds nothing
+  -- the items before the first one that fails do not change the run of a `dropWhile`
   pub drop_while-from : (r : ChainRun A) → drop_while_run test r ≡ drop_while_run test (from_passing (λ y. not (test y)) r)
   drop_while-from (gives x r) = drop_while-step (test x) x r refl (drop_while-from r)
   drop_while-from (pends r) = refl

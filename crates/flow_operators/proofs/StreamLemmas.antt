@@ -1,4 +1,4 @@
--- A fault ends a stream, also out of memory in place of an answer.
+-- A fault is the last item of a stream, also if it is out of memory instead of the chain's answer.
 use Rattle.std.proofs.Common.{◌≡◌, ◌⊎◌, List, Option, Result, Err, inl, inr, subst}
 use Rattle.flow_law.specs.declared.chain.ChainFault.{ChainFault}
 use Rattle.flow_law.specs.declared.chain.ChainFault.TheVariants.{OutOfMemory}

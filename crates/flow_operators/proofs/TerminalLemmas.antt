@@ -1,4 +1,4 @@
--- Where a chain stands after its next item, what tests tell by the first item that is found, and how a call at an item begins the visits.
+-- Where a chain is after its next item, what `any` and `all` return for the first item that is found, and the first call of `for_each`.
 use Rattle.std.proofs.Common.{◌≡◌, ◌⊎◌, Bool, true, false, cond, ◌||◌, ◌&&◌, not, List, [], ◌∷◌, ◌++◌, Option, Some, None, Result, Ok, Err, inl, inr, refl, sym, ap, ◌∙◌}
 use Rattle.std.specs.Prelude.{filter}
 use Rattle.std.specs.List.{list_all, list_any}
@@ -24,7 +24,7 @@ module _ {T : Type 0} where
       (stands.0 ++ x ∷ [], stands.1 ∙ ap (λ ys. stands.0 ++ ys) gives.0 ∙ sym (append_assoc stands.0 (x ∷ []) (items after)), stands.2 ∙ gives.1)
 
 module _ {T : Type 0} where
-  -- a chain that was started anew stands at its start
+  -- a chain that was rewound is at its start
   pub reaches-start : (whole rest : ChainRun T) → rest ≡ whole → Reaches whole rest
   reaches-start whole rest is = ([], sym (ap items is), sym (ap ending is))
 

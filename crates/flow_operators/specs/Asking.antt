@@ -1,10 +1,10 @@
--- One ask of a chain: the answer is the first entry of what is left of its run, and is taken off it.
---   answer         what was left         what is left
+-- One ask of a chain: it answers the first entry of the rest of the chain's run, and takes that entry off.
+--   answer         rest before           rest after
 --   Item x         gives x r             r
 --   Pending        pends r               r
 --   End            ends Completed        ends Completed
 --   Fault f        ends (Failed f)       ends Completed
--- Out of memory may come in place of any answer. The chain is over then, too.
+-- An ask may fail with `OutOfMemory` instead of any of these answers. The chain is then over, too.
 use Rattle.std.specs.Prelude.{◌≡◌, ◌⊎◌, ◌+◌, List, [], ◌∷◌, ◌++◌, length, Option, Some, None}
 use Rattle.flow_law.specs.declared.chain.ChainFault.TheVariants.{OutOfMemory}
 use Rattle.flow_law.specs.declared.chain.End.{End}
@@ -14,7 +14,7 @@ use Rattle.flow_operators.specs.declared.cold.Asked.{Asked}
 use Rattle.flow_operators.specs.declared.cold.Asked.TheVariants.{Item, Pending, End as Ended, Fault}
 
 module _ {T : Type 0} where
-  -- an ask takes the first entry off what is left
+  -- the answer is the first entry of `before`, and `after` is the rest behind it; or the ask failed with OutOfMemory
   abbrev pub AskGives : ChainRun T → Asked T → ChainRun T → Type 0
   AskGives before (Item x) after = before ≡ gives x after
   AskGives before Pending after = before ≡ pends after
@@ -35,22 +35,22 @@ module _ {T : Type 0} where
   IsItem Ended = ⊥
   IsItem (Fault fault) = ⊥
 
-  -- the end that an answer tells
+  -- P of the end that the answer reports, if it reports one
   abbrev pub OnEnd : Asked T → (End → Type 0) → Type 0
   OnEnd (Item x) P = Unit {0}
   OnEnd Pending P = Unit {0}
   OnEnd Ended P = P Completed
   OnEnd (Fault fault) P = P (Failed fault)
 
-  -- the entry that an answer is, if it is one
+  -- the entry of an item or of Pending; an end or a fault has none
   abbrev pub entry_of : Asked T → List (Option T)
   entry_of (Item x) = Some x ∷ []
   entry_of Pending = None ∷ []
   entry_of Ended = []
   entry_of (Fault fault) = []
 
--- How often a chain can still be asked before its end is the length of what is left of its run. An ask that is not the end takes one entry
--- off it. At the end there is none, unless memory was wanted; and none is left after it.
+-- A chain can be asked before its end as often as the rest of its run has entries. Each ask that is not final takes one entry. A final ask
+-- leaves no entries, and finds none unless it fails with OutOfMemory.
 abbrev pub LawAsksLeft : Type 0 → Type 0
 LawAsksLeft T =
     (before after : ChainRun T) (asked : Asked T) → AskGives before asked after →

@@ -1,4 +1,4 @@
--- What `zip` has left, by its two sides and the left item that it keeps; L and R are the chains' types, A and B their items.
+-- The rest of a `zip`, by its two sides and the left item that it keeps. L and R are the types of the chains, A and B those of their items.
 use Rattle.std.specs.Prelude.{◌≡◌, ◌+◌, ℕ, Bool, false, Result, Ok, Err}
 use Rattle.flow_law.specs.declared.chain.ChainFault.{ChainFault}
 use Rattle.flow_law.specs.ChainRun.{ChainRun, gives}
@@ -22,20 +22,20 @@ module _ {L R A : Type 0} where
   abbrev pub is_over : Pairs L R A → Bool
   is_over p = p.left.ended
 
-  -- how often both sides can be asked
+  -- how often the two sides can be asked, together
   abbrev pub most_pairs : (L → ℕ) → (R → ℕ) → Pairs L R A → ℕ
   most_pairs left right p = left p.left.chain + right p.right
 
-  -- what the left side has left, the kept item first
+  -- the rest of the left side, with the kept item first
   abbrev pub left_side : (L → ChainRun A) → Pairs L R A → ChainRun A
   left_side rest p = with_kept p.kept (rest p.left.chain)
 
 module _ {L R A B C : Type 0} (left : L → ChainRun A) (right : R → ChainRun B) where
-  -- what the zip has left
+  -- the rest of the zip
   abbrev pub pairs_rest : (A × B → Result C ChainFault) → Pairs L R A → ChainRun C
   pairs_rest f p = unless_ended p.left.ended (zip_run f (left_side left p) (right p.right))
 
-  -- the next pair, or the answer in place of one, whatever is made of pairs
+  -- the next pair, or the answer of the zip if it has no pair, whatever function it applies to pairs
   abbrev pub PairGives : Pairs L R A → Result (A × B) (Asked C) → Pairs L R A → Type 0
   PairGives old (Ok pair) new =
       (old.left.ended ≡ false) × (new.left.ended ≡ false)
@@ -43,7 +43,7 @@ module _ {L R A B C : Type 0} (left : L → ChainRun A) (right : R → ChainRun 
   PairGives old (Err asked) new =
       (f : A × B → Result C ChainFault) → AskGives (pairs_rest f old) asked (pairs_rest f new)
 
-  -- how far each side is asked
+  -- what one ask takes from each side
   abbrev pub AsksSides : Pairs L R A → Asked C → Pairs L R A → Type 0
   AsksSides old asked new =
       AsksLeft old.kept (left old.left.chain) asked (left new.left.chain)

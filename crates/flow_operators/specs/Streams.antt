@@ -1,5 +1,5 @@
--- What a chain gives as a stream: its items, then a fault as the last item. `xs` is what the stream gave so far, and `last`
--- what it gives next.
+-- What a chain emits as a stream: its items, and its fault, if it fails, as the last item. `xs` is what the stream has emitted so far, and
+-- `last` what it emits next.
 use Rattle.std.specs.Prelude.{◌≡◌, ◌⊎◌, List, [], ◌∷◌, Option, Some, None, Result, Ok, Err}
 use Rattle.futures.specs.declared.task.Poll.{Poll}
 use Rattle.futures.specs.declared.task.Poll.TheVariants.{Ready}
@@ -10,33 +10,33 @@ use Rattle.flow_law.specs.ChainRun.{ChainRun, gives, pends, ends}
 use Rattle.flow_operators.specs.declared.streamed.Streamed.{Streamed}
 
 module _ {T : Type 0} where
-  -- nothing follows
+  -- the stream emits nothing more
   abbrev pub Over : List (Result T ChainFault) → Option (Result T ChainFault) → Type 0
   Over [] last = last ≡ None
   Over (y ∷ ys) last = ⊥
 
-  -- y, and then nothing
+  -- the stream emits y, and then nothing
   abbrev pub Last : Result T ChainFault → List (Result T ChainFault) → Option (Result T ChainFault) → Type 0
   Last y [] last = last ≡ Some y
   Last y (z ∷ zs) last = (z ≡ y) × Over zs last
 
-  -- x, and then k
+  -- the stream emits x, and then what k says
   abbrev pub First : T → (List (Result T ChainFault) → Option (Result T ChainFault) → Type 0) → List (Result T ChainFault) → Option (Result T ChainFault) → Type 0
   First x k [] last = last ≡ Some (Ok x)
   First x k (y ∷ ys) last = (y ≡ Ok x) × k ys last
 
-  -- the items of a run, and its fault as the last; `OutOfMemory` may come in place of an answer
+  -- the stream emits the items of the run, and its fault as the last item; it may fail with `OutOfMemory` instead at any poll
   abbrev pub Streams : ChainRun T → List (Result T ChainFault) → Option (Result T ChainFault) → Type 0
   Streams (gives x r) xs last = First x (Streams r) xs last ⊎ Last (Err OutOfMemory) xs last
   Streams (pends r) xs last = Streams r xs last ⊎ Last (Err OutOfMemory) xs last
   Streams (ends Completed) xs last = Over xs last ⊎ Last (Err OutOfMemory) xs last
   Streams (ends (Failed fault)) xs last = Last (Err fault) xs last ⊎ Last (Err OutOfMemory) xs last
 
--- the chain behind a stream
+-- the chain of a stream
 abbrev pub streamed_chain : {C : Type 0} → Streamed C → C
 streamed_chain stream = stream.chain
 
--- P of the fault, where a poll gives one as the stream's last item
+-- P of the fault, if the poll returns one as the stream's last item
 abbrev pub OnFault : {T : Type 0} → Poll (Option (Result T ChainFault)) → (ChainFault → Type 0) → Type 0
 OnFault (Ready (Some (Err fault))) P = P fault
 OnFault polled P = Unit {0}

@@ -1,4 +1,4 @@
--- What stands behind an operator: a chain, and whether the operator has ended. Begin with `left_of` and `NextGives`.
+-- The upstream of an operator: a chain, and whether the operator has ended. Begin with `left_of` and `NextGives`.
 use Rattle.std.specs.Prelude.{◌≡◌, ◌⊎◌, Bool, true, false, Result, Ok, Err}
 use Rattle.flow_law.specs.declared.chain.ChainFault.{ChainFault}
 use Rattle.flow_law.specs.declared.chain.ChainFault.TheVariants.{OutOfMemory}
@@ -11,7 +11,7 @@ use Rattle.flow_operators.specs.Behind.{AsksOnce}
 use Rattle.flow_operators.specs.Kept.{unless_ended}
 
 module _ {C : Type 0} where
-  -- the chain behind the operator
+  -- the upstream chain
   abbrev pub chain_of : Upstream C → C
   chain_of u = u.chain
 
@@ -19,7 +19,7 @@ module _ {C : Type 0} where
   abbrev pub is_ended : Upstream C → Bool
   is_ended u = u.ended
 
-  -- what is left of the chain's run: nothing once the operator has ended
+  -- the rest of the chain's run; nothing if the operator has ended
   abbrev pub left_of : {T : Type 0} → (C → ChainRun T) → Upstream C → ChainRun T
   left_of rest u = unless_ended u.ended (rest u.chain)
 
@@ -27,24 +27,24 @@ module _ {C : Type 0} where
   abbrev pub AsksUpstream : {A B : Type 0} → (C → ChainRun A) → Upstream C → Asked B → Upstream C → Type 0
   AsksUpstream rest old result new = AsksOnce (rest old.chain) result (rest new.chain)
 
--- an answer that is no item is passed on
+-- the chain's answer is no item, and the operator passes it on
 abbrev pub PassesOn : {A B : Type 0} → ChainRun A → Asked B → ChainRun A → Type 0
 PassesOn before (Item y) after = ⊥
 PassesOn before Pending after = before ≡ pends after
 PassesOn before Ended after = (before ≡ ends Completed) × (after ≡ ends Completed)
 PassesOn before (Fault fault) after = ((before ≡ ends (Failed fault)) ⊎ (fault ≡ OutOfMemory)) × (after ≡ ends Completed)
 
--- the next item, or else the answer that is passed on
+-- the chain's next item, or its answer if that is no item
 abbrev pub NextGives : {A B : Type 0} → ChainRun A → Result A (Asked B) → ChainRun A → Type 0
 NextGives before (Ok x) after = before ≡ gives x after
 NextGives before (Err asked) after = PassesOn before asked after
 
--- P of the answer; where there is an item, of each answer that may be made of it
+-- P of the answer; if there is an item instead, P of every answer, as the operator may make any of it
 abbrev pub WithAnswer : {A B : Type 0} → Result A (Asked B) → (Asked B → Type 0) → Type 0
 WithAnswer {B = B} (Ok x) P = (asked : Asked B) → P asked
 WithAnswer (Err asked) P = P asked
 
--- an operator's own result as an answer, and whether it ends the operator
+-- what an operator made of an item, as an answer
 abbrev pub answer_of : {B : Type 0} → Result B ChainFault → Asked B
 answer_of (Ok y) = Item y
 answer_of (Err fault) = Fault fault

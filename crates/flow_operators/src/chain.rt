@@ -1,4 +1,4 @@
-//! The operators as methods of every chain, so that a chain reads in the order in which its items pass.
+//! The operators as methods of every chain, so that a chain reads in the order in which an item passes its operators.
 //!
 //! Each method is the constructor of its operator, and has the constructor's contract.
 ghost use Rattle.std.specs.Prelude.{◌≡◌, ◌↔◌, None, Ok, Bool, List, Result, IfOk, IfErr};

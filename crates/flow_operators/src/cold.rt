@@ -32,10 +32,10 @@ pub trait Cold: Drop {
     /// The readings of the chain's closures: a function for each of them.
     ghost Reading: { Type 0 };
 
-    /// That the closures may be called. Nothing else is asked of a closure.
+    /// Whether the closures may be called. Nothing else is required of a closure.
     ghost CanAsk: { Self → Type 0 };
 
-    /// That the closures compute the functions of a reading, unless memory is refused.
+    /// Whether the closures compute the functions of a reading, unless memory is refused.
     ghost Reads: { Self → Reading → Type 0 };
 
     /// The run from the start, by a reading. No call changes it.
@@ -47,16 +47,18 @@ pub trait Cold: Drop {
     /// A bound on the asks before the end, whatever the closures answer.
     ghost most_asks: { Self → ℕ };
 
-    /// That no chain of this type is asked more than `limit` times before its end. So a closure may return such chains
-    /// to `Chain::flat_map_concat`.
+    /// Whether every chain of this type is asked at most `limit` times before its end. A closure may then return chains
+    /// of this type to `Chain::flat_map_concat`.
     ghost IsLimited: { Type 0 };
 
     ghost limit: { ℕ };
 
-    /// That the chain has ended or failed since it was started.
+    /// Whether the chain is over: each ask then answers `End`, and changes nothing. A chain that has ended or failed is
+    /// over.
     ghost IsOver: { Self → Type 0 };
 
-    /// That the chain has answered this end since it was started. A chain need not keep which end it was.
+    /// Whether the chain has answered this end since it was started. It always holds of a chain that does not record
+    /// its end.
     ghost HasAnswered: { Self → End → Type 0 } = { λ _ _. Unit {0} };
 
     /// What an ask does to the upstream chains: it takes just the entries that the answer needs. A source has no

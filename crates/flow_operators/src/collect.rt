@@ -29,7 +29,7 @@ pub fn collect_all<C: Cold, A: Allocator>(
     ensures whole { (m : C.Reading) → C.whole chain.new m ≡ C.whole chain.old m }
     ensures collects { IfOk result (λ collected. (m : C.Reading) → C.Reads chain.old m
         → Collects (C.whole chain.old m) collected.items.items collected.end) }
-    // The end is the last answer of the chain, also if memory was refused in it. The items before it are returned.
+    // The end is the chain's last answer, also if that is `OutOfMemory`. The items before it are returned.
     ensures over { IfOk result (λ _. C.IsOver chain.new) }
     ensures answered { IfOk result (λ collected. C.HasAnswered chain.new collected.end) }
     // The list had no room for the last item.

@@ -22,14 +22,14 @@
 //! closure; after the latter the chain is just after the item of that call.
 //!
 //! # Closures
-//! Operators take plain closures, of which nothing is asked but that they may be called. Claims about items are stated
-//! for each *reading* of the closures: a function for each of them, which it computes unless memory is refused
+//! Operators take plain closures. All that they require is that the closure may be called. Claims about items are
+//! stated for each *reading* of the closures: one function for each closure, which it computes unless memory is refused
 //! (`Cold::Reading`, `Cold::Reads`). To prove more than safety, name these functions in a contract of your own; nothing
 //! is written at the call.
 //!
 //! # Faults
 //! A closure that makes items may answer a fault, as `x.checked_mul(k).ok_or(ChainFault::Overflow)` does. The fault
-//! ends the chain, and no item comes of that call. The closure of `map_value` cannot fail: it returns the item itself.
+//! ends the chain, and that call emits no item. The closure of `map_value` cannot fail: it returns the item itself.
 #![tactic(auto)]
 
 mod chain;

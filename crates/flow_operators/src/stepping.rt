@@ -12,7 +12,7 @@ use crate::cold::{Asked, Cold};
 use crate::operators::passes;
 use flow_law::ChainFault;
 
-/// Takes the next item, and asks again after `Pending`. Returns the chain's fault if that comes first.
+/// Returns the next item, or `None` at the end. Asks again after `Pending`. Fails with the chain's fault.
 pub(crate) fn next_item<C: Cold>(chain: &mut C) -> Result<Option<C::Item>, ChainFault>
     requires { C.CanAsk chain.old }
     ensures callable { C.CanAsk chain.new }
@@ -35,7 +35,7 @@ pub(crate) fn next_item<C: Cold>(chain: &mut C) -> Result<Option<C::Item>, Chain
     }
 }
 
-/// Returns the next result, which each function that the closure computes gives.
+/// Returns the closure's next result, which is that of each function that the closure computes.
 fn next_result<A, B, U, F>(closure: &F, last: A, item: B) -> Result<U, ChainFault>
 where
     F: Fn(A, B) -> Result<U, ChainFault>,
@@ -47,7 +47,7 @@ where
     closure(last, item)
 }
 
-/// Makes a result of the last one and each item of the rest.
+/// Returns the last result: the closure makes each of the one before and an item, beginning with `initial`.
 pub(crate) fn fold_rest<C, U, F>(chain: &mut C, initial: U, closure: &F) -> Result<U, ChainFault>
 where
     C: Cold,
@@ -78,7 +78,7 @@ where
     }
 }
 
-/// Returns the first item whose test answers `wanted`.
+/// Returns the next item for which the test answers `wanted`.
 pub(crate) fn find<C, F>(
     chain: &mut C,
     test: &F,

@@ -11,7 +11,7 @@ use flow_law::ChainFault;
 use futures::Stream;
 use futures::task::{Context, Poll};
 
-/// Emits a chain's items as a stream. A fault is the last item.
+/// A stream of a chain's items. A fault is the last item.
 #[derive(Drop)]
 pub struct Streamed<C> {
     chain: C,

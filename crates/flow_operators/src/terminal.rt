@@ -18,8 +18,8 @@ use std::alloc::Allocator;
 
 /// Terminal operators on any chain.
 pub trait Terminal: Cold {
-    /// Returns the last result, each made of the one before and an item, or `initial` if there is no item. Stops at the
-    /// closure's first fault, and returns it.
+    /// Returns the last result, or `initial` if there is no item: the closure makes each result of the one before and
+    /// an item. Stops at the closure's first fault, and returns it.
     final fn fold<U, F>(&mut self, initial: U, closure: F) -> Result<U, ChainFault>
     where
         U: Drop,
@@ -34,7 +34,7 @@ pub trait Terminal: Cold {
             → ComputesPairs (F.post closure) f →
             FollowsRun (folded f initial) (Self.whole self.old m) result }
         ensures over { IfOk result (λ _. Self.IsOver self.new) }
-        // After a fault of the closure the chain is just after the item at which it was answered.
+        // After a fault of the closure the chain is just after the item of that call.
         ensures stands { IfErr result (λ _. Self.IsOver self.new
             ⊎ ((m : Self.Reading) → Self.Reads self.old m →
             StandsAfterItem (Self.whole self.old m) (Self.rest self.new m))) }
@@ -46,8 +46,8 @@ pub trait Terminal: Cold {
         fold_rest(self, initial, &closure)
     }
 
-    /// Returns the last result: the first is the first item, and each other is made of the one before and a further
-    /// item. Returns `None` if there is no item. Stops at the closure's first fault, and returns it.
+    /// Returns the last result, or `None` if there is no item: the first result is the first item, and the closure
+    /// makes each further one of the one before and an item. Stops at the closure's first fault, and returns it.
     final fn reduce<F>(&mut self, closure: F) -> Result<Option<Self::Item>, ChainFault>
     where
         F: Fn(Self::Item, Self::Item) -> Result<Self::Item, ChainFault>,
@@ -61,7 +61,7 @@ pub trait Terminal: Cold {
             → ComputesPairs (F.post closure) f →
             FollowsRun (reduced_to f) (Self.whole self.old m) result }
         ensures over { IfOk result (λ _. Self.IsOver self.new) }
-        // After a fault of the closure the chain is just after the item at which it was answered.
+        // After a fault of the closure the chain is just after the item of that call.
         ensures stands { IfErr result (λ _. Self.IsOver self.new
             ⊎ ((m : Self.Reading) → Self.Reads self.old m →
             StandsAfterItem (Self.whole self.old m) (Self.rest self.new m))) }
@@ -79,7 +79,7 @@ pub trait Terminal: Cold {
         }
     }
 
-    /// Returns the first item, or `None` if the chain completes without one. It asks nothing after that item.
+    /// Returns the first item, or `None` if the chain completes without one. Stops asking after that item.
     final fn first(&mut self) -> Result<Option<Self::Item>, ChainFault>
         requires { Self.CanAsk self.old }
         ensures callable { Self.CanAsk self.new }
@@ -98,7 +98,7 @@ pub trait Terminal: Cold {
         next_item(self)
     }
 
-    /// Returns the first item that passes the test, or `None` if the chain completes without one. It asks nothing after
+    /// Returns the first item that passes the test, or `None` if the chain completes without one. Stops asking after
     /// that item.
     final fn first_where<F>(&mut self, test: F) -> Result<Option<Self::Item>, ChainFault>
     where
@@ -122,7 +122,7 @@ pub trait Terminal: Cold {
         find(self, &test, true)
     }
 
-    /// Returns whether an item passes the test. It asks nothing after the first one that does.
+    /// Returns whether an item passes the test. Stops asking after the first one that does.
     final fn any<F: Fn(&Self::Item) -> bool>(&mut self, test: F) -> Result<bool, ChainFault>
         requires chain { Self.CanAsk self.old }
         requires callable { F.IsAlwaysCallable test }
@@ -147,7 +147,7 @@ pub trait Terminal: Cold {
         }
     }
 
-    /// Returns whether all items pass the test. It asks nothing after the first one that fails.
+    /// Returns whether all items pass the test. Stops asking after the first one that fails.
     final fn all<F: Fn(&Self::Item) -> bool>(&mut self, test: F) -> Result<bool, ChainFault>
         requires chain { Self.CanAsk self.old }
         requires callable { F.IsAlwaysCallable test }
@@ -194,7 +194,7 @@ pub trait Terminal: Cold {
         }
     }
 
-    /// Returns the item of a chain that has exactly one, else `None`. It asks nothing after a second item.
+    /// Returns the item of a chain that has exactly one, else `None`. Stops asking after a second item.
     final fn single(&mut self) -> Result<Option<Self::Item>, ChainFault>
         requires { Self.CanAsk self.old }
         ensures callable { Self.CanAsk self.new }
@@ -228,11 +228,11 @@ pub trait Terminal: Cold {
         ensures counts { (m : Self.Reading) → Self.Reads self.old m
             → FollowsRun counted (Self.whole self.old m) result }
         ensures over { IfOk result (λ _. Self.IsOver self.new) }
-        // After a count that is too large the chain is just after the item that made it so.
+        // If the count overflows, the chain is just after the item that made it overflow.
         ensures stands { IfErr result (λ _. Self.IsOver self.new
             ⊎ ((m : Self.Reading) → Self.Reads self.old m →
             StandsAfterItem (Self.whole self.old m) (Self.rest self.new m))) }
-        // A fault is the chain's own last answer, unless the count is too large. So is `OutOfMemory`.
+        // A fault is the chain's own last answer, unless the count overflows. So is `OutOfMemory`.
         ensures answered { IfErr result (λ fault.
             (fault ≡ ChainFault.Overflow) ⊎ Self.HasAnswered self.new (End.Failed fault)) }
     {
@@ -262,7 +262,7 @@ pub trait Terminal: Cold {
             Self.Reads self.old m → Visits (λ f x r g. F.step f x r g) visit
             (items (Self.whole self.old m)) (ending (Self.whole self.old m)) result }
         ensures over { IfOk result (λ _. Self.IsOver self.new) }
-        // After a fault of the closure the chain is just after the item at which it was answered.
+        // After a fault of the closure the chain is just after the item of that call.
         ensures stands { IfErr result (λ _. Self.IsOver self.new
             ⊎ ((m : Self.Reading) → Self.Reads self.old m →
             StandsAfterItem (Self.whole self.old m) (Self.rest self.new m))) }

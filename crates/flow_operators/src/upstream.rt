@@ -79,7 +79,7 @@ impl<C: Cold> Upstream<C> {
         Asked::Fault(fault)
     }
 
-    /// Answers what the operator made of an item. A fault ends it.
+    /// Returns what the operator made of an item, as an answer. A fault ends the operator.
     pub(crate) fn answer<U>(&mut self, made: Result<U, ChainFault>) -> Asked<U>
         requires { is_ended self.old ≡ false }
         ensures answer { result ≡ answer_of made }

@@ -1,4 +1,4 @@
-//! What a node of a chain answers: two words, so that it is returned in two registers.
+//! The answer of a chain's node, in two words, so that it is returned in two registers.
 ghost use Rattle.std.specs.Prelude.{◌≡◌};
 ghost use Rattle.flow_cold.specs.Answers.{asked_of, is_final};
 

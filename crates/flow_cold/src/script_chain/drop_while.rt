@@ -10,7 +10,7 @@ ghost use Rattle.flow_cold.specs.Operators.{StepGives, after_step};
 use crate::script_chain::op::Test;
 use crate::script_chain::operator::Step;
 
-/// While `dropping`, no item was emitted yet.
+/// The state of a `dropWhile`. While `dropping`, no item was emitted yet.
 #[derive(Drop)]
 pub struct DroppingWhile {
     pub test: Test,
@@ -18,7 +18,7 @@ pub struct DroppingWhile {
 }
 
 impl DroppingWhile {
-    /// Makes nothing of the items while they pass, then the item.
+    /// Drops the item if all items so far pass the test, else returns it.
     pub fn on_item(&mut self, item: i64) -> Step
         ensures test { self.new.test ≡ self.old.test }
         ensures gives { (r : ChainRun ℤ)

@@ -1,4 +1,4 @@
-//! The inner numbers of a `flat_map` that have still to be emitted.
+//! The inner numbers that a `flat_map` has not emitted yet.
 ghost use Rattle.std.specs.Prelude.{◌≡◌, ℤ};
 ghost use Rattle.flow_law.specs.ChainRun.{ChainRun, gives};
 ghost use Rattle.flow_law.specs.OperatorRuns.{flat_map_run};
@@ -12,7 +12,7 @@ use crate::script_chain::numbers::last_of;
 use crate::script_chain::operator::Step;
 use flow_law::ChainFault;
 
-/// Unless it is closed, the numbers from `next` to `last` have still to be emitted.
+/// The state of a `flat_map` to ranges. Unless it is closed, the numbers from `next` to `last` are not emitted yet.
 #[derive(Drop)]
 pub struct Following {
     pub count: u64,
@@ -22,7 +22,7 @@ pub struct Following {
 }
 
 impl Following {
-    /// Begins before the first item.
+    /// Makes the state before the first item.
     pub fn new(count: u64) -> Following
         ensures { result.count ≡ count }
     {
@@ -59,7 +59,7 @@ impl Following {
         Some(Ok(item))
     }
 
-    /// Begins with the numbers that follow an item, unless the last of them is out of range.
+    /// Holds the `count` numbers from an item on, or returns the fault if the last of them is out of range.
     pub fn on_item(&mut self, item: i64) -> Step
         ensures count { self.new.count ≡ self.old.count }
         ensures gives { (r : ChainRun ℤ)
@@ -88,7 +88,7 @@ impl Following {
     }
 }
 
-/// `item` has still to be emitted `left` times.
+/// The state of a `flat_map` to repeated items. It emits `item` `left` more times.
 #[derive(Drop)]
 pub struct Repeating {
     pub count: u64,
@@ -97,7 +97,7 @@ pub struct Repeating {
 }
 
 impl Repeating {
-    /// Returns the item once more, if it has to be emitted once more.
+    /// Returns the item once more, or `None` if `left` is 0.
     pub fn next_held(&mut self) -> Option<Result<i64, ChainFault>>
         ensures count { self.new.count ≡ self.old.count }
         ensures gives { (r : ChainRun ℤ) → HeldGives (repeating_rest self.old r) result
@@ -113,7 +113,7 @@ impl Repeating {
         Some(Ok(self.item))
     }
 
-    /// Begins to repeat an item.
+    /// Holds an item, to be emitted `count` times.
     pub fn on_item(&mut self, item: i64) -> Step
         ensures count { self.new.count ≡ self.old.count }
         ensures gives { (r : ChainRun ℤ)

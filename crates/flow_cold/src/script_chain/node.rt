@@ -37,7 +37,7 @@ pub struct Stage {
 }
 
 /// A source, an operator on an upstream, or a zip of two.
-// Three variants: the compiler compares where it would else jump by a table, and begins with the last one.
+// With three variants the compiler compares, beginning with the last one, instead of jumping by a table.
 #[derive(Drop)]
 pub enum Node {
     Source(Source),
@@ -46,7 +46,7 @@ pub enum Node {
 }
 
 /// Returns the chain's next answer.
-// Not inlined: each node costs one call, which saves one register, as all that is asked is found from the node.
+// Not inlined: each node costs one call, which saves one register, since an ask finds all that it needs from the node.
 #[cycle(asking)]
 #[inline(never)]
 pub fn ask_node(node: &mut Node) -> Answer
@@ -66,7 +66,7 @@ pub fn ask_node(node: &mut Node) -> Answer
     }
 }
 
-/// Returns the next answer of an operator: asks its upstream until there is one, unless it has one without it.
+/// Returns the next answer of an operator. Asks its upstream until the operator has an answer.
 #[cycle(asking)]
 #[inline(always)]
 fn ask_stage(upstream: &mut Box<Node>, stage: &mut Stage) -> Answer
@@ -95,7 +95,7 @@ fn ask_stage(upstream: &mut Box<Node>, stage: &mut Stage) -> Answer
 }
 
 /// Returns the next answer of a zip: asks its left side, and then its right one.
-// Not inlined: each ask of any node would save more registers, for zips alone.
+// Not inlined: otherwise each ask of any node would save more registers, which only zips need.
 #[cycle(asking)]
 #[inline(never)]
 fn ask_pair(left: &mut Node, right: &mut Node, pairing: &mut Pairing) -> Answer

@@ -69,7 +69,7 @@ pub(crate) fn all_sums_fit(entries: &[i64], x: i64) -> bool
     entries.iter().all(|d| add(x, *d).is_ok())
 }
 
-/// Returns the last of `count` numbers from `x` on; `count` is not 0.
+/// Returns `x + before`, the last of `before + 1` numbers from `x` on.
 pub(crate) fn last_of(x: i64, before: u64) -> Result<i64, ChainFault>
     ensures { result ≡ numbers.ranged (x +ℤ pos before) }
 {

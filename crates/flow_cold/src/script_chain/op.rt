@@ -44,7 +44,7 @@ pub enum Spread {
     Repeat,
 }
 
-/// An operator on whole numbers. A result that is no `i64` is the fault `Overflow`, and no item comes of it.
+/// An operator on whole numbers. A result that is no `i64` is the fault `Overflow`; no item is emitted for it.
 #[derive(Drop)]
 pub enum Op {
     /// item + k, or item * k

@@ -36,7 +36,7 @@ pub enum Step {
     /// An item, after which the operator is over.
     Last(i64),
     Nothing,
-    /// Nothing yet: there are numbers to emit before the upstream is asked again.
+    /// No item yet: the operator emits the numbers that it holds before it asks the upstream again.
     Held,
     End,
     Fault(ChainFault),

@@ -11,7 +11,7 @@ ghost use Rattle.flow_cold.specs.Pairing.{pairing_rest};
 use crate::script_chain::answer::Answer;
 use crate::script_chain::op::Joining;
 
-/// `kept` is a left item that waits for its right one.
+/// The state of a zip. `kept` is a left item that waits for its right one.
 #[derive(Drop)]
 pub struct Pairing {
     pub by: Joining,
@@ -20,7 +20,7 @@ pub struct Pairing {
 }
 
 impl Pairing {
-    /// Begins without a left item.
+    /// Makes the state without a left item.
     pub fn new(by: Joining) -> Pairing
         ensures { result ≡ record { by = by; kept = None; ended = false } }
     {

@@ -9,7 +9,7 @@ ghost use Rattle.flow_cold.specs.Operators.{StepGives, after_step};
 use crate::script_chain::op::Arithmetic;
 use crate::script_chain::operator::Step;
 
-/// `last` is the accumulator, once an item was emitted.
+/// The state of a `runningReduce`. `last` is the accumulator, or `None` before the first item.
 #[derive(Drop)]
 pub struct Reducing {
     pub by: Arithmetic,

@@ -1,4 +1,4 @@
-//! The number of a source's fault, in a word of its own.
+//! The number of a source's fault, in one word.
 ghost use Rattle.std.specs.Prelude.{◌≡◌, ◌<◌};
 
 /// The number with which a source failed. It fills a word, so that an answer is two words.

@@ -12,7 +12,7 @@ use crate::script_chain::node::{Phase, Stage};
 use crate::script_chain::operator::{Operator, Step};
 
 impl Stage {
-    /// Begins with an operator. A scan emits its initial value first.
+    /// Makes the stage of an operator. A scan emits its initial value first.
     pub fn new(operator: Operator) -> Stage
         ensures { result ≡ record { operator = operator; phase = first_phase operator } }
     {

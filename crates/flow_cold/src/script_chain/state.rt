@@ -20,7 +20,7 @@ pub struct Mapping {
     pub k: i64,
 }
 
-/// `more` is the number of items after the first, `left` the number after the next one.
+/// The state of a `take`. `more` is the number of items after the first, `left` the number after the next one.
 #[derive(Drop)]
 pub struct Taking {
     pub more: u64,
@@ -28,7 +28,7 @@ pub struct Taking {
 }
 
 impl Taking {
-    /// Begins before the first item. The count is not 0.
+    /// Makes the state before the first item. The count is not 0.
     pub fn new(count: u64) -> Taking
         requires { count ≢ 0 }
         ensures more { suc result.more ≡ count }
@@ -55,7 +55,7 @@ impl Taking {
     }
 }
 
-/// `left` is the number of items that have still to be dropped.
+/// The state of a `drop`. It drops `left` more items.
 #[derive(Drop)]
 pub struct Dropping {
     pub count: u64,
@@ -63,7 +63,7 @@ pub struct Dropping {
 }
 
 impl Dropping {
-    /// Makes nothing of the items that have to be dropped, then returns the item.
+    /// Drops the item if `left` is not 0, else returns it.
     pub fn on_item(&mut self, item: i64) -> Step
         ensures count { self.new.count ≡ self.old.count }
         ensures gives { (r : ChainRun ℤ) → StepGives (drop_run (gives item r) self.old.left) result
@@ -81,7 +81,7 @@ impl Dropping {
     }
 }
 
-/// The sums of `item` and the entries from `at` on have still to be emitted.
+/// The state of a `transform`. The sums of `item` and the entries from `at` on are not emitted yet.
 #[derive(Drop)]
 pub struct Adding {
     pub entries: Vec<i64>,
@@ -90,7 +90,7 @@ pub struct Adding {
 }
 
 impl Adding {
-    /// Begins before the first item.
+    /// Makes the state before the first item.
     pub fn new(entries: Vec<i64>) -> Adding
         ensures { result.entries ≡ entries }
     {
@@ -122,7 +122,7 @@ impl Adding {
         }
     }
 
-    /// Begins with the sums of an item, unless one of them is out of range.
+    /// Holds the sums of an item and the entries, or returns the fault if one of them is out of range.
     pub fn on_item(&mut self, item: i64) -> Step
         ensures entries { self.new.entries ≡ self.old.entries }
         ensures gives { (r : ChainRun ℤ)
@@ -143,7 +143,7 @@ impl Adding {
     }
 }
 
-/// `begun`: the initial value was emitted. `last` is the accumulator.
+/// The state of a `scan`. `begun` says that the initial value was emitted; `last` is the accumulator.
 #[derive(Drop)]
 pub struct Scanning {
     pub initial: i64,
@@ -191,7 +191,7 @@ impl Scanning {
     }
 }
 
-/// The item before, if there was one.
+/// The state of a `distinctUntilChanged`: the item before, if there was one.
 #[derive(Drop)]
 pub struct Comparing {
     pub last: Option<i64>,

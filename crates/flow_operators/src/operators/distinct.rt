@@ -10,7 +10,7 @@ use crate::operators::last::keep;
 use crate::upstream::Upstream;
 use flow_law::FlowValue;
 
-/// Drops each item that is the same as the one before.
+/// A chain without the items that are the same as the item before.
 #[derive(Drop)]
 pub struct Distinct<C: Cold> {
     upstream: Upstream<C>,

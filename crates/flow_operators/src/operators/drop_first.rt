@@ -8,7 +8,7 @@ ghost use Rattle.flow_operators.specs.Upstreams.{chain_of, is_ended, left_of};
 use crate::cold::{Asked, Cold};
 use crate::upstream::Upstream;
 
-/// Emits the items of a chain after the first `count`.
+/// A chain without its first `count` items.
 #[derive(Drop)]
 pub struct DropFirst<C> {
     upstream: Upstream<C>,

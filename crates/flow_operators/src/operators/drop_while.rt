@@ -12,8 +12,7 @@ use crate::cold::{Asked, Cold};
 use crate::operators::passing::next_where;
 use crate::upstream::Upstream;
 
-/// Drops the first items of a chain while they pass a test, and emits all others. Items after the first one that fails
-/// are not tested.
+/// A chain without its first items that pass a test. Items after the first one that fails are not tested.
 #[derive(Drop)]
 pub struct DropWhile<C, F> {
     upstream: Upstream<C>,

@@ -11,7 +11,7 @@ use crate::cold::{Asked, Cold};
 use crate::operators::passing::next_where;
 use crate::upstream::Upstream;
 
-/// Emits the items that pass a test.
+/// A chain of the items that pass a test.
 #[derive(Drop)]
 pub struct Filter<C, F> {
     upstream: Upstream<C>,

@@ -15,7 +15,7 @@ use crate::cold::{Asked, Cold};
 use crate::upstream::Upstream;
 use flow_law::ChainFault;
 
-/// Emits the items of the inner chain that a closure makes of each item, one chain after the other.
+/// A chain of the items of the inner chains that a closure makes of each item, one chain after the other.
 ///
 /// An inner chain is started from its beginning before it is asked. Its fault ends the whole chain.
 #[derive(Drop)]
@@ -95,7 +95,7 @@ where
         Prim.grind (arith, common_steps, C.limited l.0 (chain_of s.upstream), D.limited l.1) };
 }
 
-/// Asks the open inner chain, and closes it at its end. If none is open, answers the end.
+/// Asks the open inner chain, and drops it at its end or fault. If none is open, answers the end.
 fn ask_inner<D: Cold>(inner: &mut Option<D>) -> Asked<D::Item>
     requires { IfSome inner.old D.CanAsk }
     ensures callable { IfSome inner.new D.CanAsk }
@@ -124,7 +124,8 @@ fn ask_inner<D: Cold>(inner: &mut Option<D>) -> Asked<D::Item>
     }
 }
 
-/// Returns the chain of an item, which each function that the closure computes gives, at its start.
+/// Returns the inner chain that the closure makes of an item, started from its beginning. Its run is that of each
+/// function that the closure computes.
 fn open<A, D, F>(closure: &F, item: A) -> Result<D, ChainFault>
 where
     D: Cold,

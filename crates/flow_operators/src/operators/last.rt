@@ -1,10 +1,10 @@
-//! The last item that an operator emitted, of which it keeps a copy.
+//! A copy of the last item that an operator emitted.
 ghost use Rattle.std.specs.Prelude.{◌≡◌, IfOk, IfErr};
 ghost use Rattle.flow_operators.specs.Closures.{Follows};
 
 use flow_law::{ChainFault, FlowValue};
 
-/// Keeps a copy of `item` as the last one. If the copy is refused, the last one stays.
+/// Keeps a copy of `item` as the last one, and returns `item`. If the copy is refused, the last one stays.
 pub(crate) fn keep<T: FlowValue>(last: &mut Option<T>, item: T) -> Result<T, ChainFault>
     ensures kept { IfOk result (λ given. (given ≡ item) × (last.new ≡ Some item)) }
     ensures memory { IfErr result (λ fault. fault ≡ ChainFault.OutOfMemory) }
@@ -18,7 +18,7 @@ pub(crate) fn keep<T: FlowValue>(last: &mut Option<T>, item: T) -> Result<T, Cha
     }
 }
 
-/// Does the same with what was made of an item, which may be a fault.
+/// Keeps a copy of what was made of an item as the last one, and returns what was made. Passes a fault on.
 pub(crate) fn keep_made<T: FlowValue>(
     last: &mut Option<T>,
     made: Result<T, ChainFault>,

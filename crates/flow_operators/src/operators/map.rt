@@ -10,7 +10,7 @@ use crate::cold::{Asked, Cold};
 use crate::upstream::Upstream;
 use flow_law::{ChainFault, FlowValue};
 
-/// Emits what a closure makes of each item.
+/// A chain of what a closure makes of each item.
 #[derive(Drop)]
 pub struct Map<C, F> {
     upstream: Upstream<C>,
@@ -69,7 +69,7 @@ where
     U: FlowValue,
     F: Fn(C::Item) -> Result<U, ChainFault>,
 {
-    /// Maps the items of this chain. A fault of the closure ends the chain, and no item comes of that call.
+    /// Maps the items of this chain. A fault of the closure ends the chain, and that call emits no item.
     pub fn new(upstream: C, closure: F) -> Self
         requires upstream { C.CanAsk upstream }
         requires callable { F.IsAlwaysCallable closure }

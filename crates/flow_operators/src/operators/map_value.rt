@@ -9,7 +9,7 @@ use crate::cold::{Asked, Cold};
 use crate::upstream::Upstream;
 use flow_law::FlowValue;
 
-/// Emits what a closure that cannot fail makes of each item.
+/// A chain of what a closure that cannot fail makes of each item.
 #[derive(Drop)]
 pub struct MapValue<C, F> {
     upstream: Upstream<C>,

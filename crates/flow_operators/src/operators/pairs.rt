@@ -8,7 +8,7 @@ ghost use Rattle.flow_operators.specs.Upstreams.{WithAnswer};
 use crate::cold::{Asked, Cold};
 use crate::upstream::Upstream;
 
-/// Two chains, and a left item whose right one has pended. The pairs have ended if the left side has.
+/// Two chains, and a kept left item for which the right side has pended. The pairs have ended if the left side has.
 #[derive(Drop)]
 pub(crate) struct Pairs<L, R, A> {
     pub(crate) left: Upstream<L>,

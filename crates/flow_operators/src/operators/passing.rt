@@ -10,7 +10,7 @@ ghost use Rattle.flow_operators.specs.Upstreams.{NextGives, chain_of, is_ended, 
 use crate::cold::{Asked, Cold};
 use crate::upstream::Upstream;
 
-/// Returns whether the item passes the test, as each function that the test computes says.
+/// Returns the test's answer for an item, which is that of each function that the test computes.
 pub(crate) fn passes<T, F: Fn(&T) -> bool>(test: &F, item: &T) -> bool
     requires { F.IsAlwaysCallable test.now }
     ensures { (p : T → Bool) →
@@ -19,7 +19,7 @@ pub(crate) fn passes<T, F: Fn(&T) -> bool>(test: &F, item: &T) -> bool
     test(item)
 }
 
-/// Returns the upstream's next item whose test answers `wanted`, or the answer in place of one.
+/// Returns the upstream's next item for which the test answers `wanted`, or the answer in place of one.
 pub(crate) fn next_where<C: Cold, U, F: Fn(&C::Item) -> bool>(
     upstream: &mut Upstream<C>,
     test: &F,

@@ -9,7 +9,7 @@ use crate::cold::{Asked, Cold};
 use crate::upstream::Upstream;
 use flow_law::{ChainFault, FlowValue};
 
-/// A chain, the value before its first item, and the last result, which is `None` before that value was emitted.
+/// A chain, the initial value, and the last result, which is `None` until the initial value is emitted.
 #[derive(Drop)]
 pub(crate) struct Results<C, U> {
     upstream: Upstream<C>,

@@ -11,8 +11,8 @@ use crate::operators::last::keep_made;
 use crate::upstream::Upstream;
 use flow_law::ChainFault;
 
-/// Emits the first item of a chain, then what a closure makes of the last result and each further item. It emits
-/// nothing if there is no item.
+/// A chain of the first item, then of what a closure makes of the last result and each further item. It emits nothing
+/// if there is no item.
 #[derive(Drop)]
 pub struct RunningReduce<C: Cold, F> {
     upstream: Upstream<C>,

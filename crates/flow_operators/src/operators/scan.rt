@@ -13,7 +13,7 @@ use crate::cold::{Asked, Cold};
 use crate::operators::results::Results;
 use flow_law::{ChainFault, FlowValue};
 
-/// Emits an initial value, then what a closure makes of the last result and each item.
+/// A chain of an initial value, then of what a closure makes of the last result and each item.
 #[derive(Drop)]
 pub struct Scan<C, U, F> {
     results: Results<C, U>,

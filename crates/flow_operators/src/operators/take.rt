@@ -10,7 +10,7 @@ use crate::cold::{Asked, Cold};
 use crate::upstream::Upstream;
 use flow_law::ChainFault;
 
-/// Emits the first `count` items of a chain. After the last of them the upstream is not asked again.
+/// A chain of the first `count` items. After the last of them the upstream is not asked again.
 #[derive(Drop)]
 pub struct Take<C> {
     upstream: Upstream<C>,

@@ -10,7 +10,7 @@ use crate::cold::{Asked, Cold};
 use crate::operators::passing::passes;
 use crate::upstream::Upstream;
 
-/// Emits the items of a chain while they pass a test. The first one that fails is dropped, and ends the chain.
+/// A chain of the items before the first one that fails a test. That item is dropped, and ends the chain.
 #[derive(Drop)]
 pub struct TakeWhile<C, F> {
     upstream: Upstream<C>,

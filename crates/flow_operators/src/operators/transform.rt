@@ -13,7 +13,7 @@ use crate::cold::{Asked, Cold};
 use crate::upstream::Upstream;
 use flow_law::{ChainFault, FlowValue};
 
-/// Emits the items of the list that a closure makes of each item.
+/// A chain of the items of the lists that a closure makes of each item.
 #[derive(Drop)]
 pub struct Transform<C, U: FlowValue, F> {
     upstream: Upstream<C>,
@@ -107,7 +107,7 @@ fn keep_images<U: FlowValue>(kept: &mut Option<Vec<U>>, mut images: Vec<U>)
     *kept = Some(images);
 }
 
-/// Returns the list of an item's images, which each function that the closure computes gives.
+/// Returns the list that the closure makes of an item, which is that of each function that the closure computes.
 fn images_of<A, U, F>(closure: &F, item: A) -> Result<Vec<U>, ChainFault>
 where
     U: FlowValue,
@@ -128,7 +128,7 @@ where
 {
     ghost use Rattle.flow_law.specs.declared.chain.ChainFault.{ChainFault};
 
-    /// Transforms the items of this chain. A fault of the closure ends the chain, and no item comes of that call.
+    /// Transforms the items of this chain. A fault of the closure ends the chain, and that call emits no item.
     pub fn new(upstream: C, closure: F) -> Self
         requires upstream { C.CanAsk upstream }
         requires callable { F.IsAlwaysCallable closure }

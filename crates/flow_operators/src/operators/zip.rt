@@ -12,7 +12,8 @@ use crate::operators::pairs::Pairs;
 use crate::upstream::Upstream;
 use flow_law::{ChainFault, FlowValue};
 
-/// Emits what a closure makes of each pair. It ends as its shorter side does, or as the left one if both are as long.
+/// A chain of what a closure makes of each pair. It ends as its shorter side does, or as the left one if both are as
+/// long.
 ///
 /// For each pair the left side is asked first. If it pends, the right side is not asked. If the right side pends, the
 /// left item is kept.

@@ -7,13 +7,13 @@ use crate::cold::{Asked, Cold};
 use flow_law::{ChainFault, FlowValue};
 use std::alloc::{Allocator, Global};
 
-/// Emits the items of a list.
+/// A chain of the items of a list.
 pub struct OfList<T, A: Allocator = Global> {
     items: Vec<T, A>,
     at: usize,
 }
 
-// Not derived: each crate that drops such a chain would prove again how that is done.
+// Not derived: otherwise each crate that drops a list's chain would prove again how it is dropped.
 impl<T: Drop, A: Allocator> Drop for OfList<T, A> {
     fn drop(self) {
         let Self { items: _, at: _ } = self;

@@ -5,13 +5,13 @@ ghost use Rattle.std.proofs.Common.{arith};
 
 use crate::cold::{Asked, Cold};
 
-/// Emits the numbers from `first` to `last`, both included; none if `first` is above `last`.
+/// A chain of the numbers from `first` to `last`, both included; it is empty if `first` is above `last`.
 #[derive(Drop)]
 pub struct OfRange {
     first: i64,
     last: i64,
     next: i64,
-    // Only looked at where `next` is `last`, so that an ask of another number compares and adds, and no more.
+    // Read only if `next` is not below `last`, so that an ask for an earlier number only compares and adds.
     gave_last: bool,
 }
 
@@ -45,7 +45,7 @@ impl Cold for OfRange {
 
     ghost rest = { λ s _. range_rest s };
 
-    // There are so many numbers of 64 bits; the code knows that its own are among them.
+    // A range of 64-bit numbers has at most 2 ^ 64 of them. With `min`, `limited` needs no bounds of the fields.
     ghost most_asks = { λ s. min (range_left s) (2 ^ 64) };
 
     ghost IsLimited = { ⊤ };

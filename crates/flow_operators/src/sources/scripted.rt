@@ -10,13 +10,13 @@ use std::alloc::{Allocator, Global};
 #[derive(Debug, Drop)]
 pub enum Entry<T> {
     Item(T),
-    /// One ask is answered by `Pending`.
+    /// One ask answers `Pending`.
     Pending,
     /// The source fails with this number.
     Fault(u32),
 }
 
-/// Emits items, pends and fails as its entries say. It ends at the first fault, or after the last entry.
+/// A chain that emits items, pends and fails as its entries say. It ends at the first fault, or after the last entry.
 #[derive(Drop)]
 pub struct Scripted<T, A: Allocator = Global> {
     entries: Vec<Entry<T>, A>,

@@ -6,7 +6,7 @@ use Rattle.flow_cold.specs.Operators.{IsStageOver, operator_whole, stage_rest}
 use Rattle.flow_cold.specs.ScriptChain.{node_whole, node_rest, node_depth}
 use Rattle.flow_cold.proofs.script_chain.node.+asking.Given as goal
 
--- a stage is asked between its node and its upstream, a pair between a zip and its sides, and its right side after it
+-- the measures fall from call to call: a node, its stage or pair, a pair's right side, then the node below
 abbrev pub decreases-ask_node : goal.decreases-ask_node
 decreases-ask_node l = 3 * size-Node l.node.now
 

@@ -1,8 +1,8 @@
--- Each arm hands on what its state says of the item, which is kept as 64 bits and reads back as itself.
+-- Each arm passes on the clause of its state. The item is kept as 64 bits, and reads back as itself.
 use Rattle.std.proofs.Common.{to_z-of_z}
 use Rattle.flow_cold.proofs.script_chain.operator.Operator.on_item.Goals as goal
 
--- what is given
+-- the clause `gives`
 pub returns-in-Transform-clause-gives : goal.returns-in-Transform-clause-gives
 returns-in-Transform-clause-gives c = λ r. rw c.in-Transform.is (simp (to_z-of_z, c.ranges.item) at (c.on_item.ensures.gives r))
 
@@ -30,7 +30,7 @@ returns-in-FlatMapRepeat-clause-gives c = λ r. rw (c.in-FlatMapRepeat.is, c.on_
 pub returns-in-Distinct-clause-gives : goal.returns-in-Distinct-clause-gives
 returns-in-Distinct-clause-gives c = λ r. rw (c.in-Distinct.is, c.on_item-in-Distinct.ensures.held) (simp (to_z-of_z, c.ranges.item) at (c.on_item-in-Distinct.ensures.gives r))
 
--- what one ask takes from the upstream
+-- the clause `behind`
 pub returns-in-Transform-clause-behind : goal.returns-in-Transform-clause-behind
 returns-in-Transform-clause-behind c = λ r. rw c.in-Transform.is (simp (to_z-of_z, c.ranges.item) at (c.on_item.ensures.behind r))
 
