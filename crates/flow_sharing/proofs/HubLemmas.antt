@@ -1,4 +1,5 @@
--- What each call does to the two seats of a hub, of a shared flow and of state flows. Begin with `shared-by-seats`, `state-by-seats` and `word-by-seats`.
+-- What each call of a hub does to its two seats, for shared flows and state flows. Begin with `shared-by-seats`, `state-by-seats` and
+-- `word-by-seats`.
 use Rattle.std.proofs.Common.{◌≡◌, ◌≢◌, ◌⊎◌, inl, inr, ℕ, ◌+◌, Bool, true, false, Option, Some, None, Result, Ok, Err, subst, sym, refl, ap, ◌∙◌, List, arith}
 use Rattle.std.proofs.Math.Nat.{add-zero, add_assoc, add_comm}
 use Rattle.flow_law.specs.declared.fault.FlowFault.{FlowFault}
@@ -29,7 +30,7 @@ use Rattle.flow_sharing.proofs.SendingLemmas.{Silent, SendsOne, Sends}
 use Rattle.flow_sharing.proofs.TurnBySeatsLemmas.{BySeats, lost_for, lost_by, turn-by-seats}
 use Rattle.flow_law.proofs.TurnLemmas.{turn-along}
 
--- ---- one call of a token, which lost so many exchanges
+-- ---- one call of a token, which lost this many exchanges
 
 abbrev Moves : {Id E : Type 0} → Token Id E → ℕ → Token Id E → Type 0
 Moves before n after = (after.knows.lost ≡ before.knows.lost + n) × HasSeenMore before after
@@ -45,7 +46,7 @@ module _ {Id T S C R : Type 0} (kind : Kind T S C R) (first : S) where
   called : (before after : Token Id (Said C R)) (call : C) (reply : R) → CallsAtOnceIn kind first before call reply after → Moves before 0 after
   called before after call reply h = (h.1 ∙ sym (add-zero before.knows.lost), seen-called kind first before after call reply h)
 
--- ---- the hub, where one of its seats has made the call
+-- ---- the hub, after one of its seats has made the call
 
 module _ {Id S E I : Type 0} where
   abbrev Steps : SeatedHub Id S E I → ℕ → SeatedHub Id S E I → Type 0
@@ -99,7 +100,7 @@ module _ {T : Type 0} (first : SharedFlowState T) where
   put-moves x before after (Err Unsupported) emission does = called shared_flow first before after _ _ does.0
   put-moves x before after (Err Busy) emission does = busy before after does.0
 
-  -- where nothing waits the answer is false
+  -- if nothing waits, the answer is false
   idle-moves : (before after : SharedToken T) (a : Result Bool FlowFault) → a ≡ Ok false → after ≡ before → Moves before (lost_by a) after
   idle-moves before after a none is = subst (λ (b : Result Bool FlowFault). Moves before (lost_by b) after) (sym none) (stays before after is)
 

@@ -1,4 +1,4 @@
--- What a hub's seats have seen after a call, of what they had seen before. Begin with `follows-on`.
+-- What a hub's seats have seen after a call begins with what they had seen before. Begin with `follows-on`.
 use Rattle.std.proofs.Common.{[], ◌∷◌, ◌++◌, sym, refl, ap, ◌∙◌, append_assoc, append-nil}
 use Rattle.flow_law.specs.declared.history.Said.{Said}
 use Rattle.flow_law.specs.Growth.{event}

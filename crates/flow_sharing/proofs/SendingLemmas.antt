@@ -21,7 +21,7 @@ module _ {Id T S E I : Type 0} (Says : I → HubCall T → E → Type 0) where
   abbrev pub SendsOne : HubCall T → SeatedHub Id S E I → SeatedHub Id S E I → Type 0
   SendsOne c h k = (what : E) × Says h.initial c what × Grows h.sending.knows.name h.sending.knows.seen what k.sending.knows.seen
 
-  -- what is to be shown of each call
+  -- what each call of a hub has to satisfy
   abbrev pub Sends : (c : HubCall T) → HubAnswer c → SeatedHub Id S E I → SeatedHub Id S E I → Type 0
   Sends counts a h k = Silent h k
   Sends (puts x) a h k = Silent h k ⊎ SendsOne (puts x) h k

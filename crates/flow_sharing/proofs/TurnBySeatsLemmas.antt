@@ -25,7 +25,7 @@ use Rattle.flow_sharing.specs.OverThreads.{exchanges_lost, lost_in, Follows, InT
 use Rattle.flow_sharing.proofs.SeatLemmas.{follows-here, follows-on}
 use Rattle.flow_sharing.proofs.SendingLemmas.{Sends, sends-means}
 
--- how many exchanges a call of the hub loses that answers so
+-- how many exchanges a call of the hub lost, by the fault that it answered
 abbrev pub lost_for : FlowFault → ℕ
 lost_for LockTaken = 1
 lost_for fault = 0
@@ -34,7 +34,7 @@ abbrev pub lost_by : {X : Type 0} → Result X FlowFault → ℕ
 lost_by (Ok x) = 0
 lost_by (Err fault) = lost_for fault
 
--- What is to be shown of each call of a hub.
+-- What each call of a hub has to satisfy.
 pub record BySeats {Id T S C R I : Type 0} (kind : Kind T S C R) (Says : I → HubCall T → Said C R → Type 0) (step : (c : HubCall T) → SeatedHub Id S (Said C R) I → HubAnswer c → SeatedHub Id S (Said C R) I → Type 0) : Type 0 where
   pub loses : (c : HubCall T) (h k : SeatedHub Id S (Said C R) I) (a : HubAnswer c) → step c h a k → exchanges_lost k ≡ exchanges_lost h + lost_by a
   pub counted : (h k : SeatedHub Id S (Said C R) I) (a : Result ℕ FlowFault) → step counts h a k → CountsNowIn kind h.flow.first h.watching a k.watching
@@ -52,7 +52,7 @@ refused-loses command Unsupported = refl
 refused-loses command LockTaken = refl
 
 module _ {Id T S C R I : Type 0} (kind : Kind T S C R) (Says : I → HubCall T → Said C R → Type 0) (step : (c : HubCall T) → SeatedHub Id S (Said C R) I → HubAnswer c → SeatedHub Id S (Said C R) I → Type 0) (by : BySeats kind Says step) where
-  -- ---- what follows the count, which left the hub so
+  -- ---- the steps after the count, from the hub that the count left
 
   module _ (at : SeatedHub Id S (Said C R) I) (command : Command) (seen : List SharingObservation) where
     -- no exchange has been lost since, and the watching seat has made no call
@@ -166,7 +166,7 @@ module _ {Id T S C R I : Type 0} (kind : Kind T S C R) (Says : I → HubCall T �
     count-tells (Err fault) k told =
         (by.loses counts old.hub k (Err fault) told ∙ ap (λ n. exchanges_lost old.hub + n) (refused-loses Keep fault), inl refl)
 
-    -- the same turn, where each call is said to be of this turn
+    -- the same turn, with each of its calls as a call of this turn
     in-turn : (c : HubCall T) (h k : SeatedHub Id S (Said C R) I) (a : HubAnswer c) (f : SeatedHub Id S (Said C R) I) → (f ≡ h) × Follows old.hub h → step c h a k
         → (g : SeatedHub Id S (Said C R) I) × ((g ≡ k) × Follows old.hub k) × InTurn step old.hub c f a g
     in-turn c h k a f (is, so) told = (

@@ -1,4 +1,4 @@
--- What a turn over a flow for several threads is for that flow's history. Begin with `TurnBySeats`.
+-- A turn over a flow for several threads, in the history of that flow. Begin with `TurnBySeats`.
 use Rattle.std.specs.Prelude.{◌≡◌, ◌≢◌, ◌⊎◌, ℕ, ◌+◌, Bool, true, false, List, [], ◌∷◌, ◌++◌, Result, Ok, Err}
 use Rattle.std.specs.List.{AllByRecursion}
 use Rattle.atomic_table.specs.Seated.{TableId}
@@ -39,40 +39,40 @@ abbrev pub lost_at : Event → ℕ
 lost_at Busy = 1
 lost_at event = 0
 
--- how many a turn loses that answers so
+-- how many exchanges a turn lost, by its answer
 abbrev pub lost_in : Result Report ShareFault → ℕ
 lost_in (Ok report) = lost_at report.event
 lost_in (Err fault) = 0
 
 -- ---- within a turn
 
--- the same token, which has seen all that it had seen before, and maybe more
+-- the same token, later: it has seen all that it had seen before, and maybe more
 abbrev pub HasSeenMore : {Id E : Type 0} → Token Id E → Token Id E → Type 0
 HasSeenMore {Id} {E} before after =
     (after.table_id ≡ before.table_id) × (after.knows.name ≡ before.knows.name)
     × ((more : List (HistoryEvent E)) × (after.knows.seen ≡ before.knows.seen ++ more))
 
 module _ {Id S E I : Type 0} where
-  -- a turn that began with the first hub may come to the second
+  -- the same hub, later in a turn: its flow and the value that a reset sets are the same, and its seats have seen as much or more
   abbrev pub Follows : SeatedHub Id S E I → SeatedHub Id S E I → Type 0
   Follows before after =
       (after.flow ≡ before.flow) × (after.initial ≡ before.initial) × HasSeenMore before.watching after.watching × HasSeenMore before.sending after.sending
 
-  -- a call of the hub in a turn that began with this one
+  -- a call of the hub, in a turn that began with the hub `began`
   abbrev pub InTurn : {T : Type 0} → ((c : HubCall T) → SeatedHub Id S E I → HubAnswer c → SeatedHub Id S E I → Type 0) → SeatedHub Id S E I
       → (c : HubCall T) → SeatedHub Id S E I → HubAnswer c → SeatedHub Id S E I → Type 0
   InTurn does began call old answer new = does call old answer new × Follows began old
 
 -- ---- what the sending seat adds
 
--- A history goes on with one event of this name for each of these calls of the hub, in this order; events of others may stand before each.
--- `Says` is the event that a call is.
+-- The history gains one event of this name for each of these calls of the hub, in this order. Events of others may come before each.
+-- `Says` relates a call to its event.
 abbrev pub AddsFor : {T E : Type 0} → (HubCall T → E → Type 0) → List ℕ → List (HubCall T) → List (HistoryEvent E) → List (HistoryEvent E) → Type 0
 AddsFor Says name [] earlier later = later ≡ earlier
 AddsFor {E = E} Says name (call ∷ calls) earlier later =
     (what : E) × Says call what × ((between : List (HistoryEvent E)) × Grows name earlier what between × AddsFor Says name calls between later)
 
--- a turn makes a reset that was to be done, unless it leaves it due
+-- whether a turn makes a reset: it was due or asked for, and is not left due
 abbrev pub makes_reset : Bool → Bool → Bool
 makes_reset true false = true
 makes_reset asked still_due = false
@@ -82,8 +82,8 @@ abbrev pub resets_if : {T : Type 0} → Bool → List (HubCall T)
 resets_if true = resets ∷ []
 resets_if false = []
 
--- What the sending seat adds in a turn that makes a reset, or makes none: its emission is taken back first, if it takes one back; then there
--- is the one reset; and no event after it is a reset.
+-- What the sending seat adds in a turn, by whether the turn makes a reset: first a cancel of its emission, if it makes one; then the reset,
+-- if it is made; and no later event is a reset.
 pub record SendsInTurn {Id T E : Type 0} (Says : HubCall T → E → Type 0) (is_made : Bool) (before after : Token Id E) : Type 0 where
   pub first : List (HubCall T)
   pub later : List (HubCall T)
@@ -93,18 +93,18 @@ pub record SendsInTurn {Id T E : Type 0} (Says : HubCall T → E → Type 0) (is
 
 -- ---- the turn
 
--- `Says` is the event of the sending seat that a call of the hub is, by what a reset sets.
--- `step` says what a call of the hub does.
+-- `Says` relates a call of the hub to the event of the sending seat that it makes, by what a reset sets. `step` says what a call of the hub
+-- does.
 pub record TurnBySeats {Id T S C R I : Type 0} (kind : Kind T S C R) (Says : I → HubCall T → Said C R → Type 0) (step : (c : HubCall T) → SeatedHub Id S (Said C R) I → HubAnswer c → SeatedHub Id S (Said C R) I → Type 0)
     (started : Started) (now : ℕ) (seen : List SharingObservation) (s : SharingState T)
     (old : ChainAndHub T (SeatedHub Id S (Said C R) I)) (turned : Turned T) (new : ChainAndHub T (SeatedHub Id S (Said C R) I)) : Type 0 where
-  -- one exchange was lost where the turn reports Busy, and else none
+  -- If the turn reports Busy, one exchange was lost, else none.
   pub lost : exchanges_lost new.hub ≡ exchanges_lost old.hub + lost_in turned.answer
-  -- Where an observation was accepted, its count is the reply of a `subscription_count`, the one event that the watching seat has added.
+  -- If an observation was accepted, its count is the reply of a `subscription_count`, the one event that the watching seat has added.
   pub observed : (turned.seen ≡ seen) ⊎ ((count : ℕ) × (turned.seen ≡ record { moment = now; count = count } ∷ seen)
       × CallsAtOnceIn kind old.hub.flow.first old.hub.watching kind.count (kind.counted count) new.hub.watching)
-  -- The answer means what it says, by calls of this turn: an item that was accepted is the last event of the sending seat, and so is a poll
-  -- at Waiting.
+  -- The answer is true, by calls of this turn: an item that was accepted is the last event of the sending seat, and so is the poll of a
+  -- turn that reports Waiting.
   pub means : s.runs ≡ is_running started seen → BetweenTurns s old → (accepted : List T) → HasAccount accepted s old
       → TurnMeans (InTurn step old.hub) accepted s old turned.answer turned.state new
   -- A reset that was made is an event of the sending seat in this turn, after the cancel.

@@ -6,15 +6,15 @@ use Rattle.flow_law.specs.Growth.{makes, child}
 use Rattle.flow_law.specs.History.{Kind}
 use Rattle.flow_law.specs.Tokens.{Token, Origin, knowing, CountsNowIn}
 
--- The flow that is lent, and the hub's two seats at it. One counts the subscribers; the other emits, and while an emission of the
--- hub waits it goes with the emission.
+-- The borrowed flow, and the hub's two seats at it. One counts the subscribers. The other emits; while an emission of the hub waits, the
+-- emission holds it.
 pub record SeatedHub (Id S E I : Type 0) : Type 0 where
   pub flow : Origin Id S
   pub watching : Token Id E
   pub sending : Token Id E
-  -- the number of the hub's emission, where it waited when it was last asked
+  -- the number of the hub's emission, if it waited at the last put or poll
   pub emission : Option ℕ
-  -- what a reset sets: the initial value of a state flow. A shared flow has nothing there
+  -- what a reset sets: the initial value of a state flow, and nothing for a shared flow
   pub initial : I
 
 -- the token is of the flow
@@ -36,16 +36,16 @@ module _ {Id S E I : Type 0} where
     initial = initial;
   }
 
-  -- the hub has an emission that waited when it was last asked
+  -- the hub has an emission that waited at the last put or poll
   abbrev pub has_emission : SeatedHub Id S E I → Bool
   has_emission hub = is_some hub.emission
 
-  -- the flow and the watching seat are as they were
+  -- only the sending seat and the emission change
   abbrev pub OnlySends : SeatedHub Id S E I → SeatedHub Id S E I → Type 0
   OnlySends old new = new ≡ record old { sending = new.sending; emission = new.emission }
 
 module _ {Id T S C R I : Type 0} (kind : Kind T S C R) where
-  -- a count is a call through the watching seat, or Busy where that seat lost an exchange; nothing else changes
+  -- a count is a call through the watching seat; or it is Busy, and that seat lost an exchange; nothing else changes
   abbrev pub CountDoes : SeatedHub Id S (Said C R) I → Result ℕ FlowFault → SeatedHub Id S (Said C R) I → Type 0
   CountDoes old answer new =
       CountsNowIn kind old.flow.first old.watching answer new.watching × (new ≡ record old { watching = new.watching })

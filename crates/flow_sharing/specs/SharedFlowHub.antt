@@ -22,14 +22,14 @@ use Rattle.flow_sharing.specs.SeatedHub.{SeatedHub, OnlySends, CountDoes}
 abbrev pub SharedSeats : Type 0 → Type 0
 SharedSeats T = SeatedHub TableId (SharedFlowState T) (Said (SharedCall T) (SharedReply T)) (Unit {0})
 
--- ---- what the sending seat does: what its flow began with, the token before, what is answered, and the token and the emission after
+-- ---- the sending seat: by the state that its flow began with, the token before, the answer, and the token and the emission after
 
 module _ {T : Type 0} (first : SharedFlowState T) where
-  -- the token made this call and had this reply, at once
+  -- the token made this call with this reply, and lost no exchange
   abbrev Called : SharedToken T → SharedCall T → SharedReply T → SharedToken T → Type 0
   Called = CallsAtOnceIn shared_flow first
 
-  -- one `emit`, or Busy where the token lost an exchange
+  -- one `emit`; or Busy, and the token lost an exchange
   abbrev pub PutBy : T → SharedToken T → Result Bool FlowFault → SharedToken T → Option ℕ → Type 0
   PutBy x before (Ok false) after emission = Called before (call.Emit x) (reply.Emitted Done) after × (emission ≡ None)
   PutBy x before (Ok true) after emission =
@@ -37,31 +37,30 @@ module _ {T : Type 0} (first : SharedFlowState T) where
   PutBy x before (Err Busy) after emission = IsBusy before after × (emission ≡ None)
   PutBy x before (Err fault) after emission = Called before (call.Emit x) (reply.Refused fault) after × (emission ≡ None)
 
-  -- one `poll` of the emission, if there is one, or Busy where the token lost an exchange
+  -- one `poll` of the emission, if there is one; or Busy, and the token lost an exchange
   abbrev pub PollBy : Option ℕ → SharedToken T → Result Bool FlowFault → SharedToken T → Option ℕ → Type 0
   PollBy None before answer after emission = (answer ≡ Ok false) × (after ≡ before) × (emission ≡ None)
   PollBy (Some number) before (Ok waits) after emission =
       Called before (call.Poll number) (reply.Tested waits) after × (emission ≡ still waits number)
   PollBy (Some number) before (Err fault) after emission = (fault ≡ Busy) × IsBusy before after × (emission ≡ Some number)
 
-  -- one `cancel` of the emission, if there is one, or Busy where the token lost an exchange
+  -- one `cancel` of the emission, if there is one; or Busy, and the token lost an exchange
   abbrev pub CancelBy : Option ℕ → SharedToken T → Result Bool FlowFault → SharedToken T → Option ℕ → Type 0
   CancelBy None before answer after emission = (answer ≡ Ok false) × (after ≡ before) × (emission ≡ None)
   CancelBy (Some number) before (Ok waited) after emission =
       Called before (call.Cancel number) (reply.Tested waited) after × (emission ≡ None)
   CancelBy (Some number) before (Err fault) after emission = (fault ≡ Busy) × IsBusy before after × (emission ≡ Some number)
 
-  -- one `reset_replay_cache`, or Busy where the token lost an exchange; no emission waits
+  -- one `reset_replay_cache`; or Busy, and the token lost an exchange; no emission waits
   abbrev pub ResetBy : SharedToken T → Result (Unit {0}) FlowFault → SharedToken T → Option ℕ → Type 0
   ResetBy before (Ok done) after emission = Called before call.ResetReplayCache reply.Reset after × (emission ≡ None)
   ResetBy before (Err fault) after emission = (fault ≡ Busy) × IsBusy before after × (emission ≡ None)
 
 -- ---- the hub
 
--- A count is one event under the watching seat. A put is one `emit` under the sending seat; where it queues, its number is kept, and
--- polls and cancels are events of that number, under the same seat. Without such an emission they do nothing. A reset is one
--- `reset_replay_cache` under the sending seat. Busy comes exactly where the seat lost an exchange, and is no event. The other seat stays
--- as it is.
+-- A count is one event under the watching seat. A put is one `emit` under the sending seat. If it queues, the hub keeps its number, and
+-- polls and cancels are events of that number, under the same seat; without a number they do nothing. A reset is one `reset_replay_cache`
+-- under the sending seat. A call is Busy exactly if its seat lost an exchange, and is then no event. The other seat does not change.
 abbrev pub SharedFlowHubDoes : {T : Type 0} → (c : HubCall T) → SharedSeats T → HubAnswer c → SharedSeats T → Type 0
 SharedFlowHubDoes counts old answer new = CountDoes shared_flow old answer new
 SharedFlowHubDoes (puts x) old answer new = PutBy old.flow.first x old.sending answer new.sending new.emission × OnlySends old new
@@ -69,7 +68,7 @@ SharedFlowHubDoes polls old answer new = PollBy old.flow.first old.emission old.
 SharedFlowHubDoes cancels old answer new = CancelBy old.flow.first old.emission old.sending answer new.sending new.emission × OnlySends old new
 SharedFlowHubDoes resets old answer new = ResetBy old.flow.first old.sending answer new.sending new.emission × OnlySends old new
 
--- the event of the sending seat that a call of the hub is, where it is one
+-- the event of the sending seat that a call of the hub makes, if it makes one
 abbrev pub SharedSays : {T : Type 0} → Unit {0} → HubCall T → Said (SharedCall T) (SharedReply T) → Type 0
 SharedSays initial counts what = ⊥
 SharedSays initial (puts x) what = what.call ≡ call.Emit x

@@ -27,23 +27,23 @@ module _ {Id T : Type 0} where
   abbrev pub state_seats : Origin Id (StateFlowState T) → (watching sending : Token Id (Said (StateCall T) (StateReply T))) → T → StateSeats Id T
   state_seats flow watching sending initial = record { flow = flow; watching = watching; sending = sending; emission = None; initial = initial }
 
-  -- a put is a `set` under the sending seat; or another caller was inside, and the seat has lost one exchange
+  -- a put is a `set` under the sending seat; or it is Busy, and the seat lost one exchange
   abbrev pub SetDoes : T → StateSeats Id T → Result Bool FlowFault → StateSeats Id T → Type 0
   SetDoes x old (Ok waits) new =
       (waits ≡ false) × CallsAtOnceIn state_flow old.flow.first old.sending (call.Set x) reply.Done new.sending × OnlySends old new
   SetDoes x old (Err fault) new =
       (fault ≡ Busy) × IsBusy old.sending new.sending × OnlySends old new
 
-  -- a reset is a `set` of the initial value under the sending seat; or another caller was inside, and the seat has lost one exchange; or
-  -- there was no memory for a copy of the value, and nothing has changed
+  -- a reset is a `set` of the initial value under the sending seat; or it is Busy, and the seat lost one exchange; or memory
+  -- for a copy of the value is refused, and nothing has changed
   abbrev pub ResetDoes : StateSeats Id T → Result (Unit {0}) FlowFault → StateSeats Id T → Type 0
   ResetDoes old (Ok done) new =
       CallsAtOnceIn state_flow old.flow.first old.sending (call.Set old.initial) reply.Done new.sending × OnlySends old new
   ResetDoes old (Err fault) new =
       ((fault ≡ Busy) × IsBusy old.sending new.sending × OnlySends old new) ⊎ ((fault ≡ OutOfMemory) × (new ≡ old))
 
-  -- A count is one event under the watching seat. Nothing waits: polls and cancels do nothing. Busy comes exactly where the seat lost
-  -- an exchange, and is no event.
+  -- A count is one event under the watching seat. Polls and cancels do nothing, since nothing waits. A call is Busy exactly if its seat
+  -- lost an exchange, and is then no event.
   abbrev pub StateFlowHubDoes : (c : HubCall T) → StateSeats Id T → HubAnswer c → StateSeats Id T → Type 0
   StateFlowHubDoes counts old answer new = CountDoes state_flow old answer new
   StateFlowHubDoes (puts x) old answer new = SetDoes x old answer new
@@ -51,7 +51,7 @@ module _ {Id T : Type 0} where
   StateFlowHubDoes cancels old answer new = (answer ≡ Ok false) × (new ≡ old)
   StateFlowHubDoes resets old answer new = ResetDoes old answer new
 
--- the event of the sending seat that a call of the hub is, where it is one
+-- the event of the sending seat that a call of the hub makes, if it makes one
 abbrev pub StateSays : {T : Type 0} → T → HubCall T → Said (StateCall T) (StateReply T) → Type 0
 StateSays initial counts what = ⊥
 StateSays initial (puts x) what = what ≡ said (call.Set x) reply.Done

@@ -9,7 +9,8 @@ use std::alloc::Allocator;
 use std::sync::Wait;
 use std::sync::atomic::{AtomicBool, Ordering};
 
-/// Asks the runs of sharings over a `SharedFlow` or a `StateFlow` to stop. It ends each run to which it was passed.
+/// A signal that asks runs of sharings over a `SharedFlow` or a `StateFlow` to stop. It ends each run to which it was
+/// passed.
 ///
 /// # Source
 /// `cancel` of the scope in which `shareIn` and `stateIn` launch.

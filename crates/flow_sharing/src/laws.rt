@@ -7,12 +7,13 @@ pub fn law_turn_over_shared_flow<T>()
     ensures { LawTurnOverSharedFlow T }
 {}
 
-/// Proves the same of a turn over a `StateFlow`, where a put is a `set`.
+/// Proves of a turn over a `StateFlow` what `law_turn_over_shared_flow` proves of a `SharedFlow`. A put is a `set`.
 pub fn law_turn_over_state_flow<T>()
     ensures { LawTurnOverStateFlow T }
 {}
 
-/// Proves the same of a turn over a `WordState`, which is never `Busy`.
+/// Proves of a turn over a `WordState` what `law_turn_over_state_flow` proves of a `StateFlow`, and that it is never
+/// `Busy`.
 pub fn law_turn_over_word_state<T>()
     ensures { LawTurnOverWordState T }
 {}

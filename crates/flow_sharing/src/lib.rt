@@ -6,23 +6,23 @@
 //!
 //! # Which hub
 //! `share_in` and `state_in` make a sharing with a flow for one thread of its own (`CoreHub`, `StateHub`); callers use
-//! `subscribe`, `next` and `unsubscribe` of the sharing. A `SharedFlowHub`, `StateFlowHub` or `WordHub` stands for a
-//! lent flow for several threads: others subscribe to it, and emit into it, while the sharing runs.
+//! `subscribe`, `next` and `unsubscribe` of the sharing. A `SharedFlowHub`, `StateFlowHub` or `WordHub` borrows a flow
+//! for several threads: other callers subscribe to the flow, and emit into it, while the sharing runs.
 //!
-//! # A flow that others use
-//! A hub of a lent flow has two seats: one counts the subscribers, the other one emits. None of its calls waits. If
-//! another caller is inside the flow, the turn reports `Busy`, and the next turn goes on there. Over a `WordHub` no
-//! turn is busy.
+//! # A flow with other callers
+//! A hub of a borrowed flow has two seats: one counts the subscribers, the other one emits. None of its calls waits. If
+//! another caller is inside the flow, the turn reports `Busy`, and the next turn continues from there. Over a `WordHub`
+//! no turn is busy.
 //!
 //! # A run
-//! `sharing.run(rt, &stop)` takes the turns on the calling thread. It sleeps while there is nothing to do, and ends when a
-//! `FlowStop` or a `WordStop` asks it to. `run_to_end` ends with the chain.
+//! `sharing.run(rt, &stop)` takes the turns on the calling thread. It sleeps while there is nothing to do, and ends
+//! when a `FlowStop` or a `WordStop` asks it to. `run_to_end` ends with the chain.
 //!
 //! # What a hub promises
 //! Contracts see a hub as its flow, its two seats, the number of its emission, and what a reset sets (`SeatedHub`).
-//! Each call is one event under one of the two seats, or `Busy` and one lost exchange (`SharedFlowHubDoes`,
-//! `StateFlowHubDoes`, `WordHubDoes`). `law_turn_over_shared_flow` and its like say what a whole turn then is
-//! (`TurnBySeats`).
+//! Each call is one event under one of the two seats, or `Busy` and one lost exchange, or changes nothing
+//! (`SharedFlowHubDoes`, `StateFlowHubDoes`, `WordHubDoes`). `law_turn_over_shared_flow` and the laws beside it say
+//! what a whole turn then is (`TurnBySeats`).
 //!
 //! # Dropping
 //! Dropping a sharing drops its hub: its seats are lost, and an emission that waits stays queued or offered. To avoid

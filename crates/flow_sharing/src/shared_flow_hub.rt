@@ -12,10 +12,10 @@ use std::marker::Model;
 use std::sync::Wait;
 use std::time::Duration;
 
-/// A lent `SharedFlow` into which a sharing emits beside other callers. Subscribers use the flow itself.
+/// A borrowed `SharedFlow` into which a sharing emits beside other callers. Subscribers use the flow itself.
 ///
-/// None of its calls waits: if another caller is inside the flow, it answers `Busy`, and the turn says so. The next
-/// turn does what was left.
+/// None of its calls waits: if another caller is inside the flow, the call answers `Busy`, and the turn reports it. The
+/// next turn does what was left undone.
 ///
 /// # Dropping
 /// Dropping a hub leaves its emission queued or offered, and its two seats are lost. To cancel the emission, stop the
@@ -49,7 +49,7 @@ impl<'a, T: FlowValue, A: Allocator + Copy> Model for SharedFlowHub<'a, T, A> {
 }
 
 impl<'a, T: FlowValue, A: Allocator + Copy> SharedFlowHub<'a, T, A> {
-    /// Makes a hub that has emitted nothing. Its two seats are made through this one, which stays the caller's.
+    /// Makes a hub that has emitted nothing. Its two seats are made through `seat`, which the caller keeps.
     pub fn new(flow: &'a SharedFlow<T, A>, seat: &mut Seat<T, A>) -> SharedFlowHub<'a, T, A>
         requires { seat.old.table_id ≡ flow.now.table_id }
         ensures hub { result ≡ seated flow.entry.now seat.old tt }

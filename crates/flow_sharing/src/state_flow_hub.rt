@@ -10,10 +10,10 @@ use std::marker::Model;
 use std::sync::Wait;
 use std::time::Duration;
 
-/// A lent `StateFlow` whose value a sharing sets beside other callers. Subscribers use the flow itself.
+/// A borrowed `StateFlow` whose value a sharing sets beside other callers. Subscribers use the flow itself.
 ///
-/// No item waits. It is refused only as `Busy`, if another caller is inside the flow; the next turn then sets it. A
-/// reset copies the initial value, and may also fail with `OutOfMemory`. Dropping a hub loses its two seats.
+/// No item waits. An item is refused only as `Busy`, if another caller is inside the flow; the next turn then sets it.
+/// A reset copies the initial value, and may also fail with `OutOfMemory`. Dropping a hub loses its two seats.
 #[derive(Drop)]
 pub struct StateFlowHub<'a, T: FlowValue, A: Allocator + Copy = Global> {
     flow: &'a StateFlow<T, A>,
@@ -38,8 +38,8 @@ impl<'a, T: FlowValue, A: Allocator + Copy> Model for StateFlowHub<'a, T, A> {
 }
 
 impl<'a, T: FlowValue, A: Allocator + Copy> StateFlowHub<'a, T, A> {
-    /// Makes a hub that has set nothing. Its two seats are made through this one, which stays the caller's. `initial`
-    /// is what a reset sets: the value with which the flow began.
+    /// Makes a hub that has set nothing. Its two seats are made through `seat`, which the caller keeps. `initial` is
+    /// what a reset sets: the value with which the flow began.
     pub fn new(
         flow: &'a StateFlow<T, A>,
         seat: &mut StateSeat<T, A>,

@@ -7,7 +7,7 @@ use flow_turns::Hub;
 use flow_word::{CountWatch, WordSeat, WordState};
 use std::marker::Model;
 
-/// A lent `WordState` whose value a sharing sets beside other callers. Subscribers use the flow itself.
+/// A borrowed `WordState` whose value a sharing sets beside other callers. Subscribers use the flow itself.
 ///
 /// No item waits and no call is refused: each is one atomic step, so a turn is never `Busy`. Dropping a hub loses its
 /// two seats.
@@ -16,9 +16,9 @@ pub struct WordHub<'a, T: Packed> {
     pub(crate) flow: &'a WordState<T>,
     watching: WordSeat<T>,
     sending: WordSeat<T>,
-    /// The pack of the value that a reset sets.
+    /// The packed value that a reset sets.
     initial: u64,
-    /// The driver, if it watches: a change of the number of subscribers after this was made wakes it.
+    /// The watch of the driver, if it watches: a change of the number of subscribers since the watch began wakes it.
     pub(crate) watch: Option<CountWatch<'a>>,
 }
 
@@ -37,8 +37,8 @@ impl<'a, T: Packed> Model for WordHub<'a, T> {
 }
 
 impl<'a, T: Packed> WordHub<'a, T> {
-    /// Makes a hub that has set nothing. Its two seats are made through this one, which stays the caller's. `initial`
-    /// is what a reset sets: the value with which the flow began.
+    /// Makes a hub that has set nothing. Its two seats are made through `seat`, which the caller keeps. `initial` is
+    /// what a reset sets: the value with which the flow began.
     pub fn new(flow: &'a WordState<T>, seat: &mut WordSeat<T>, initial: T) -> WordHub<'a, T>
         requires { seat.old.table_id ≡ flow.now.table_id }
         ensures hub { result ≡ seated flow.entry.now seat.old initial }

@@ -24,7 +24,7 @@ impl<'a, T: Packed> WatchedHub for WordHub<'a, T> {
     }
 }
 
-/// Asks the runs of sharings over a word state to stop. It ends each run to which it was passed.
+/// A signal that asks runs of sharings over a word state to stop. It ends each run to which it was passed.
 ///
 /// # Source
 /// `cancel` of the scope in which `shareIn` and `stateIn` launch.

@@ -1,4 +1,4 @@
--- What a turn over a core is for the documented flow. Begin with `turn-over_core` and `turn-over_state_core`.
+-- A turn over a core, as a turn over the documented flow. Begin with `turn-over_core` and `turn-over_state_core`.
 use Rattle.std.proofs.Common.{◌≡◌, inl, inr, ℕ, Bool, true, false, if◌then◌else◌, length, Option, Some, None, is_some, Result, Ok, Err, sym, refl, ap, ◌∙◌, subst}
 use Rattle.flow_law.specs.declared.fault.FlowFault.{FlowFault}
 use Rattle.flow_law.specs.declared.fault.FlowFault.TheVariants.{OutOfMemory}
@@ -38,7 +38,7 @@ emitted-err : {T : Type 0} (fault : FlowFault) (r : Result Emit FlowFault) → �
 emitted-err fault (Ok other) e = cc
 emitted-err fault (Err same) e = cc
 
--- what has no number is none
+-- an option that is not Some is None
 not-some : (o : Option ℕ) → is_some o ≡ false → o ≡ None
 not-some None e = refl
 not-some (Some n) e = let x : true ≡ false = e in cc
@@ -159,7 +159,7 @@ module _ {T A : Type 0} where
     inl (ap (state_reply c) is ∙ does ∙ ap (λ (y : StateHub T A). record { result = a; state = state_flow_of y }) (sym same)),
   )
 
-  -- a core that has this value, in a hub with the same initial one
+  -- the state flow of a hub, by its core and its initial value
   sets : (h k : StateHub T A) (core : StateFlowState T) → k.core ≡ core → k.initial ≡ h.initial → record { flow = core; initial = h.initial } ≡ state_flow_of k
   sets h k core is same =
       ap (λ (x : StateFlowState T). record { flow = x; initial = h.initial }) (sym is) ∙ ap (λ (x : T). record { flow = k.core; initial = x }) (sym same)

@@ -9,7 +9,7 @@ use Rattle.flow_turns.specs.Runs.{TakesTurns, no_turn, one_more, IsRefusedAt}
 use Rattle.flow_turns.specs.SharingViews.{chain_of, CanRun, KeepsReadings}
 use Rattle.flow_turns.specs.TurnClauses.{TakesTurn}
 
--- `whole` and `rest` are the runs of the chain, for each of its readings; `does` and `waits` are what the hub says of itself
+-- `whole` and `rest` are the runs of the chain, for each of its readings; `does` and `waits` are those of the hub
 module _ {C H T R : Type 0} (can_ask : C → Type 0) (reads : C → R → Type 0) (whole rest : C → R → ChainRun T)
     (does : (c : HubCall T) → H → HubAnswer c → H → Type 0) (waits : H → Bool) where
   -- what is known of a turn at the moment of the clock

@@ -1,4 +1,4 @@
--- The steps of a turn, put together: what a sharing finds and what its calls did lead along the turn of flow_law.
+-- The steps of a turn, put together: what a sharing finds and what its calls do are the steps of the turn of flow_law.
 use Rattle.std.proofs.Common.{◌≡◌, ◌≢◌, ◌<◌, ◌≤◌, ℕ, Bool, true, false, nat_lt, if◌then◌else◌, List, ◌∷◌, ◌||◌, Option, Some, None, Result, Ok, Err, refl, sym, ap, ◌∙◌, subst, arith}
 use Rattle.std.proofs.lemmas.Bool.Decides.{nat_tests}
 use Rattle.flow_law.specs.declared.fault.FlowFault.{FlowFault}
@@ -79,7 +79,7 @@ module _ (P : ChainFault → Type 0) where
   reported-answered command (Err (Backwards last)) h = tt
   reported-answered command (Err Ended) h = tt
 
-  -- what a turn answers is what its work came to
+  -- a turn answers what its work came to
   pub report-answered : (command : Command) (outcome : Result Event ShareFault) (answer : Result Report ShareFault) → answer ≡ reported command outcome → OnChainFault outcome P → OnChainFault answer P
   report-answered command outcome answer is h = subst (λ x. OnChainFault x P) (sym is) (reported-answered command outcome h)
 

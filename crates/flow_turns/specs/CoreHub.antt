@@ -7,7 +7,7 @@ use Rattle.flow_law.specs.SharingCalls.{HubCall, HubAnswer, counts, puts, polls,
 use Rattle.flow_law.specs.Standing.{Core, Conforms}
 use Rattle.flow_turns.specs.declared.core_hub.CoreHub.{CoreHub}
 
--- an emission that waits no more is forgotten
+-- the emission's number if it still waits, else None
 abbrev pub still : Bool → ℕ → Option ℕ
 still waits number = if waits then Some number else None
 
@@ -16,11 +16,11 @@ module _ {T A : Type 0} where
   abbrev pub core_of : CoreHub T A → Core T
   core_of hub = hub.core
 
-  -- the number of the hub's emission, where it waited when it was last asked
+  -- the number of the hub's emission, if it waited at the last put or poll
   abbrev pub emission_of : CoreHub T A → Option ℕ
   emission_of hub = hub.emission
 
-  -- the hub has an emission that waited when it was last asked
+  -- the hub has an emission that waited at the last put or poll
   abbrev pub is_waiting : CoreHub T A → Bool
   is_waiting hub = is_some hub.emission
 
@@ -36,8 +36,8 @@ module _ {T A : Type 0} where
   CancelDoes (Some number) old waited new =
       Conforms old.core (call.Cancel number) (reply.Tested waited) new.core × (new.emission ≡ None)
 
-  -- A put is an `emit` of the core; where it queues, its number is kept, and polls and cancels are of that number.
-  -- Without such an emission they do nothing. A reset empties the replay cache. Only a put can be refused.
+  -- A put is an `emit` of the core. If it queues, the hub keeps its number, which polls and cancels then use; without a number they do
+  -- nothing. A reset empties the replay cache. Only a put can be refused.
   abbrev pub CoreHubDoes : (c : HubCall T) → CoreHub T A → HubAnswer c → CoreHub T A → Type 0
   CoreHubDoes counts old (Ok count) new = Conforms old.core call.SubscriptionCount (reply.Counted count) new.core × (new.emission ≡ old.emission)
   CoreHubDoes counts old (Err fault) new = ⊥

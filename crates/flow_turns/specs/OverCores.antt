@@ -1,4 +1,4 @@
--- What a turn over a core is for the documented flow that the core stands for. Begin with `LawTurnOverCore`.
+-- A turn over a core, as a turn over the documented flow that the core stands for. Begin with `LawTurnOverCore`.
 use Rattle.std.specs.Prelude.{◌≡◌, ℕ, List}
 use Rattle.flow_law.specs.declared.sharing.Started.{Started}
 use Rattle.flow_law.specs.declared.sharing.SharingObservation.{SharingObservation}
@@ -18,8 +18,8 @@ module _ {T A : Type 0} where
   abbrev pub Emits : CoreHub T A → EmittingFlow T → Type 0
   Emits hub f = StandsFor (core_of hub) f.flow × (emission_of hub ≡ f.waiting)
 
--- A turn over a core is a turn over the documented flow, in each state that the core stands for, and the core stands for the state after it.
--- It is never busy.
+-- A turn over a core is a turn over the documented flow, in each state that the core stands for, and the core stands for the state after
+-- it. The turn is never busy.
 abbrev pub LawTurnOverCore : Type 0 → Type 0 → Type 0
 LawTurnOverCore T A =
     (started : Started) (now : ℕ) (seen : List SharingObservation) (s : SharingState T) (f : EmittingFlow T)
@@ -28,7 +28,7 @@ LawTurnOverCore T A =
     (g : EmittingFlow T) × Emits new.hub g
     × DocumentedTurn SharedDoes shared_reply IsNotBusy started now seen s (with_hub old f) turned (with_hub new g)
 
--- A turn over a state core is a turn over the documented state flow that it is. Nothing waits, and nothing is refused except with `OutOfMemory`.
+-- A turn over a state core is a turn over the documented state flow. Nothing waits, and a refusal is always `OutOfMemory`.
 abbrev pub LawTurnOverStateCore : Type 0 → Type 0 → Type 0
 LawTurnOverStateCore T A =
     (started : Started) (now : ℕ) (seen : List SharingObservation) (s : SharingState T)

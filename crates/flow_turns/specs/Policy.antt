@@ -8,7 +8,7 @@ use Rattle.flow_law.specs.Sharing.{last_moment, idle_since, is_running, newest_c
 use Rattle.flow_turns.specs.declared.policy.Policy.{Policy}
 use Rattle.flow_turns.specs.declared.policy.Backwards.{Backwards}
 
--- the idle moment, which only a policy that stops keeps
+-- the idle moment; only a policy that stops keeps it
 abbrev pub kept_since : Started → List SharingObservation → Option ℕ
 kept_since Eagerly seen = None
 kept_since Lazily seen = None
@@ -27,24 +27,25 @@ runs policy = policy.running
 
 -- ---- one observation more, whatever was observed before
 
--- the idle moment that is kept after it
+-- `since` is the idle moment after the observation o
 abbrev pub GivesSince : Policy → SharingObservation → Option ℕ → Type 0
 GivesSince policy o since =
     (started : Started) (seen : List SharingObservation) → HasSeen started policy seen → since ≡ kept_since started (o ∷ seen)
 
--- whether it runs after it, with that idle moment
+-- `runs` says whether the policy runs after the observation o, where `since` is the idle moment
 abbrev pub GivesRunning : Policy → SharingObservation → Option ℕ → Bool → Type 0
 GivesRunning policy o since runs =
     (started : Started) (seen : List SharingObservation) → HasSeen started policy seen → since ≡ kept_since started (o ∷ seen) →
     runs ≡ is_running started (o ∷ seen)
 
--- Its moment is not before the last one, and the command is the one of all observations; or it is before the last one, which the refusal carries.
+-- The moment of o is not before the last one, and the command is that of all observations; or it is before the last one, which the refusal
+-- carries.
 abbrev pub ObservesAfter : Started → List SharingObservation → SharingObservation → Result Command Backwards → Policy → Type 0
 ObservesAfter started seen o (Ok command) new =
     (last_moment seen ≤ o.moment) × (command ≡ newest_command started (o ∷ seen)) × HasSeen started new (o ∷ seen)
 ObservesAfter started seen o (Err backwards) new = (o.moment < last_moment seen) × (backwards.last ≡ last_moment seen)
 
--- what an observation is answered
+-- the answer to the observation o, for every list of observations that leads to what the policy keeps
 abbrev pub Observes : Policy → SharingObservation → Result Command Backwards → Policy → Type 0
 Observes old o result new =
     (started : Started) (seen : List SharingObservation) → HasSeen started old seen → ObservesAfter started seen o result new

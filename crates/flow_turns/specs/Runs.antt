@@ -8,9 +8,9 @@ use Rattle.flow_law.specs.SharingCalls.{HubCall, HubAnswer}
 use Rattle.flow_turns.specs.declared.sharing.Sharing.{Sharing}
 use Rattle.flow_turns.specs.TurnClauses.{TakesTurn}
 
--- `whole` and `rest` are the runs of the chain; `does` and `waits` are what the hub says of itself
+-- `whole` and `rest` are the runs of the chain; `does` and `waits` are those of the hub
 module _ {C H T : Type 0} (whole rest : C → ChainRun T) (does : (c : HubCall T) → H → HubAnswer c → H → Type 0) (waits : H → Bool) where
-  -- turns, each at a moment of its own, and none of them was refused
+  -- turns, each at some moment, none of which was refused
   pub data TakesTurns : Sharing C H T → Sharing C H T → Type 0 where
     no_turn : {s : Sharing C H T} → TakesTurns s s
     one_more : {s t u : Sharing C H T} (now : ℕ) (report : Report) → TakesTurns s t → TakesTurn whole rest does waits now t (Ok report) u → TakesTurns s u

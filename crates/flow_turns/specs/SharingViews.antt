@@ -41,7 +41,7 @@ module _ {C H T : Type 0} where
   abbrev pub has_ended : Sharing C H T → Bool
   has_ended sharing = sharing.ended
 
-  -- the cold flow that it collects
+  -- the cold flow that the sharing collects
   abbrev pub chain_of : Sharing C H T → C
   chain_of sharing = sharing.chain
 
@@ -60,7 +60,7 @@ module _ {C H T R : Type 0} (whole rest : C → R → ChainRun T) where
   SharesChain chain sharing =
       (m : R) → chain_and_hub (λ c. whole c m) (λ c. rest c m) sharing ≡ record { whole = whole chain m; rest = rest chain m; hub = hub_of sharing }
 
-  -- what holds between two turns holds of the sharing
+  -- what holds between two turns holds of this sharing
   abbrev pub IsBetweenTurns : Sharing C H T → Type 0
   IsBetweenTurns sharing = (m : R) → BetweenTurns (state_of sharing) (chain_and_hub (λ c. whole c m) (λ c. rest c m) sharing)
 

@@ -28,12 +28,12 @@ module _ {T A : Type 0} where
   abbrev pub never_waits : StateHub T A → Bool
   never_waits hub = false
 
-  -- the core is called so, and the initial value stays
+  -- the call of the core has this reply, and the initial value does not change
   abbrev CallsCore : StateHub T A → StateCall T → StateReply T → StateHub T A → Type 0
   CallsCore old call reply new = StateConforms old.core call reply new.core × (new.initial ≡ old.initial)
 
-  -- A put is a `set` of the core, and a reset a `set` of the initial value, of which a copy is made. Polls and cancels do nothing, and nothing
-  -- is refused but a reset with `OutOfMemory`.
+  -- A put is a `set` of the core, and a reset a `set` of a copy of the initial value. Polls and cancels do nothing. Only a reset can be
+  -- refused, with `OutOfMemory`.
   abbrev pub StateHubDoes : (c : HubCall T) → StateHub T A → HubAnswer c → StateHub T A → Type 0
   StateHubDoes counts old (Ok count) new = CallsCore old call.SubscriptionCount (reply.Counted count) new
   StateHubDoes counts old (Err fault) new = ⊥

@@ -1,6 +1,6 @@
--- What is promised of each turn of a sharing: its steps, what its answer means, what becomes of a reset, and what stays true between turns.
--- What depends on the observations is said for every list of them that leads to what the sharing's policy keeps. The turn itself is
--- `turn_steps` of flow_law.
+-- What each turn of a sharing promises: its steps, what its answer means, what happens to a reset, and what stays true between turns. What
+-- depends on the observations holds for every list of them that leads to what the sharing's policy keeps. The turn itself is `turn_steps`
+-- of flow_law.
 use Rattle.std.specs.Prelude.{◌≡◌, ℕ, Bool, true, false, List, Result, Ok, Err}
 use Rattle.flow_law.specs.declared.chain.ChainFault.{ChainFault}
 use Rattle.flow_law.specs.declared.chain.End.{End}
@@ -20,7 +20,7 @@ use Rattle.flow_law.specs.TurnMeaning.{HasAccount, BetweenTurns, IsQuiet, IsComm
 use Rattle.flow_turns.specs.declared.sharing.Sharing.{Sharing}
 use Rattle.flow_turns.specs.SharingViews.{state_of, chain_and_hub, chain_of, hub_of, HasObserved}
 
--- `whole` and `rest` are the runs of the chain; `does` and `waits` are what the hub says of itself
+-- `whole` and `rest` are the runs of the chain; `does` and `waits` are those of the hub
 module _ {C H T : Type 0} (whole rest : C → ChainRun T) (does : (c : HubCall T) → H → HubAnswer c → H → Type 0) (waits : H → Bool) where
   -- the sharing takes the steps of a turn, and has then observed what the turn says
   abbrev pub TakesTurn : ℕ → Sharing C H T → Result Report ShareFault → Sharing C H T → Type 0
@@ -30,7 +30,7 @@ module _ {C H T : Type 0} (whole rest : C → ChainRun T) (does : (c : HubCall T
       × Takes (CallDoes (HubStep does waits)) (turn_steps started now seen (state_of old)) (chain_and_hub whole rest old)
       (record { answer = result; seen = all; state = state_of new }) (chain_and_hub whole rest new)
 
-  -- the answer means what it says of the items that the hub has accepted since the last start
+  -- the answer is true of the items that the hub has accepted since the last start
   abbrev pub MeansAnswer : Sharing C H T → Result Report ShareFault → Sharing C H T → Type 0
   MeansAnswer old result new =
       (started : Started) (seen : List SharingObservation) (accepted : List T) → HasObserved started old seen →
@@ -66,12 +66,12 @@ module _ {C H T : Type 0} (whole rest : C → ChainRun T) where
       IsQuiet waits (state_of new) (chain_and_hub whole rest new)
       × ((command : Command) → result ≡ reported command (Ok Idle) → waits (hub_of new) ≡ false)
 
--- P of the fault, where the answer is a fault of the chain
+-- P of the fault, if the answer is a fault of the chain
 abbrev pub OnChainFault : {R : Type 0} → Result R ShareFault → (ChainFault → Type 0) → Type 0
 OnChainFault (Err (Chain fault)) P = P fault
 OnChainFault result P = Unit {0}
 
--- where the answer is a fault of the chain, the chain's last answer was this fault
+-- if the answer is a fault of the chain, it was the chain's last answer
 abbrev pub FaultWasAnswered : {C H T R : Type 0} → (C → End → Type 0) → Result R ShareFault → Sharing C H T → Type 0
 FaultWasAnswered has_answered result new = OnChainFault result (λ fault. has_answered (chain_of new) (Failed fault))
 

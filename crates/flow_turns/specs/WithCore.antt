@@ -1,4 +1,4 @@
--- A sharing on one thread, with another core in its hub: what a subscriber's call changes is the core, and nothing else.
+-- A sharing on one thread, with another core in its hub. A subscriber's call changes only the core.
 use Rattle.flow_law.specs.Standing.{Core}
 use Rattle.flow_law.specs.declared.states.StateFlowState.{StateFlowState}
 use Rattle.flow_turns.specs.declared.core_hub.CoreHub.{CoreHub}

@@ -1,4 +1,4 @@
-//! The last step of a turn: while the sharing runs, at most one item goes into the flow.
+//! The last step of a turn: while the sharing runs, at most one item is put into the flow.
 ghost use Rattle.std.specs.Prelude.{◌≡◌, ◌≢◌, None, MatchResult, false, Err};
 ghost use Rattle.flow_law.specs.SharingCalls.{polls};
 ghost use Rattle.flow_law.specs.SharingTurn as steps;
@@ -27,7 +27,7 @@ fn ask_chain<C: Cold>(chain: &mut C) -> Asked<C::Item>
 }
 
 impl<C: Cold, H: Hub<Item = C::Item>> Sharing<C, H> {
-    /// Puts an item, which is kept if the hub refuses it.
+    /// Puts an item into the hub. If the hub refuses it, keeps it.
     fn put(&mut self, item: C::Item) -> Result<Event, ShareFault>
         requires callable { CanRun C.CanAsk self.old }
         requires free { H.waits self.old.hub ≡ false }
@@ -89,7 +89,7 @@ impl<C: Cold, H: Hub<Item = C::Item>> Sharing<C, H> {
         }
     }
 
-    /// Returns whether an emission waits.
+    /// Returns whether the hub's emission waits.
     fn is_waiting(&mut self) -> Result<bool, FlowFault>
         requires { CanRun C.CanAsk self.old }
         ensures callable { CanRun C.CanAsk self.new }

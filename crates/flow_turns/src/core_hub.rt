@@ -28,7 +28,7 @@ impl<T: FlowValue, A: Allocator + Copy> CoreHub<T, A> {
         }
     }
 
-    /// Lends the core, to look at.
+    /// Returns a reference to the core.
     pub fn core(&self) -> &SharedCore<T, A>
         ensures { result.now ≡ core_of self.now }
     {

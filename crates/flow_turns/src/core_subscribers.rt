@@ -33,7 +33,7 @@ impl<C: Cold, A: Allocator + Copy> Sharing<C, CoreHub<C::Item, A>> {
     /// Receives the next value of a subscriber of a `CoreHub`, as `SharedCore::next`.
     ///
     /// # Errors
-    /// `OutOfMemory` if the value could not be copied: a later call gives it.
+    /// `OutOfMemory` if the value could not be copied: a later call returns it.
     pub fn next(&mut self, id: SubId) -> Result<Next<C::Item>, FlowFault>
         ensures documented { Conforms (core_of (hub_of self.old)) (call.TakeNext (number_of id))
             (next_reply result) (core_of (hub_of self.new)) }
@@ -43,8 +43,8 @@ impl<C: Cold, A: Allocator + Copy> Sharing<C, CoreHub<C::Item, A>> {
         self.hub.core.next(id)
     }
 
-    /// Ends a subscription of a `CoreHub`, as `SharedCore::unsubscribe`. Returns whether it was there. The next turn does not
-    /// count it.
+    /// Ends a subscription of a `CoreHub`, as `SharedCore::unsubscribe`. Returns whether the subscription existed. The
+    /// next turn does not count it.
     pub fn unsubscribe(&mut self, id: SubId) -> bool
         ensures documented { Conforms (core_of (hub_of self.old)) (call.Unsubscribe (number_of id))
             (reply.Tested result) (core_of (hub_of self.new)) }

@@ -6,17 +6,17 @@ ghost use Rattle.flow_turns.specs.Hub.{put_answer};
 
 use flow_law::{FlowFault, Refused};
 
-/// A flow with one sender of its own, which has at most one emission that waits.
+/// A flow, and one sender into it that has at most one emission that waits.
 ///
-/// The hub says in `does` what its calls do: by what its core stands for, or, for a flow of several threads, by the
-/// events that its history gains.
+/// `does` says what each call does: to the state that the core stands for, or, for a flow for several threads, which
+/// events it adds to the history.
 pub trait Hub: Drop {
     type Item;
 
     /// Whether the hub has an emission that waited at the last poll.
     ghost waits: { Self → Bool };
 
-    /// A call, the hub before it, its answer, and the hub after it.
+    /// What a call does, by the call, the hub before it, its answer, and the hub after it.
     ghost does: { (c : HubCall Self.Item) → Self → HubAnswer c → Self → Type 0 };
 
     /// Counts the subscribers.

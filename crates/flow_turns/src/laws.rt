@@ -7,7 +7,7 @@ pub fn law_turn_over_core<T, A>()
 {}
 
 /// Proves that a turn over a `StateCore` is the turn over the documented state flow. No item waits, the flow refuses
-/// only a reset for which there is no memory, and the turn is never busy.
+/// nothing but a reset that is out of memory, and the turn is never busy.
 pub fn law_turn_over_state_core<T, A>()
     ensures { LawTurnOverStateCore T A }
 {}

@@ -1,4 +1,4 @@
-//! What is lent to the caller: the hub of a sharing, and the core of a hub for one thread.
+//! References for the caller: to the hub of a sharing, and to the core of a hub for one thread.
 ghost use Rattle.std.specs.Prelude.{◌≡◌};
 ghost use Rattle.std.specs.Borrow.{sem};
 ghost use Rattle.flow_turns.specs.CoreHub.{core_of};
@@ -18,14 +18,14 @@ use flow_law::FlowValue;
 use std::alloc::Allocator;
 
 impl<C: Cold, H: Hub<Item = C::Item>> Sharing<C, H> {
-    /// Lends the hub, to look at.
+    /// Returns a reference to the hub.
     pub fn hub(&self) -> &H
         ensures { result.now ≡ hub_of self.now }
     {
         &self.hub
     }
 
-    /// Lends the hub, to subscribe and to receive.
+    /// Returns a mutable reference to the hub, for subscribing and receiving.
     ///
     /// A caller that emits or cancels through it acts as the sharing does. A turn then still takes its steps and keeps
     /// its account. But an emission that the caller leaves waiting while the sharing does not run may still wait after
@@ -39,7 +39,7 @@ impl<C: Cold, H: Hub<Item = C::Item>> Sharing<C, H> {
 }
 
 impl<T: FlowValue, A: Allocator + Copy> CoreHub<T, A> {
-    /// Lends the core, to subscribe and to receive.
+    /// Returns a mutable reference to the core, for subscribing and receiving.
     pub fn core_mut(&mut self) -> &mut SharedCore<T, A>
         ensures* writes_back { sem 𝓛
             (LendsCore T.row A.row T.FlowValue A.Allocator self.entry result) }
@@ -50,7 +50,7 @@ impl<T: FlowValue, A: Allocator + Copy> CoreHub<T, A> {
 }
 
 impl<T: FlowValue, A: Allocator + Copy> StateHub<T, A> {
-    /// Lends the core, to subscribe and to receive.
+    /// Returns a mutable reference to the core, for subscribing and receiving.
     pub fn core_mut(&mut self) -> &mut StateCore<T, A>
         ensures* writes_back { sem 𝓛
             (LendsStateCore T.row A.row T.FlowValue A.Allocator self.entry result) }

@@ -20,8 +20,8 @@
 //! accepted since the last start (`means`). A due reset is made in this turn, after the cancel, or stays due if the hub
 //! was busy or refused it (`resets`). What holds between turns holds again afterwards (`between`). No emission of the
 //! sharing waits while it does not run, unless a caller left one (`quiet`). A fault of the chain is the chain's own
-//! last answer (`answered`). `law_turn_over_core` and `law_turn_over_state_core` say that this is the same turn over
-//! the documented flow for which the core stands.
+//! last answer (`answered`). `law_turn_over_core` and `law_turn_over_state_core` say that it is the same turn over
+//! the documented flow that the core stands for.
 //!
 //! # Reset
 //! If the policy says so (`expire`), the flow is reset some time after the stop: a shared flow empties its replay
@@ -33,8 +33,8 @@
 //! turn answers the fault, and every later one `Ended`. Subscribers notice neither.
 //!
 //! # Errors
-//! If the flow refuses an item, or is busy, the turn reports it, and the next turn goes on there. The observation
-//! counts.
+//! If the flow refuses an item, or is busy, the turn reports it, and the next turn continues from there. The
+//! observation still counts.
 #![tactic(auto)]
 
 mod answers;

@@ -1,8 +1,8 @@
 //! When a sharing runs, depending on the number of subscribers (`SharingStarted`).
 //!
-//! A policy keeps no list of observations. It keeps the last moment, the first moment of the zero counts at the end,
-//! and whether it runs, which also show whether a reset was due. Its clauses speak of every list of observations that
-//! leads to what it keeps.
+//! A policy keeps no list of observations. It keeps the last moment, the moment since which all counts are zero, and
+//! whether it runs; these also show whether a reset was due. Its clauses speak of every list of observations that leads
+//! to what it keeps.
 ghost use Rattle.std.specs.Prelude.{◌≡◌, ◌≤◌, ◌<◌, [], true, false, None, IfOk, OnErr};
 ghost use Rattle.std.specs.Option.{ForSome};
 ghost use Rattle.flow_law.specs.Sharing.{command_of, runs_after, is_past_expiry};
@@ -18,23 +18,22 @@ pub struct Backwards {
     pub last: u64,
 }
 
-/// Says at each observation whether the sharing starts or stops, and whether its flow is reset.
+/// A policy, which decides at each observation whether the sharing starts or stops, and whether its flow is reset.
 ///
-/// A `Sharing` has one of its own. Use it without one to drive a chain by other means.
+/// Each `Sharing` has one. Use a policy without a sharing to drive a chain by other means.
 #[derive(Drop)]
 pub struct Policy {
     started: Started,
     /// The last moment, 0 before the first observation.
     last: u64,
-    /// The first moment of the zero counts at the end, if they follow a positive count. Only a policy that stops keeps
-    /// it.
+    /// The moment since which all counts are zero, if they follow a positive count. Only a policy that stops keeps it.
     since: Option<u64>,
     running: bool,
     ghost in_order: { ForSome since (λ moment. moment ≤ last) },
     ghost apart: { running ≡ true → is_past_expiry started last since ≡ false },
 }
 
-/// Returns the command: whether it ran and runs, and whether the reset was due and is due. None is due while it runs.
+/// Returns the command, by whether the policy ran and runs, and a reset was due and is due. None is due while it runs.
 fn change(ran: bool, runs: bool, was_expired: bool, expired: bool) -> Command
     requires ran { ran ≡ true → was_expired ≡ false }
     requires runs { runs ≡ true → expired ≡ false }
@@ -49,7 +48,7 @@ fn change(ran: bool, runs: bool, was_expired: bool, expired: bool) -> Command
     }
 }
 
-/// Returns the moment that is so much later, or `None` if it never comes.
+/// Returns the moment `time` after `moment`, or `None` if it never comes.
 fn later(moment: u64, time: u64) -> Option<u64> {
     if time == NEVER {
         None
@@ -73,7 +72,7 @@ impl Policy {
         }
     }
 
-    /// Returns whether it runs since the last observation.
+    /// Returns whether the policy runs since the last observation.
     pub(crate) fn is_running(&self) -> bool
         ensures { result ≡ runs self.now }
     {
@@ -102,7 +101,7 @@ impl Policy {
         }
     }
 
-    /// Returns the first moment of the zero counts at the end, after one more observation.
+    /// Returns the moment since which all counts are zero, after one more observation.
     fn since_after(&self, now: u64, count: u64) -> Option<u64>
         requires { self.now.last ≤ now }
         ensures since { GivesSince self.now (record { moment = now; count = count }) result }
@@ -123,7 +122,7 @@ impl Policy {
         }
     }
 
-    /// Returns whether it runs, after one more observation.
+    /// Returns whether the policy runs after one more observation.
     fn runs_after(&self, since: Option<u64>, now: u64, count: u64) -> bool
         requires in_order { ForSome since (λ moment. moment ≤ now) }
         requires subscribed { 0 < count → since ≡ None }
@@ -162,7 +161,7 @@ impl Policy {
     /// Accepts the number of subscribers at a moment, in milliseconds, and returns the command. A moment before the
     /// last one is refused, and changes nothing.
     pub fn observe(&mut self, now: u64, count: u64) -> Result<Command, Backwards>
-        // For all earlier observations that lead here, the command is the one of those observations and the new one.
+        // For every list of observations that leads to this policy, the command is that of the list and the new one.
         ensures observes { Observes self.old
             (record { moment = now; count = count }) result self.new }
         ensures runs { IfOk result (λ command. runs self.new ≡ runs_after command (runs self.old)) }

@@ -15,12 +15,13 @@ use std::time::{Clock, Duration};
 
 /// A hub whose driver can sleep until there is something to do.
 pub trait WatchedHub: Hub {
-    /// Begins a watch: whatever changes after the calls of the next turn wakes the driver.
+    /// Begins a watch: a change after the calls of the next turn wakes the driver.
     fn watch<R: Wait>(&mut self, rt: &R)
         ensures { self.new ≡ self.old };
 
-    /// Ends the watch, and sleeps until a subscriber has come or gone, or the hub's emission has ended, since the calls
-    /// of that turn, until the run was asked to stop, or for `most`, if that is given. It may return early.
+    /// Ends the watch, and sleeps until a subscriber has subscribed or unsubscribed, or the hub's emission has ended,
+    /// since the calls of that turn, until the run is asked to stop, or for `most`, if that is given. It may return
+    /// early.
     fn sleep<R: Wait>(&mut self, rt: &R, most: Option<Duration>)
         ensures { self.new ≡ self.old };
 
@@ -29,13 +30,13 @@ pub trait WatchedHub: Hub {
         ensures { self.new ≡ self.old };
 }
 
-/// How a run is asked to stop.
+/// A signal by which a run is asked to stop.
 pub trait StopSignal {
     /// Returns whether the run was asked to stop.
     fn is_asked(&self) -> bool;
 }
 
-/// A stop that is never asked for.
+/// A signal that never asks a run to stop.
 struct NoStop;
 
 impl StopSignal for NoStop {
@@ -56,8 +57,8 @@ fn moment_of<R: Clock>(clock: &R, last: u64) -> u64 {
 }
 
 impl<C: Cold, H: WatchedHub<Item = C::Item>> Sharing<C, H> {
-    /// Returns how long the driver may sleep if no subscriber comes or goes, or `None` if the policy waits for no
-    /// moment.
+    /// Returns how long the driver may sleep if the number of subscribers does not change, or `None` if the policy
+    /// waits for no moment.
     fn most_to_sleep<R: Clock>(&self, rt: &R) -> Option<Duration> {
         let next = self.policy.next_moment()?;
         let now = moment_of(rt, self.policy.last());
@@ -82,8 +83,8 @@ impl<C: Cold, H: WatchedHub<Item = C::Item>> Sharing<C, H> {
         self.hub.sleep(rt, most);
     }
 
-    /// Rests after a turn with this event. If there is nothing to do, the first such turn begins a watch, and the next
-    /// one sends the driver to sleep. Returns whether the hub watches the next turn.
+    /// Rests after a turn with this event. If there is nothing to do, begins a watch for the next turn, or, after a
+    /// turn that was watched, sleeps. Returns whether the hub watches the next turn.
     fn rest<R: Wait + Clock, S: StopSignal>(
         &mut self,
         rt: &R,
@@ -131,15 +132,16 @@ impl<C: Cold, H: WatchedHub<Item = C::Item>> Sharing<C, H> {
     /// Takes turns until the run is asked to stop.
     ///
     /// The moments are those of the monotonic clock, in milliseconds, and none is before the last moment of an earlier
-    /// turn. The driver sleeps while the sharing does not run, while its emission waits, and when the chain has ended. It
-    /// is woken when a subscriber comes or goes, when its emission ends, and at the moment of the stop or of the expiry.
+    /// turn. The driver sleeps while the sharing does not run, while its emission waits, and when the chain has ended.
+    /// It is woken when a subscriber subscribes or unsubscribes, when its emission ends, and at the moment of the stop
+    /// or of the expiry.
     ///
-    /// An emission that waits when the run is asked to stop stays in the flow, and the next run goes on with it. Kotlin
-    /// cancels it; so does `hub_mut().cancel()`.
+    /// An emission that waits when the run is asked to stop stays in the flow, and the next run continues with it.
+    /// Kotlin cancels it; so does `hub_mut().cancel()`.
     ///
     /// # Errors
     /// The fault of the last turn: the sharing has ended (`Chain`, `Ended`), or the flow refused a call (`Flow`). After
-    /// `Flow`, call `run` or `turn` to go on.
+    /// `Flow`, call `run` or `turn` to continue.
     ///
     /// # Source
     /// The coroutine that `shareIn` and `stateIn` launch.
@@ -169,7 +171,8 @@ impl<C: Cold, H: WatchedHub<Item = C::Item>> Sharing<C, H> {
     }
 
     /// Takes turns until the chain has ended, as `run` does. The flow has then accepted each item since the last start,
-    /// and none waits. It cannot be asked to stop, and a sharing that starts with its first subscriber waits for that one.
+    /// and none waits. It cannot be asked to stop, and a sharing that starts with its first subscriber waits for that
+    /// subscriber.
     ///
     /// # Errors
     /// The fault of the last turn, as that of `run`.

@@ -21,9 +21,9 @@ use std::alloc::Allocator;
 /// The least number of values that a shared chain keeps for slow subscribers.
 const LEAST_BUFFER: u32 = 64;
 
-/// Shares a chain by a shared flow of its own (`shareIn`). The flow keeps `replay` values for new subscribers, and the
-/// greater of `replay` and 64 in all; if a subscriber is so many behind, the chain waits. The flow issues at most `limit`
-/// numbers.
+/// Shares a chain through a new shared flow (`shareIn`). The flow replays `replay` values to new subscribers, and
+/// buffers the greater of `replay` and 64. The chain waits for a subscriber that is a full buffer behind. The flow
+/// issues at most `limit` numbers.
 ///
 /// # Errors
 /// `Flow(TooLarge)` if `replay` is over 65,536, else `Flow(OutOfMemory)`. The chain is dropped.
@@ -60,7 +60,7 @@ pub fn share_in<C: Cold, A: Allocator + Copy>(
     }
 }
 
-/// Shares a chain by a state flow of its own (`stateIn`). Its value is `initial` until the chain emits an item, and after
+/// Shares a chain through a new state flow (`stateIn`). Its value is `initial` until the chain emits an item, and after
 /// a reset. The flow issues at most `limit` numbers.
 ///
 /// # Errors

@@ -5,8 +5,8 @@ use flow_cold::Cold;
 /// A cold flow that is collected into a hot one, a turn at a time, while its policy says so.
 ///
 /// # Dropping
-/// Dropping it drops the chain, the item that the flow has not accepted, and the hub. What a hub leaves in its flow is said
-/// at its type.
+/// Dropping it drops the chain, the item that the flow has not accepted, and the hub. The hub's type says what the hub
+/// leaves in its flow.
 #[derive(Drop)]
 pub struct Sharing<C: Cold, H> {
     pub(crate) chain: C,
@@ -14,9 +14,9 @@ pub struct Sharing<C: Cold, H> {
     pub(crate) policy: Policy,
     /// An item of the chain that the hub has not accepted.
     pub(crate) kept: Option<C::Item>,
-    /// Since a stop, the hub's emission has still to be cancelled.
+    /// A stop made a cancel of the hub's emission due, which no turn has carried out yet.
     pub(crate) cancel_due: bool,
-    /// Since a stop and its expiry, the flow has still to be reset.
+    /// An expiry made a reset of the flow due, which no turn has carried out yet.
     pub(crate) reset_due: bool,
     /// The chain has ended normally since the last start.
     pub(crate) completed: bool,

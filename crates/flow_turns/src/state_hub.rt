@@ -26,7 +26,7 @@ impl<T: FlowValue, A: Allocator + Copy> StateHub<T, A> {
         StateHub { core, initial }
     }
 
-    /// Lends the core, to look at.
+    /// Returns a reference to the core.
     pub fn core(&self) -> &StateCore<T, A>
         ensures { result.now ≡ state_core_of self.now }
     {

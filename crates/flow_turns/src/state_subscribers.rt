@@ -34,7 +34,7 @@ impl<C: Cold, A: Allocator + Copy> Sharing<C, StateHub<C::Item, A>> {
     /// Receives the next value of a subscriber of a `StateHub`, as `StateCore::next`.
     ///
     /// # Errors
-    /// `OutOfMemory` if the value could not be copied: a later call gives it.
+    /// `OutOfMemory` if the value could not be copied: a later call returns it.
     pub fn next(&mut self, id: SubId) -> Result<Next<C::Item>, FlowFault>
         ensures documented { StateConforms
             (state_core_of (hub_of self.old)) (call.TakeNext (number_of id))
@@ -45,8 +45,8 @@ impl<C: Cold, A: Allocator + Copy> Sharing<C, StateHub<C::Item, A>> {
         self.hub.core.next(id)
     }
 
-    /// Ends a subscription of a `StateHub`, as `StateCore::unsubscribe`. Returns whether it was there. The next turn does not
-    /// count it.
+    /// Ends a subscription of a `StateHub`, as `StateCore::unsubscribe`. Returns whether the subscription existed. The
+    /// next turn does not count it.
     pub fn unsubscribe(&mut self, id: SubId) -> bool
         ensures documented { StateConforms
             (state_core_of (hub_of self.old)) (call.Unsubscribe (number_of id))

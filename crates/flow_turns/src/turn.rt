@@ -82,12 +82,12 @@ impl<C: Cold, H: Hub<Item = C::Item>> Sharing<C, H> {
     /// Takes one turn at the moment `now`, in milliseconds: counts the subscribers, starts or stops the chain as the
     /// policy says, and emits at most one item while the sharing runs.
     ///
-    /// An emission that waits is polled first; once it is done the next item follows, in the same turn. What a refusal
-    /// leaves undone (a kept item, a cancel, a reset) is what the next turn begins with.
+    /// An emission that waits is polled first; once it is done the next item follows, in the same turn. The next turn
+    /// begins with what a refusal left undone: a kept item, a cancel, a reset.
     ///
     /// # Errors
-    /// `Backwards` if `now` is before the last moment: nothing is observed. `Chain` if the chain fails, and `Ended` in each
-    /// later turn. `Flow` if the flow refuses a call; a flow that is busy is reported as an event.
+    /// `Backwards` if `now` is before the last moment: nothing is observed. `Chain` if the chain fails, and `Ended` in
+    /// each later turn. `Flow` if the flow refuses a call; a flow that is busy is reported as an event.
     pub fn turn(&mut self, now: u64) -> Result<Report, ShareFault>
         requires { CanRun C.CanAsk self.old }
         ensures callable { CanRun C.CanAsk self.new }
@@ -98,7 +98,7 @@ impl<C: Cold, H: Hub<Item = C::Item>> Sharing<C, H> {
             → TakesTurn (λ c. C.whole c m)
             (λ c. C.rest c m) H.does H.waits now self.old result self.new }
 
-        // The sharing has ended once a turn has answered a fault of the chain, and every later turn says so.
+        // The sharing has ended once a turn has answered a fault of the chain. Every later turn answers `Ended`.
         ensures ended { has_ended self.new ≡ ended_after result (has_ended self.old) }
         ensures refused_after_end { IsTrue (has_ended self.old) ↔ (result ≡ Err ShareFault.Ended) }
 
