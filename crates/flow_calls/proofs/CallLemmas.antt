@@ -1,4 +1,4 @@
--- Which faults a script has, and how a call reports them. The calls use `script-fault`, `refuses` and `tells-refusal`.
+-- The faults of a script, and how a call reports them. The calls use `script-fault`, `refuses` and `tells-refusal`.
 use Rattle.std.proofs.Common.{◌≡◌, ◌≢◌, ℕ, List, Result, Err, refl, sym, subst, ◌∙◌, inl}
 use Rattle.script_chain_format.specs.declared.reading.fault.ScriptFault.{ScriptFault}
 use Rattle.script_chain_format.specs.declared.reading.fault.ScriptFault.TheVariants.{OutOfMemory, ReadFailed, WriteFailed, NotJson, BadVersion, BadShape, UnknownName, DuplicateName, TooLarge}
@@ -6,7 +6,7 @@ use Rattle.script_chain_format.specs.Results.{Gives}
 use Rattle.flow_script.specs.Telling.{IsRefusal, fault_line, fault_status}
 use Rattle.flow_calls.specs.Calls.{Answers, Fills, IsScriptFault}
 
--- a script is refused by a fault of its own
+-- a script is refused only by a script's fault
 pub script-fault : {A : Type 0} (meant : Result A ScriptFault) (fault : ScriptFault) → Gives meant (Err fault) → IsScriptFault fault
 script-fault meant OutOfMemory gives = tt
 script-fault meant ReadFailed gives = absurd gives

@@ -31,38 +31,38 @@ IsScriptFault ReadFailed = ⊥
 IsScriptFault WriteFailed = ⊥
 IsScriptFault _ = Unit {0}
 
--- the fault that a call reports: the fault itself, or out of memory if there is none for the line of a refusal
+-- the fault that a call reports: the fault itself, or out of memory if a refusal's line has no memory
 abbrev pub ToldAs : ScriptFault → ScriptFault → Type 0
 ToldAs fault told = (told ≡ fault) ⊎ (IsRefusal fault × (told ≡ OutOfMemory))
 
 -- ---- results
 
--- A text is given with status 0, and a fault as its line, with its status, as the programs print them.
+-- A text is given with status 0. A fault is given as its line, with its status, as the programs print it.
 abbrev pub Answers : Result (List ℕ) ScriptFault → List ℕ → List ℕ → ℕ → ℕ → Type 0
 Answers (Ok text) old new needed answered = Fills text 0 old new needed answered
 Answers (Err fault) old new needed answered =
     (told : ScriptFault) × ToldAs fault told × Fills (fault_line told) (fault_status told) old new needed answered
 
--- what `wumsnair_play` gives of a script that means this, or is refused so
+-- what `wumsnair_play` gives for a script with this meaning: its lines or its refusal
 abbrev pub PlaysInto : Result (List ℕ) ScriptFault → List ℕ → List ℕ → ℕ → ℕ → Type 0
 PlaysInto meant old new needed answered =
     (given : Result (List ℕ) ScriptFault) × Gives meant given × Answers given old new needed answered
 
--- the same of `wumsnair_draw`, whose drawing has the lines of the script
+-- what `wumsnair_draw` gives for a script with this meaning: a drawing of its lines, or its refusal
 abbrev pub DrawsInto : Result (List ℕ) ScriptFault → List ℕ → List ℕ → ℕ → ℕ → Type 0
 DrawsInto meant old new needed answered =
     (drawn : Result (String Global) ScriptFault) × Pictures meant drawn × Answers (text_result drawn) old new needed answered
 
 -- ---- explanations
 
--- For a script that is not refused nothing is given. For one that is, some words are given with status 2. A call that is out of
--- memory gives nothing, with status 4.
+-- A script that is not refused gives nothing. A refused one gives some words, with status 2. A call that is out of memory gives nothing,
+-- with status 4.
 abbrev pub Explains : Result (List ℕ) ScriptFault → List ℕ → List ℕ → ℕ → ℕ → Type 0
 Explains (Ok text) old new needed answered = Fills [] 0 old new needed answered
 Explains (Err fault) old new needed answered =
     (IsRefusal fault × (words : List ℕ) × Fills words 2 old new needed answered) ⊎ Fills [] 4 old new needed answered
 
--- what `wumsnair_explain` gives of a script that means this, or is refused so
+-- what `wumsnair_explain` gives for a script with this meaning: nothing, or an explanation of its refusal
 abbrev pub ExplainsInto : Result (List ℕ) ScriptFault → List ℕ → List ℕ → ℕ → ℕ → Type 0
 ExplainsInto meant old new needed answered =
     (given : Result (List ℕ) ScriptFault) × Gives meant given × Explains given old new needed answered
@@ -73,8 +73,8 @@ ExplainsInto meant old new needed answered =
 abbrev pub verdict_status : ℕ → ℕ
 verdict_status judged = if judged == illegal then 5 else judged
 
--- The words of the judge are given with the status of their verdict, with the order of the calls if `with_order` is not 0. A call
--- that is out of memory gives its line.
+-- The words of the judge are given with the status of their verdict; those on a legal record have an order of its calls only if
+-- `with_order` is not 0. A call that is out of memory gives its line.
 abbrev pub JudgesInto : ℕ → List ℕ → List ℕ → ℕ → ℕ → Type 0
 JudgesInto with_order old new needed answered =
     ((judged : ℕ) × (words : List ℕ) × TellsVerdict (not (with_order == 0)) judged words × Fills words (verdict_status judged) old new needed answered)

@@ -24,7 +24,7 @@ pub fn give(text: &[u8], status: u32, out: &mut [u8], needed: &mut usize) -> u32
     status
 }
 
-/// Gives the line of a call that is out of memory, which takes none.
+/// Gives the line of a call that is out of memory. This needs no memory.
 pub fn give_memory(out: &mut [u8], needed: &mut usize) -> u32
     ensures { Fills memory_line 4 out.old out.new needed.new result }
 {

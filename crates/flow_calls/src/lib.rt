@@ -1,9 +1,9 @@
-//! The player of flow scripts and the judge of records as functions for programs in other languages, and for a page in a
-//! browser.
+//! The player of flow scripts and the judge of records as functions for programs in other languages, and for a page in
+//! a browser.
 //!
-//! Each call takes bytes and a buffer. It fills the buffer from its start, and sets `needed` to the number of bytes that there
-//! are to give. If these do not fit, it writes nothing and returns 1 (`Fills`). A script that is refused, and a call that is
-//! out of memory, have the lines and the statuses of the programs (`Answers`).
+//! Each call takes bytes and a buffer. It fills the buffer from its start, and sets `needed` to the length of what it
+//! gives. If that does not fit, it writes nothing and returns 1 (`Fills`). A refused script, and a call that is out of
+//! memory, give the lines and the statuses of the programs (`Answers`).
 #![tactic(auto)]
 
 ghost use Rattle.std.specs.Prelude.{Err};
@@ -23,8 +23,8 @@ use verdict::status_of;
 
 /// Gives the lines that a script writes, as `flow_play` prints them.
 ///
-/// Returns 0 for a script that was played, 1 if the buffer is too short, 2 with the line of its refusal for a script that is
-/// refused, and 4 if it is out of memory.
+/// Returns 0 for a script that was played, 1 if the buffer is too short, 2 with the line of its refusal for a script
+/// that is refused, and 4 if it is out of memory.
 #[unsafe(no_mangle)]
 pub extern "C" fn wumsnair_play(
     alloc: Global,
@@ -49,10 +49,11 @@ fn form_of(form: u32) -> Form {
     }
 }
 
-/// Gives what `flow_draw` prints: a picture as SVG (form 0) or as text (1), or the lines with their rules (any other form).
+/// Gives what `flow_draw` prints: a picture as SVG (form 0) or as text (1), or the lines with their rules (any other
+/// form).
 ///
-/// Returns 0 for a script that was drawn, 1 if the buffer is too short, 2 with the line of its refusal for a script that is
-/// refused, and 4 if it is out of memory.
+/// Returns 0 for a script that was drawn, 1 if the buffer is too short, 2 with the line of its refusal for a script
+/// that is refused, and 4 if it is out of memory.
 #[unsafe(no_mangle)]
 pub extern "C" fn wumsnair_draw(
     alloc: Global,
@@ -89,11 +90,11 @@ fn give_explanation(
     }
 }
 
-/// Gives some lines for people on where and why a script is refused, as `flow_draw` prints them on standard error, and nothing
-/// for a script that is not refused.
+/// Gives some lines for people on where and why a script is refused, as `flow_draw` prints them on standard error.
+/// Gives nothing for a script that is not refused.
 ///
-/// Returns 0 for a script that is not refused, 1 if the buffer is too short, 2 for a script that is refused, and 4, with
-/// nothing given, if it is out of memory.
+/// Returns 0 for a script that is not refused, 1 if the buffer is too short, 2 for a script that is refused, and 4,
+/// with nothing given, if it is out of memory.
 #[unsafe(no_mangle)]
 pub extern "C" fn wumsnair_explain(
     alloc: Global,
@@ -109,11 +110,12 @@ pub extern "C" fn wumsnair_explain(
     }
 }
 
-/// Gives what `flow_judge` prints of a record of calls; of a legal one with the order of its calls if `with_order` is not 0.
+/// Gives what `flow_judge` prints for a record of calls. If it is legal and `with_order` is not 0, also gives an order
+/// of the calls.
 ///
-/// Returns 0 for a record that is legal, 1 if the buffer is too short, 2 for one that is refused, 3 if the search gave up, 4
-/// with the line `out of memory` if it is out of memory (`flow_judge` prints nothing then), and 5 for a record that is
-/// illegal, for which `flow_judge` has the status 1.
+/// Returns 0 for a record that is legal, 1 if the buffer is too short, 2 for one that is refused, 3 if the search gave
+/// up, 4 with the line `out of memory` if it is out of memory (`flow_judge` prints nothing then), and 5 for a record
+/// that is illegal, for which `flow_judge` has the status 1.
 #[unsafe(no_mangle)]
 pub extern "C" fn wumsnair_check(
     alloc: Global,

@@ -7,7 +7,7 @@ use crate::giving::TOO_LONG;
 /// No legal history explains the calls of a record.
 const ILLEGAL: u32 = 5;
 
-/// Returns the status of a call by that of `flow_judge`, in which 1 is an illegal record.
+/// Returns the status of a call by that of `flow_judge`, where 1 is an illegal record.
 pub fn status_of(judged: u8) -> u32
     ensures { result ≡ verdict_status judged }
 {

@@ -1,6 +1,6 @@
-//! Judges recorded calls of a flow, read from standard input: whether the documented flow may have
-//! answered so. `flow_judge --order` tells the order of the calls that does, too; `flow_judge --draw [--text]` draws the calls over
-//! time, as SVG or as text.
+//! Judges recorded calls of a flow, read from standard input: whether the documented flow may have answered so.
+//! `flow_judge --order` also prints an order of the calls that explains them; `flow_judge --draw [--text]` draws the
+//! calls over time, as SVG or as text.
 //!
 //! Statuses: 0 legal, 1 illegal, 2 refused, 3 gave up, 4 out of memory, or a read or a write failed.
 #![tactic(auto)]
@@ -13,7 +13,7 @@ use std::process::ExitCode;
 /// Out of memory, or a read or a write failed.
 const FAILED: u8 = 4;
 
-/// What is to be written.
+/// What the program writes.
 #[derive(Clone, Copy)]
 enum Task {
     Judge,
@@ -21,7 +21,7 @@ enum Task {
     Draw(Form),
 }
 
-/// Reads what is to be written. Returns None if the words say no such.
+/// Returns what the program writes for these words, or None if they are no known arguments.
 fn task_of(words: &[String]) -> Option<Task> {
     match words {
         [] => Some(Task::Judge),
@@ -38,7 +38,7 @@ fn task_of(words: &[String]) -> Option<Task> {
     }
 }
 
-/// The arguments without the program's name.
+/// Returns the arguments without the program's name.
 fn arguments(rt: &HostRuntime) -> io::Result<Vec<String>> {
     let words = args(rt)?.skip(1).collect(rt.alloc())?;
     Ok(words)

@@ -1,13 +1,13 @@
--- What is told of a record, and the status that goes with it. Begin with `TellsVerdict`.
+-- The words on a record, and the status that belongs to them. Begin with `TellsVerdict`.
 use Rattle.std.specs.Prelude.{◌≡◌, ◌⊎◌, ◌++◌, ℕ, Bool, false, List, [], codes}
 
 -- ---- statuses
 
--- some order of the calls has the answers
+-- some order of the calls explains the answers
 abbrev pub legal : ℕ
 legal = 0
 
--- no order has them
+-- no order of the calls explains the answers
 abbrev pub illegal : ℕ
 illegal = 1
 
@@ -21,11 +21,11 @@ gave_up = 3
 
 -- ---- words
 
--- these words begin so
+-- the words begin with `front`
 abbrev pub BeginsWith : List ℕ → List ℕ → Type 0
 BeginsWith front words = (rest : List ℕ) × (words ≡ front ++ rest)
 
--- a legal record has its verdict, and then an order of its calls, if that is wanted
+-- the words on a legal record: its verdict, then an order of its calls; no order if `with_order` is false
 abbrev pub TellsLegal : Bool → List ℕ → Type 0
 TellsLegal with_order words = (order : List ℕ) × (words ≡ codes "legal\n" ++ order) × (with_order ≡ false → order ≡ [])
 

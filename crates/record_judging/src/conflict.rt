@@ -7,7 +7,7 @@ use crate::written::{Sheet, WrittenCall};
 use std::alloc::{AllocError, Global};
 use std::io::{self, Write};
 
-/// Returns when the first of a caller's calls began that is a look that is needed, or that ends at the moment.
+/// Returns when the first of a caller's calls began that is a needed look or ends at the moment.
 fn begin_in(calls: &[WrittenCall], moment: u64, roles: &Roles) -> u64 {
     let mut begin = moment;
     for call in calls {
@@ -19,7 +19,7 @@ fn begin_in(calls: &[WrittenCall], moment: u64, roles: &Roles) -> u64 {
     begin
 }
 
-/// Returns when the first look that is needed began, or the first call that ends at the moment.
+/// Returns when the first call began that is a needed look or ends at the moment.
 fn begin_of(sheet: &Sheet, moment: u64, roles: &Roles) -> u64 {
     let mut begin = moment;
     for calls in sheet.rows.as_slice() {
@@ -36,7 +36,7 @@ fn end_of(call: Option<WrittenCall>) -> u64 {
     }
 }
 
-/// Returns the last of a caller's changes that were over before a moment, and not before `last`.
+/// Returns the last of a caller's changes that was over before a moment, or `last` if all were over before it.
 fn change_in(calls: &[WrittenCall], moment: u64, last: Option<WrittenCall>) -> Option<WrittenCall> {
     let mut last_end = end_of(last);
     let mut last = last;
@@ -64,7 +64,8 @@ fn change_before(sheet: &Sheet, moment: u64) -> Option<WrittenCall> {
 pub struct Conflict {
     /// No order explains the calls that began by this moment.
     pub moment: u64,
-    /// When the last change began that was over before the calls that are needed.
+    /// When the last change began that was over before the needed looks and the calls that end at the moment. If there
+    /// is none, when the first of these looks and calls began.
     pub from: u64,
     roles: Roles,
 }

@@ -1,4 +1,4 @@
-//! Draws calls over time: as text a line for each call, those of one caller below each other.
+//! Draws calls over time. As text, each call has a line, and the lines of one caller are below each other.
 use crate::conflict::Conflict;
 use crate::order::write_line;
 use crate::svg::write_svg;
@@ -13,27 +13,27 @@ pub enum Form {
     Svg,
 }
 
-/// A picture has no more calls.
+/// The most calls in a picture.
 const MOST_CALLS: usize = 1000;
 
-/// A record without a conflict is drawn until so many calls were over.
+/// The number of calls that are over at the end of a picture without a conflict.
 const MOST_OVER: usize = 30;
 
 /// A call in a picture, and the columns in which it begins and ends.
 #[derive(Clone, Copy)]
 pub struct Bar {
     pub caller: usize,
-    /// Which of the callers that are drawn it is.
+    /// The lane of the caller.
     pub lane: usize,
     pub call: WrittenCall,
     pub from: usize,
-    /// The number of columns, if the call is not over in the picture.
+    /// The column in which the call ends, or the number of columns if it is not over in the picture.
     pub to: usize,
     pub is_marked: bool,
 }
 
 impl Bar {
-    /// Returns the last column of which the call takes room.
+    /// Returns the last column in which the call takes room.
     pub fn last_column(self) -> usize {
         self.to.saturating_sub(1).max(self.from)
     }
@@ -159,7 +159,7 @@ fn column_of(moments: &[u64], moment: u64) -> usize {
     }
 }
 
-/// Writes the line of a call over so many columns: `|---|`, or `|--->` if it is not over.
+/// Writes the line of a call over this many columns: `|---|`, or `|--->` if it is not over.
 fn write_bar<W: Write>(out: &mut W, bar: &Bar, columns: usize) -> io::Result<()> {
     for column in 0..columns {
         let is_edge = column == bar.from || column == bar.to;
@@ -176,7 +176,7 @@ fn write_bar<W: Write>(out: &mut W, bar: &Bar, columns: usize) -> io::Result<()>
     write!(out, "{end}")
 }
 
-/// Writes a call after its line over so many columns.
+/// Writes a call after its line over this many columns.
 fn write_row<W: Write>(out: &mut W, sheet: &Sheet, bar: &Bar, columns: usize) -> io::Result<()> {
     write_bar(out, bar, columns)?;
     let mark = if bar.is_marked { " ! " } else { "   " };
@@ -196,7 +196,7 @@ fn write_text<W: Write>(
     Ok(())
 }
 
-/// Writes a picture of calls of which this is the verdict.
+/// Writes a picture of calls; `word` is their verdict.
 pub fn write_picture<W: Write>(
     alloc: Global,
     out: &mut W,

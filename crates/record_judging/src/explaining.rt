@@ -6,7 +6,7 @@ use json_places::{Place, Spot, Text, nearest, not_json};
 use serde_json::Value;
 use std::alloc::{AllocError, Global};
 
-/// Returns where a part of a record begins, of the object that begins here. A line has a call alone.
+/// Returns where a part of a record begins, in the object at `root`. A call that has a line is all of that object.
 fn part_in<'a>(
     text: Text<'a>,
     root: Spot<'a>,
@@ -83,7 +83,7 @@ impl<'a> Report<'a> {
         Ok(())
     }
 
-    /// Tells of a key that the object has and should not have.
+    /// Reports a key that the object should not have.
     fn tell_key(
         &mut self,
         object: Spot<'_>,
@@ -103,7 +103,7 @@ impl<'a> Report<'a> {
         Ok(())
     }
 
-    /// Tells of the key that begins here, which is none of these.
+    /// Reports the key that begins here, which is none of these.
     fn tell_unknown(
         &mut self,
         at: usize,
@@ -117,7 +117,8 @@ impl<'a> Report<'a> {
         self.add_nearest(name, keys)
     }
 
-    /// Tells of the value of this key, which is not what is expected. It may be one of these words.
+    /// Reports the value of this key, which is not what is expected. If it is close to one of these words, suggests
+    /// that word.
     fn tell_value(
         &mut self,
         object: Spot<'_>,
@@ -136,14 +137,14 @@ impl<'a> Report<'a> {
         self.add_nearest(found.value.as_str().unwrap_or(""), words)
     }
 
-    /// Tells that no object begins here.
+    /// Reports that no object begins here.
     fn tell_no_object(&mut self, at: usize, part: Part) -> Result<(), AllocError> {
         self.add_place(at, part)?;
         self.add_value(at)?;
         self.words.push_str(" is no object\n  expected: an object")
     }
 
-    /// Tells of a key that the object has not.
+    /// Reports a key that the object lacks.
     fn tell_missing(
         &mut self,
         at: usize,
@@ -155,7 +156,7 @@ impl<'a> Report<'a> {
         self.add(&["\"", key, "\" is missing\n  expected: ", expected])
     }
 
-    /// Tells why a part of the record is refused, whose head or line begins here.
+    /// Reports why a part of the record is refused, whose head or line begins here.
     fn tell(&mut self, refusal: Refusal, root: Spot<'_>, in_lines: bool) -> Result<(), AllocError> {
         let part = refusal.part;
         let Some(object) = part_in(self.text, root, part, in_lines)? else {
@@ -219,7 +220,7 @@ fn tell_refusal(
     report.tell(refusal, Spot { value: &value, at }, in_lines)
 }
 
-/// Tells why these bytes are no record.
+/// Reports why these bytes are no record.
 fn tell_unread(report: &mut Report<'_>, unread: Unread) -> Result<(), AllocError> {
     let text = report.text;
     let Ok(in_lines) = has_lines(text.alloc, text.bytes) else {

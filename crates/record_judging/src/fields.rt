@@ -17,7 +17,7 @@ pub struct Fields<'a> {
 }
 
 impl<'a> Fields<'a> {
-    /// Asks that it is an object whose keys are all among these.
+    /// Refuses anything but an object whose keys are all among these.
     pub fn has_only(self, keys: &'static [&'static str]) -> Result<(), Unread> {
         let Some(members) = self.value.as_object() else {
             return Err(no_object(self.part));
@@ -30,12 +30,12 @@ impl<'a> Fields<'a> {
         Ok(())
     }
 
-    /// The value of a key, if it is there.
+    /// Returns the value of a key, or `None` if the object lacks it.
     pub fn get(self, key: &'static str) -> Option<&'a Value> {
         self.value.get(key)
     }
 
-    /// The value of a key, which has to be there.
+    /// Returns the value of a key. Refuses an object that lacks it.
     pub fn need(self, key: &'static str, expected: &'static str) -> Result<&'a Value, Unread> {
         match self.value.get(key) {
             Some(value) => Ok(value),
@@ -57,7 +57,7 @@ impl<'a> Fields<'a> {
         }
     }
 
-    /// The word of a key, one of `words` if there are any.
+    /// Returns the word of a key. Refuses a value that is no word; `words` are the words to suggest for it.
     pub fn word(
         self,
         key: &'static str,

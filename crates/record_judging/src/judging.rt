@@ -9,14 +9,14 @@ use flow_check::{
 use flow_law::Config;
 use std::alloc::{AllocError, Global};
 
-/// Turns of the search for each call.
+/// The number of turns of the search for each call.
 const TURNS_A_CALL: u64 = 1000;
 
-/// What came of a record.
+/// What judging a record came to.
 #[derive(Drop)]
 pub enum Outcome {
     Judged(Verdict),
-    /// A call of this number ends or begins too early.
+    /// The call of this number ends or begins too early.
     Faulty(Fault, usize),
 }
 

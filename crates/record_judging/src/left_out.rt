@@ -1,26 +1,27 @@
 //! Finds the calls of an illegal record that are not needed to say why it is illegal.
 //!
-//! A *look* is a call that by its answer changed nothing. An order that explains calls also explains them without a look. So if
-//! the calls are illegal without some looks, these are not needed.
+//! A *look* is a call that, by its answer, changed nothing. An order that explains calls also explains them without a
+//! look. So if the calls are illegal without some looks, these looks are not needed.
 //!
-//! A *change* may have been seen by others. But an order that explains calls also explains them if a change may have happened
-//! at any moment after it began, or not at all. So if the calls are illegal with that, it is not needed.
+//! Other callers may have seen a *change*. But an order that explains calls also explains them if a change may have
+//! happened at any moment after it began, or not at all. So if the calls are illegal with that, the change is not
+//! needed.
 use crate::judging::{Outcome, judge};
 use crate::looks::{Tried, numbers_of};
 use crate::written::{Sheet, WrittenCall};
 use flow_check::Verdict;
 use std::alloc::{AllocError, Global};
 
-/// After so many looks that are needed, all later ones are taken to be needed, except the last ones.
+/// The number of needed looks after which all later ones are taken to be needed, except the last ones.
 const MOST_NEEDED: usize = 8;
 
-/// So many of the last looks are tried one by one.
+/// The number of last looks that are tried one by one.
 const LAST_LOOKS: usize = 8;
 
-/// So many changes are tried.
+/// The number of changes that are tried.
 const MOST_CHANGES: usize = 8;
 
-/// What is asked of a call.
+/// The role of a call when the calls are judged again.
 #[derive(Clone, Copy, PartialEq, Eq)]
 enum Role {
     Needed,
@@ -42,12 +43,12 @@ fn end_by(call: WrittenCall, moment: u64) -> Option<u64> {
 #[derive(Drop)]
 pub struct Roles {
     moment: u64,
-    /// By the numbers of the calls.
+    /// The roles, by the numbers of the calls.
     roles: Vec<Role>,
 }
 
 impl Roles {
-    /// Needs all calls.
+    /// Makes the roles of calls that are all needed.
     pub fn new(alloc: Global, sheet: &Sheet, moment: u64) -> Result<Roles, AllocError> {
         let roles = vec![in alloc; Role::Needed; sheet.count.saturating_add(1)]?;
         Ok(Roles { moment, roles })
@@ -73,8 +74,8 @@ impl Roles {
         }
     }
 
-    /// Returns what of a caller's calls is needed, as it was known at the moment. Calls that were not over are pending; if they
-    /// happen they are answered as they were later.
+    /// Returns the needed calls of a caller, as they were known at the moment. Calls that were not over are pending; if
+    /// they happen, they have the answers that they had later.
     fn needed_row(
         &self,
         alloc: Global,
@@ -90,7 +91,7 @@ impl Roles {
         Ok(row)
     }
 
-    /// Adds each free call of a caller as that of a caller of its own.
+    /// Adds each free call of a caller, as the call of a caller of its own.
     fn add_free(
         &self,
         alloc: Global,
@@ -105,7 +106,7 @@ impl Roles {
         Ok(())
     }
 
-    /// Returns the calls that are asked of.
+    /// Returns the calls to judge: those that are needed, and those that are free.
     fn asked_rows(
         &self,
         alloc: Global,
@@ -119,7 +120,7 @@ impl Roles {
         Ok(rows)
     }
 
-    /// Returns whether it is sure that no order explains the calls.
+    /// Returns whether the calls are illegal; false if the search gave up.
     fn are_illegal(&self, alloc: Global, sheet: &Sheet) -> Result<bool, AllocError> {
         let rows = self.asked_rows(alloc, sheet)?;
         let outcome = judge(alloc, sheet, rows.as_slice())?;
@@ -156,7 +157,7 @@ impl Roles {
         Ok(())
     }
 
-    /// Leaves out as many of these looks as can be, the first ones first, up to one that is needed. Returns how many.
+    /// Leaves out these looks in order, up to the first one that is needed. Returns how many it left out.
     fn leave_out(
         &mut self,
         alloc: Global,
@@ -179,7 +180,7 @@ impl Roles {
         Ok(low)
     }
 
-    /// Leaves out the early looks that are not needed. Mostly none is.
+    /// Leaves out the early looks that are not needed. Usually none of them is needed.
     fn leave_out_early(
         &mut self,
         alloc: Global,

@@ -47,7 +47,7 @@ impl Tried {
     }
 }
 
-/// Adds the numbers of those of a caller's calls that are tried.
+/// Adds the numbers of the tried calls of a caller.
 fn add_numbers(
     numbers: &mut Vec<usize>,
     calls: &[WrittenCall],

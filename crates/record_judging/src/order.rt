@@ -1,11 +1,11 @@
-//! Tells an order of calls in words.
+//! Writes an order of calls in words.
 use crate::judging::parts_of;
 use crate::words::CallWord;
 use crate::written::{Sheet, WrittenAnswer, WrittenCall};
 use std::alloc::{AllocError, Global};
 use std::io::{self, Write};
 
-/// Where a caller stands: at which of its calls, and at which part of that.
+/// The position of a caller: one of its calls, and a part of that call.
 #[derive(Clone, Copy)]
 struct Cursor {
     call: usize,
@@ -13,13 +13,13 @@ struct Cursor {
 }
 
 impl Cursor {
-    /// Returns the caller's call here.
+    /// Returns the caller's call at this position.
     fn call_in(self, sheet: &Sheet, caller: usize) -> Option<WrittenCall> {
         let calls = sheet.rows.get(caller)?;
         calls.get(self.call).copied()
     }
 
-    /// Passes a part of a call that has so many.
+    /// Passes a part of a call that has this many parts.
     fn pass(&mut self, parts: usize) {
         self.part = self.part.saturating_add(1);
         if self.part >= parts {

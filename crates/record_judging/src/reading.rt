@@ -22,7 +22,7 @@ fn row_in(sheet: &Sheet, call: Fields<'_>) -> Result<CallRow, Unread> {
     }
 }
 
-/// Reads the number of a key, or 0 if the calls of a row have no such key.
+/// Reads the number of a key, or 0 if calls of this row do not have the key.
 fn number_of(call: Fields<'_>, row: CallRow, key: &'static str) -> Result<u64, Unread> {
     if is_one_of(key, row.keys) {
         call.whole(key)
@@ -80,7 +80,7 @@ fn add_call(alloc: Global, sheet: &mut Sheet, value: &Value) -> Result<(), Unrea
     Ok(sheet.add(alloc, name, written)?)
 }
 
-/// Reads a value, or tells that it is no JSON.
+/// Reads a value. Refuses bytes that are no JSON.
 pub fn value_of(alloc: Global, bytes: &[u8]) -> Result<Value, Unread> {
     match Value::from_slice(alloc, bytes) {
         Ok(value) => Ok(value),
@@ -138,7 +138,7 @@ pub fn is_blank(line: &[u8]) -> bool {
     true
 }
 
-/// Returns where the line of this number begins and ends, from 0. Lines that are blank do not count.
+/// Returns where the line of this number begins and ends. Numbers begin with 0, and blank lines do not count.
 pub fn line_at(bytes: &[u8], number: usize) -> (usize, usize) {
     let mut begin: usize = 0;
     let mut lines: usize = 0;
@@ -155,7 +155,7 @@ pub fn line_at(bytes: &[u8], number: usize) -> (usize, usize) {
     (begin, begin)
 }
 
-/// Returns the first line that is not blank, or no byte.
+/// Returns the first line that is not blank, or an empty one.
 fn first_line(bytes: &[u8]) -> &[u8] {
     let (begin, end) = line_at(bytes, 0);
     bytes.get(begin..end).unwrap_or(&[])
@@ -187,7 +187,7 @@ fn read_lines(alloc: Global, bytes: &[u8]) -> Result<Sheet, Unread> {
     }
 }
 
-/// Returns whether the first line is all of a record's head, so that its calls stand in lines.
+/// Returns whether the first line is all of a record's head, so that each call has a line.
 pub fn has_lines(alloc: Global, bytes: &[u8]) -> Result<bool, Unread> {
     match value_of(alloc, first_line(bytes)) {
         Ok(value) => Ok(value.get("flow").is_some() && value.get("calls").is_none()),

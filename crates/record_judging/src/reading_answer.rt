@@ -12,7 +12,7 @@ const NO_ANSWER: &str = "no answer of a call that has no \"end\"";
 
 const NOT_PENDING: &str = "a call that may be pending, or an \"end\"";
 
-/// Adds values, or returns false if one of them is none.
+/// Adds values, or returns false if one of the items is no value.
 fn push_values(lists: &mut Vec<u64>, items: &[Value]) -> Result<bool, AllocError> {
     for item in items {
         let Some(number) = item.as_u64() else {
@@ -43,7 +43,7 @@ pub fn list_of(
     })
 }
 
-/// Returns the answer that a word is.
+/// Returns the answer that a word means.
 fn worded(word: &str, form: AnswerForm) -> Option<WrittenAnswer> {
     match (word, form) {
         ("done", AnswerForm::Done | AnswerForm::Ended) => Some(WrittenAnswer::Done),
@@ -58,7 +58,7 @@ fn value_in(answer: &Value, key: &str) -> Option<u64> {
     answer.get(key)?.as_u64()
 }
 
-/// Reads an answer of this form, or None if it is none.
+/// Returns a value as an answer of this form, or None if it is none.
 fn answer_in(answer: &Value, form: AnswerForm) -> Option<WrittenAnswer> {
     if let Some(word) = answer.as_str() {
         return worded(word, form);
@@ -94,7 +94,7 @@ fn answer_of(
     }
 }
 
-/// Asks that a call may have no end.
+/// Refuses a call without an end that has an answer, or that has to have an end.
 fn ask_pending(call: Fields<'_>, row: CallRow) -> Result<(), Unread> {
     if call.get("answer").is_some() {
         return Err(unfit(call.part, "answer", NO_ANSWER, &[]));

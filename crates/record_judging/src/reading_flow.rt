@@ -10,7 +10,7 @@ const A_KIND: &str = "\"state\" or \"shared\"";
 
 const AN_OVERFLOW: &str = "\"suspend\", \"drop_oldest\" or \"drop_latest\"";
 
-/// The most that `replay` and `extra` may come to.
+/// The greatest sum of `replay` and `extra`.
 const MOST_CAPACITY: u64 = 65_536;
 
 const A_CAPACITY: &str = "at most 65536 together with \"replay\"";
@@ -26,7 +26,7 @@ fn overflow_of(flow: Fields<'_>) -> Result<Overflow, Unread> {
     }
 }
 
-/// Asks that the buffer is not too large, and that there is one unless emitters wait.
+/// Refuses a buffer that is too large, and an empty one unless emitters wait.
 fn ask_buffer(replay: u32, extra: u32, overflow: Overflow) -> Result<(), Unread> {
     let capacity = replay as u64 + extra as u64;
     if capacity > MOST_CAPACITY {

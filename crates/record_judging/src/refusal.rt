@@ -8,29 +8,29 @@ pub enum Part {
     Head,
     /// The value of `flow`.
     Flow,
-    /// A call, from 1.
+    /// The call of this number, from 1.
     Call(usize),
 }
 
-/// What is wrong there.
+/// What is wrong with a part.
 #[derive(Clone, Copy)]
 pub enum Wrong {
-    /// The value of a key is not as expected. It may be one of these words.
+    /// The value of a key is not what is expected. `words` are the words that it may be.
     Value {
         key: &'static str,
         expected: &'static str,
         words: &'static [&'static str],
     },
-    /// The object has no such key.
+    /// The object lacks the key.
     Missing {
         key: &'static str,
         expected: &'static str,
     },
-    /// The object has a key that is none of these.
+    /// The object has a key that is not known.
     Key {
         known: &'static [&'static str],
     },
-    /// It is no object.
+    /// The part is no object.
     NoObject,
 }
 
@@ -55,7 +55,7 @@ impl From<AllocError> for Unread {
     }
 }
 
-/// The value of a key is not what is expected.
+/// Returns the refusal of a key's value that is not what is expected.
 pub fn unfit(
     part: Part,
     key: &'static str,
@@ -70,19 +70,19 @@ pub fn unfit(
     Unread::Refused(Refusal { part, wrong })
 }
 
-/// The object has no such key.
+/// Returns the refusal of an object that lacks the key.
 pub fn missing(part: Part, key: &'static str, expected: &'static str) -> Unread {
     let wrong = Wrong::Missing { key, expected };
     Unread::Refused(Refusal { part, wrong })
 }
 
-/// The object has a key that is none of these.
+/// Returns the refusal of an object with a key that is none of these.
 pub fn unknown_key(part: Part, known: &'static [&'static str]) -> Unread {
     let wrong = Wrong::Key { known };
     Unread::Refused(Refusal { part, wrong })
 }
 
-/// The part is no object.
+/// Returns the refusal of a part that is no object.
 pub fn no_object(part: Part) -> Unread {
     let wrong = Wrong::NoObject;
     Unread::Refused(Refusal { part, wrong })

@@ -52,7 +52,7 @@ fn push_part<'a>(
     Ok(())
 }
 
-/// What is answered to a part of a call: `Done`, or nothing if no answer is known.
+/// Returns the answer to a part of a call: `Done`, or `None` if no answer is known.
 fn done_of(call: WrittenCall) -> Option<SharedAnswer<'static>> {
     if call.answer.is_some() {
         Some(SharedAnswer::Done)

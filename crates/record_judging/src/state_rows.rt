@@ -51,7 +51,7 @@ fn part_of(
     }
 }
 
-/// What is answered to a part of a call: `Done`, or nothing if no answer is known.
+/// Returns the answer to a part of a call: `Done`, or `None` if no answer is known.
 fn done_of(call: WrittenCall) -> Option<StateAnswer> {
     if call.answer.is_some() {
         Some(StateAnswer::Done)

@@ -38,7 +38,7 @@ text{fill:#e6edf3}
 }
 </style>";
 
-/// Returns what is written for a letter that is markup, or that no text may have.
+/// Returns what to write for a character that is markup, or that text may not contain.
 fn escape_of(letter: char) -> Option<&'static str> {
     match letter {
         '&' => Some("&amp;"),
@@ -233,7 +233,7 @@ fn write_head<W: Write>(out: &mut W, width: usize, height: usize, word: &str) ->
     )
 }
 
-/// Writes a picture of calls of which this is the verdict.
+/// Writes a picture of calls; `word` is their verdict.
 pub fn write_svg<W: Write>(
     alloc: Global,
     out: &mut W,

@@ -47,7 +47,7 @@ impl Told {
     }
 }
 
-/// Tells why these bytes are no record.
+/// Returns the words on why these bytes are no record.
 fn tell_refusal(
     alloc: Global,
     bytes: &[u8],
@@ -60,7 +60,7 @@ fn tell_refusal(
     Told::new(alloc, "refused: ", words.as_bytes(), REFUSED)
 }
 
-/// Refuses a record of which a call of this number ends or begins too early.
+/// Returns the refusal of a record whose call of this number ends or begins too early.
 fn faulty(fault: Fault, number: usize) -> Unread {
     let (key, expected) = match fault.kind {
         FaultKind::EndsEarly => ("end", "a moment from \"begin\" on"),
@@ -78,7 +78,7 @@ fn faulty(fault: Fault, number: usize) -> Unread {
     Unread::Refused(Refusal { part, wrong })
 }
 
-/// Tells that a record is legal, and in which order of its calls, if that is wanted.
+/// Returns the words on a legal record, with an order of its calls if `with_order`.
 fn tell_legal(alloc: Global, sheet: &Sheet, order: &[usize], with_order: bool) -> io::Result<Told>
     ensures { IfOk result (λ told. TellsVerdict with_order told.status told.words.items) }
 {
@@ -120,7 +120,7 @@ fn judge_bytes(alloc: Global, bytes: &[u8]) -> Result<(Sheet, Verdict), Unread> 
     }
 }
 
-/// Tells what comes of the record of these bytes.
+/// Judges the record of these bytes, and returns the words on it.
 fn tell_record(alloc: Global, bytes: &[u8], with_order: bool) -> io::Result<Told>
     ensures { IfOk result (λ told. TellsVerdict with_order told.status told.words.items) }
 {
@@ -130,8 +130,8 @@ fn tell_record(alloc: Global, bytes: &[u8], with_order: bool) -> io::Result<Told
     }
 }
 
-/// Judges the record of these bytes, writes what comes of it, and returns the status of that. Of a record that is legal the
-/// order of the calls is written too, if that is wanted.
+/// Judges the record of these bytes, writes the verdict, and returns its status. For a legal record it also writes an
+/// order of the calls, if `with_order`.
 ///
 /// # Errors
 /// Fails if memory is refused, and then writes nothing, or if a write fails, and then a first part may be written.
@@ -149,7 +149,7 @@ pub fn judge_record<W: Write>(
     Ok(told.status)
 }
 
-/// Draws the calls of a record of this verdict.
+/// Draws the calls of a record with this verdict.
 fn draw_verdict<W: Write>(
     alloc: Global,
     out: &mut W,
@@ -167,8 +167,8 @@ fn draw_verdict<W: Write>(
     Ok(status)
 }
 
-/// Judges the record of these bytes as `judge_record` does, and draws its calls over time: of an illegal one those around the
-/// conflict, in which those are marked that contradict each other.
+/// Judges the record of these bytes as `judge_record` does, and draws its calls over time. For an illegal record it
+/// draws those around the conflict, and marks those that contradict each other.
 ///
 /// # Errors
 /// As `judge_record`.

@@ -1,4 +1,4 @@
-//! The words of which records are made.
+//! The words of records.
 
 /// A call, as records name it.
 #[derive(Clone, Copy, PartialEq, Eq)]
@@ -18,7 +18,7 @@ pub enum CallWord {
     ResetReplayCache,
 }
 
-/// What a call may be answered.
+/// The answers that a call may have.
 #[derive(Clone, Copy)]
 pub enum AnswerForm {
     Done,
@@ -35,7 +35,7 @@ pub enum AnswerForm {
 }
 
 impl AnswerForm {
-    /// Says what is expected.
+    /// Returns words for what is expected.
     pub fn expected(self) -> &'static str {
         match self {
             AnswerForm::Done => "\"done\"",
@@ -109,7 +109,7 @@ macro_rules! row {
     };
 }
 
-/// All calls. Those of state flows alone come first, and those of shared flows alone last.
+/// All calls: first those of state flows only, last those of shared flows only.
 const CALLS: &[CallRow] = &[
     row!("value", Value, PLAIN, Value, State),
     row!("set", Set, WITH_VALUE, Done, State),

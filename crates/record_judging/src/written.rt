@@ -4,7 +4,7 @@ use flow_law::Config;
 use std::alloc::{AllocError, Global};
 use std::collections::HashMap;
 
-/// A list among those of a sheet.
+/// A list within the lists of a sheet.
 #[derive(Clone, Copy)]
 pub struct Range {
     pub from: usize,
@@ -35,7 +35,7 @@ pub enum WrittenAnswer {
 /// A call as it is written, with the values that its keys have.
 #[derive(Clone, Copy)]
 pub struct WrittenCall {
-    /// Which call of the record it is, from 1.
+    /// The number of the call in the record, from 1.
     pub number: usize,
     pub call: CallWord,
     pub value: u64,
@@ -59,8 +59,7 @@ impl WrittenFlow {
     }
 }
 
-/// A record: its flow, the names of its callers in the order in which they come up, and the calls of
-/// each.
+/// A record: its flow, the names of its callers in the order of their first calls, and the calls of each.
 #[derive(Drop)]
 pub struct Sheet {
     pub flow: WrittenFlow,
@@ -91,7 +90,7 @@ impl Sheet {
         }
     }
 
-    /// Returns the place of a caller, which is a new one if it has not come up yet.
+    /// Returns the place of a caller. A caller without one gets a new place.
     fn place_of(&mut self, alloc: Global, name: &str) -> Result<usize, AllocError> {
         if let Some(place) = self.places.get(name) {
             return Ok(*place);
