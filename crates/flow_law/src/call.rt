@@ -1,4 +1,4 @@
-//! The calls and replies of flows, as histories have them. Only contracts use these types; no value of them is made.
+//! The calls and replies that a history consists of. Only contracts use these types; no value of them is made.
 ghost use Rattle.std.specs.Prelude.{◌≡◌};
 
 use crate::fault::FlowFault;
@@ -9,15 +9,15 @@ use crate::sequence::Sequence;
 pub enum SharedCall<T> {
     TryEmit(T),
     Emit(T),
-    /// With the emission's number.
+    /// `poll` of the emission of this number.
     Poll(u64),
-    /// With the emission's number.
+    /// `cancel` of the emission of this number.
     Cancel(u64),
-    /// `subscribe` and `subscribe_with`, with the name of the subscription and its own first values.
+    /// `subscribe` or `subscribe_with`: the name of the subscription, and its own first values.
     Subscribe(Sequence<u64>, Sequence<T>),
-    /// `next`, with the subscriber's number.
+    /// `next` of the subscriber of this number.
     TakeNext(u64),
-    /// With the subscriber's number.
+    /// `unsubscribe` of the subscriber of this number.
     Unsubscribe(u64),
     ReplayCache,
     ResetReplayCache,
@@ -27,9 +27,9 @@ pub enum SharedCall<T> {
 /// A reply of a shared flow.
 pub enum SharedReply<T> {
     Emitted(Emit),
-    /// Of `try_emit`, `poll`, `cancel` and `unsubscribe`.
+    /// The reply to `try_emit`, `poll`, `cancel` and `unsubscribe`.
     Tested(bool),
-    /// With the subscriber's number.
+    /// The number of the new subscriber.
     Subscribed(u64),
     Received(Next<T>),
     Cached(Sequence<T>),
@@ -44,11 +44,11 @@ pub enum StateCall<T> {
     Set(T),
     TryEmit(T),
     CompareAndSet(T, T),
-    /// With the name of the subscription.
+    /// `subscribe`, with the name of the subscription.
     Subscribe(Sequence<u64>),
-    /// `next`, with the subscriber's number.
+    /// `next` of the subscriber of this number.
     TakeNext(u64),
-    /// With the subscriber's number.
+    /// `unsubscribe` of the subscriber of this number.
     Unsubscribe(u64),
     SubscriptionCount,
     ReplayCache,
@@ -59,9 +59,9 @@ pub enum StateCall<T> {
 pub enum StateReply<T> {
     Done,
     Got(T),
-    /// Of `try_emit`, `compare_and_set` and `unsubscribe`.
+    /// The reply to `try_emit`, `compare_and_set` and `unsubscribe`.
     Answered(bool),
-    /// With the subscriber's number.
+    /// The number of the new subscriber.
     Subscribed(u64),
     Received(Next<T>),
     Counted(u64),

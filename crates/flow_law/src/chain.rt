@@ -6,7 +6,7 @@ use thiserror::Error;
 /// Why a chain failed. A fault ends the chain; the items before it were emitted.
 #[derive(Clone, Copy, Debug, PartialEq, Eq, Error)]
 pub enum ChainFault {
-    /// Memory was refused. The chain can be started again.
+    /// The chain ran out of memory. It can be started again.
     #[error("out of memory")]
     OutOfMemory,
     /// A result is outside the range of its type.
@@ -18,7 +18,7 @@ pub enum ChainFault {
     /// The source failed with this number.
     #[error("the source failed with {0}")]
     Source(u32),
-    /// A chain that is built at run time is at most 64 deep.
+    /// A chain that is built at run time would be more than 64 deep.
     #[error("a chain may be 64 deep")]
     TooDeep,
 }
@@ -26,8 +26,8 @@ pub enum ChainFault {
 /// How a chain ended.
 #[derive(Clone, Copy, Debug, PartialEq, Eq)]
 pub enum End {
-    /// After its last item.
+    /// The chain gave its last item.
     Completed,
-    /// By a fault of the source, of a closure or of the chain itself.
+    /// The source, a closure or the chain itself failed.
     Failed(ChainFault),
 }

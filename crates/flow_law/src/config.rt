@@ -1,22 +1,22 @@
 //! The configuration of a shared flow.
 ghost use Rattle.std.specs.Prelude.{◌≡◌};
 
-/// What an emission does if a subscriber has a whole buffer of values still to receive (`BufferOverflow`). Without a
-/// subscriber the strategy has no effect.
+/// What an emission does if a subscriber is a full buffer behind (`BufferOverflow`). Without a subscriber the strategy
+/// has no effect.
 #[derive(Clone, Copy, Debug, PartialEq, Eq)]
 pub enum Overflow {
     /// The emitter waits.
     Suspend,
-    /// The oldest values are dropped for the subscribers that have not received them.
+    /// The oldest value is dropped: a subscriber that has not received it misses it.
     DropOldest,
     /// The new value is dropped.
     DropLatest,
 }
 
-/// How many values a shared flow keeps, and how many numbers it may issue.
+/// The configuration of a shared flow: how many values it keeps, and how many numbers it may issue.
 ///
-/// It keeps `replay` values for new subscribers, and `extra` more for slow ones (`extraBufferCapacity`), together at
-/// most 65,536. Each subscription and each accepted value takes one number; the flow issues at most `limit` of them.
+/// The flow keeps `replay` values for new subscribers and `extra` more for slow ones (`extraBufferCapacity`), at most
+/// 65,536 together. Each subscription and each accepted value takes a number; the flow issues at most `limit` of them.
 #[derive(Clone, Copy, Debug, PartialEq, Eq)]
 pub struct Config {
     pub replay: u32,
@@ -44,28 +44,28 @@ impl Config {
         }
     }
 
-    /// Keeps so many values for new subscribers.
+    /// Sets how many values the flow keeps for new subscribers.
     pub const fn replay(self, replay: u32) -> Self
         ensures { result ≡ record self { replay = replay } }
     {
         Config { replay, ..self }
     }
 
-    /// Keeps so many more values for slow subscribers (`extraBufferCapacity`).
+    /// Sets how many more values the flow keeps for slow subscribers (`extraBufferCapacity`).
     pub const fn extra(self, extra: u32) -> Self
         ensures { result ≡ record self { extra = extra } }
     {
         Config { extra, ..self }
     }
 
-    /// Sets what an emission does if a subscriber is a whole buffer behind (`onBufferOverflow`).
+    /// Sets what an emission does if a subscriber is a full buffer behind (`onBufferOverflow`).
     pub const fn overflow(self, overflow: Overflow) -> Self
         ensures { result ≡ record self { overflow = overflow } }
     {
         Config { overflow, ..self }
     }
 
-    /// Lets the flow issue at most so many numbers.
+    /// Sets how many numbers the flow may issue.
     pub const fn limit(self, limit: u64) -> Self
         ensures { result ≡ record self { limit = limit } }
     {

@@ -1,4 +1,4 @@
-//! The errors of handles: for each kind of call, an error that lists only what the call can answer.
+//! The errors of handles. Each kind of call has an error type with only the faults that the call can return.
 ghost use Rattle.std.specs.Prelude.{◌≡◌};
 ghost use Rattle.flow_law.specs.HandleFaults.{memory_fault, limit_fault, busy_fault, unsupported_fault, number_fault, emit_now_fault, try_next_fault};
 
@@ -6,7 +6,7 @@ use crate::fault::FlowFault;
 use std::fmt::{Debug, Display};
 use thiserror::Error;
 
-/// Memory was refused. The call can be made again.
+/// The call ran out of memory. It can be made again.
 #[derive(Clone, Copy, Debug, PartialEq, Eq, Error)]
 #[error("out of memory")]
 pub struct OutOfMemory;
@@ -26,7 +26,7 @@ pub struct Busy;
 #[error("a state flow's replay cache cannot be reset")]
 pub struct Unsupported;
 
-/// Why a call that issues a number fails: an `emit` or a `subscribe`.
+/// Why an `emit` or a `subscribe` fails: a call that needs a number.
 #[derive(Clone, Copy, Debug, PartialEq, Eq, Error)]
 pub enum NumberError {
     #[error("out of memory")]
@@ -59,7 +59,7 @@ pub enum TryNextError {
     Busy,
 }
 
-/// The value of a refused call of a handle, with the reason.
+/// The value of a handle's refused call, with the reason.
 #[derive(Debug, PartialEq, Eq, Drop, Error)]
 #[error_bound(T: Debug, E: Debug + Display)]
 #[error("{error}")]

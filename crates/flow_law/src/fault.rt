@@ -4,10 +4,10 @@ ghost use Rattle.std.specs.Prelude.{◌≡◌};
 use std::fmt::Debug;
 use thiserror::Error;
 
-/// Why a call of a flow was refused. A refused call of a flow has changed nothing, and gives back what it was given.
+/// Why a flow refused a call. A refused call has changed nothing, and returns what it was given.
 #[derive(Clone, Copy, Debug, PartialEq, Eq, Error)]
 pub enum FlowFault {
-    /// Memory was refused. The call can be made again.
+    /// The call ran out of memory. It can be made again.
     #[error("out of memory")]
     OutOfMemory,
     /// `replay + extra` is over 65,536.

@@ -22,7 +22,7 @@ pub struct Knowledge<E> {
     pub name: Sequence<u64>,
     /// The number of seats made through it.
     pub made: u64,
-    /// The number of exchanges at the gate that it lost.
+    /// The number of its attempts that failed because of another caller.
     pub lost: u64,
     /// The history that it has seen.
     pub seen: Sequence<HistoryEvent<E>>,

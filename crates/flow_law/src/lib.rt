@@ -1,7 +1,8 @@
 //! The types, definitions and laws of flows.
 //!
-//! Only copies and comparisons of values run here. `specs/` says what a shared flow, a state flow and a chain are, what
-//! a history of one is, and when a core stands for a state. Each crate above is proved against these definitions.
+//! The code here makes configurations and errors, and copies, compares and packs values. `specs/` defines shared flows,
+//! state flows and chains, their histories, and the states that a core stands for. The other crates are proved against
+//! these definitions.
 #![tactic(auto)]
 
 mod call;

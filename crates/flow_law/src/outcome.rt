@@ -15,14 +15,14 @@ pub enum Next<T> {
 #[derive(Clone, Copy, Debug, PartialEq, Eq)]
 pub enum Emit {
     Done,
-    /// The emitter waits. Poll or cancel the emission by this number, which is the value's.
+    /// The emitter waits. This is the number of its value, by which the emission is polled or cancelled.
     Queued(u64),
 }
 
 /// How a `drain` ended.
 #[derive(Clone, Copy, Debug, PartialEq, Eq)]
 pub enum Drained {
-    /// As many values were taken as the call asked for. There may be more.
+    /// The call took as many values as it was asked for. There may be more.
     Most,
     /// The subscriber has received all values.
     Empty,

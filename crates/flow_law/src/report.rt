@@ -9,11 +9,11 @@ use thiserror::Error;
 /// What happened in a turn.
 #[derive(Clone, Copy, Debug, PartialEq, Eq)]
 pub enum Event {
-    /// Another caller was inside the flow at that moment. The next turn goes on there.
+    /// Another caller was inside the flow at that moment. The next turn continues from this point.
     Busy,
-    /// The sharing does not run.
+    /// The sharing is not running.
     Idle,
-    /// The flow accepted an item, and nothing waits.
+    /// The flow accepted an item, and its emission is done.
     Put,
     /// The flow accepted an item, and its emission waits for subscribers.
     Queued,
@@ -28,7 +28,7 @@ pub enum Event {
 /// What a turn observed and did.
 #[derive(Clone, Copy, Debug, PartialEq, Eq)]
 pub struct Report {
-    /// What the number of subscribers asked for.
+    /// The command that followed from the number of subscribers.
     pub command: Command,
     /// What happened.
     pub event: Event,
@@ -37,17 +37,17 @@ pub struct Report {
 /// Why a turn was refused, or no sharing was made.
 #[derive(Clone, Copy, Debug, PartialEq, Eq, Error)]
 pub enum ShareFault {
-    /// The moment is before the last one, which this has. The subscribers were counted, and nothing was observed.
+    /// The moment is before the last one, which is given here. The turn counted the subscribers and did nothing else.
     #[error("the moment is before the last one, {0}")]
     Backwards(u64),
-    /// An earlier turn has answered a fault of the chain. Nothing has changed.
+    /// An earlier turn has reported a fault of the chain. Nothing has changed.
     #[error("the sharing has ended by a fault of its chain")]
     Ended,
-    /// The chain failed, and the sharing has ended. Later turns answer `Ended`.
+    /// The chain failed, and the sharing has ended. Later turns return `Ended`.
     #[error("the chain failed: {0}")]
     Chain(ChainFault),
-    /// The flow refused a call. The command of the observation holds, though no report has it, and the next turn goes
-    /// on there.
+    /// The flow refused a call. If the turn had made an observation, its command stays in force, although no report has
+    /// it. The next turn continues from this point.
     #[error("the flow refused a call: {0}")]
     Flow(FlowFault),
 }

@@ -3,8 +3,7 @@ ghost use Rattle.std.specs.Prelude.{◌≡◌, List, []};
 
 use std::marker::{Model, PhantomData};
 
-/// A list in a type that only contracts use. No value of this type is made, so it has no room for items, and nothing is
-/// dropped with it.
+/// A list in a type that only contracts use. No value of this type is made, so it stores no items and drops none.
 #[derive(Drop)]
 pub struct Sequence<T> {
     items: PhantomData<T>,

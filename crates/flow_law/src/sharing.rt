@@ -1,33 +1,33 @@
 //! When a shared cold flow runs (`SharingStarted`).
 ghost use Rattle.std.specs.Prelude.{◌≡◌};
 
-/// A `stop` or an `expire` that never comes.
+/// The `stop` of a sharing that never stops, or the `expire` of one that never resets its flow.
 pub const NEVER: u64 = u64::MAX;
 
 /// When the sharing of a cold flow starts and stops, depending on the number of subscribers (`SharingStarted`).
 #[derive(Clone, Copy, Debug, PartialEq, Eq)]
 pub enum Started {
-    /// From the first observation on. It never stops.
+    /// Starts at the first observation and never stops.
     Eagerly,
-    /// From the first subscriber on. It never stops.
+    /// Starts at the first subscriber and never stops.
     Lazily,
-    /// While there are subscribers, and `stop` milliseconds longer (`stopTimeoutMillis`). It starts again with the next
-    /// subscriber. `expire` milliseconds after the stop the flow is reset (`replayExpirationMillis`): a shared flow
-    /// empties its replay cache, a state flow gets its initial value again. With a `stop` of `NEVER` it never stops
-    /// once it has started, and with an `expire` of `NEVER` the flow is never reset.
+    /// Runs while there are subscribers, and `stop` milliseconds longer (`stopTimeoutMillis`). It starts again with
+    /// the next subscriber. `expire` milliseconds after the stop the flow is reset (`replayExpirationMillis`): a
+    /// shared flow empties its replay cache, a state flow gets its initial value again. If `stop` is `NEVER`, it never
+    /// stops once it has started. If `expire` is `NEVER`, the flow is never reset.
     WhileSubscribed { stop: u64, expire: u64 },
 }
 
-/// What an observation asks of a sharing.
+/// The command that an observation gives to a sharing.
 #[derive(Clone, Copy, Debug, PartialEq, Eq)]
 pub enum Command {
-    /// Run: the cold flow is collected from its beginning.
+    /// Start running: collect the cold flow from its beginning.
     Start,
     /// Stop running.
     Stop,
     /// Stop running, unless it has stopped before, and reset the flow.
     StopAndReset,
-    /// Go on running, or not running.
+    /// Keep running, or stay stopped.
     Keep,
 }
 

@@ -22,17 +22,17 @@ pub struct SharedFlowState<T> {
     pub config: Config,
     /// Every value ever emitted, in order. It is never cut.
     pub emitted: Sequence<Numbered<T>>,
-    /// The number of values that had been emitted at the last reset.
+    /// The number of values that were emitted before the last reset.
     pub reset_mark: u64,
     /// The values whose emitters wait, the first one in front.
     pub queue: Sequence<Numbered<T>>,
-    /// In the order in which they subscribed, so in the order of their numbers.
+    /// The subscribers in the order in which they subscribed, which is the order of their numbers.
     pub subscribers: Sequence<Subscriber<T>>,
-    /// The number of numbers issued. The next number is one more.
+    /// How many numbers the flow has issued. The next number is one more.
     pub issued: u64,
 }
 
-/// A subscriber's number, and the last value that it got, or none yet.
+/// A subscriber of a state flow: its number, and the last value that it got, if any.
 pub struct StateSubscriber<T> {
     pub number: u64,
     pub last: Option<T>,
@@ -40,12 +40,12 @@ pub struct StateSubscriber<T> {
 
 /// The state of a documented state flow.
 pub struct StateFlowState<T> {
-    /// The greatest number of numbers that it issues.
+    /// How many numbers the flow issues at most.
     pub limit: u64,
     pub value: T,
-    /// In the order in which they subscribed.
+    /// The subscribers in the order in which they subscribed.
     pub subscribers: Sequence<StateSubscriber<T>>,
-    /// The number of numbers issued. The next number is one more.
+    /// How many numbers the flow has issued. The next number is one more.
     pub issued: u64,
 }
 

@@ -18,14 +18,14 @@ pub use packed::{Half, Packed};
 
 /// A value that a flow can keep, and give to several subscribers.
 ///
-/// A type that holds more than its value, such as a buffer with spare room, needs a `Model` whose value is what two
-/// copies have in common: contracts compare values by it.
+/// A type that holds more than its value, for example a buffer with spare room, needs a `Model` whose value is what two
+/// copies have in common, because contracts compare values by it.
 pub trait FlowValue: Drop {
     /// Whether two values are the same.
     ghost is_same: { Self → Self → Bool };
 
-    /// That a copy of any value of the type never fails, because it takes no memory. A type that does not say so claims
-    /// nothing.
+    /// The claim that a copy of a value of the type never fails, because it takes no memory. By default a type makes no
+    /// claim.
     ghost IsAlwaysCopied: { Type 0 } = { ⊥ };
 
     /// Copies the value, or fails with `OutOfMemory`.
@@ -38,6 +38,6 @@ pub trait FlowValue: Drop {
     fn same(&self, other: &Self) -> bool
         ensures { result ≡ is_same self.now other.now };
 
-    /// It holds of equal values, and of no others.
+    /// `is_same` holds of equal values, and of no others.
     ghost is_same_exact: { (x y : Self) → IsTrue (is_same x y) ↔ x ≡ y };
 }

@@ -1,4 +1,4 @@
-//! Boxed values as values of flows. A box is what it contains.
+//! Boxed values as values of flows. Contracts see only the contents of a box.
 ghost use Rattle.std.specs.Prelude.{◌≡◌, ◌↔◌, IsTrue};
 ghost use Rattle.flow_law.specs.Values.{exact_eq, exact_partial_eq, exact_hash};
 
@@ -9,7 +9,7 @@ use std::fmt;
 use std::hash::{Hash, Hasher};
 use std::marker::Model;
 
-/// A boxed value. Two are the same if their contents are.
+/// A boxed value. Two boxed values are the same if their contents are.
 #[derive(Drop)]
 pub struct Boxed<T: FlowValue, A: Allocator + Copy = Global> {
     boxed: Box<T, A>,
@@ -22,7 +22,7 @@ impl<T: FlowValue, A: Allocator + Copy> Model for Boxed<T, A> {
 }
 
 impl<T: FlowValue, A: Allocator + Copy> Boxed<T, A> {
-    /// Makes a value of a box.
+    /// Makes a flow value from a box.
     pub fn new(boxed: Box<T, A>) -> Self
         ensures { result ≡ boxed.value }
     {

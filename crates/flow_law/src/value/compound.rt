@@ -1,4 +1,4 @@
-//! Values made of others. A copy is refused if a copy of a part is.
+//! Options and tuples as values of flows. A copy fails if the copy of a part fails.
 ghost use Rattle.std.specs.Prelude.{◌≡◌, ◌&&◌, Bool, true, false, Ok, Some, None, nat_eq, ⊤};
 ghost use Rattle.flow_law.specs.Values.{is_same_option, is_same_pair, is_same_triple};
 

@@ -1,4 +1,4 @@
-//! Lists as values of flows. A list is its values in order, wherever they are stored and however much room there is.
+//! Lists as values of flows. Contracts see the values in order, not where they are stored or how much room is left.
 ghost use Rattle.std.specs.Prelude.{◌≡◌, ◌↔◌, IsTrue, IfOk, IfErr};
 ghost use Rattle.std.specs.Fmt.{debug_list};
 ghost use Rattle.std.specs.Hash as fed;
@@ -11,7 +11,7 @@ use std::fmt;
 use std::hash::{Hash, Hasher};
 use std::marker::Model;
 
-/// A list of values. Two are the same if their values are, in order.
+/// A list of values. Two lists are the same if their values are, in order.
 #[derive(Drop)]
 pub struct Items<T: FlowValue, A: Allocator + Copy = Global> {
     values: Vec<T, A>,
@@ -26,7 +26,7 @@ impl<T: FlowValue, A: Allocator + Copy> Model for Items<T, A> {
 }
 
 impl<T: FlowValue, A: Allocator + Copy> Items<T, A> {
-    /// Makes a value of a list.
+    /// Makes a flow value from a list.
     pub fn new(values: Vec<T, A>) -> Self
         ensures { result ≡ values.items }
     {

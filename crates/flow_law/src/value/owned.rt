@@ -1,4 +1,4 @@
-//! Texts as values of flows. A text is its bytes, wherever they are stored and however much room there is.
+//! Texts as values of flows. Contracts see the bytes, not where they are stored or how much room is left.
 ghost use Rattle.std.specs.Prelude.{◌≡◌, ◌↔◌, IsTrue, IfOk, Some, nat_eq, string_bytes};
 ghost use Rattle.std.specs.Fmt.{debug_str, styled_text};
 ghost use Rattle.std.specs.Hash as fed;
@@ -12,7 +12,7 @@ use std::fmt;
 use std::hash::{Hash, Hasher};
 use std::marker::Model;
 
-/// A text. Two are the same if their bytes are.
+/// A text. Two texts are the same if their bytes are.
 #[derive(Drop)]
 pub struct Text<A: Allocator + Copy = Global> {
     text: String<A>,
@@ -27,7 +27,7 @@ impl<A: Allocator + Copy> Model for Text<A> {
 }
 
 impl<A: Allocator + Copy> Text<A> {
-    /// Makes a value of a text, which is not copied.
+    /// Makes a flow value from a text, which is not copied.
     pub fn new(text: String<A>) -> Self
         ensures { result ≡ string_bytes text }
     {

@@ -6,10 +6,10 @@ ghost use Rattle.std.proofs.Common.{sym, ◌∙◌};
 ghost use Rattle.flow_law.specs.Packs.{below_word, short_below, byte_below, bit_below, scalar_below, none_below, bit_once, signed_once};
 ghost use mir.Syntax.{w8, w16, w32, w64};
 
-/// A type whose values are packed into a word. A value has one pack, and two values never share one, so words are
+/// A type whose values are packed into a word. Each value has one pack, and no two values share one, so words can be
 /// compared instead of values.
 pub trait Packed {
-    /// Which words are packs.
+    /// Whether a word is a pack.
     ghost packs: { ℕ → Type 0 };
 
     /// The value of a pack.
@@ -25,10 +25,10 @@ pub trait Packed {
         requires { packs word }
         ensures { result ≡ value_of word };
 
-    /// A pack fits a word.
+    /// Every pack fits a word.
     ghost packs_fit: { (w : ℕ) → packs w → w < 2 ^ 64 };
 
-    /// A value has one pack.
+    /// Each value has only one pack.
     ghost one_pack: { (v w : ℕ) → packs v → packs w → value_of v ≡ value_of w → v ≡ w };
 }
 

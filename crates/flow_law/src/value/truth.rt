@@ -1,4 +1,4 @@
-//! A truth value as a value of flows.
+//! Booleans as values of flows.
 ghost use Rattle.std.specs.Bool.{beq};
 ghost use Rattle.std.specs.Prelude.{◌≡◌, Ok, ⊤};
 ghost use Rattle.flow_law.specs.Values.{truth_exact};
