@@ -13,17 +13,17 @@ use Rattle.flow_law.specs.SharedFlow.{SharedFlowState}
 use Rattle.flow_law.specs.SharedHistory.{History, IsLegal, state_after}
 
 module _ {T : Type 0} where
-  -- the value that a call gave to the flow, if it gave one
+  -- the value that the flow accepted by this call, if it accepted one
   abbrev pub accepted_by : SharedCall T → SharedReply T → List T
   accepted_by (call.TryEmit v) (reply.Tested true) = v ∷ []
   accepted_by (call.Emit v) (reply.Emitted e) = v ∷ []
   accepted_by _ _ = []
 
-  -- the values that these calls gave to the flow, in order
+  -- the values that the flow accepted by these calls, in order
   abbrev pub accepted : List (Said (SharedCall T) (SharedReply T)) → List T
   accepted = flat_map (λ (e : Said (SharedCall T) (SharedReply T)). accepted_by e.call e.reply)
 
-  -- the call ends an emission
+  -- the call is a `cancel`
   abbrev pub is_cancel : SharedCall T → Bool
   is_cancel (call.Cancel e) = true
   is_cancel _ = false
@@ -36,8 +36,8 @@ module _ {T : Type 0} where
   abbrev pub emitted_and_queued : SharedFlowState T → List T
   emitted_and_queued s = map (λ e. e.value) (s.emitted ++ s.queue)
 
--- In a flow that suspends, what was emitted and what is queued is what the flow accepted, in order, if no emission was
--- cancelled.
+-- the law: in a flow that suspends, the emitted values and then the queued ones are what the flow accepted, in order, if no
+-- emission was cancelled
 abbrev pub LawAccepted : Type 0 → Type 0
 LawAccepted T = (config : Config) (h : History T) → IsLegal config h → config.overflow ≡ Suspend → NoneCancelled h
     → emitted_and_queued (state_after config h) ≡ accepted (map (λ e. e.what) h)

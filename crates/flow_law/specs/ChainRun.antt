@@ -1,9 +1,9 @@
 -- What a cold chain gives (`Flow`): an entry for each ask before its end, and that end.
 --   run        gives 5 (pends (gives 6 (ends Completed)))
---   entries    Some 5, None, Some 6        one for each ask: an item, or None where the chain pends
+--   entries    Some 5, None, Some 6        one for each ask: an item, or None if the chain pends
 --   items      5, 6                        what a collection of the chain emits
 --   ending     Completed
--- A chain's meaning by lists, of which pending entries are no part, is `meaning_of` of `Chain`.
+-- `meaning_of` of `Chain` gives a chain's meaning as a list and an end, without pending entries.
 use Rattle.std.specs.Prelude.{◌≡◌, ◌⊎◌, ℕ, ◌+◌, List, [], ◌∷◌, ◌++◌, Option, Some, None}
 use Rattle.flow_law.specs.declared.chain.ChainFault.TheVariants.{OutOfMemory}
 use Rattle.flow_law.specs.declared.chain.End.{End}
@@ -45,7 +45,7 @@ module _ {T : Type 0} where
   list_run [] = ends Completed
   list_run (x ∷ xs) = gives x (list_run xs)
 
-  -- all items and the end, or a first part of the items and out of memory
+  -- collecting the run may give these items and this end: all items and its end, or only the first ones and out of memory
   abbrev pub Collects : ChainRun T → List T → End → Type 0
   Collects r xs e =
       ((xs ≡ items r) × (e ≡ ending r))

@@ -14,25 +14,25 @@ use Rattle.flow_law.specs.SharedFlow.{SharedFlowState, first_state, cache}
 use Rattle.flow_law.specs.SharedStep as flow
 use Rattle.flow_law.specs.StateFlow.{StateHistory, first_state_flow, IsLegalState}
 
--- the last value alone is kept, and at most so many numbers are issued
+-- the configuration that keeps only the last value, with this limit
 abbrev pub newest_only : ℕ → Config
 newest_only limit = record { replay = 1; extra = 0; overflow = DropOldest; limit = limit }
 
--- a shared flow with one subscriber
+-- a shared flow that is played beside a state flow, with one subscriber
 pub record Beside (T : Type 0) : Type 0 where
   pub shared : SharedFlowState T
   -- the number of the one subscriber, once it subscribed
   pub number : Option ℕ
-  -- the last value that was passed on
+  -- the last value that its subscriber got
   pub last : Option T
 
--- the number that a subscriber was given, if it was not refused
+-- the number of a new subscriber, if it was not refused
 abbrev pub given : Result ℕ FlowFault → Option ℕ
 given (Ok number) = Some number
 given (Err fault) = None
 
 module _ {T : Type 0} where
-  -- it emitted the first value of the state flow
+  -- the shared flow after it emitted the first value of the state flow
   abbrev pub beside : ℕ → T → Beside T
   beside limit first = record { shared = (flow.emit first (first_state (newest_only limit))).after; number = None; last = None }
 
@@ -44,7 +44,7 @@ module _ {T : Type 0} where
   abbrev pub subscribing : Beside T → Beside T
   subscribing m = record { shared = (flow.subscribe [] m.shared).after; number = given (flow.subscribe [] m.shared).reply; last = None }
 
-  -- the last value that was passed on, after this answer of the shared flow
+  -- the last value that the subscriber got, after this answer of the shared flow
   abbrev pub passed_on : Result (Next T) FlowFault → Option T → Option T
   passed_on (Ok (Value v)) last = Some v
   passed_on _ last = last
@@ -57,7 +57,7 @@ module _ {T : Type 0} where
   abbrev pub leaving : ℕ → Beside T → Beside T
   leaving k m = record m { shared = (flow.unsubscribe k m.shared).after }
 
-  -- what the shared flow does at an event of the state flow: it emits what is set, and u's calls stand in their places
+  -- what the shared flow does at an event of the state flow: it emits each value that is set, and its subscriber makes u's calls
   abbrev pub follows : ℕ → Beside T → StateCall T → StateReply T → Beside T
   follows u m (Set x) r = emitting x m
   follows u m (TryEmit x) r = emitting x m
@@ -67,14 +67,14 @@ module _ {T : Type 0} where
   follows u m (Unsubscribe n) (Answered r) = if n == u then option_map_or (λ k. leaving k m) m.number m else m
   follows u m _ _ = m
 
-  -- what the state flow's subscriber gets where the shared flow's gets this: a value that is the last one passed on becomes Empty
+  -- what u gets from the state flow if the shared flow answers this: Empty for a value that is the same as the last one
   abbrev pub Conflated : Option T → Result (Next T) FlowFault → Next T → Type 0
   Conflated last (Ok (Value v)) r = ((last ≡ Some v) × (r ≡ Empty)) ⊎ ((last ≢ Some v) × (r ≡ Value v))
   Conflated last (Ok Empty) r = r ≡ Empty
   Conflated last (Ok Gone) r = r ≡ Gone
   Conflated last (Err fault) r = ⊥
 
-  -- a reply of the state flow is the one that the shared flow beside it gives, as far as it is watched
+  -- a reply of the state flow agrees with the shared flow: its value is the shared flow's cache, and u gets what `Conflated` says
   abbrev pub Agrees : ℕ → Beside T → StateCall T → StateReply T → Type 0
   Agrees u m GetValue (Got v) = cache m.shared ≡ v ∷ []
   Agrees u m ReplayCache (Cached vs) = cache m.shared ≡ vs
@@ -91,6 +91,6 @@ module _ {T : Type 0} where
   abbrev pub Conflates : T → StateHistory T → Type 0
   Conflates first h = (u unreached : ℕ) → length h < unreached → AgreeAll u (beside unreached first) h
 
--- the law: every legal history of a state flow conflates so
+-- the law: `Conflates` holds of every legal history of a state flow
 abbrev pub LawConflated : Type 0 → Type 0
 LawConflated T = (limit : ℕ) (first : T) (h : StateHistory T) → IsLegalState (first_state_flow limit first) h → Conflates first h

@@ -1,4 +1,4 @@
--- How a subscriber of a state flow comes to the current value (`StateFlow`).
+-- How a subscriber of a state flow gets the current value (`StateFlow`).
 -- Begin with `Converges`: what one `next` gives, by the last value that the subscriber got.
 use Rattle.std.specs.Prelude.{◌≡◌, ◌≢◌, ◌⊎◌, ℕ, ◌==◌, if◌then◌else◌, [], ◌∷◌, ◌++◌, Option, Some, None, IsSome}
 use Rattle.flow_law.specs.declared.history.HistoryEvent.{HistoryEvent}
@@ -46,7 +46,7 @@ module _ {T : Type 0} where
   abbrev pub IsThere : ℕ → StateFlowState T → Type 0
   IsThere u s = IsSome (last_of u s.subscribers)
 
-  -- how u comes to the current value of a flow that had this history
+  -- how u gets the current value of a flow that had this history
   pub record Converges (u : ℕ) (first : StateFlowState T) (before : StateHistory T) : Type 0 where
     -- `next` gives Empty if the last value that u got is the current one, else the current one
     pub gives : (r : Next T) → IsThere u (state_after_all first before)
@@ -60,7 +60,7 @@ module _ {T : Type 0} where
         → last_got u (before ++ e ∷ since)
         ≡ Some (state_after_all first (before ++ e ∷ since)).value
 
--- the law: after every legal history, each subscriber comes to the current value
+-- the law: after every legal history, each subscriber gets the current value as `Converges` says
 abbrev pub LawCurrent : Type 0 → Type 0
 LawCurrent T = (limit : ℕ) (first : T) (before : StateHistory T)
     → IsLegalState (first_state_flow limit first) before

@@ -1,11 +1,11 @@
--- What one token has itself done, of all that it has seen.
+-- What one token has done itself, among all that it has seen.
 -- Begin with `Made`: what any number of its calls add to that.
 use Rattle.std.specs.Prelude.{◌≡◌, ℕ, ◌+◌, nat_eq, Bool, List, [], ◌∷◌, ◌++◌, if◌then◌else◌}
 use Rattle.flow_law.specs.declared.history.HistoryEvent.{HistoryEvent}
 use Rattle.flow_law.specs.declared.history.Knowledge.{Knowledge}
 use Rattle.flow_law.specs.Values.{is_same_list}
 
--- two names are one
+-- two names are the same
 abbrev pub is_same_name : List ℕ → List ℕ → Bool
 is_same_name = is_same_list nat_eq
 
@@ -28,7 +28,7 @@ module _ {E : Type 0} where
   abbrev pub Extends : List (HistoryEvent E) → List (HistoryEvent E) → Type 0
   Extends earlier later = (more : List (HistoryEvent E)) × (later ≡ earlier ++ more)
 
-  -- The token has made these calls and no others since, in this order. No seat was made through it.
+  -- The token has since made just these calls, in this order, and no seat was made through it.
   pub record Made (added : List E) (before after : Knowledge E) : Type 0 where
     pub name : after.name ≡ before.name
     pub made : after.made ≡ before.made

@@ -4,7 +4,7 @@
 --   offers          append, the emitter waits  unchanged, false
 --   queues          the value waits            unchanged, false
 --   drops_latest    unchanged, done            unchanged, true
---   drops_oldest    append, all catch up       the same, true
+--   drops_oldest    append, drop the oldest    the same, true
 use Rattle.std.specs.Prelude.{◌+◌, ◌-◌, Bool, true, false, not, ◌&&◌, ◌||◌, ◌==◌, nat_lt, if◌then◌else◌, [], ◌∷◌, ◌++◌, length}
 use Rattle.flow_law.specs.declared.config.Overflow.{Overflow}
 use Rattle.flow_law.specs.declared.config.Overflow.TheVariants.{Suspend, DropOldest, DropLatest}
@@ -12,7 +12,7 @@ use Rattle.flow_law.specs.declared.outcome.Emit.{Emit}
 use Rattle.flow_law.specs.declared.outcome.Emit.TheVariants.{Done, Queued}
 use Rattle.flow_law.specs.SharedFlow.{Numbered, SharedFlowState, Answer, answer, issuing, capacity, is_blocked, raise_to}
 
--- what becomes of an emission
+-- what an emission does
 pub data EmitCase : Type 0 where
   appends : EmitCase
   offers : EmitCase
@@ -20,23 +20,23 @@ pub data EmitCase : Type 0 where
   drops_latest : EmitCase
   drops_oldest : EmitCase
 
--- what becomes of an emission into a flow that is blocked
+-- what an emission into a blocked flow does
 abbrev pub when_blocked : Overflow → EmitCase
 when_blocked Suspend = queues
 when_blocked DropLatest = drops_latest
 when_blocked DropOldest = drops_oldest
 
--- `emit` makes the queue longer
+-- `emit` adds the value to the queue
 abbrev pub is_suspended : EmitCase → Bool
 is_suspended queues = true
 is_suspended _ = false
 
 module _ {T : Type 0} where
-  -- the value is accepted at once: there is no subscriber, or there is a buffer with room for all
+  -- the flow accepts a value at once: it has no subscriber, or it has a buffer and is not blocked
   abbrev pub is_open : SharedFlowState T → Bool
   is_open s = (length s.subscribers == 0) || (not (is_blocked s) && nat_lt 0 (capacity s))
 
-  -- what becomes of an emission into a flow in this state
+  -- what an emission does in this state
   abbrev pub emit_case : SharedFlowState T → EmitCase
   emit_case s = if is_open s then appends else (if is_blocked s then when_blocked s.config.overflow else offers)
 
@@ -52,7 +52,7 @@ module _ {T : Type 0} where
   abbrev pub suspend : T → SharedFlowState T → SharedFlowState T
   suspend v s = record s { queue = s.queue ++ numbered v s ∷ []; issued = s.issued + 1 }
 
-  -- no subscriber has more than a buffer to receive
+  -- a subscriber that has more than a buffer to receive misses the oldest values
   abbrev pub drop_oldest : SharedFlowState T → SharedFlowState T
   drop_oldest s = record s { subscribers = raise_to (length s.emitted - capacity s) s.subscribers }
 

@@ -1,4 +1,4 @@
--- Names of seats, and how the history that a token has seen grows. They hold of any kind of flow, whatever its events say.
+-- Names of seats, and how the history that a token has seen grows. They are the same for every kind of flow.
 -- The first seat's name is empty; the j-th seat made through a seat has that seat's name followed by j.
 -- Begin with `Grows`: what one call adds to the history that its token has seen.
 use Rattle.std.specs.Prelude.{◌≡◌, ◌≢◌, ℕ, ◌+◌, ◌≤◌, List, [], ◌∷◌, ◌++◌, map}
@@ -8,7 +8,7 @@ use Rattle.flow_law.specs.declared.history.Knowledge.{Knowledge}
 
 -- ---- names
 
--- the name of the j-th seat that was made through the one of this name
+-- the name of the j-th seat that was made through the seat of this name
 abbrev pub child_name : List ℕ → ℕ → List ℕ
 child_name name j = name ++ j ∷ []
 
@@ -19,7 +19,7 @@ IsMadeBy name made other = (j : ℕ) (rest : List ℕ) → other ≡ name ++ j �
 -- ---- histories
 
 module _ {E : Type 0} where
-  -- the event of this name
+  -- an event of the token of this name
   abbrev pub event : List ℕ → E → HistoryEvent E
   event name what = record { name = name; what = what }
 
@@ -27,11 +27,11 @@ module _ {E : Type 0} where
   abbrev pub events_of : List ℕ → List E → List (HistoryEvent E)
   events_of name added = map (event name) added
 
-  -- none of the events bears the name
+  -- no event has this name
   abbrev pub IsSilent : List ℕ → List (HistoryEvent E) → Type 0
   IsSilent name = AllByRecursion (λ (e : HistoryEvent E). e.name ≢ name)
 
-  -- the rule of names: what a token of this name has seen, through which so many seats were made
+  -- the rule of names, for a token of this name through which `made` seats were made: `IsMadeBy` holds of each event's name
   abbrev pub NamesOnlyMade : List ℕ → ℕ → List (HistoryEvent E) → Type 0
   NamesOnlyMade name made = AllByRecursion (λ (e : HistoryEvent E). IsMadeBy name made e.name)
 
@@ -49,7 +49,7 @@ module _ {E : Type 0} where
   abbrev pub knowledge : List ℕ → ℕ → ℕ → List (HistoryEvent E) → Knowledge E
   knowledge name made lost seen = record { name = name; made = made; lost = lost; seen = seen }
 
-  -- of the first seat
+  -- what the first seat knows before any call
   abbrev pub first_knowledge : Knowledge E
   first_knowledge = knowledge [] 0 0 []
 
@@ -61,22 +61,22 @@ module _ {E : Type 0} where
   abbrev pub IsApartFrom : Knowledge E → Knowledge E → Type 0
   IsApartFrom k other = (k.name ≢ other.name) × IsMadeBy k.name k.made other.name
 
-  -- the token has seen this history
+  -- what the token knows after it has seen this history
   abbrev pub sees : List (HistoryEvent E) → Knowledge E → Knowledge E
   sees history k = knowledge k.name k.made k.lost history
 
-  -- it has lost an exchange
+  -- what the token knows after one more failed attempt
   abbrev pub loses : Knowledge E → Knowledge E
   loses k = knowledge k.name k.made (k.lost + 1) k.seen
 
-  -- it has added events of its own
+  -- what the token knows after it has added events of its own
   abbrev pub adds : List E → Knowledge E → Knowledge E
   adds added k = knowledge k.name k.made k.lost (k.seen ++ events_of k.name added)
 
-  -- a seat was made through it
+  -- what the token knows after a seat was made through it
   abbrev pub makes : Knowledge E → Knowledge E
   makes k = knowledge k.name (k.made + 1) k.lost k.seen
 
-  -- what that seat knows: all that its maker had seen
+  -- what that seat knows: the history that its maker has seen
   abbrev pub child : Knowledge E → Knowledge E
   child k = knowledge (child_name k.name (k.made + 1)) 0 0 k.seen

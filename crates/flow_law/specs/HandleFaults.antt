@@ -1,4 +1,4 @@
--- The fault of a flow's own call for which the error of a handle's call stands.
+-- The fault of a flow's own call that the error of a handle's call stands for.
 use Rattle.std.specs.Prelude.{Result, Ok, Err}
 use Rattle.flow_law.specs.declared.fault.FlowFault.{FlowFault}
 use Rattle.flow_law.specs.declared.fault.FlowFault.TheVariants as fault
@@ -15,45 +15,45 @@ use Rattle.flow_law.specs.declared.errors.TryNextError.{TryNextError}
 use Rattle.flow_law.specs.declared.errors.TryNextError.TheVariants as try_next
 use Rattle.flow_law.specs.declared.errors.Rejected.{Rejected}
 
--- of calls that are refused only if they are out of memory
+-- the fault of calls that are refused only if they are out of memory
 abbrev pub memory_fault : OutOfMemory → FlowFault
 memory_fault e = fault.OutOfMemory
 
--- of calls that are refused only if no number is left
+-- the fault of calls that are refused only if no number is left
 abbrev pub limit_fault : Exhausted → FlowFault
 limit_fault e = fault.Exhausted
 
--- of calls that are refused only if another caller is inside
+-- the fault of calls that are refused only if another caller is inside
 abbrev pub busy_fault : Busy → FlowFault
 busy_fault e = fault.Busy
 
--- of calls that a kind of flow does not have
+-- the fault of calls that a kind of flow does not have
 abbrev pub unsupported_fault : Unsupported → FlowFault
 unsupported_fault e = fault.Unsupported
 
--- of calls that take a number and memory
+-- the fault of calls that take a number and memory
 abbrev pub number_fault : NumberError → FlowFault
 number_fault number.OutOfMemory = fault.OutOfMemory
 number_fault number.Exhausted = fault.Exhausted
 
--- of `emit_now`
+-- the fault of `emit_now`
 abbrev pub emit_now_fault : EmitNowError → FlowFault
 emit_now_fault emit_now.OutOfMemory = fault.OutOfMemory
 emit_now_fault emit_now.Exhausted = fault.Exhausted
 emit_now_fault emit_now.Busy = fault.Busy
 
--- of `try_next`
+-- the fault of `try_next`
 abbrev pub try_next_fault : TryNextError → FlowFault
 try_next_fault try_next.OutOfMemory = fault.OutOfMemory
 try_next_fault try_next.Busy = fault.Busy
 
 module _ {A E : Type 0} (fault_of : E → FlowFault) where
-  -- the answer of the flow's own call
+  -- the answer of the flow's own call that a handle's answer stands for
   abbrev pub answer_by : Result A E → Result A FlowFault
   answer_by (Ok a) = Ok a
   answer_by (Err e) = Err (fault_of e)
 
-  -- the same, if a refusal returns the value
+  -- the answer of the flow's own call, if a refusal returns the value
   abbrev pub handed_by : {V : Type 0} → Result A (Rejected V E) → Result A (Refused V)
   handed_by (Ok a) = Ok a
   handed_by (Err r) = Err (record { value = r.value; fault = fault_of r.error })

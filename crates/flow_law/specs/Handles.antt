@@ -1,4 +1,4 @@
--- Handles: a token with its flow. For which answers of the flow's own calls the answers of a handle stand.
+-- Handles, which are tokens bound to their flow, and the answers of the flow's own calls that a handle's answers stand for.
 use Rattle.std.specs.Prelude.{◌≡◌, ⊤, ℕ, List, Option, Some, None, Result, Ok, Err}
 use Rattle.flow_law.specs.declared.fault.FlowFault.{FlowFault}
 use Rattle.flow_law.specs.declared.history.Said.{Said}
@@ -31,17 +31,17 @@ module _ {Id S E : Type 0} where
   subscription_alone (Ok r) = Ok r.subscription
   subscription_alone (Err fault) = Err fault
 
-  -- a reader that was made is of this flow
+  -- the new reader, if one was made, is of this flow
   abbrev pub IsToSame : Origin Id S → Result (ReaderOf Id S E) FlowFault → Type 0
   IsToSame flow (Ok r) = r.flow ≡ flow
   IsToSame flow (Err fault) = ⊤
 
--- a new subscription, which is to the same flow
+-- a call through a handle that subscribes: the new reader is of the handle's flow
 abbrev pub SubscribesBound : {Id T S C R : Type 0} → Kind T S C R → (List ℕ → C) → CallerOf Id S (Said C R) → Result (ReaderOf Id S (Said C R)) FlowFault → Token Id (Said C R) → Type 0
 SubscribesBound kind subscribe before result after = IsToSame before.flow result × SubscribesIn kind before.flow.first subscribe before.token (subscription_alone result) after
 
 module _ {T : Type 0} where
-  -- what a call of `next` gave: `None` where there is nothing yet
+  -- what a call of `next` gave: `None` means that there is nothing yet
   abbrev pub next_of : Option T → Next T
   next_of (Some v) = Value v
   next_of None = Empty

@@ -1,5 +1,5 @@
--- Histories of any kind of flow. Begin with `Kind`: what is said of a kind of flow, and of it alone. The rest of this page,
--- and all that is said of tokens, is said once and holds of every kind.
+-- Histories of any kind of flow. Begin with `Kind`, which has all that differs between kinds of flow. The other definitions of
+-- histories, and all those of tokens, are the same for every kind.
 use Rattle.std.specs.Prelude.{◌≡◌, ℕ, Bool, false, List, [], ◌∷◌, if◌then◌else◌, Option, Some, None, Result, Ok, Err, ◌==◌}
 use Rattle.flow_law.specs.declared.fault.FlowFault.{FlowFault}
 use Rattle.flow_law.specs.declared.fault.Refused.{Refused}
@@ -8,7 +8,7 @@ use Rattle.flow_law.specs.declared.history.Knowledge.{Knowledge}
 use Rattle.flow_law.specs.declared.history.Said.{Said}
 use Rattle.flow_law.specs.declared.outcome.Next.{Next}
 
--- a number that a flow gives: a subscriber's, or an emission's
+-- a number that a flow issues: a subscriber's, or an emission's
 pub data Number : Type 0 where
   subscriber : ℕ → Number
   emission : ℕ → Number
@@ -19,12 +19,12 @@ is_same (subscriber m) (subscriber n) = m == n
 is_same (emission m) (emission n) = m == n
 is_same _ _ = false
 
--- a number, and the name of the token that it was given to
+-- a number, and the name of the token that owns it
 pub record Owner : Type 0 where
   pub number : Number
   pub name : List ℕ
 
--- to whom a number was given, the latest first
+-- the name of the token that owns a number, by a list of owners with the latest first
 abbrev pub owner_of : Number → List Owner → Option (List ℕ)
 owner_of number [] = None
 owner_of number (o ∷ os) = if is_same o.number number then Some o.name else owner_of number os
@@ -38,15 +38,15 @@ with_owner (Some o) owners = o ∷ owners
 pub record Kind (T S C R : Type 0) : Type 1 where
   -- a flow may begin in this state: it is the state before any call
   pub MayBegin : S → Type 0
-  -- this reply to this call is the flow's own
+  -- the flow may give this reply to this call in this state
   pub Replies : S → C → R → Type 0
-  -- the state that follows it
+  -- the state after this call with this reply
   pub after : S → C → R → S
-  -- the number that a call gives by its reply, and to whom. The caller's name comes first
+  -- the number that a call issues by its reply, and its owner; the first argument is the caller's name
   pub gives : List ℕ → C → R → Option Owner
-  -- of what number a call speaks
+  -- the number that a call names, if it names one
   pub speaks_of : C → Option Number
-  -- the number is a subscriber's
+  -- there is a subscriber of this number in this state
   pub HasSubscriber : ℕ → S → Type 0
   -- the calls that every kind has, and their replies
   pub subscribe : List ℕ → C
@@ -67,7 +67,7 @@ fault_alone (Ok x) = Ok x
 fault_alone (Err refused) = Err refused.fault
 
 module _ {T S C R : Type 0} (kind : Kind T S C R) where
-  -- a result as a reply, where `wrap` says what is replied where nothing is refused
+  -- a result as a reply: `wrap` makes the reply of a call that is not refused
   abbrev pub replied : {X : Type 0} → (X → R) → Result X FlowFault → R
   replied wrap (Ok x) = wrap x
   replied wrap (Err fault) = kind.refused fault
@@ -77,7 +77,7 @@ module _ {T S C R : Type 0} (kind : Kind T S C R) where
   after_all s [] = s
   after_all s (e ∷ es) = after_all (kind.after s e.what.call e.what.reply) es
 
-  -- each reply is the flow's, in the state that the events before it lead to
+  -- each reply is one that the flow may give in the state that the events before it lead to
   abbrev pub IsLegal : S → List (HistoryEvent (Said C R)) → Type 0
   IsLegal s [] = Unit {0}
   IsLegal s (e ∷ es) = kind.Replies s e.what.call e.what.reply × IsLegal (kind.after s e.what.call e.what.reply) es
@@ -91,17 +91,17 @@ module _ {T S C R : Type 0} (kind : Kind T S C R) where
   owners_all owners [] = owners
   owners_all owners (e ∷ es) = owners_all (owners_after owners e) es
 
-  -- a call that speaks of a number is made through the token that the number was given to
+  -- a token of this name may make a call that names this number: it owns the number, or the call names none
   abbrev pub MaySpeak : Option Number → List Owner → List ℕ → Type 0
   MaySpeak None owners name = Unit {0}
   MaySpeak (Some number) owners name = owner_of number owners ≡ Some name
 
-  -- each event that speaks of a number is of the caller that owns it
+  -- each event that names a number was made through the token that owns it
   abbrev pub IsOwned : List Owner → List (HistoryEvent (Said C R)) → Type 0
   IsOwned owners [] = Unit {0}
   IsOwned owners (e ∷ es) = MaySpeak (kind.speaks_of e.what.call) owners e.name × IsOwned (owners_after owners e) es
 
-  -- a history that a flow may have had that began in this state, its first one
+  -- a history that a flow that began in this state may have had: legal and owned
   pub record IsHistory (first : S) (h : List (HistoryEvent (Said C R))) : Type 0 where
     pub begins : kind.MayBegin first
     pub legal : IsLegal first h
@@ -113,18 +113,18 @@ module _ {T S C R : Type 0} (kind : Kind T S C R) where
 
   -- ---- what a token knows of its number
 
-  -- the history gave this number to the token of this name
+  -- after the history, the token of this name owns this number
   abbrev pub IsGiven : List ℕ → Number → List (HistoryEvent (Said C R)) → Type 0
   IsGiven name number h = owner_of number (owners_all [] h) ≡ Some name
 
-  -- the number is a subscriber's after the history, whichever state the flow began in
+  -- after the history there is a subscriber of this number, whichever state the flow began in
   abbrev pub IsSubscribed : ℕ → List (HistoryEvent (Said C R)) → Type 0
   IsSubscribed number h = (first : S) → IsLegal first h → kind.HasSubscriber number (after_all first h)
 
-  -- the history that the token has seen gave it this subscriber's number, and the subscriber is still there after it
+  -- after the history that it has seen, the token owns this subscriber's number, and the subscriber has not unsubscribed
   abbrev pub IsSubscription : Knowledge (Said C R) → ℕ → Type 0
   IsSubscription k number = IsGiven k.name (subscriber number) k.seen × IsSubscribed number k.seen
 
-  -- it gave it this emission's number
+  -- after the history that it has seen, the token owns this emission's number
   abbrev pub IsEmission : Knowledge (Said C R) → ℕ → Type 0
   IsEmission k number = IsGiven k.name (emission number) k.seen

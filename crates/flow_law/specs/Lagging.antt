@@ -24,13 +24,13 @@ module _ {T : Type 0} where
   abbrev pub delivered_by_flow : ℕ → Config → History T → List T
   delivered_by_flow u config h = from_flow u (first_state config) h ++ box u config h
 
-  -- what u found in the log where it entered, and what was emitted since
+  -- the values that u found when it entered, and those emitted since
   abbrev pub emitted_since_entry : ℕ → Config → History T → List T
   emitted_since_entry u config h = drop (began u config h).entry (values (state_after config h))
 
-  -- what a subscriber that is there misses
+  -- what the subscriber u misses
   pub record Lags (u : ℕ) (config : Config) (h : History T) : Type 0 where
-    -- no value comes twice, and none out of order
+    -- it gets no value twice or out of order
     pub in_order : IsSubsequence (delivered_by_flow u config h) (emitted_since_entry u config h)
     -- it misses none of the last `replay + extra` values
     pub newest : IsSuffix
@@ -40,7 +40,7 @@ module _ {T : Type 0} where
     pub whole : config.overflow ≢ DropOldest → 0 < config.replay + config.extra
         → delivered_by_flow u config h ≡ emitted_since_entry u config h
 
-  -- each subscriber that is there after the history
+  -- `Lags` holds of each subscriber after the history
   abbrev pub EachLags : Config → History T → Type 0
   EachLags config h = (u : ℕ) → IsSome (position_of u (state_after config h).subscribers)
       → Lags u config h

@@ -1,4 +1,4 @@
--- What holds of every legal history.
+-- Laws that hold of every legal history of a shared flow: `LawNoIdleQueue` and `LawDelivered`.
 use Rattle.std.specs.Prelude.{◌≡◌, ◌≢◌, ℕ, ◌<◌, ◌≤◌, false, List, [], ◌∷◌, ◌++◌, map, drop, Some}
 use Rattle.flow_law.specs.declared.config.Config.{Config}
 use Rattle.flow_law.specs.declared.config.Overflow.TheVariants.{DropOldest}
@@ -12,16 +12,16 @@ RisesTo floor [] top = floor ≤ top
 RisesTo floor (n ∷ ns) top = (floor < n) × RisesTo n ns top
 
 module _ {T : Type 0} where
-  -- no emission waits in the queue where the flow is not blocked
+  -- no emission waits in the queue if the flow is not blocked
   abbrev pub NoIdleQueue : SharedFlowState T → Type 0
   NoIdleQueue s = is_blocked s ≡ false → s.queue ≡ []
 
-  -- the numbers along the log, then those along the queue
+  -- the numbers of the emitted values, then those of the queued ones
   abbrev pub numbers : SharedFlowState T → List ℕ
   numbers s = map (λ e. e.number) (s.emitted ++ s.queue)
 
-  -- what u took is what `next` gave it; what is left of its own values is what the flow keeps for it; and what it has still to
-  -- take of the flow's values stands in the log from its position
+  -- What u took is what `next` gave it. What is left of its own values is what the flow keeps for it. What it has still to take of
+  -- the flow's values are the emitted values from its position on.
   pub record Delivers (u : ℕ) (config : Config) (h : History T) : Type 0 where
     pub replies : taken u config h ≡ received u h
     pub own_left : (p : ℕ) → position_of u (state_after config h).subscribers ≡ Some p → own_of u (state_after config h).subscribers ≡ own u config h
@@ -31,10 +31,10 @@ module _ {T : Type 0} where
         → (p : ℕ) → position_of u (state_after config h).subscribers ≡ Some p
         → delivered u config h
         ≡ (began u config h).first ++ drop (began u config h).entry (values (state_after config h))
-    -- so each emitter's values stand in its order
+    -- so each emitter's values keep their order
     pub in_order : RisesTo 0 (numbers (state_after config h)) (state_after config h).issued
 
--- the law: after every legal history, no emission waits while there is room
+-- the law: after every legal history, no emission waits in the queue of a flow that is not blocked
 abbrev pub LawNoIdleQueue : Type 0 → Type 0
 LawNoIdleQueue T = (config : Config) (h : History T) → IsLegal config h → NoIdleQueue (state_after config h)
 

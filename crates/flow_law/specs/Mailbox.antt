@@ -1,4 +1,4 @@
--- What a subscriber has received and has still to receive, told without positions.
+-- What a subscriber has received and has still to receive, defined without positions.
 use Rattle.std.specs.Prelude.{ℕ, ◌-◌, ◌==◌, if◌then◌else◌, List, [], ◌∷◌, ◌++◌, length, drop}
 use Rattle.flow_law.specs.declared.config.Config.{Config}
 use Rattle.flow_law.specs.declared.outcome.Next.TheVariants.{Value, Gone}
@@ -11,39 +11,39 @@ use Rattle.flow_law.specs.SharedHistory.{History, after}
 
 -- what a subscriber has received and has still to receive
 pub record Mailbox (T : Type 0) : Type 0 where
-  -- what the subscriber took, the first value in front
+  -- what the subscriber took, in order
   pub taken : List T
   -- what is left of its own first values, which it takes before those in the box
   pub own : List T
   -- what it has still to take of the flow's values
   pub box : List T
 
--- what a subscriber began with: its own first values, and where it entered the log
+-- what a subscriber began with: its own first values, and its first position
 pub record Beginning (T : Type 0) : Type 0 where
   pub first : List T
   pub entry : ℕ
 
 module _ {T : Type 0} where
-  -- so many of the last entries
+  -- the last `count` entries
   abbrev pub keep_last : ℕ → List T → List T
   keep_last count xs = drop (length xs - count) xs
 
-  -- each value goes to the end, and no more than the last `room` stay
+  -- the box after values arrived: each goes to the end, and at most the last `room` values stay
   abbrev pub arrive : ℕ → List T → List T → List T
   arrive room box [] = box
   arrive room box (v ∷ vs) = arrive room (keep_last room (box ++ v ∷ [])) vs
 
-  -- the arguments are what was taken, what is left of the own values, and the box
+  -- the mailbox after one more value was taken; the arguments are what was taken, what is left of the own values, and the box
   abbrev pub take_first : List T → List T → List T → Mailbox T
   take_first taken (v ∷ own) box = record { taken = taken ++ v ∷ []; own = own; box = box }
   take_first taken [] [] = record { taken = taken; own = []; box = [] }
   take_first taken [] (v ∷ vs) = record { taken = taken ++ v ∷ []; own = []; box = vs }
 
-  -- what a new subscriber finds besides: the cache, or only the offered value
+  -- what a new subscriber finds besides its own first values: the cache, or only the offered value
   abbrev pub found_at_entry : SharedFlowState T → List T
   found_at_entry s = if is_offering s then drop (length s.emitted - 1) (values s) else cache s
 
-  -- before any value arrives
+  -- the mailbox after what the event does to it itself, before any value arrives
   abbrev pub before_arrivals : ℕ → SharedFlowState T → SharedCall T → SharedReply T → Mailbox T → Mailbox T
   before_arrivals u s (call.Subscribe name first) (reply.Subscribed n) m = if n == u then record m { own = first; box = found_at_entry s } else m
   before_arrivals u s (call.TakeNext n) (reply.Received Gone) m = m
@@ -76,11 +76,11 @@ module _ {T : Type 0} where
   abbrev pub taken : ℕ → Config → History T → List T
   taken u config h = (mailbox u config h).taken
 
-  -- what is left of its own first values
+  -- what is left of u's own first values after a history
   abbrev pub own : ℕ → Config → History T → List T
   own u config h = (mailbox u config h).own
 
-  -- what it has still to take of the flow's values
+  -- what u has still to take of the flow's values after a history
   abbrev pub box : ℕ → Config → History T → List T
   box u config h = (mailbox u config h).box
 

@@ -34,13 +34,13 @@ module _ {T : Type 0} where
   -- then the replay cache or the offered value, in order, and then Empty
   pub record Replays (u : ℕ) (first : List T) (s : SharedFlowState T)
       (e : HistoryEvent (Said (SharedCall T) (SharedReply T))) (reads : History T) : Type 0 where
-    -- what is left for it after these reads
+    -- what it has still to receive after these reads
     pub rest : List T
     pub in_order : first ++ found_at_entry s ≡ received u reads ++ rest
     pub next : (r : Next T) → Replies (after_all s (e ∷ reads)) (TakeNext u) (Received r)
         → r ≡ first_or_empty rest
 
-  -- each subscriber that entered and then read, without another call, until the end of the history
+  -- `Replays` holds of each subscriber that entered and then read until the end of the history while no other call was made
   abbrev pub EachReplays : Config → History T → Type 0
   EachReplays config h =
       (before reads : History T) (e : HistoryEvent (Said (SharedCall T) (SharedReply T)))

@@ -1,6 +1,6 @@
 -- Rounds of meetings: one token meets others, one after the other.
--- Begin with `MeetsInTurn`. After a second round a history from between the two has just what each token did
--- (`accounts_all`, proofs/RoundLemmas): the first round leaves nothing out, and in the second one no token has done more.
+-- Begin with `MeetsInTurn`. After two rounds, some history between them has just what each token did (`accounts_all`,
+-- proofs/RoundLemmas): the first round leaves nothing out, and by the second one no token has done more.
 use Rattle.std.specs.Prelude.{◌≡◌, List, []}
 use Rattle.flow_law.specs.declared.history.HistoryEvent.{HistoryEvent}
 use Rattle.flow_law.specs.declared.history.Knowledge.{Knowledge}

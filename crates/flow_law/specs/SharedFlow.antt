@@ -1,4 +1,4 @@
--- The state of a documented shared flow (`MutableSharedFlow`) as one thread sees it, and what is read off it.
+-- The state of the documented shared flow (`MutableSharedFlow`) of one thread, and what follows from it.
 --   emitted    v1  v2  v3  v4  v5      every value ever emitted, never cut
 --   index      0   1   2   3   4   5
 --                  ^       ^       ^
@@ -22,7 +22,7 @@ pub use Rattle.flow_law.specs.declared.states.SharedFlowState.{SharedFlowState}
 
 -- ---- the state
 
--- before any call
+-- the state before any call
 abbrev pub first_state : {T : Type 0} → Config → SharedFlowState T
 first_state config = record { config = config; emitted = []; reset_mark = 0; queue = []; subscribers = []; issued = 0 }
 
@@ -32,68 +32,68 @@ first_state config = record { config = config; emitted = []; reset_mark = 0; que
 abbrev pub largest_capacity : ℕ
 largest_capacity = 65536
 
--- only a flow that suspends its emitters does without a buffer
+-- a flow with this strategy may have no buffer: only one that suspends its emitters
 abbrev pub needs_no_buffer : Overflow → Bool
 needs_no_buffer Suspend = true
 needs_no_buffer DropLatest = false
 needs_no_buffer DropOldest = false
 
--- why no flow is made of a configuration, if none is
+-- the fault of a configuration, if no flow can be made of it
 abbrev pub config_fault : Config → Option FlowFault
 config_fault config =
     if nat_lt largest_capacity (config.replay + config.extra) then Some TooLarge
     else (if (config.replay + config.extra == 0) && not (needs_no_buffer config.overflow) then Some NeedsBuffer else None)
 
--- why no flow was made of a configuration: for its fault, and with `OutOfMemory` only if it has none
+-- making a flow of this configuration may fail so: with the configuration's fault, or with `OutOfMemory` if it has none
 abbrev pub NoFlow : Config → FlowFault → Type 0
 NoFlow config fault = (config_fault config ≡ Some fault) ⊎ ((config_fault config ≡ None) × (fault ≡ OutOfMemory))
 
 -- ---- subscribers
 
 module _ {T : Type 0} where
-  -- the position of a subscriber
+  -- the position of the subscriber of this number, if there is one
   abbrev pub position_of : ℕ → List (Subscriber T) → Option ℕ
   position_of number [] = None
   position_of number (u ∷ us) = if u.number == number then Some u.position else position_of number us
 
-  -- the subscriber at this position
+  -- the subscriber, moved to this position
   abbrev pub stand_at : ℕ → Subscriber T → Subscriber T
   stand_at position u = record u { position = position }
 
-  -- the subscriber of this number is at this position
+  -- the subscribers, with the one of this number moved to this position
   abbrev pub move_to : ℕ → ℕ → List (Subscriber T) → List (Subscriber T)
   move_to number position [] = []
   move_to number position (u ∷ us) = if u.number == number then stand_at position u ∷ us else u ∷ move_to number position us
 
-  -- no subscriber's position is less
+  -- the subscribers, with each position below the floor raised to it
   abbrev pub raise_to : ℕ → List (Subscriber T) → List (Subscriber T)
   raise_to floor = map (λ u. stand_at (max u.position floor) u)
 
-  -- the subscriber of this number is gone
+  -- the subscribers without the one of this number
   abbrev pub without : ℕ → List (Subscriber T) → List (Subscriber T)
   without number = filter (λ u. not (u.number == number))
 
-  -- what is left of a subscriber's own first values
+  -- the own first values that the subscriber of this number has not received yet
   abbrev pub own_of : ℕ → List (Subscriber T) → List T
   own_of number [] = []
   own_of number (u ∷ us) = if u.number == number then u.own else own_of number us
 
-  -- so much is left of its own first values
+  -- the subscriber, with these own first values left
   abbrev pub leave_own : List T → Subscriber T → Subscriber T
   leave_own own u = record u { own = own }
 
-  -- so much is left of a subscriber's own first values, and it stands where it stood
+  -- the subscribers, with these own first values left to the one of this number; its position stays
   abbrev pub with_own : ℕ → List T → List (Subscriber T) → List (Subscriber T)
   with_own number own [] = []
   with_own number own (u ∷ us) = if u.number == number then leave_own own u ∷ us else u ∷ with_own number own us
 
   -- ---- lag
 
-  -- how many values the flow keeps for a subscriber before it is blocked
+  -- how many values the flow's buffer holds
   abbrev pub capacity : SharedFlowState T → ℕ
   capacity s = s.config.replay + s.config.extra
 
-  -- the most that a subscriber may have still to receive
+  -- the lag at which a subscriber blocks the flow
   abbrev pub window : SharedFlowState T → ℕ
   window s = max (capacity s) 1
 
@@ -101,21 +101,21 @@ module _ {T : Type 0} where
   abbrev pub lag : SharedFlowState T → Subscriber T → ℕ
   lag s u = length s.emitted - u.position
 
-  -- the same of the subscriber of this number, where it is there
+  -- the lag of the subscriber of this number, if there is one
   abbrev pub lag_of : ℕ → SharedFlowState T → Option ℕ
   lag_of number s = option_map (λ position. length s.emitted - position) (position_of number s.subscribers)
 
-  -- some subscriber has a whole window to receive
+  -- the flow is blocked: some subscriber still has a whole window to receive
   abbrev pub is_blocked : SharedFlowState T → Bool
   is_blocked s = list_any (λ u. nat_le (window s) (lag s u)) s.subscribers
 
-  -- without a buffer, the last value is offered until every subscriber has received it
+  -- the flow offers its last value: it has no buffer, and some subscriber has not received that value
   abbrev pub is_offering : SharedFlowState T → Bool
   is_offering s = (capacity s == 0) && list_any (λ u. lag s u == 1) s.subscribers
 
   -- ---- cache and entry
 
-  -- where the replay cache begins among the emitted values
+  -- the position at which the replay cache begins
   abbrev pub cache_start : SharedFlowState T → ℕ
   cache_start s = max s.reset_mark (length s.emitted - s.config.replay)
 
@@ -123,21 +123,21 @@ module _ {T : Type 0} where
   abbrev pub values : SharedFlowState T → List T
   values s = map (λ e. e.value) s.emitted
 
-  -- what a new subscriber gets after its own first values
+  -- the replay cache: the last `replay` values emitted since the last reset
   abbrev pub cache : SharedFlowState T → List T
   cache s = drop (cache_start s) (values s)
 
-  -- the position of a new subscriber: at the offered value, or where the cache begins
+  -- the position of a new subscriber: that of the offered value if there is one, else the start of the cache
   abbrev pub entry : SharedFlowState T → ℕ
   entry s = if is_offering s then length s.emitted - 1 else cache_start s
 
   -- ---- numbers
 
-  -- the number of the value that was emitted last. Numbers begin at 1
+  -- the number of the value that was emitted last, 0 before the first one; numbers begin at 1
   abbrev pub newest : SharedFlowState T → ℕ
   newest s = option_map_or (λ e. e.number) (slice_get s.emitted (length s.emitted - 1)) 0
 
-  -- the offered value has this number
+  -- the flow offers the value of this number
   abbrev pub is_offered_as : ℕ → SharedFlowState T → Bool
   is_offered_as e s = is_offering s && (newest s == e)
 
@@ -157,7 +157,7 @@ pub record Answer (R T : Type 0) : Type 0 where
   pub after : SharedFlowState T
 
 module _ {T : Type 0} where
-  -- a call that is not refused
+  -- the answer of a call that is not refused
   abbrev pub answer : {R : Type 0} → R → SharedFlowState T → Answer R T
   answer reply after = record { reply = Ok reply; after = after }
 

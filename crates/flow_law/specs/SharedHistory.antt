@@ -23,12 +23,12 @@ pub record SharedOutcome (T : Type 0) : Type 0 where
   pub after : SharedFlowState T
 
 module _ {T : Type 0} where
-  -- the reply that stands for a result
+  -- a result as a reply: `wrap` makes the reply of a call that is not refused
   abbrev pub reply_by : {R : Type 0} → (R → SharedReply T) → Result R FlowFault → SharedReply T
   reply_by wrap (Ok r) = wrap r
   reply_by wrap (Err fault) = reply.Refused fault
 
-  -- the outcome that stands for an answer
+  -- an answer as an outcome
   abbrev pub outcome_of : {R : Type 0} → (R → SharedReply T) → Answer R T → SharedOutcome T
   outcome_of wrap a = record { reply = reply_by wrap a.reply; after = a.after }
 
@@ -50,38 +50,39 @@ module _ {T : Type 0} where
   is_refused (reply.Refused fault) = true
   is_refused _ = false
 
-  -- the reply hands a copy of some value out
+  -- the reply contains a value
   abbrev pub hands_out : SharedReply T → Bool
   hands_out (reply.Received (Value v)) = true
   hands_out (reply.Cached (v ∷ vs)) = true
   hands_out _ = false
 
-  -- The calls that may be refused with `OutOfMemory`, by the state too: those that make the queue or the subscribers more, or
-  -- that copy a value. Room for the values that a flow keeps is made with the flow, so no `try_emit` needs any.
+  -- The call may be refused with `OutOfMemory` in this state: it queues a value, adds a subscriber, or copies a value of the flow.
+  -- The buffer is allocated when the flow is made, so `try_emit` never needs memory.
   abbrev pub may_need_memory : SharedFlowState T → SharedCall T → Bool
   may_need_memory s (call.Emit v) = is_suspended (emit_case s)
   may_need_memory s (call.Subscribe name first) = true
-  -- an own first value is moved out
+  -- an own first value is moved out, not copied
   may_need_memory s (call.TakeNext u) = (length (own_of u s.subscribers) == 0) && hands_out (answer_to (call.TakeNext u) s).reply
   may_need_memory s call.ReplayCache = hands_out (answer_to call.ReplayCache s).reply
   may_need_memory s _ = false
 
-  -- Out of memory is a reply to a call that may need memory and is not refused otherwise. Any other reply is the flow's own.
+  -- The flow may give this reply in this state: `OutOfMemory` to a call that may need memory and is not refused otherwise, and
+  -- else only the documented reply.
   abbrev pub Replies : SharedFlowState T → SharedCall T → SharedReply T → Type 0
   Replies s c (reply.Refused OutOfMemory) = IsTrue (may_need_memory s c && not (is_refused (answer_to c s).reply))
   Replies s c r = r ≡ (answer_to c s).reply
 
-  -- a refused call changes nothing
+  -- the state after a call with this reply; a refused call changes nothing
   abbrev pub after : SharedFlowState T → SharedCall T → SharedReply T → SharedFlowState T
   after s c r = if is_refused r then s else (answer_to c s).after
 
-  -- the subscription gets the subscriber's number, and the emitter that of an emission that waits
+  -- the number that a call issues, and its owner: the subscription owns the subscriber's number, the caller that of a waiting emission
   abbrev pub gives : List ℕ → SharedCall T → SharedReply T → Option Owner
   gives name (call.Subscribe given first) (reply.Subscribed u) = Some (record { number = subscriber u; name = given })
   gives name (call.Emit v) (reply.Emitted (Queued e)) = Some (record { number = emission e; name = name })
   gives name _ _ = None
 
-  -- the number of which a call speaks
+  -- the number that a call names
   abbrev pub speaks_of : SharedCall T → Option Number
   speaks_of (call.TakeNext u) = Some (subscriber u)
   speaks_of (call.Unsubscribe u) = Some (subscriber u)
@@ -89,11 +90,11 @@ module _ {T : Type 0} where
   speaks_of (call.Cancel e) = Some (emission e)
   speaks_of _ = None
 
-  -- a shared flow begins in the first state of a configuration of which a flow can be made
+  -- a shared flow may begin in this state: it is the first state of a configuration without a fault
   abbrev pub MayBegin : SharedFlowState T → Type 0
   MayBegin s = (s ≡ first_state s.config) × (config_fault s.config ≡ None)
 
-  -- shared flows are a kind of flow
+  -- shared flows as a kind of flow
   abbrev pub shared_flow : Kind T (SharedFlowState T) (SharedCall T) (SharedReply T)
   shared_flow = record {
     MayBegin = MayBegin;
@@ -124,7 +125,7 @@ module _ {T : Type 0} where
   abbrev pub after_all : SharedFlowState T → History T → SharedFlowState T
   after_all = histories.after_all shared_flow
 
-  -- from this state, each event of the history has the documented reply
+  -- each reply of the history is one that a flow that begins in this state may give
   abbrev pub IsLegalFrom : SharedFlowState T → History T → Type 0
   IsLegalFrom = histories.IsLegal shared_flow
 
@@ -132,10 +133,10 @@ module _ {T : Type 0} where
   abbrev pub state_after : Config → History T → SharedFlowState T
   state_after config h = after_all (first_state config) h
 
-  -- a history of a flow of this configuration
+  -- a legal history of a flow of this configuration, of which a flow can be made
   abbrev pub IsLegal : Config → History T → Type 0
   IsLegal config h = (config_fault config ≡ None) × IsLegalFrom (first_state config) h
 
-  -- a history that a flow of this configuration may have had
+  -- a history that a flow of this configuration may have had: legal and owned
   abbrev pub IsHistory : Config → History T → Type 0
   IsHistory config = histories.IsHistory shared_flow (first_state config)

@@ -1,5 +1,5 @@
 -- Each call of a documented shared flow: its reply and the state after it. `emit` and `try_emit` are in EmitRule.
--- Begin with `settle`: what every call that makes room does last.
+-- Begin with `settle`, the last step of every call that makes room.
 use Rattle.std.specs.Prelude.{ℕ, ◌+◌, Bool, not, ◌||◌, ◌==◌, if◌then◌else◌, List, [], ◌∷◌, ◌++◌, length, map, filter, slice_get, is_some}
 use Rattle.std.specs.Option.{option_map_or}
 use Rattle.flow_law.specs.declared.outcome.Next.{Next}
@@ -9,7 +9,7 @@ pub use Rattle.flow_law.specs.SharedFlow.{Answer, answer}
 pub use Rattle.flow_law.specs.EmitRule.{emit, try_emit}
 
 module _ {T : Type 0} where
-  -- queued values are emitted, the first ones first, until the flow is blocked
+  -- queued values are emitted in order until the flow is blocked
   abbrev pub admit : SharedFlowState T → List (Numbered T) → SharedFlowState T
   admit s [] = record s { queue = [] }
   admit s (e ∷ queue) = if is_blocked s then record s { queue = e ∷ queue } else admit (record s { emitted = s.emitted ++ e ∷ [] }) queue
@@ -28,34 +28,34 @@ module _ {T : Type 0} where
   abbrev pub poll : ℕ → SharedFlowState T → Answer Bool T
   poll e s = answer (is_waiting e s) s
 
-  -- an offered value is no more for those who have not received it, a queued one is lost
+  -- the emission is withdrawn: subscribers that have not received an offered value miss it, and a queued value is dropped
   abbrev pub withdraw : ℕ → SharedFlowState T → SharedFlowState T
   withdraw e s =
       if is_offered_as e s then record s { subscribers = map (stand_at (length s.emitted)) s.subscribers }
       else record s { queue = filter (λ q. not (q.number == e)) s.queue }
 
-  -- `cancel`: whether the emitter waited, and the state without its wait
+  -- `cancel`: whether the emitter waited, and the state after its emission is withdrawn
   abbrev pub cancel : ℕ → SharedFlowState T → Answer Bool T
   cancel e s = answer (is_waiting e s) (settle (withdraw e s))
 
   -- ---- subscribers
 
-  -- the subscriber takes the next number, and stands where the cache begins or at the offered value, with its own first values
+  -- a new subscriber with these own first values takes the next number, and the position `entry`
   abbrev pub enroll : List T → SharedFlowState T → SharedFlowState T
   enroll first s = record s {
     subscribers = s.subscribers ++ record { number = s.issued + 1; own = first; position = entry s } ∷ [];
     issued = s.issued + 1;
   }
 
-  -- `subscribe_with` these first values, and `subscribe` with none
+  -- `subscribe_with` these first values; `subscribe` if there are none
   abbrev pub subscribe : List T → SharedFlowState T → Answer ℕ T
   subscribe first s = issuing s (answer (s.issued + 1) (enroll first s))
 
-  -- the subscriber is at this position
+  -- the state after the subscriber of this number moved to this position
   abbrev pub advance : ℕ → ℕ → SharedFlowState T → SharedFlowState T
   advance number position s = record s { subscribers = move_to number position s.subscribers }
 
-  -- the value at the subscriber's position, which is behind it from then on
+  -- the value at this position, which the subscriber passes; Empty if there is none
   abbrev pub read : ℕ → ℕ → SharedFlowState T → Answer (Next T) T
   read number position s =
       option_map_or (λ value. answer (Value value) (settle (advance number (position + 1) s)))
@@ -65,11 +65,11 @@ module _ {T : Type 0} where
   abbrev pub next_emitted : ℕ → SharedFlowState T → Answer (Next T) T
   next_emitted number s = option_map_or (λ position. read number position s) (position_of number s.subscribers) (answer Gone s)
 
-  -- so much is left of the subscriber's own first values
+  -- the state with these own first values left to the subscriber of this number
   abbrev pub keep_own : ℕ → List T → SharedFlowState T → SharedFlowState T
   keep_own number own s = record s { subscribers = with_own number own s.subscribers }
 
-  -- the first of what is left of its own values, and an emitted one where nothing is left
+  -- `next` of a subscriber with these own values left: the first of them, or an emitted value if there are none
   abbrev pub next_from : ℕ → List T → SharedFlowState T → Answer (Next T) T
   next_from number [] s = next_emitted number s
   next_from number (value ∷ own) s = answer (Value value) (keep_own number own s)
@@ -78,7 +78,7 @@ module _ {T : Type 0} where
   abbrev pub next : ℕ → SharedFlowState T → Answer (Next T) T
   next number s = next_from number (own_of number s.subscribers) s
 
-  -- the subscriber is gone
+  -- the state without the subscriber of this number
   abbrev pub leave : ℕ → SharedFlowState T → SharedFlowState T
   leave number s = record s { subscribers = without number s.subscribers }
 
@@ -92,7 +92,7 @@ module _ {T : Type 0} where
   abbrev pub replay_cache : SharedFlowState T → Answer (List T) T
   replay_cache s = answer (cache s) s
 
-  -- the cache of new subscribers begins behind all that was emitted
+  -- the state with an empty replay cache: it begins after all values emitted so far
   abbrev pub forget : SharedFlowState T → SharedFlowState T
   forget s = record s { reset_mark = length s.emitted }
 

@@ -1,5 +1,5 @@
 -- When a sharing runs (`SharingStarted`), by all observations that were accepted, the newest one first.
--- Begin with `idle_since`, `is_running` and `is_expired`. The key fact is `LawIdleSince`: it says in plain words which moment `idle_since` is.
+-- Begin with `idle_since`, `is_running` and `is_expired`. The key fact is `LawIdleSince`: it says which moment `idle_since` is.
 use Rattle.std.specs.Prelude.{◌≡◌, ◌↔◌, ℕ, ◌+◌, ◌-◌, ◌<◌, ◌&&◌, ◌||◌, ◌==◌, Bool, true, false, not, nat_lt, nat_le, if◌then◌else◌, List, [], ◌∷◌, ◌++◌, Option, Some, None}
 use Rattle.std.specs.List.{AllByRecursion, list_any}
 use Rattle.flow_law.specs.declared.sharing.Started.{Started}
@@ -8,13 +8,13 @@ use Rattle.flow_law.specs.declared.sharing.Command.{Command}
 use Rattle.flow_law.specs.declared.sharing.Command.TheVariants.{Start, Stop, StopAndReset, Keep}
 use Rattle.flow_law.specs.declared.sharing.SharingObservation.{SharingObservation}
 
--- a stop or an expiry that never comes
+-- the `stop` of a sharing that never stops, or the `expire` of one that never resets its flow
 abbrev pub never : ℕ
 never = 18446744073709551615
 
--- ---- what is read off the observations
+-- ---- what the observations say
 
--- a subscriber was seen
+-- the observation counted at least one subscriber
 abbrev pub has_subscribers : SharingObservation → Bool
 has_subscribers o = nat_lt 0 o.count
 
@@ -28,41 +28,41 @@ abbrev pub is_subscribed : List SharingObservation → Bool
 is_subscribed [] = false
 is_subscribed (o ∷ seen) = has_subscribers o
 
--- the first moment of the zero counts at the end, where they follow a positive count
+-- the moment of the first of the zero counts at the end, if they follow a positive count
 abbrev pub idle_since : List SharingObservation → Option ℕ
 idle_since [] = None
 idle_since (o ∷ seen) = if has_subscribers o then None else (if is_subscribed seen then Some o.moment else idle_since seen)
 
 -- ---- when it runs
 
--- at this moment the stop has not come yet, where the counts are zero since then
+-- at the moment `now` the stop is not due yet, by the moment since which the counts are zero
 abbrev pub is_before_stop : ℕ → ℕ → Option ℕ → Bool
 is_before_stop stop now None = false
 is_before_stop stop now (Some since) = (stop == never) || nat_lt (now - since) stop
 
--- a sharing runs, by its policy and all that was observed
+-- a sharing with this policy runs after these observations
 abbrev pub is_running : Started → List SharingObservation → Bool
 is_running started [] = false
 is_running Eagerly (o ∷ seen) = true
 is_running Lazily (o ∷ seen) = list_any has_subscribers (o ∷ seen)
 is_running (WhileSubscribed stop expire) (o ∷ seen) = has_subscribers o || is_before_stop stop o.moment (idle_since (o ∷ seen))
 
--- ---- when the flow is to forget what it replays
+-- ---- when the flow is reset
 
--- at this moment the stop and the expiry after it have come, where the counts are zero since then
+-- at the moment `now` the stop and the expiry after it have passed, by the moment since which the counts are zero
 abbrev pub is_past_expiry : Started → ℕ → Option ℕ → Bool
 is_past_expiry (WhileSubscribed stop expire) now (Some since) = not (stop == never) && (not (expire == never) && nat_le (stop + expire) (now - since))
 is_past_expiry (WhileSubscribed stop expire) now None = false
 is_past_expiry Eagerly now since = false
 is_past_expiry Lazily now since = false
 
--- the reset is due, by all observations
+-- the reset is due after these observations
 abbrev pub is_expired : Started → List SharingObservation → Bool
 is_expired started seen = is_past_expiry started (last_moment seen) (idle_since seen)
 
 -- ---- the command
 
--- by whether it ran and whether it runs, and by whether the reset was due and whether it is due
+-- the command, by whether the sharing ran before and runs now, and whether the reset was due before and is due now
 abbrev pub command_of : Bool → Bool → Bool → Bool → Command
 command_of false true was_expired expired = Start
 command_of ran runs false true = StopAndReset
@@ -75,7 +75,7 @@ newest_command started [] = Keep
 newest_command started (o ∷ seen) =
     command_of (is_running started seen) (is_running started (o ∷ seen)) (is_expired started seen) (is_expired started (o ∷ seen))
 
--- whether it runs after a command
+-- whether the sharing runs after a command, by whether it ran before
 abbrev pub runs_after : Command → Bool → Bool
 runs_after Start ran = true
 runs_after Stop ran = false

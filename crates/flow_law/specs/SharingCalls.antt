@@ -1,5 +1,5 @@
 -- The calls of a turn of a sharing: what it asks of its hub, the flow into which it emits, and of its chain.
--- Begin with `TurnCall` and `TurnAnswer`. What a call does, `CallDoes` says by what the hub does.
+-- Begin with `TurnCall` and `TurnAnswer`. `CallDoes` says what a call does, by what the hub does.
 use Rattle.std.specs.Prelude.{◌≡◌, ◌⊎◌, ℕ, Bool, false, Result, Ok, Err}
 use Rattle.flow_law.specs.declared.fault.FlowFault.{FlowFault}
 use Rattle.flow_law.specs.declared.chain.ChainFault.TheVariants.{OutOfMemory}
@@ -10,8 +10,7 @@ use Rattle.flow_law.specs.Steps.{After}
 
 -- ---- the calls
 
--- of the hub: how many subscribers there are, a value is emitted, whether the hub's emission still waits, it is taken back, and the flow
--- forgets what it replays
+-- the calls of the hub: count the subscribers, emit a value, poll the hub's emission, cancel it, and reset the flow
 pub data HubCall (T : Type 0) : Type 0 where
   counts : HubCall T
   puts : T → HubCall T
@@ -19,7 +18,7 @@ pub data HubCall (T : Type 0) : Type 0 where
   cancels : HubCall T
   resets : HubCall T
 
--- a count; a reset answers nothing; and else whether the hub's emission waits, or waited
+-- the type of a reply: a count; nothing for a reset; and else whether the hub's emission waits, or waited
 abbrev pub HubReply : {T : Type 0} → HubCall T → Type 0
 HubReply counts = ℕ
 HubReply (puts x) = Bool
@@ -43,7 +42,7 @@ pub data ChainAnswer (T : Type 0) : Type 0 where
   pending : ChainAnswer T
   end : End → ChainAnswer T
 
--- what the hub or the chain answers to it
+-- what the hub or the chain answers to a call of a turn
 abbrev pub TurnAnswer : {T : Type 0} → TurnCall T → Type 0
 TurnAnswer (to_hub call) = HubAnswer call
 TurnAnswer {T} asks = ChainAnswer T
@@ -51,7 +50,7 @@ TurnAnswer rewinds = Unit {0}
 
 -- ---- what they do
 
--- what a chain gives from its beginning and what it has still to give, and the hub
+-- a chain and a hub: what the chain gives from its beginning, what it has still to give, and the hub
 pub record ChainAndHub (T H : Type 0) : Type 0 where
   pub whole : ChainRun T
   pub rest : ChainRun T
@@ -62,19 +61,19 @@ abbrev pub with_hub : {T H F : Type 0} → ChainAndHub T H → F → ChainAndHub
 with_hub both f = record { whole = both.whole; rest = both.rest; hub = f }
 
 module _ {T : Type 0} where
-  -- the first entry of what is left
+  -- what a chain answers if this is left: its first entry
   abbrev pub first_answer : ChainRun T → ChainAnswer T
   first_answer (gives x r) = item x
   first_answer (pends r) = pending
   first_answer (ends e) = end e
 
-  -- what is left without it
+  -- what is left after that answer
   abbrev pub rest_after : ChainRun T → ChainRun T
   rest_after (gives x r) = r
   rest_after (pends r) = r
   rest_after (ends e) = ends Completed
 
-  -- the first entry of what is left, which is taken off it. `OutOfMemory` may come in its place, and ends the chain
+  -- an ask takes the first entry of what is left, or answers `OutOfMemory` in its place, which ends the chain
   abbrev pub AskDoes : ChainRun T → ChainAnswer T → ChainRun T → Type 0
   AskDoes old (item x) new = old ≡ gives x new
   AskDoes old pending new = old ≡ pends new
@@ -82,13 +81,13 @@ module _ {T : Type 0} where
   AskDoes old (end (Failed fault)) new = ((old ≡ ends (Failed fault)) ⊎ (fault ≡ OutOfMemory)) × (new ≡ ends Completed)
 
 module _ {T H : Type 0} where
-  -- a call of a turn, by what the hub does
+  -- what a call of a turn does; `does` says what a call of the hub does
   abbrev pub CallDoes : ((c : HubCall T) → H → HubAnswer c → H → Type 0) → (c : TurnCall T) → ChainAndHub T H → TurnAnswer c → ChainAndHub T H → Type 0
   CallDoes does (to_hub call) old answer new = does call old.hub answer new.hub × (new ≡ record old { hub = new.hub })
   CallDoes does asks old answer new = AskDoes old.rest answer new.rest × (new ≡ record old { rest = new.rest })
   CallDoes does rewinds old answer new = new ≡ record old { rest = old.whole }
 
-  -- a call of a turn, by what the hub answers; a chain is never refused memory
+  -- the answer to a call of a turn; `reply` answers the calls of the hub, and the chain never runs out of memory
   abbrev pub call_reply : ((c : HubCall T) → H → After (HubAnswer c) H) → (c : TurnCall T) → ChainAndHub T H → After (TurnAnswer c) (ChainAndHub T H)
   call_reply reply (to_hub call) both = record { result = (reply call both.hub).result; state = record both { hub = (reply call both.hub).state } }
   call_reply reply asks both = record { result = first_answer both.rest; state = record both { rest = rest_after both.rest } }
@@ -96,7 +95,7 @@ module _ {T H : Type 0} where
 
 -- ---- whether the hub's emission waits
 
--- after a call, by whether it waited before
+-- whether the hub's emission waits after a call, by whether it waited before
 abbrev pub waits_after : {T : Type 0} → (c : HubCall T) → HubAnswer c → Bool → Bool
 waits_after counts answer waited = waited
 waits_after (puts x) (Ok waits) waited = waits
@@ -107,6 +106,6 @@ waits_after cancels (Ok was_waiting) waited = false
 waits_after cancels (Err fault) waited = waited
 waits_after resets answer waited = waited
 
--- a call of the hub, by what the hub says that it does, and that its emission waits
+-- a call of the hub does what `does` says, and the hub's emission waits after it as `waits_after` says
 abbrev pub HubStep : {T H : Type 0} → ((c : HubCall T) → H → HubAnswer c → H → Type 0) → (H → Bool) → (c : HubCall T) → H → HubAnswer c → H → Type 0
 HubStep does waits call old answer new = does call old answer new × (waits new ≡ waits_after call answer (waits old))

@@ -1,4 +1,4 @@
--- What a documented flow answers a sharing. A turn over it is `flow_turn`, unless memory is refused.
+-- What a documented flow answers to a sharing. A turn over it is `flow_turn`, unless it runs out of memory.
 -- Begin with `shared_reply` and `state_reply`.
 use Rattle.std.specs.Prelude.{◌≡◌, ◌≢◌, ◌⊎◌, ℕ, Bool, true, false, if◌then◌else◌, List, length, Option, Some, None, Result, Ok, Err}
 use Rattle.flow_law.specs.declared.fault.FlowFault.{FlowFault}
@@ -28,23 +28,23 @@ use Rattle.flow_law.specs.SharingTurn.{SharingState, Turned, turn_steps}
 -- ---- a shared flow
 
 module _ {T : Type 0} where
-  -- an emission, if there is one, still waits
+  -- there is an emission, and it still waits
   abbrev pub still_waits : Option ℕ → SharedFlowState T → Bool
   still_waits None f = false
   still_waits (Some number) f = flow.is_waiting number f
 
-  -- an emission, if there is one, is taken back
+  -- the state after the emission, if there is one, is cancelled
   abbrev pub cancelled : Option ℕ → SharedFlowState T → SharedFlowState T
   cancelled None f = f
   cancelled (Some number) f = (flow.cancel number f).after
 
-  -- the outcome of an emission; a refused one changes nothing
+  -- the outcome of a put, by that of its emission; a refused one changes nothing
   abbrev pub emitted : EmittingFlow T → Result Emit FlowFault → SharedFlowState T → After (Result Bool FlowFault) (EmittingFlow T)
   emitted s (Ok Done) after = record { result = Ok false; state = record { flow = after; waiting = None } }
   emitted s (Ok (Queued number)) after = record { result = Ok true; state = record { flow = after; waiting = Some number } }
   emitted s (Err fault) after = record { result = Err fault; state = s }
 
-  -- a put emits; polls and cancels are of the emission that waited, if there is one; a reset empties the replay cache
+  -- a put emits; a poll or a cancel is of the emission that waited, if there is one; a reset empties the replay cache
   abbrev pub shared_reply : (c : HubCall T) → EmittingFlow T → After (HubAnswer c) (EmittingFlow T)
   shared_reply counts s = record { result = Ok (length s.flow.subscribers); state = s }
   shared_reply (puts x) s = emitted s (flow.emit x s.flow).reply (flow.emit x s.flow).after
@@ -66,7 +66,7 @@ module _ {T : Type 0} where
   MayLackMemory cancels s = ⊥
   MayLackMemory resets s = ⊥
 
-  -- the flow answers, or is refused with `OutOfMemory` and does nothing
+  -- the flow answers as documented, or refuses a put with `OutOfMemory` and does nothing
   abbrev pub SharedDoes : (c : HubCall T) → EmittingFlow T → HubAnswer c → EmittingFlow T → Type 0
   SharedDoes call old answer new =
       (shared_reply call old ≡ record { result = answer; state = new })
@@ -87,7 +87,7 @@ module _ {T : Type 0} where
   state_reply cancels s = record { result = Ok false; state = s }
   state_reply resets s = record { result = Ok tt; state = with_value s.initial s }
 
-  -- the flow answers; or a reset is refused with `OutOfMemory`, to copy the initial value, and does nothing
+  -- the flow answers as documented; or it has no memory for a copy of the initial value, refuses a reset, and does nothing
   abbrev pub StateDoes : (c : HubCall T) → StateAndInitial T → HubAnswer c → StateAndInitial T → Type 0
   StateDoes call old answer new =
       (state_reply call old ≡ record { result = answer; state = new })
@@ -95,17 +95,17 @@ module _ {T : Type 0} where
 
 -- ---- a turn
 
--- a turn over a flow that answers so, where memory is ample
+-- a turn over a flow that answers by `reply` and does not run out of memory
 abbrev pub flow_turn : {T F : Type 0} → ((c : HubCall T) → F → After (HubAnswer c) F) → Started → ℕ → List SharingObservation → SharingState T → ChainAndHub T F → After (Turned T) (ChainAndHub T F)
 flow_turn reply started now seen s both = plays (call_reply reply) (turn_steps started now seen s) both
 
--- the answer does not say that memory was refused
+-- the answer is not `OutOfMemory`
 abbrev pub HadMemory : {R : Type 0} → Result R ShareFault → Type 0
 HadMemory (Err (Flow OutOfMemory)) = ⊥
 HadMemory (Err (Chain chain_fault.OutOfMemory)) = ⊥
 HadMemory answer = Unit {0}
 
--- an answer of a turn over a flow of one thread: no other caller is inside it
+-- an answer of a turn over a flow of one thread: never Busy
 abbrev pub IsNotBusy : Result Report ShareFault → Type 0
 IsNotBusy (Ok report) = report.event ≢ event.Busy
 IsNotBusy (Err fault) = Unit {0}
@@ -120,12 +120,12 @@ IsAtOnce (Err fault) = Unit {0}
 pub record DocumentedTurn {T F : Type 0} (does : (c : HubCall T) → F → HubAnswer c → F → Type 0) (reply : (c : HubCall T) → F → After (HubAnswer c) F) (Is : Result Report ShareFault → Type 0) (started : Started) (now : ℕ) (seen : List SharingObservation) (s : SharingState T) (old : ChainAndHub T F) (turned : Turned T) (new : ChainAndHub T F) : Type 0 where
   -- its steps
   pub steps : Takes (CallDoes does) (turn_steps started now seen s) old turned new
-  -- its outcome, if the answer does not say that memory was refused
+  -- its outcome, if the answer is not `OutOfMemory`
   pub computed : HadMemory turned.answer → flow_turn reply started now seen s old ≡ record { result = turned; state = new }
   pub answered : Is turned.answer
   -- no cancel is left for a later turn
   pub cancelled : s.cancel_due ≡ false → turned.state.cancel_due ≡ false
-  -- the account
+  -- what the answer means for the items that the flow has accepted
   pub means : s.runs ≡ is_running started seen → BetweenTurns s old → (accepted : List T) → HasAccount accepted s old
       → TurnMeans does accepted s old turned.answer turned.state new
   -- what becomes of a reset, by the command of the observations

@@ -20,13 +20,13 @@ module _ {T : Type 0} where
 -- ---- any kind of flow
 
 module _ {T S C R : Type 0} (kind : Kind T S C R) where
-  -- the subscriber of this number has received all that there is for it
+  -- the subscriber of this number has nothing to receive: its `next` may answer Empty
   abbrev pub FindsNothing : ℕ → S → Type 0
   FindsNothing u s = kind.Replies s (kind.take_next u) (kind.received Empty)
 
-  -- When the callers of a kind of flow may sleep.
+  -- what a kind of flow defines, and is proved to have, so that its callers may sleep
   pub record Sleeping : Type 1 where
-    -- how many values subscribers could see so far
+    -- how many values subscribers could have seen so far
     pub mark : S → ℕ
     -- the call sets the value that all subscribers see
     pub is_set : C → R → Bool
@@ -50,17 +50,17 @@ module _ {T S C R : Type 0} (kind : Kind T S C R) where
     pub subscribe_cancels : (name : List ℕ) → cancels (kind.subscribe name) ≡ None
     pub unsubscribe_cancels : (u : ℕ) → cancels (kind.unsubscribe u) ≡ None
     pub count_cancels : cancels kind.count ≡ None
-    -- A subscriber that found nothing finds nothing, until a value comes that it could see, or it ends.
+    -- a subscriber with nothing to receive has nothing to receive until there is a new value, or it unsubscribes
     pub stays : (u : ℕ) (s : S) (c : C) (r : R) → kind.Replies s c r → ends c ≢ Some u → is_set c r ≡ false
         → mark (kind.after s c r) ≡ mark s → FindsNothing u s → FindsNothing u (kind.after s c r)
-    -- a caller whose reply was a wait finds nothing
+    -- a subscriber that got Empty still has nothing to receive
     pub found : (u : ℕ) (s : S) → FindsNothing u s → FindsNothing u (kind.after s (kind.take_next u) (kind.received Empty))
     -- what holds of each state that a history leads to
     pub IsSound : S → Type 0
     pub begins : (s : S) → kind.MayBegin s → IsSound s
     pub keeps : (s : S) (c : C) (r : R) → IsSound s → IsSound (kind.after s c r)
-    -- An emission that waits goes on waiting, until the first that waits is one behind it, or its wait is ended.
+    -- an emission that waits keeps waiting until it is cancelled, or no emission up to it waits any more
     pub goes_on : (e : ℕ) (s : S) (c : C) (r : R) → IsSound s → cancels c ≢ Some e → waits e s ≡ true
         → IsSomeAnd (first_waiting (kind.after s c r)) (λ first. first ≤ e) → waits e (kind.after s c r) ≡ true
-    -- none that waits is before the first
+    -- no emission that waits is before the first
     pub first_first : (e : ℕ) (s : S) → IsSound s → waits e s ≡ true → IsSomeAnd (first_waiting s) (λ first. first ≤ e)

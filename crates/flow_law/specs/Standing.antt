@@ -1,5 +1,5 @@
--- What contracts see of a core, when it stands for a state of the documented flow, and what a call of it does.
--- Begin with `Conforms`: one word for each call of a core. A reader who knows it can read every contract of flow_core.
+-- What contracts see of a core, which states of the documented flow it stands for, and what a call of it does.
+-- Begin with `Conforms`, the word by which a contract of flow_core says what a call of a shared core does.
 use Rattle.std.specs.Prelude.{◌≡◌, ℕ, ◌-◌, min, List, [], ◌∷◌, length, drop, Bool}
 use Rattle.std.specs.Bool.{OnTrue}
 use Rattle.flow_law.specs.declared.config.Config.{Config}
@@ -17,15 +17,15 @@ use Rattle.flow_law.specs.StateFlow as state
 
 -- ---- what a call does, for any kind of flow
 
--- A core of type K stands for states of type S. In each state that the old core stands for, the documented flow may reply
--- so, and the new core stands for the state after. A refused call leaves the core as it was.
+-- A core of type K stands for states of type S. In each state that the old core stands for, the documented flow may give this
+-- reply, and the new core stands for the state after it. A refused call leaves the core unchanged.
 module _ {K S C R : Type 0} (StandsAs : K → S → Type 0) (Replies : S → C → R → Type 0) (after : S → C → R → S) (is_refused : R → Bool) where
   -- a call of a core is a step of the documented flow
   abbrev pub ConformsBy : K → C → R → K → Type 0
   ConformsBy old call reply new = ((s : S) → StandsAs old s → Replies s call reply × StandsAs new (after s call reply)) × OnTrue (is_refused reply) (new ≡ old)
 
 module _ {K T S C R : Type 0} (kind : Kind T S C R) (StandsAs : K → S → Type 0) where
-  -- the reply and the state after are the flow's, in each state that the old core stands for
+  -- in each state that the old core stands for, the flow may give this reply, and the new core stands for the state after it
   abbrev pub Documents : K → C → R → K → Type 0
   Documents old call reply new = (s : S) → StandsAs old s → kind.Replies s call reply × StandsAs new (kind.after s call reply)
 
@@ -55,19 +55,19 @@ abbrev pub least_position : {T : Type 0} → ℕ → List (Subscriber T) → ℕ
 least_position bound [] = bound
 least_position bound (u ∷ us) = min u.position (least_position bound us)
 
--- where the values begin that a new subscriber or an old one may still ask for
+-- the position of the first value that a new or old subscriber may still receive
 abbrev pub first_needed : {T : Type 0} → SharedFlowState T → ℕ
 first_needed s = least_position (cache_start s) s.subscribers
 
--- the values that may still be asked for
+-- the values that a subscriber may still receive
 abbrev pub needed : {T : Type 0} → SharedFlowState T → List T
 needed s = drop (first_needed s) (values s)
 
--- how many values those are: the ones between where they begin and the last that was emitted
+-- how many values a subscriber may still receive
 abbrev pub held : {T : Type 0} → SharedFlowState T → ℕ
 held s = length s.emitted - first_needed s
 
--- A core holds exactly what may still be asked for, and nothing that lies before it.
+-- The core stands for the state: its parts are the state's, and it holds exactly the values that a subscriber may still receive.
 pub record StandsFor {T : Type 0} (core : Core T) (s : SharedFlowState T) : Type 0 where
   pub config : core.config ≡ s.config
   pub held : core.held ≡ needed s
@@ -84,6 +84,6 @@ Conforms = ConformsBy StandsFor shared.Replies shared.after shared.is_refused
 
 -- ---- state flows
 
--- a state core keeps the state itself
+-- a call of a state core is a step of the documented state flow; a state core is seen as the state itself
 abbrev pub StateConforms : {T : Type 0} → StateFlowState T → StateCall T → StateReply T → StateFlowState T → Type 0
 StateConforms = ConformsBy (λ core s. core ≡ s) state.Replies state.after state.is_refused

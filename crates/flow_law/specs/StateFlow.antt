@@ -14,21 +14,21 @@ pub use Rattle.flow_law.specs.declared.states.StateSubscriber.{StateSubscriber}
 pub use Rattle.flow_law.specs.declared.states.StateFlowState.{StateFlowState}
 
 module _ {T : Type 0} where
-  -- before any call
+  -- the state before any call
   abbrev pub first_state_flow : ℕ → T → StateFlowState T
   first_state_flow limit first = record { limit = limit; value = first; subscribers = []; issued = 0 }
 
-  -- the last value that a subscriber got, if there is such a subscriber
+  -- the last value that the subscriber of this number got, if there is such a subscriber
   abbrev pub last_of : ℕ → List (StateSubscriber T) → Option (Option T)
   last_of number [] = None
   last_of number (r ∷ rs) = if r.number == number then Some r.last else last_of number rs
 
-  -- this is the last value that the subscriber got
+  -- the subscribers, with this as the last value that the one of this number got
   abbrev pub with_last : ℕ → T → List (StateSubscriber T) → List (StateSubscriber T)
   with_last number v [] = []
   with_last number v (r ∷ rs) = if r.number == number then record r { last = Some v } ∷ rs else r ∷ with_last number v rs
 
-  -- the subscriber is gone
+  -- the subscribers without the one of this number
   abbrev pub without_subscriber : ℕ → List (StateSubscriber T) → List (StateSubscriber T)
   without_subscriber number = filter (λ r. not (r.number == number))
 
@@ -46,12 +46,12 @@ module _ {T : Type 0} where
   after s (Unsubscribe u) (Answered _) = record s { subscribers = without_subscriber u s.subscribers }
   after s _ _ = s
 
-  -- what a subscriber gets, by the last value that it got
+  -- what `next` replies, by the flow's value and the last value that the subscriber got
   abbrev pub Receives : T → Option (Option T) → StateReply T → Type 0
   Receives v None r = r ≡ Received Gone
   Receives v (Some last) r = ((last ≡ Some v) × (r ≡ Received Empty)) ⊎ ((last ≢ Some v) × (r ≡ Received (Value v)))
 
-  -- r is what the flow answers
+  -- r is the flow's reply to this call
   abbrev pub IsReply : StateFlowState T → StateCall T → StateReply T → Type 0
   IsReply s GetValue r = r ≡ Got s.value
   IsReply s (Set x) r = r ≡ Done
@@ -69,7 +69,7 @@ module _ {T : Type 0} where
   is_refused (Refused fault) = true
   is_refused _ = false
 
-  -- the subscriber is there, and this value is not the last that it got
+  -- there is such a subscriber, and this value is not the last that it got
   abbrev pub IsDue : T → Option (Option T) → Type 0
   IsDue v None = ⊥
   IsDue v (Some last) = last ≢ Some v
@@ -82,27 +82,27 @@ module _ {T : Type 0} where
   MayNeedMemory s (Subscribe name) = is_exhausted s ≡ false
   MayNeedMemory s _ = ⊥
 
-  -- What the flow may reply: out of memory, if the call may need memory, and else its one reply.
+  -- the flow may give this reply: `OutOfMemory` to a call that may need memory, and else only its one reply
   abbrev pub Replies : StateFlowState T → StateCall T → StateReply T → Type 0
   Replies s c (Refused OutOfMemory) = MayNeedMemory s c
   Replies s c r = IsReply s c r
 
-  -- the subscription gets the subscriber's number
+  -- the number that a call issues, and its owner: the subscription owns the subscriber's number
   abbrev pub gives : List ℕ → StateCall T → StateReply T → Option Owner
   gives name (Subscribe given) (Subscribed u) = Some (record { number = subscriber u; name = given })
   gives name _ _ = None
 
-  -- the number of which a call speaks
+  -- the number that a call names
   abbrev pub speaks_of : StateCall T → Option Number
   speaks_of (TakeNext u) = Some (subscriber u)
   speaks_of (Unsubscribe u) = Some (subscriber u)
   speaks_of _ = None
 
-  -- a state flow begins in the first state of its limit and its initial value
+  -- a state flow may begin in this state: it is the first state of its limit and its value
   abbrev pub MayBegin : StateFlowState T → Type 0
   MayBegin s = s ≡ first_state_flow s.limit s.value
 
-  -- state flows are a kind of flow
+  -- state flows as a kind of flow
   abbrev pub state_flow : Kind T (StateFlowState T) (StateCall T) (StateReply T)
   state_flow = record {
     MayBegin = MayBegin;
@@ -133,10 +133,10 @@ module _ {T : Type 0} where
   abbrev pub state_after_all : StateFlowState T → StateHistory T → StateFlowState T
   state_after_all = histories.after_all state_flow
 
-  -- each reply of the history is one that the flow may give there
+  -- each reply of the history is one that a flow that begins in this state may give
   abbrev pub IsLegalState : StateFlowState T → StateHistory T → Type 0
   IsLegalState = histories.IsLegal state_flow
 
-  -- a history that a flow may have had that began with this state
+  -- a history that a flow that began in this state may have had: legal and owned
   abbrev pub IsStateHistory : StateFlowState T → StateHistory T → Type 0
   IsStateHistory = histories.IsHistory state_flow

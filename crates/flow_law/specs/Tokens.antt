@@ -1,4 +1,4 @@
--- The tokens of any flow for several threads, and what a call does, as the token sees it through which it was made.
+-- The tokens of any flow for several threads, and what a call adds to what its token knows.
 -- Begin with `CallsIn`: one word for every call that is an event. `Id` identifies a flow.
 use Rattle.std.specs.Prelude.{◌≡◌, ◌≢◌, ℕ, ◌+◌, true, List, Result, Ok, Err}
 use Rattle.flow_law.specs.declared.fault.FlowFault.{FlowFault}
@@ -17,7 +17,7 @@ pub record Token (Id E : Type 0) : Type 0 where
   pub table_id : Id
   pub knows : Knowledge E
 
--- a flow: which one it is, and what it began with
+-- a flow: which one it is, and its first state
 pub record Origin (Id S : Type 0) : Type 0 where
   pub table_id : Id
   pub first : S
@@ -33,7 +33,7 @@ module _ {Id S : Type 0} where
   origin id first = record { table_id = id; first = first }
 
 module _ {Id E : Type 0} where
-  -- the token of this table that knows so much
+  -- the token of this table with this knowledge
   abbrev pub token : Id → Knowledge E → Token Id E
   token id knows = record { table_id = id; knows = knows }
 
@@ -41,38 +41,38 @@ module _ {Id E : Type 0} where
   abbrev pub numbered : Token Id E → ℕ → NumberedToken Id E
   numbered t number = record { token = t; number = number }
 
-  -- the same token, which knows this
+  -- the token, with this knowledge instead of its own
   abbrev pub knowing : Token Id E → Knowledge E → Token Id E
   knowing t knows = token t.table_id knows
 
-  -- another caller was inside: the token has counted one exchange that it lost, and nothing else has changed
+  -- another caller was inside: the token has counted one failed attempt, and nothing else has changed
   abbrev pub IsBusy : Token Id E → Token Id E → Type 0
   IsBusy before after = after ≡ knowing before (loses before.knows)
 
--- a new flow that began with this, and its first token, which has seen nothing
+-- a new flow that began in this state, and its first token, which has seen nothing
 abbrev pub Begins : {Id S E : Type 0} → S → Origin Id S × Token Id E → Type 0
 Begins first made = (made.0.first ≡ first) × (made.1.table_id ≡ made.0.table_id) × (made.1.knows ≡ first_knowledge)
 
--- the name of the next token that is made through the one that knows this
+-- the name of the next token that is made through the token with this knowledge
 abbrev pub subscription_name : {E : Type 0} → Knowledge E → List ℕ
 subscription_name k = child_name k.name (k.made + 1)
 
 module _ {Id T S C R : Type 0} (kind : Kind T S C R) (first : S) where
-  -- the token made this call, had this reply, and has seen it in a history of the flow that begins with all that it had seen
+  -- the token made this call and got this reply: both are the last event of a history that begins with all that it had seen
   abbrev pub CallsIn : Token Id (Said C R) → C → R → Token Id (Said C R) → Type 0
   CallsIn before call reply after = (after.table_id ≡ before.table_id) × AddsOne (IsHistory kind first) before.knows call reply after.knows
 
-  -- the same, and no exchange was lost
+  -- the token made this call and got this reply, as in `CallsIn`, without a failed attempt
   abbrev pub CallsAtOnceIn : Token Id (Said C R) → C → R → Token Id (Said C R) → Type 0
   CallsAtOnceIn before call reply after = CallsIn before call reply after × (after.knows.lost ≡ before.knows.lost)
 
   -- ---- the calls that every kind of flow has
 
-  -- the subscription took what was next
+  -- the subscription called `next`
   abbrev pub NextsIn : NumberedToken Id (Said C R) → Result (Next T) FlowFault → NumberedToken Id (Said C R) → Type 0
   NextsIn old result new = CallsIn old.token (kind.take_next old.number) (replied kind kind.received result) new.token
 
-  -- the subscription was there and ended. Its token serves other calls
+  -- the subscription unsubscribed. Its token serves other calls
   abbrev pub UnsubscribesIn : NumberedToken Id (Said C R) → Token Id (Said C R) → Type 0
   UnsubscribesIn old after = CallsIn old.token (kind.unsubscribe old.number) (kind.tested true) after
 
@@ -89,15 +89,15 @@ module _ {Id T S C R : Type 0} (kind : Kind T S C R) (first : S) where
     pub sees_one : one_after ≡ knowing one (sees history one.knows)
     pub sees_other : other_after ≡ knowing other (sees history other.knows)
 
-  -- `subscribe` is the call, by the subscription's name. The subscription's token is made through the caller's, after the event:
-  -- both have seen it.
+  -- A subscription was made, or refused. `subscribe` makes the call from the subscription's name. The subscription's token is made
+  -- through the caller's after the event, so both have seen it.
   abbrev pub SubscribesIn : (List ℕ → C) → Token Id (Said C R) → Result (NumberedToken Id (Said C R)) FlowFault → Token Id (Said C R) → Type 0
   SubscribesIn subscribe before (Ok s) after =
       (between : Token Id (Said C R)) × CallsIn before (subscribe (subscription_name before.knows)) (kind.subscribed s.number) between
       × (after ≡ knowing between (makes between.knows)) × (s.token ≡ knowing between (child between.knows))
   SubscribesIn subscribe before (Err fault) after = CallsIn before (subscribe (subscription_name before.knows)) (kind.refused fault) after
 
-  -- ---- calls that do not wait: Busy exactly where one exchange was lost
+  -- ---- calls that do not wait: Busy exactly if one attempt failed
 
   -- a `next` that does not wait
   abbrev pub NextsNowIn : NumberedToken Id (Said C R) → Result (Next T) FlowFault → NumberedToken Id (Said C R) → Type 0

@@ -1,4 +1,4 @@
--- What the hub of a sharing has accepted of the chain's list since the last start. The key fact is `LawTurnAccount`.
+-- Which items of the chain's list the hub of a sharing has accepted since the last start. The key fact is `LawTurnAccount`.
 use Rattle.std.specs.Prelude.{◌≡◌, ℕ, ◌+◌, ◌-◌, List, [], ◌∷◌, ◌++◌, length, take, Option, Some, None}
 
 module _ {T : Type 0} where
@@ -15,7 +15,7 @@ module _ {T : Type 0} where
   abbrev pub accepted_count : List T → Option T → List T → ℕ
   accepted_count whole kept rest = length whole - (length (kept_items kept) + length rest)
 
--- so many items of the chain's list were accepted, and they are its first ones
+-- the law: `accepted_count` items of the chain's list were accepted, and they are its first ones
 abbrev pub LawTurnAccount : Type 0 → Type 0
 LawTurnAccount T =
     (whole : List T) (kept : Option T) (rest accepted : List T) → IsAccountOf whole kept rest accepted →

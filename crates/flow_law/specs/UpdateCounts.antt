@@ -13,18 +13,18 @@ use Rattle.flow_law.specs.StateFlow.{StateHistory, state_after_all, IsLegalState
 use Rattle.flow_law.specs.Done.{total, done_by, Made}
 use Rattle.flow_law.specs.Closed.{AreAll, IsClosed}
 
--- g applied so many times
+-- g applied n times to a value
 abbrev pub iterate : {T : Type 0} → (T → T) → ℕ → T → T
 iterate g zero v = v
 iterate g (suc n) v = iterate g n (g v)
 
 module _ {T : Type 0} where
-  -- a won exchange is one update
+  -- how many updates a call is: one if it is a `compare_and_set` that succeeded
   abbrev pub update_by : StateCall T → StateReply T → ℕ
   update_by (CompareAndSet a b) (Answered true) = 1
   update_by _ _ = 0
 
-  -- how many updates these calls are
+  -- how many updates are among these calls
   abbrev pub updates : List (Said (StateCall T) (StateReply T)) → ℕ
   updates = total (λ (e : Said (StateCall T) (StateReply T)). update_by e.call e.reply)
 
@@ -36,18 +36,18 @@ module _ {T : Type 0} where
     UpdatesBy (CompareAndSet a b) (Answered true) = b ≡ g a
     UpdatesBy _ _ = Unit {0}
 
-    -- all of the calls do so
+    -- each of the calls leaves the value as it is or updates it by g
     abbrev pub OnlyUpdates : List (Said (StateCall T) (StateReply T)) → Type 0
     OnlyUpdates = AllByRecursion (λ (e : Said (StateCall T) (StateReply T)). UpdatesBy e.call e.reply)
 
-    -- the token has made so many updates by g, and changed the value in no other way
+    -- the token has made n updates by g, and changed the value in no other way
     abbrev pub UpdatesTimes : ℕ → Knowledge (Said (StateCall T) (StateReply T))
         → Knowledge (Said (StateCall T) (StateReply T)) → Type 0
     UpdatesTimes n before after =
         (added : List (Said (StateCall T) (StateReply T)))
         × Made added before after × OnlyUpdates added × (updates added ≡ n)
 
--- No update is lost: if the tokens changed the value only by updates with g, it was updated as often as all of them did.
+-- the law: if the tokens changed the value only by updates with g, it is g applied to the first value once for each of their updates
 abbrev pub LawUpdated : Type 0 → Type 0
 LawUpdated T =
     (g : T → T) (first : StateFlowState T)

@@ -1,5 +1,5 @@
 -- An update of a state flow by a function of its value (`update`, `getAndUpdate`, `updateAndGet`): rounds of two events, a read
--- of the value and an exchange of it for what the function answers to it. All rounds but the last are lost. Begin with `Updates`.
+-- of the value and a `compare_and_set` from it to the function's answer. All rounds except the last fail. Begin with `Updates`.
 use Rattle.std.specs.Prelude.{◌⊎◌, Bool, true, false, Result, Ok, Err}
 use Rattle.flow_law.specs.declared.fault.FlowFault.TheVariants as fault
 use Rattle.flow_law.specs.declared.history.Said.{Said}
@@ -17,19 +17,19 @@ StateToken Id T = Token Id (Said (StateCall T) (StateReply T))
 
 -- `Gives x y`: the function may answer y to x
 module _ {Id T : Type 0} (first : StateFlowState T) (Gives : T → T → Type 0) where
-  -- the token read x, the function answered y to it, and the exchange of x for y was won or not
+  -- the token read x, the function answered y to it, and the `compare_and_set` from x to y succeeded (`won`) or not
   pub record IsRound (won : Bool) (before : StateToken Id T) (x y : T) (after : StateToken Id T) : Type 0 where
     pub between : StateToken Id T
     pub read : CallsIn state_flow first before GetValue (Got x) between
     pub answered : Gives x y
     pub exchanged : CallsIn state_flow first between (CompareAndSet x y) (Answered won) after
 
-  -- rounds that were lost
+  -- any number of rounds that failed
   pub data LosesRounds : StateToken Id T → StateToken Id T → Type 0 where
     none_lost : {t : StateToken Id T} → LosesRounds t t
     one_lost : {s t u : StateToken Id T} {x y : T} → LosesRounds s t → IsRound false t x y u → LosesRounds s u
 
-  -- the token lost some rounds, and then won one, with the value x that it read and the answer y to it
+  -- some rounds failed, and then one succeeded, in which the token read x and the function answered y
   pub record Updates (before : StateToken Id T) (x y : T) (after : StateToken Id T) : Type 0 where
     pub between : StateToken Id T
     pub lost : LosesRounds before between
@@ -45,16 +45,16 @@ module _ {T E : Type 0} (Gives : T → Result T E → Type 0) where
   abbrev pub Refuses : T → Type 0
   Refuses x = (e : E) × Gives x (Err e)
 
-  -- or it answered a value of which there was no copy to keep
+  -- the function refuses this value, or it answered a value of which no copy could be kept
   abbrev pub RefusesOrKeepsNone : T → Type 0
   RefusesOrKeepsNone x = Refuses x ⊎ ((y : T) × Accepts x y)
 
 module _ {Id T : Type 0} (first : StateFlowState T) where
-  -- a read that was refused with `OutOfMemory`, or of a value x at which the update stops
+  -- a read that was refused with `OutOfMemory`, or that gave a value x at which the update stops
   abbrev pub ReadsInVain : (T → Type 0) → StateToken Id T → StateToken Id T → Type 0
   ReadsInVain Stops before after = CallsIn state_flow first before GetValue (Refused fault.OutOfMemory) after ⊎ ((x : T) × CallsIn state_flow first before GetValue (Got x) after × Stops x)
 
-  -- the token lost some rounds, and then read in vain: nothing was set
+  -- some rounds failed, and then the update stopped at a read: nothing was set
   pub record StopsAt (Gives : T → T → Type 0) (Stops : T → Type 0) (before after : StateToken Id T) : Type 0 where
     pub between : StateToken Id T
     pub lost : LosesRounds first Gives before between

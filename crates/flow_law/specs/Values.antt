@@ -1,4 +1,4 @@
--- When values that are made of others are the same, and that sameness of the parts then decides equality.
+-- Sameness of values that are made of others, and proofs that it is exact if the sameness of the parts is.
 use Rattle.std.specs.Prelude.{◌≡◌, ◌↔◌, Bool, true, false, ◌&&◌, is_some, IsTrue, List, [], ◌∷◌, drop, nat_eq, Option, Some, None, slice_index_or}
 use Rattle.std.specs.Bool.{beq}
 use Rattle.std.specs.Cmp.{booleans_Decides, decided, partial_equiv_from_equiv, IsEquivalence, IsPartialEquivalence}
@@ -37,7 +37,7 @@ is_same_triple f g h x y = f x.0 y.0 && (g x.1 y.1 && h x.2 y.2)
 
 -- ---- sameness that is exact
 
--- the unit is always the same
+-- sameness of units is exact
 pub unit_exact : IsExact (λ (x y : Unit {0}). true)
 unit_exact x y = (λ _. refl, λ _. refl)
 
@@ -45,11 +45,11 @@ unit_exact x y = (λ _. refl, λ _. refl)
 pub truth_exact : IsExact beq
 truth_exact x y = booleans_Decides x y
 
--- of unsigned integers and characters
+-- sameness of unsigned integers and of characters is exact
 pub number_exact : IsExact nat_eq
 number_exact x y = Decides-eqb x y
 
--- of signed integers
+-- sameness of signed integers is exact
 pub whole_exact : IsExact int_eq
 whole_exact x y = Decides-int_eq x y
 
@@ -108,10 +108,10 @@ module _ {T : Type 0} {same : T → T → Bool} (exact : IsExact same) where
   pub exact_eq : IsEquivalence same
   exact_eq = decided same exact
 
-  -- and so a partial equivalence
+  -- an exact sameness is a partial equivalence
   pub exact_partial_eq : IsPartialEquivalence same
   exact_partial_eq = partial_equiv_from_equiv exact_eq
 
-  -- whatever is hashed of a value, the same values are hashed alike
+  -- values that are the same are hashed alike
   pub exact_hash : (writes : T → HashWrites) → (x y : T) → IsTrue (same x y) → writes x ≡ writes y
   exact_hash writes x y h = (same_Alike writes exact).fed x y h

@@ -23,12 +23,12 @@ module _ {T : Type 0} where
   from_flow u s (e ∷ es) =
       from_flow_by u s e.what.call e.what.reply ++ from_flow u (after s e.what.call e.what.reply) es
 
-  -- how many values are before this emission in the queue
+  -- how many values are before this emission's value in the queue
   abbrev pub ahead : ℕ → List (Numbered T) → ℕ
   ahead e [] = 0
   ahead e (q ∷ queue) = if q.number == e then 0 else 1 + ahead e queue
 
-  -- a subscriber that is there after these events received at most so many emitted values in them
+  -- some subscriber after these events received at most `most` emitted values in them
   abbrev pub HasSlowSubscriber : ℕ → SharedFlowState T → History T → Type 0
   HasSlowSubscriber most s h =
       (u : ℕ) × IsSome (position_of u (after_all s h).subscribers)
@@ -46,7 +46,7 @@ module _ {T : Type 0} where
     pub offered : is_offered_as e s ≡ true → is_offered_as e (after_all s h) ≡ true
         → HasSlowSubscriber 0 s h
 
-  -- each emission, from each point of the history on
+  -- `Waits` holds of each emission, from each point of the history on
   abbrev pub EachWaits : Config → History T → Type 0
   EachWaits config h = (before since : History T) → h ≡ before ++ since
       → (e : ℕ) → Waits e (state_after config before) since
