@@ -17,7 +17,7 @@ module _ {M T S X R C : Type 0} (stepped : M → ℕ → C → Option M) (may_sk
   abbrev Log : Type 0
   Log = List (HistoryEvent (Said X R))
 
-  -- each step of the first so many turns adds to the history
+  -- each step of the first `bound` turns adds to the history
   abbrev pub Leads : ℕ → Type 0
   Leads bound = (m after : M) (k : ℕ) (h : Log) (caller : ℕ) (call : C) → Stands m k h → IsHistory kind first h → k < bound → caller < length callers → IsStep stepped may_skip m caller call after
       → (part : Log) × Adds h caller call part × IsHistory kind first (h ++ part) × Stands after (k + 1) (h ++ part)

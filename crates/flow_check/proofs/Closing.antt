@@ -23,7 +23,7 @@ module _ {S C : Type 0} (stepped : S → ℕ → C → Option S) (may_skip is_lo
       (subst (λ (p : List ℕ). MayComeNext callers p h.0) (sym at) h.2)
       (subst (λ (t : S). IsStep stepped may_skip t caller h.0.call h.3.0) (sym is) h.3.1))
 
-  -- of orders with so many turns at most
+  -- no order of at most `most` turns goes through the rest
   none_within : (most : ℕ) (order : List ℕ) (s : S) (placed : List ℕ) → length order ≤ most → IsSound s → IsInTable nodes s placed → Goes s placed order → ⊥
   none_within most [] s placed fits sound found h = (closed found.0 found.1.0 found.1.1).1 (subst (λ (p : List ℕ). OwesNothing callers p) (sym found.1.3) h)
   none_within zero (caller ∷ order) s placed fits sound found h = absurd (omega arith)

@@ -57,7 +57,7 @@ module _ (cut : Cut) where
   same_known None (Some other) e = absurd (false≢true e)
   same_known (Some one) None e = absurd (false≢true e)
 
--- a cut that is no later knows no more of an end
+-- an end that is cut off twice is known as at the earlier cut
 pub past_end_again : (early cut : Cut) → ((moment : ℕ) → is_past early moment ≡ true → is_past cut moment ≡ true)
     → (end : Option ℕ) → past_end early (past_end cut end) ≡ past_end early end
 past_end_again early cut within None = refl

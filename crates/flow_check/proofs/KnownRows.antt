@@ -12,10 +12,10 @@ use Rattle.flow_check.specs.Records.{Calls, call_in, recorded, is_over_before, m
 use Rattle.flow_check.specs.Moments.{is_past, known_call, known_row, IsKnown}
 use Rattle.flow_check.proofs.Ends.{past_earlier, not_over, past_end_again, begins_later, follows_known}
 
--- ---- lists in which what passes a test comes first
+-- ---- lists that begin with the elements that pass a test
 
 module _ {A : Type 0} (passes : A → Bool) where
-  -- what comes before something that passes does so too
+  -- the element before one that passes also passes
   abbrev pub PassFirst : List A → Type 0
   PassFirst xs = (k : ℕ) (x y : A) → slice_get xs k ≡ Some x → slice_get xs (suc k) ≡ Some y → passes y ≡ true → passes x ≡ true
 

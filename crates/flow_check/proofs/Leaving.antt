@@ -47,7 +47,7 @@ module _ {C : Type 0} (callers : Calls C) where
       split (is_over_before d.end moment) (λ b. is_over_before d.end moment ≡ b → b ≡ false)
       (λ _ over. absurd (false≢true (sym free ∙ subst (λ (x : Timed C). is_over_before x.end moment ≡ true) is (before.2.0 moment over)))) (λ _ _. refl) refl
 
-  -- what may come next may still do so once some caller's next call has happened
+  -- a call that may come next may still come next after some caller's next call has happened
   may_still : IsWellTimed callers → (placed : List ℕ) (i : ℕ) (c d : Timed C) → next_of callers placed i ≡ Some c → MayComeNext callers placed d → MayComeNext callers (placing i placed) d
   may_still well placed i c d now may = λ other e there. elim (eqb_tells i other) [
     | inl same ↦ not_over_later well placed i d.begin c e now (subst (λ (j : ℕ). next_of callers (placing i placed) j ≡ Some e) (sym same.1) there) (may i c now)

@@ -1,4 +1,4 @@
--- The turns of an order one after another, and the same said of each two of them. Begin with `Goes`.
+-- An order read turn by turn, and the same facts for each two of its turns. Begin with `Goes`.
 use Rattle.std.proofs.Common.{◌≡◌, ℕ, suc, zero, ◌<◌, ◌≤◌, false, List, [], ◌∷◌, ◌++◌, length, take, Option, Some, None, refl, sym, ap, ◌∙◌, subst, inl, inr, arith}
 use Rattle.std.specs.Prelude.{slice_get, IsSome, is_some}
 use Rattle.std.proofs.lemmas.Bool.{false≢true}
@@ -32,14 +32,14 @@ module _ {T S X R C : Type 0} (kind : Kind T S X R) (Adds : List (HistoryEvent (
   abbrev pub NoneOwed : List ℕ → Type 0
   NoneOwed p = (other : ℕ) (d : Timed C) → IsNext p other d → d.end ≡ None
 
-  -- after the turns p, which made the history h, the order goes on as some longer history does
+  -- after the turns p, which made the history h, the order continues, and explains a history that begins with h
   abbrev pub Goes : List ℕ → Log → List ℕ → Type 0
   Goes p h [] = NoneOwed p × IsHistory kind first h
   Goes p h (caller ∷ order) =
       (c : Timed C) × IsNext p caller c × NoneLate p c.begin
       × ((part : Log) × Adds h caller c.call part × Goes (p ++ caller ∷ []) (h ++ part) order)
 
-  -- the history to go on from is legal
+  -- the history that the order continues is legal
   pub goes_history : (order p : List ℕ) (h : Log) → Goes p h order → IsHistory kind first h
   goes_history [] p h x = x.1
   goes_history (caller ∷ order) p h x = history_left kind first h x.3.0 (goes_history order (p ++ caller ∷ []) (h ++ x.3.0) x.3.2)

@@ -1,4 +1,4 @@
--- What stands where in a list of which one place was set, and how many calls of each caller have happened after some turns.
+-- What is at each place of a list after one was set, and how many calls of each caller have happened after some turns.
 use Rattle.std.proofs.Common.{◌≡◌, ◌≢◌, ℕ, suc, zero, ◌+◌, ◌<◌, ◌≤◌, List, [], ◌∷◌, ◌++◌, length, set, get_or, Some, refl, sym, ap, ◌∙◌, subst, inl, inr, arith, length-set}
 use Rattle.std.specs.Prelude.{slice_get}
 use Rattle.std.proofs.lemmas.Bool.Decides.{eqb_tells, leb_tells}
@@ -29,7 +29,7 @@ module _ {C : Type 0} where
   none_at (calls ∷ callers) (suc i) l = none_at callers i (omega arith)
 
 module _ {C : Type 0} (callers : Calls C) where
-  -- so many calls of each caller have happened as it had turns
+  -- as many calls of each caller have happened as it had turns
   pub record Counts (placed p : List ℕ) : Type 0 where
     pub size : length placed ≡ length callers
     pub each : (i : ℕ) → i < length callers → slice_get placed i ≡ Some (turns_of i p)

@@ -1,4 +1,4 @@
--- The history of a shared flow after one event more, or none. Begin with `goes_on`.
+-- The history of a shared flow after one more event, or none. Begin with `goes_on`.
 use Rattle.std.proofs.Common.{◌≡◌, ℕ, ◌+◌, false, List, [], ◌∷◌, ◌++◌, length, sym, subst, append-nil}
 use Rattle.std.proofs.lemmas.Bool.{cond-false}
 use Rattle.flow_law.specs.declared.config.Config.{Config}
@@ -24,7 +24,7 @@ use Rattle.flow_check.proofs.SharedStanding.{StandsAs}
 use Rattle.flow_check.proofs.SharedCalls.{later, trimmed}
 use Rattle.flow_check.proofs.SharedReplies.{Reply}
 
--- the state in which a flow of this configuration begins that has so many numbers
+-- the state in which a flow of this configuration with this limit begins
 abbrev pub first_of : Config → ℕ → SharedFlowState ℕ
 first_of config limit = first_state (record config { limit = limit })
 
@@ -32,7 +32,7 @@ first_of config limit = first_state (record config { limit = limit })
 abbrev pub StandsIn : Calls SharedEntry → Config → ℕ → Kept → ℕ → History ℕ → Type 0
 StandsIn callers config limit m k h = StandsAs (length callers) m k (after_all (first_of config limit) h) (owners_all shared_flow [] h)
 
--- after the history h the caller may speak of what its call of this number names
+-- after the history h the caller owns the number that its call names, if it names one
 abbrev pub SpeaksOf : History ℕ → ℕ → SharedOperation → ℕ → Type 0
 SpeaksOf h caller op n = MaySpeak {T = ℕ} shared_flow (speaks_of (call_of caller n op)) (owners_all shared_flow [] h) (name_of caller)
 

@@ -1,4 +1,5 @@
--- An event of the documented shared flow is a step of a checker, and so is none, where a recorded call adds none. Begin with `follows_history`.
+-- An event of the documented shared flow is a step of a checker, and so is a recorded call that adds no event. Begin with
+-- `follows_history`.
 use Rattle.std.proofs.Common.{◌≡◌, ℕ, ◌+◌, ◌<◌, Bool, true, false, not, cond, List, [], ◌∷◌, ◌++◌, length, Option, Some, None, refl, sym, ap, ◌∙◌, subst, inl, inr, append-nil}
 use Rattle.std.specs.Prelude.{is_some}
 use Rattle.std.proofs.lemmas.Bool.{cond-false}

@@ -64,7 +64,7 @@ cancel_has : (caller : ℕ) (s : Kept) → HasValues s → HasValues (cancel cal
 cancel_has caller s has = split (is_waiting caller s) (λ b. HasValues (cond b (settle (withdraw caller s)) s))
     (λ _. settle_has (withdraw caller s) (withdraw_has caller s has)) (λ _. has)
 
--- a lag of no more values than there are
+-- the state still has the values that are needed, with a lag of at most as many values as it has
 lag_has : (caller lag : ℕ) (s : Kept) → HasValues s → lag ≤ length s.values → HasValues (with_lag caller (Some lag) s)
 lag_has caller lag s has upto = let most = most-set s.lags caller lag in let lags = has.0 in (omega arith, has.1)
 

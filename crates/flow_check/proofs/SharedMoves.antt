@@ -97,7 +97,7 @@ module _ (size : ℕ) (m : Kept) (k : ℕ) (s : SharedFlowState ℕ) (owners : L
 
   -- ---- a value without an emitter that waits
 
-  -- what is offered after an emission, if nobody is subscribed to a flow without a buffer
+  -- nothing new waits after an emission, if a flow without a buffer has no subscriber
   not_offered : (caller v : ℕ) (t : SharedFlowState ℕ) → SeatsOf size (append caller v m) t owners → ValuesOf (append caller v m) t → InOrder t → t.queue ≡ s.queue
       → (capacity m ≡ 0 → most_lag (map (raised (window m)) m.lags) ≡ 0) → (e : ℕ) → flow.is_waiting e t ≡ true → flow.is_waiting e s ≡ true
   not_offered caller v t seats values after queue none e w = elim (or_cases (law.is_queued e t) (law.is_offered_as e t) w) [

@@ -73,7 +73,7 @@ module _ (size : ℕ) (lags : List (Option ℕ)) (owns : List (List ℕ)) (us : 
         ];
       }
 
-  -- the caller, which had none, has one with so much to receive
+  -- the caller, which had no subscription, has one with this lag
   pub seats_more : (p lag : ℕ) (own : List ℕ) → kept_of caller lags ≡ None → position_of (issued + 1) us ≡ None → p + lag ≡ len
       → SeatsAs size (set lags caller (Some lag)) (set owns caller own) (us ++ new_one issued p own ∷ []) len ((given_to caller issued) ∷ owners)
   seats_more p lag own is fresh reach =

@@ -18,7 +18,7 @@ use Rattle.flow_check.proofs.StateSeats.{IsOwn, other_number}
 abbrev pub Subscribers : Type 0
 Subscribers = List (Subscriber ℕ)
 
--- The caller has a subscription with so much to receive: one of its numbers is a subscriber's, and no other one is.
+-- The caller has a subscription with this lag: one of its numbers is a subscriber's, and no other one is.
 pub record IsSeated (owners : List Owner) (us : Subscribers) (len caller lag : ℕ) (own : List ℕ) : Type 0 where
   pub number : ℕ
   pub is_own : IsOwn caller number owners
@@ -33,7 +33,7 @@ abbrev pub Seat : List Owner → Subscribers → ℕ → ℕ → Option ℕ → 
 Seat owners us len caller None own = (u : ℕ) → IsOwn caller u owners → position_of u us ≡ None
 Seat owners us len caller (Some lag) own = IsSeated owners us len caller lag own
 
--- of what is kept of each caller, and these subscribers of a flow that emitted so many values
+-- what is kept for each caller stands for these subscribers of a flow that emitted `len` values
 pub record SeatsAs (size : ℕ) (lags : List (Option ℕ)) (owns : List (List ℕ)) (us : Subscribers) (len : ℕ) (owners : List Owner) : Type 0 where
   pub lags_each : length lags ≡ size
   pub owns_each : length owns ≡ size
@@ -170,7 +170,7 @@ module _ (size : ℕ) (lags : List (Option ℕ)) (owns : List (List ℕ)) (us : 
           (seat_stays vs n caller j (kept_of j lags) (own_left j owns) others e.1 its (st.seats j l)))
     ]
 
-    -- its subscription goes on with other numbers
+    -- the caller's subscription stays, with another lag and other own values
     pub seats_went : (vs : Subscribers) (lag after : ℕ) (own : List ℕ) (seat : IsSeated owners us len caller lag (own_left caller owns)) (p : ℕ) → kept_of caller lags ≡ Some lag → Others vs seat.number
         → length vs ≡ length us → position_of seat.number vs ≡ Some p → p + after ≡ len → own_of seat.number vs ≡ own
         → SeatsAs size (set lags caller (Some after)) (set owns caller own) vs len owners

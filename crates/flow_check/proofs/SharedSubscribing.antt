@@ -28,7 +28,7 @@ positive (suc n) h = omega arith
 
 module _ (size k : ℕ) (owners : List Owner)
     (m : Kept) (s : SharedFlowState ℕ) (st : StandsAs size m k s owners) (rises : InOrder s) (caller : ℕ) (near : caller < size) where
-  -- where a new subscriber begins
+  -- a new subscriber's position and lag add up to the number of emitted values
   entered : law.entry s + first_lag m ≡ length s.emitted
   entered = elim (eqb_tells (capacity m) 0) [
     | inl z ↦ elim (eqb_tells (most_lag m.lags) 0) [

@@ -61,7 +61,7 @@ module _ (size : ℕ) (m : Kept) (k : ℕ) (s : StateFlowState ℕ) (owners : Li
   pub later : StandsAs size m (k + 1) s owners
   later = let upto = st.issued in record { value = st.value; readers = st.readers; count = st.count; seats = st.seats; issued = omega arith; owned = st.owned }
 
-  -- the caller's subscription, the number of which is the only one that is a subscriber's
+  -- if one of the caller's numbers is a subscriber's, it is the number of the caller's subscription
   pub is_its : (caller u : ℕ) (last : Option ℕ) → Seat owners s.subscribers caller (Some last) → IsOwn caller u owners → (last_of u s.subscribers ≡ None → ⊥) → last_of u s.subscribers ≡ Some last
   is_its caller u last seat own there = elim (eqb_tells u seat.0) [
     | inl e ↦ subst (λ (n : ℕ). last_of n s.subscribers ≡ Some last) (sym e.1) seat.2

@@ -7,7 +7,7 @@ use Rattle.flow_check.specs.declared.verdict.Verdict.{Verdict}
 use Rattle.flow_check.specs.declared.verdict.Verdict.TheVariants.{Legal, Illegal, GaveUp}
 use Rattle.flow_check.specs.Records.{Calls, IsWellTimed}
 
--- a moment is before that one, or it is not after it
+-- the moment is before the cut
 abbrev pub is_past : Cut → ℕ → Bool
 is_past (Before last) moment = nat_lt moment last
 is_past (By last) moment = nat_le moment last
@@ -18,11 +18,11 @@ past_end cut None = None
 past_end cut (Some end) = if is_past cut end then Some end else None
 
 module _ {C : Type 0} where
-  -- A call as it was known then: if it was not over it was pending. If it happens it is answered as it was later.
+  -- A call as it was known at the cut: if it was not over, it was pending. If it happens, it has the answer that it got later.
   abbrev pub known_call : Cut → Timed C → Timed C
   known_call cut c = record c { end = past_end cut c.end }
 
-  -- the calls of a caller that had begun
+  -- the calls of a caller that had begun at the cut, as they were known
   abbrev pub known_row : Cut → List (Timed C) → List (Timed C)
   known_row cut calls = map (known_call cut) (filter (λ c. is_past cut c.begin) calls)
 
@@ -55,14 +55,14 @@ module _ {C : Type 0} where
     abbrev pub HasNoOrderFrom : Type 0
     HasNoOrderFrom = (later : ℕ) → moment ≤ later → HasNoOrder explains (By later) callers
 
-    -- the calls go wrong at this moment
+    -- the calls go wrong at this moment: before it some order explains what was known, and from it on no order does
     pub record GoesWrong : Type 0 where
       pub legal_before : HasOrder explains (Before moment) callers
       pub illegal_by : HasNoOrder explains (By moment) callers
       pub legal_until : HasOrdersUntil
       pub illegal_from : HasNoOrderFrom
 
-  -- what explains calls explains in part what was known of them at any cut
+  -- if some order explains calls, some order explains what was known of them at any cut
   abbrev pub IsCutOff : (Calls C → List ℕ → Type 0) → Type 0
   IsCutOff explains =
       (cut : Cut) (callers known : Calls C) → IsWellTimed callers → IsKnown cut callers known →

@@ -26,7 +26,7 @@ module _ {C : Type 0} (callers : Calls C) (order : List ℕ) where
   abbrev pub HappensAt : ℕ → ℕ → Timed C → Type 0
   HappensAt n caller c = (slice_get order n ≡ Some caller) × (recorded callers caller (turns_of caller (take n order)) ≡ Some c)
 
-  -- calls that do not overlap keep their order: no call was over before one began that happens earlier
+  -- calls that do not overlap keep their order: a call that happens later was not over before an earlier one began
   abbrev pub KeepsTime : Type 0
   KeepsTime = (m n one other : ℕ) (c d : Timed C) → m < n → HappensAt m one c → HappensAt n other d → is_over_before d.end c.begin ≡ false
 

@@ -13,7 +13,7 @@ use Rattle.flow_check.specs.declared.record.FaultKind.TheVariants.{EndsEarly, Be
 abbrev pub Calls : Type 0 → Type 0
 Calls C = List (Vec (Timed C) Global)
 
--- the call at this place of a caller, if there is one
+-- the call of this index in a caller's calls, if there is one
 abbrev pub call_in : {C : Type 0} → Option (Vec (Timed C) Global) → ℕ → Option (Timed C)
 call_in None k = None
 call_in (Some calls) k = slice_get calls.items k
@@ -22,7 +22,7 @@ call_in (Some calls) k = slice_get calls.items k
 abbrev pub recorded : {C : Type 0} → Calls C → ℕ → ℕ → Option (Timed C)
 recorded callers caller k = call_in (slice_get callers caller) k
 
--- A call with this end was over before that moment. One that has no end is pending and not over.
+-- A call with this end was over before that moment. A call without an end is pending, so it was not over.
 abbrev pub is_over_before : Option ℕ → ℕ → Bool
 is_over_before None moment = false
 is_over_before (Some end) moment = nat_lt end moment
@@ -32,7 +32,7 @@ abbrev pub count_in : {C : Type 0} → Option (Vec (Timed C) Global) → ℕ
 count_in None = 0
 count_in (Some calls) = length calls.items
 
--- ---- what is asked of a record
+-- ---- the faults that no record may have
 
 -- a call with this end is over at this moment
 abbrev pub is_over_by : Option ℕ → ℕ → Bool
@@ -45,7 +45,7 @@ is_same_end None None = true
 is_same_end (Some one) (Some other) = one == other
 is_same_end _ _ = false
 
--- A caller's call d may follow its call c: c was over when d began. Parts of one call have the same moments.
+-- A caller's call d may follow its call c: c was over when d began, or both have the same moments, as parts of one call do.
 abbrev pub may_follow : {C : Type 0} → Timed C → Timed C → Bool
 may_follow c d = is_over_by c.end d.begin || ((c.begin == d.begin) && is_same_end c.end d.end)
 

@@ -4,16 +4,16 @@ use Rattle.std.specs.Prelude.{◌≡◌, ◌⊎◌, ℕ, ◌+◌, Bool, true, fa
 use Rattle.flow_check.specs.declared.timed.Timed.{Timed}
 use Rattle.flow_check.specs.Records.{Calls, recorded, is_over_before}
 
--- how many calls of each caller have happened: none
+-- the counts of calls before any call: 0 for each caller
 abbrev pub none_placed : {C : Type 0} → Calls C → List ℕ
 none_placed = map (λ _. 0)
 
--- one more call of this caller has happened
+-- the counts of calls after one more call of this caller
 abbrev pub placing : ℕ → List ℕ → List ℕ
 placing caller placed = slice_set placed caller (slice_index placed caller + 1)
 
 module _ {C : Type 0} (callers : Calls C) where
-  -- the call at this place of a caller, if the place is one
+  -- the caller's call of this index, if there is one
   abbrev pub next_at : ℕ → Option ℕ → Option (Timed C)
   next_at caller None = None
   next_at caller (Some k) = recorded callers caller k
@@ -34,7 +34,7 @@ module _ {C : Type 0} (callers : Calls C) where
   abbrev pub OwesNothing : List ℕ → Type 0
   OwesNothing placed = (caller : ℕ) (d : Timed C) → next_of placed caller ≡ Some d → d.end ≡ None
 
--- `stepped s caller c` is the state after what was recorded of the caller's call c, if the flow may answer so in the state s.
+-- `stepped s caller c` is the state after the caller's call c in the state s, if the flow may give the recorded answer.
 -- `may_skip c` says that the call may have done nothing.
 module _ {S C : Type 0} (stepped : S → ℕ → C → Option S) (may_skip : C → Bool) where
   -- the call is made, or it is skipped and changes nothing
@@ -42,7 +42,7 @@ module _ {S C : Type 0} (stepped : S → ℕ → C → Option S) (may_skip : C �
   IsStep s caller c after = (stepped s caller c ≡ Some after) ⊎ ((may_skip c ≡ true) × (after ≡ s))
 
   module _ (callers : Calls C) where
-    -- from a state in which so many calls have happened, this order of steps goes through the rest
+    -- from this state, in which these counts of calls have happened, this order of steps goes through the rest
     abbrev pub GoesThrough : S → List ℕ → List ℕ → Type 0
     GoesThrough s placed [] = OwesNothing callers placed
     GoesThrough s placed (caller ∷ order) =

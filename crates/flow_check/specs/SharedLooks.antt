@@ -20,10 +20,10 @@ looks_by _ _ = false
 abbrev pub is_look : SharedEntry → Bool
 is_look entry = looks_by entry.operation entry.answer
 
--- the values that some subscriber has to receive, and those of the replay cache, are kept
+-- the state keeps the values that some subscriber has still to receive, and those of the replay cache
 abbrev pub HasValues : Kept → Type 0
 HasValues s = (most_lag s.lags ≤ length s.values) × (s.cached ≤ length s.values)
 
--- a state keeps the values that are needed, and no others
+-- the state keeps the values that are needed, and no others
 abbrev pub IsSound : Kept → Type 0
 IsSound s = HasValues s × (trim s ≡ s)

@@ -16,9 +16,8 @@ use Rattle.flow_check.specs.declared.shared_machine.Held.{Held}
 use Rattle.flow_check.specs.Subscribed.{kept_of, present}
 use Rattle.flow_check.specs.Words.{number_of, maybe_of, parts_of}
 
--- The last emitted values, and how many of them the replay cache has. Of each caller, how many emitted values it has still to
--- receive, None if it is not subscribed, and what is left of its own first values. The values whose emitters wait, and the caller
--- whose value was emitted without a buffer.
+-- The last emitted values, and how many of them the replay cache has. For each caller its lag, None if it is not subscribed, and
+-- what is left of its own first values. The values whose emitters wait, and the caller whose value was emitted without a buffer.
 pub record Kept : Type 0 where
   pub config : Config
   pub values : List ℕ
@@ -28,9 +27,9 @@ pub record Kept : Type 0 where
   pub queue : List Held
   pub offered : Option ℕ
 
--- ---- what is read off a state
+-- ---- what follows from a state
 
--- the caller's own first values, none if it has no place
+-- a caller's own first values, or none if the list has no place for it
 abbrev pub own_in : Option (List ℕ) → List ℕ
 own_in None = []
 own_in (Some own) = own
@@ -39,7 +38,7 @@ own_in (Some own) = own
 abbrev pub own_left : ℕ → List (List ℕ) → List ℕ
 own_left caller owns = own_in (slice_get owns caller)
 
--- the most that a subscriber has still to receive
+-- the greatest lag of a subscriber
 abbrev pub most_lag : List (Option ℕ) → ℕ
 most_lag [] = 0
 most_lag (None ∷ lags) = most_lag lags
@@ -49,15 +48,15 @@ most_lag (Some lag ∷ lags) = max lag (most_lag lags)
 abbrev pub no_values : {C : Type 0} → List C → List (List ℕ)
 no_values = map (λ _. [])
 
--- for how many values there is a buffer
+-- how many values the flow's buffer holds
 abbrev pub capacity : Kept → ℕ
 capacity s = s.config.replay + s.config.extra
 
--- how many values a subscriber may have to receive before the flow is blocked
+-- the lag at which a subscriber blocks the flow
 abbrev pub window : Kept → ℕ
 window s = max (capacity s) 1
 
--- some subscriber has a whole window to receive
+-- the flow is blocked: some subscriber still has a whole window to receive
 abbrev pub is_blocked : Kept → Bool
 is_blocked s = nat_le (window s) (most_lag s.lags)
 
@@ -82,7 +81,7 @@ abbrev pub is_offered_by : ℕ → Option ℕ → Bool
 is_offered_by caller None = false
 is_offered_by caller (Some other) = other == caller
 
--- a value of the caller waits
+-- a value of the caller is in the queue
 abbrev pub is_in_queue : ℕ → List Held → Bool
 is_in_queue caller = list_any (λ held. held.caller == caller)
 
@@ -90,15 +89,15 @@ is_in_queue caller = list_any (λ held. held.caller == caller)
 abbrev pub is_waiting : ℕ → Kept → Bool
 is_waiting caller s = is_offered_by caller (offering s) || is_in_queue caller s.queue
 
--- the last so many values
+-- the last `count` values
 abbrev pub last_values : ℕ → List ℕ → List ℕ
 last_values count values = drop (length values - count) values
 
--- the values that a new subscriber receives first
+-- the replay cache
 abbrev pub cache : Kept → List ℕ
 cache s = last_values s.cached s.values
 
--- what a subscriber with this lag receives of the emitted values
+-- the emitted value that a subscriber with this lag receives next
 abbrev pub value_at : ℕ → List ℕ → Option ℕ
 value_at lag values = slice_get (last_values lag values) 0
 
@@ -113,25 +112,25 @@ first_lag s = lag_at_first s.cached (offering s)
 
 -- ---- changes
 
--- one more value to receive, and no more than the window
+-- the lag with one more value to receive, and at most `most`
 abbrev pub raised : ℕ → Option ℕ → Option ℕ
 raised most None = None
 raised most (Some lag) = Some (min (lag + 1) most)
 
--- a subscriber that has nothing more to receive
+-- the lag of a subscriber that has nothing more to receive
 abbrev pub cleared : Option ℕ → Option ℕ
 cleared None = None
 cleared (Some lag) = Some 0
 
--- the caller with another lag
+-- the state with this lag of the caller
 abbrev pub with_lag : ℕ → Option ℕ → Kept → Kept
 with_lag caller lag s = record s { lags = slice_set s.lags caller lag }
 
--- the caller with other own values
+-- the state with these own values of the caller
 abbrev pub with_own : ℕ → List ℕ → Kept → Kept
 with_own caller own s = record s { owns = slice_set s.owns caller own }
 
--- the caller's value is emitted; without a buffer it is offered to those who are subscribed
+-- the caller's value is emitted; without a buffer it is offered to the subscribers
 abbrev pub append : ℕ → ℕ → Kept → Kept
 append caller v s = record s {
   values = s.values ++ v ∷ [];
@@ -140,7 +139,7 @@ append caller v s = record s {
   offered = if capacity s == 0 then Some caller else None;
 }
 
--- queued values are emitted, the first ones first, until the flow is blocked
+-- queued values are emitted in order until the flow is blocked
 abbrev pub admit : Kept → List Held → Kept
 admit s [] = record s { queue = [] }
 admit s (held ∷ queue) = if is_blocked s then record s { queue = held ∷ queue } else admit (append held.caller held.value s) queue
@@ -149,11 +148,11 @@ admit s (held ∷ queue) = if is_blocked s then record s { queue = held ∷ queu
 abbrev pub settle : Kept → Kept
 settle s = admit s s.queue
 
--- without the values that can be neither received nor replayed, and without what is offered to none
+-- the state without the values that can be neither received nor replayed, and without an offer that all have received
 abbrev pub trim : Kept → Kept
 trim s = record s { values = last_values (max (most_lag s.lags) s.cached) s.values; offered = offering s }
 
--- the value waits behind the others
+-- the value goes to the end of the queue
 abbrev pub hold : ℕ → ℕ → Kept → Kept
 hold caller v s = record s { queue = s.queue ++ record { caller = caller; value = v } ∷ [] }
 
@@ -173,13 +172,13 @@ try_emit_in emits.Queues caller v s = s
 try_emit_in emits.DropsLatest caller v s = s
 try_emit_in emits.DropsOldest caller v s = append caller v s
 
--- an offered value is no more for those who have not received it, a queued one is lost
+-- the caller's value is withdrawn: subscribers that have not received an offered one miss it, and a queued one is dropped
 abbrev pub withdraw : ℕ → Kept → Kept
 withdraw caller s =
     if is_offered_by caller (offering s) then record s { lags = map cleared s.lags }
     else record s { queue = filter (λ held. not (held.caller == caller)) s.queue }
 
--- ends the wait of the caller's `emit`, if it waits
+-- the caller's `emit` is cancelled, if it waits
 abbrev pub cancel : ℕ → Kept → Kept
 cancel caller s = if is_waiting caller s then settle (withdraw caller s) else s
 
@@ -195,7 +194,7 @@ receive caller s = receive_by caller (own_left caller s.owns) (kept_of caller s.
 
 -- ---- answers
 
--- an answer of the flow's own, with its list of values
+-- an answer of the flow itself
 pub data OwnAnswer : Type 0 where
   done : OwnAnswer
   received : ℕ → OwnAnswer
@@ -230,7 +229,7 @@ agrees (Some own) (Some a) = same_answer own a
 abbrev pub done_if : Bool → Option OwnAnswer
 done_if may = if may then Some done else None
 
--- whether a `try_emit` takes its value, by its case
+-- the answer of a `try_emit`, by its case
 abbrev pub try_emit_answer : EmitCase → Bool
 try_emit_answer emits.Appends = true
 try_emit_answer emits.Offers = false
@@ -238,7 +237,7 @@ try_emit_answer emits.Queues = false
 try_emit_answer emits.DropsLatest = true
 try_emit_answer emits.DropsOldest = true
 
--- the answer of a `next` that finds this
+-- the answer of a `next` that finds this value, or none
 abbrev pub emitted_answer : Option ℕ → OwnAnswer
 emitted_answer None = nothing
 emitted_answer (Some v) = received v
@@ -299,24 +298,24 @@ may_skip entry = may_skip_operation entry.operation
 
 -- ---- words
 
--- the lag that words say
+-- the lag that words encode
 abbrev pub lag_in : List ℕ → Option ℕ
 lag_in words = maybe_of (slice_index words 0)
 
--- the value that waits, and its emitter
+-- the queued value that words encode, and its emitter
 abbrev pub held_in : List ℕ → Held
 held_in words = record { caller = slice_index words 0; value = number_of (drop 1 words) }
 
--- own first values, behind how many there are
+-- the own first values that words encode, after how many there are
 abbrev pub own_values_in : List ℕ → List ℕ
 own_values_in words = parts_of number_of (drop 2) (slice_index words 0) (drop 1 words)
 
--- the words behind them
+-- the words after those of own first values
 abbrev pub own_others : List ℕ → List ℕ
 own_others words = drop (1 + 2 * slice_index words 0) words
 
--- The state that words say: how many values the cache has, the caller whose value is offered, how many values there are and how
--- many wait, and then the lags, the values, those that wait and the own first values.
+-- The state that words encode: how many values the cache has, the caller whose value is offered, how many values there are and how
+-- many are queued, and then the lags, the values, the queued ones and the own first values.
 abbrev pub read : Kept → List ℕ → Kept
 read s words =
     let callers = length s.lags in

@@ -1,4 +1,4 @@
--- What recorded calls of a shared flow are in a history of the documented shared flow. Begin with `ExplainsShared`.
+-- How recorded calls of a shared flow become events of a history of the documented shared flow. Begin with `ExplainsShared`.
 use Rattle.std.specs.Prelude.{◌≡◌, ◌⊎◌, ℕ, true, false, List, [], ◌∷◌, Option, Some, None}
 use Rattle.flow_law.specs.declared.config.Config.{Config}
 use Rattle.flow_law.specs.declared.outcome.Emit.{Emit}
@@ -23,7 +23,7 @@ use Rattle.flow_check.specs.Records.{Calls}
 use Rattle.flow_check.specs.Orders.{Explains}
 use Rattle.flow_check.specs.StateRecords.{name_of}
 
--- the call that an event has; n is the number of the caller's subscription or emission, if the call speaks of one
+-- the call of an event; n is the number of the caller's subscription or emission, if the call names one
 abbrev pub call_of : ℕ → ℕ → SharedOperation → SharedCall ℕ
 call_of caller n (operation.TryEmit v) = call.TryEmit v
 call_of caller n (operation.Emit v) = call.Emit v
@@ -37,7 +37,7 @@ call_of caller n operation.ReplayCache = call.ReplayCache
 call_of caller n operation.ResetReplayCache = call.ResetReplayCache
 call_of caller n operation.SubscriptionCount = call.SubscriptionCount
 
--- the event has this reply, if the answer is one to this operation; whether an emission waits is not recorded where it begins
+-- the event has this reply, if the answer is one to this operation; the beginning of an `emit` does not record whether it waits
 abbrev pub IsReply : ℕ → SharedOperation → SharedAnswer → SharedReply ℕ → Type 0
 IsReply n (operation.TryEmit v) (answer.Truth b) r = r ≡ reply.Tested b
 IsReply n (operation.Emit v) answer.Done r = (e : Emit) × (r ≡ reply.Emitted e)
@@ -56,7 +56,7 @@ IsReply n _ _ r = ⊥
 abbrev pub IsRecorded : Option SharedAnswer → SharedAnswer → Type 0
 IsRecorded written a = (written ≡ None) ⊎ (written ≡ Some a)
 
--- in a state of the flow, with these owners of numbers, no subscriber's number is the caller's
+-- in this state of the flow, with these owners of numbers, the caller has no subscription
 abbrev pub HasNoSubscription : SharedFlowState ℕ → List Owner → ℕ → Type 0
 HasNoSubscription s owners caller = (u : ℕ) → owner_of (subscriber u) owners ≡ Some (name_of caller) → position_of u s.subscribers ≡ None
 
@@ -64,15 +64,15 @@ HasNoSubscription s owners caller = (u : ℕ) → owner_of (subscriber u) owners
 abbrev pub HasNoEmission : SharedFlowState ℕ → List Owner → ℕ → Type 0
 HasNoEmission s owners caller = (e : ℕ) → owner_of (emission e) owners ≡ Some (name_of caller) → is_waiting e s ≡ false
 
--- a caller subscribes only while it has no subscription, and emits only while no emission of its waits
+-- a caller subscribes only while it has no subscription, and emits only while none of its emissions waits
 abbrev pub MayMake : SharedFlowState ℕ → List Owner → ℕ → SharedOperation → Type 0
 MayMake s owners caller (operation.Emit v) = HasNoEmission s owners caller
 MayMake s owners caller (operation.EmitOrNot v) = HasNoEmission s owners caller
 MayMake s owners caller (operation.Subscribe own) = HasNoSubscription s owners caller
 MayMake s owners caller _ = Unit {0}
 
--- An `emit` has returned if no emission of the caller waits. A cancelled one may have been done before it was cancelled, and it
--- may not have begun.
+-- The recorded call may add no event: an `emit` returns if no emission of the caller waits, and a cancelled one may have been done
+-- before it was cancelled, or may not have begun.
 abbrev pub MayAddNothing : SharedFlowState ℕ → List Owner → ℕ → SharedEntry → Type 0
 MayAddNothing s owners caller entry = by entry.operation
   where
@@ -85,7 +85,7 @@ MayAddNothing s owners caller entry = by entry.operation
 module _ (first : SharedFlowState ℕ) where
   -- a part of a recorded call is one event under the caller's name
   pub record AddsEvent (h : History ℕ) (caller : ℕ) (entry : SharedEntry) (part : History ℕ) : Type 0 where
-    -- the number of the caller's subscription or emission, if the call speaks of one
+    -- the number of the caller's subscription or emission, if the call names one
     pub number : ℕ
     pub given : SharedAnswer
     pub replied : SharedReply ℕ
@@ -94,7 +94,7 @@ module _ (first : SharedFlowState ℕ) where
     pub is_event : part ≡ event (name_of caller) (said (call_of caller number entry.operation) replied) ∷ []
     pub may_make : MayMake (after_all first h) (owners_all shared_flow [] h) caller entry.operation
 
-  -- or it is none
+  -- a part of a recorded call is one event under the caller's name, or no event
   abbrev pub AddsEntry : History ℕ → ℕ → SharedEntry → History ℕ → Type 0
   AddsEntry h caller entry part =
       AddsEvent h caller entry part ⊎ ((part ≡ []) × MayAddNothing (after_all first h) (owners_all shared_flow [] h) caller entry)

@@ -20,6 +20,6 @@ looks_by _ _ = false
 abbrev pub is_look : StateEntry → Bool
 is_look entry = looks_by entry.operation entry.answer
 
--- nothing more is asked of a state
+-- every state is sound
 abbrev pub IsSound : Kept → Type 0
 IsSound s = Unit {0}

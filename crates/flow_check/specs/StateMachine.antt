@@ -13,7 +13,7 @@ pub record Kept : Type 0 where
   pub value : ℕ
   pub readers : List (Option (Option ℕ))
 
--- what is kept of a subscribed caller
+-- what is kept for a caller
 abbrev pub reader_of : ℕ → List (Option (Option ℕ)) → Option (Option ℕ)
 reader_of = kept_of
 
@@ -49,7 +49,7 @@ own_answer caller operation.ReplayCache s = Some (answer.Value s.value)
 
 -- ---- the state after a call that had the flow's own answer
 
--- the state with this kept of a caller
+-- the state with this kept for a caller
 abbrev pub with_reader : ℕ → Option (Option ℕ) → Kept → Kept
 with_reader caller reader s = record s { readers = slice_set s.readers caller reader }
 
@@ -93,12 +93,12 @@ may_skip entry = false
 
 -- ---- words
 
--- what words say that a caller has received
+-- what a caller has received, as words encode it
 abbrev pub reader_in : List ℕ → Option (Option ℕ)
 reader_in words =
     if slice_index words 0 == 0 then None
     else (if slice_index words 0 == 1 then Some None else Some (Some (number_of (drop 1 words))))
 
--- the state that words say: the value, and what each caller has received
+-- the state that words encode: the value, and what each caller has received
 abbrev pub read : Kept → List ℕ → Kept
 read s words = record { value = number_of words; readers = parts_of reader_in (drop 3) (length s.readers) (drop 2 words) }

@@ -1,4 +1,4 @@
--- What recorded calls of a state flow are in a history of the documented state flow. Begin with `ExplainsState`.
+-- How recorded calls of a state flow become events of a history of the documented state flow. Begin with `ExplainsState`.
 use Rattle.std.specs.Prelude.{◌≡◌, ◌⊎◌, ℕ, true, List, [], ◌∷◌, Option, Some, None}
 use Rattle.flow_law.specs.declared.outcome.Next.TheVariants as next
 use Rattle.flow_law.specs.declared.call.StateCall.{StateCall}
@@ -18,11 +18,11 @@ use Rattle.flow_check.specs.declared.state_calls.StateEntry.{StateEntry}
 use Rattle.flow_check.specs.Records.{Calls}
 use Rattle.flow_check.specs.Orders.{Explains}
 
--- the name of a caller's events, which is that of its subscription, too
+-- the name of a caller's events, and of its subscription
 abbrev pub name_of : ℕ → List ℕ
 name_of caller = caller ∷ []
 
--- the call that an event has; u is the number of the caller's subscription
+-- the call of an event; u is the number of the caller's subscription
 abbrev pub call_of : ℕ → ℕ → StateOperation → StateCall ℕ
 call_of caller u operation.Value = call.GetValue
 call_of caller u (operation.Set v) = call.Set v
@@ -34,7 +34,7 @@ call_of caller u operation.Unsubscribe = call.Unsubscribe u
 call_of caller u operation.SubscriptionCount = call.SubscriptionCount
 call_of caller u operation.ReplayCache = call.ReplayCache
 
--- the reply that an event has, if the answer is one to this operation
+-- the reply of an event, if the answer is one to this operation
 abbrev pub reply_of : ℕ → StateOperation → StateAnswer → Option (StateReply ℕ)
 reply_of u operation.Value (answer.Value v) = Some (reply.Got v)
 reply_of u (operation.Set v) answer.Done = Some reply.Done
@@ -52,11 +52,11 @@ reply_of u _ _ = None
 abbrev pub IsRecorded : Option StateAnswer → StateAnswer → Type 0
 IsRecorded written a = (written ≡ None) ⊎ (written ≡ Some a)
 
--- in a state of the flow, with these owners of numbers, no subscriber's number is the caller's
+-- in this state of the flow, with these owners of numbers, the caller has no subscription
 abbrev pub HasNoSubscription : StateFlowState ℕ → List Owner → ℕ → Type 0
 HasNoSubscription s owners caller = (u : ℕ) → owner_of (subscriber u) owners ≡ Some (name_of caller) → last_of u s.subscribers ≡ None
 
--- a caller subscribes only while it has no subscription: so `next` and `unsubscribe` speak of one
+-- a caller subscribes only while it has no subscription, so `next` and `unsubscribe` can be of only one
 abbrev pub MayMake : StateFlowState ℕ → List Owner → ℕ → StateOperation → Type 0
 MayMake s owners caller operation.Subscribe = HasNoSubscription s owners caller
 MayMake s owners caller _ = Unit {0}
@@ -64,7 +64,7 @@ MayMake s owners caller _ = Unit {0}
 module _ (first : StateFlowState ℕ) where
   -- a recorded call is one event under the caller's name
   pub record AddsEntry (h : StateHistory ℕ) (caller : ℕ) (entry : StateEntry) (part : StateHistory ℕ) : Type 0 where
-    -- the number of the caller's subscription, if the call speaks of one
+    -- the number of the caller's subscription, if the call names one
     pub number : ℕ
     pub given : StateAnswer
     pub replied : StateReply ℕ

@@ -1,4 +1,4 @@
--- What a checker keeps of each caller, in a list with a place for each: None if the caller is not subscribed.
+-- What a checker keeps for each caller, in a list with a place for each: None if the caller is not subscribed.
 -- No public clause cites this module.
 use Rattle.std.specs.Prelude.{ℕ, ◌+◌, List, [], ◌∷◌, map, slice_get, Option, Some, None}
 
@@ -8,7 +8,7 @@ module _ {A : Type 0} where
   kept_in None = None
   kept_in (Some kept) = kept
 
-  -- what is kept of this caller
+  -- what is kept for this caller
   abbrev pub kept_of : ℕ → List (Option A) → Option A
   kept_of caller callers = kept_in (slice_get callers caller)
 

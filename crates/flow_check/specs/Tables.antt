@@ -11,20 +11,20 @@ pub record Reached (S : Type 0) : Type 0 where
   pub state : S
   pub placed : List ℕ
 
--- what a node says
+-- the state and the counts of a node
 abbrev pub reached : {S : Type 0} → Node S → Reached S
 reached n = record { state = n.state; placed = n.placed.items }
 
--- The nodes of a table as words, and a state of the flow by which others are read. The words of a node begin with the
--- counts of calls, and other words may stand behind them.
+-- The nodes of a table as words, and a state of the flow with which others are read. The words of a node begin with the counts of
+-- calls; other words may follow those of the node.
 pub record Packed (S : Type 0) : Type 0 where
   pub first : S
   pub callers : ℕ
   pub rows : List (List ℕ)
 
--- `read first words` is the state that words say
+-- `read first words` is the state that words encode
 module _ {S : Type 0} (read : S → List ℕ → S) where
-  -- the node that words say
+  -- the node that words encode
   abbrev pub node_of : S → ℕ → List ℕ → Reached S
   node_of first callers words = record { state = read first (drop callers words); placed = take callers words }
 
@@ -32,25 +32,25 @@ module _ {S : Type 0} (read : S → List ℕ → S) where
   abbrev pub nodes_of : Packed S → List (Reached S)
   nodes_of table = map (node_of table.first table.callers) table.rows
 
--- some node has this state, with so many calls that have happened
+-- some node has this state and these counts of calls
 abbrev pub IsInTable : {S : Type 0} → List (Reached S) → S → List ℕ → Type 0
 IsInTable {S} nodes s placed = (k : ℕ) × ((n : Reached S) × (slice_get nodes k ≡ Some n) × (n.state ≡ s) × (n.placed ≡ placed))
 
 module _ {S C : Type 0} (stepped : S → ℕ → C → Option S) (may_skip is_look : C → Bool) (callers : Calls C) (nodes : List (Reached S)) where
-  -- if this caller's next call may happen, the table has what follows
+  -- if this caller's next call may happen, the table has the nodes that follow
   abbrev pub IsFollowedAt : Reached S → ℕ → Type 0
   IsFollowedAt n caller = (c : Timed C) (after : S) → next_of callers n.placed caller ≡ Some c → MayComeNext callers n.placed c
       → IsStep stepped may_skip n.state caller c.call after → IsInTable nodes after (placing caller n.placed)
 
-  -- this caller's next call is a look that ended, and the table has what follows
+  -- this caller's next call is a look that ended, and the table has the node that follows
   abbrev pub IsLookFollowed : Reached S → ℕ → Type 0
   IsLookFollowed n caller = (c : Timed C) × (next_of callers n.placed caller ≡ Some c) × IsSome c.end × (is_look c.call ≡ true)
       × IsInTable nodes n.state (placing caller n.placed)
 
-  -- each step that may come next leads to a node of the table, or some look does
+  -- some look leads to a node of the table, or each step that may come next does
   abbrev pub IsFollowed : Reached S → Type 0
   IsFollowed n = ((caller : ℕ) × IsLookFollowed n caller) ⊎ ((caller : ℕ) → IsFollowedAt n caller)
 
-  -- the table has what follows each of its nodes, and none of them is an end
+  -- the table has the nodes that follow each of its nodes, and none of them is an end
   abbrev pub IsClosed : Type 0
   IsClosed = (k : ℕ) (n : Reached S) → slice_get nodes k ≡ Some n → IsFollowed n × (OwesNothing callers n.placed → ⊥)

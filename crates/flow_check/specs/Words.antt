@@ -1,15 +1,15 @@
 -- How states are read from words of 32 bits. No public clause cites this module.
 use Rattle.std.specs.Prelude.{ℕ, suc, zero, ◌+◌, ◌*◌, ◌-◌, ◌==◌, if◌then◌else◌, List, [], ◌∷◌, drop, slice_index, Option, Some, None}
 
--- the number that two words say, the low one first
+-- the number that two words encode, the low one first
 abbrev pub number_of : List ℕ → ℕ
 number_of words = slice_index words 0 + 4294967296 * slice_index words 1
 
--- a number that may be missing: 0 if it is, else it is one less than the word
+-- the number that a word encodes: None if the word is 0, else one less than the word
 abbrev pub maybe_of : ℕ → Option ℕ
 maybe_of word = if word == 0 then None else Some (word - 1)
 
--- so many parts, one after another: `part` reads one, and `others` are the words behind it
+-- `count` parts, one after another: `part` reads one, and `others` gives the words after it
 abbrev pub parts_of : {A : Type 0} → (List ℕ → A) → (List ℕ → List ℕ) → ℕ → List ℕ → List A
 parts_of part others zero words = []
 parts_of part others (suc count) words = part words ∷ parts_of part others count (others words)

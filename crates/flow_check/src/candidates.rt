@@ -1,4 +1,4 @@
-//! The turns that may come next at a node of a search. Nothing is promised of them.
+//! The turns that a search tries next at a node. They are not proved.
 ghost use Rattle.std.specs.Prelude.{◌≡◌};
 
 use crate::machine::Machine;
@@ -14,8 +14,8 @@ pub struct Candidate {
 }
 
 impl Candidate {
-    /// Returns whether this turn is tried before another one: calls that end first are, and a call that may be skipped is made
-    /// first.
+    /// Returns whether this turn is tried before another one. Calls that end earlier are tried first, and a call that
+    /// may be skipped is made before it is skipped.
     fn is_before(self, other: Candidate) -> bool {
         if self.end != other.end {
             return self.end < other.end;
@@ -101,7 +101,8 @@ pub fn turn_after<C: Copy, M: Machine<C>>(
     first
 }
 
-/// Returns the turn of a caller whose next call is a look that ended and may come next, if the flow may answer so.
+/// Returns the turn of a caller whose next call is a look that ended and may come next, if the flow may give its
+/// answer.
 fn look_of<C: Copy, M: Machine<C>>(
     callers: &[Vec<Timed<C>>],
     node: &Node<M>,
@@ -118,8 +119,8 @@ fn look_of<C: Copy, M: Machine<C>>(
     (may_come && node.state.may_answer(caller, &call.call)).then_some(Candidate { turn, end })
 }
 
-/// Returns the first look at a node that may come next. If an order goes on from the node, one that begins with the look does, so no
-/// other turn has to be tried.
+/// Returns the first look at a node that may come next. If any order continues from the node, one that begins with the
+/// look does, so no other turn has to be tried.
 pub fn first_look<C: Copy, M: Machine<C>>(
     callers: &[Vec<Timed<C>>],
     node: &Node<M>,

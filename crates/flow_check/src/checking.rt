@@ -13,9 +13,8 @@ use crate::timed::Timed;
 use crate::verdict::Verdict;
 use std::alloc::{AllocError, Global};
 
-/// Returns whether some order of steps goes through all calls, or gives up after so many turns of
-/// the search. An order that the search finds is replayed, and a table of nodes is checked to be
-/// closed.
+/// Judges whether some order of steps goes through all calls. Gives up after `budget` turns of the
+/// search. Replays an order that the search finds, or checks that its table of nodes is closed.
 pub fn check<C: Copy, M: Machine<C>>(
     alloc: Global,
     first: &M,

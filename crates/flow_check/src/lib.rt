@@ -1,5 +1,5 @@
-//! Checks recorded calls of a flow: whether a legal history of the documented flow explains what
-//! callers were answered.
+//! Checks recorded calls of a flow: whether a legal history of the documented flow explains the
+//! answers that callers got.
 //!
 //! # Records
 //! A `Record` has the calls of each caller in the caller's order, with the moments at which each
@@ -7,11 +7,12 @@
 //!
 //! # Verdicts
 //! `Legal(order)` gives an order of the calls that a legal history explains. `Illegal` says that
-//! there is none. Both are proved. `GaveUp` says nothing: the search took too long.
+//! there is none. Both are proved. `GaveUp` claims nothing: the search took too long, or what it
+//! found was not confirmed.
 //!
 //! # The search
-//! Nothing is proved of the search. An order that it finds is replayed, and a table of states in
-//! which it found none is checked to be complete.
+//! The search is not proved; what it finds is checked. An order is replayed, and a table of states
+//! without an order is checked to be complete.
 #![tactic(auto)]
 
 mod candidates;

@@ -1,11 +1,11 @@
-//! What the checker knows of a flow.
+//! A flow as the checker sees it.
 ghost use Rattle.std.specs.Prelude.{◌≡◌, ℕ, Bool, List, Option, IfOk, IsTrue};
 
 use std::alloc::{AllocError, Global};
 
 /// The states of a flow, and what calls of type `C` do to them.
 pub trait Machine<C>: Drop {
-    /// The state after what was recorded of a caller's call, if the flow may answer so.
+    /// The state after a caller's call, if the flow may give the recorded answer.
     ghost stepped: { Self → ℕ → C → Option Self };
 
     /// Whether a call may have done nothing, whatever was recorded of it.
@@ -14,13 +14,13 @@ pub trait Machine<C>: Drop {
     /// Whether a call changes nothing if it is answered as recorded.
     ghost is_look: { C → Bool };
 
-    /// What holds of each state that the flow comes to.
+    /// What holds of each state that the flow reaches.
     ghost IsSound: { Self → Type 0 };
 
-    /// The state that words say, of a flow that may be in this state.
+    /// The state that words encode, for a flow that may be in this state.
     ghost read: { Self → List ℕ → Self };
 
-    /// Makes the step, or returns None if the flow may not answer so.
+    /// Returns the state after the step, or None if the flow may not give the recorded answer.
     fn step(&self, alloc: Global, caller: usize, call: &C) -> Result<Option<Self>, AllocError>
         ensures { IfOk result (λ after. after ≡ stepped self.now caller call.now) };
 
@@ -32,7 +32,7 @@ pub trait Machine<C>: Drop {
     fn is_look(&self, call: &C) -> bool
         ensures { result ≡ is_look call.now };
 
-    /// Returns whether the flow may answer so. Nothing is promised of it.
+    /// Returns whether the flow may give the recorded answer. This is not proved.
     fn may_answer(&self, caller: usize, call: &C) -> bool;
 
     /// Copies the state.
@@ -43,13 +43,13 @@ pub trait Machine<C>: Drop {
     fn same(&self, other: &Self) -> bool
         ensures { IsTrue result → self.now ≡ other.now };
 
-    /// Writes the state as words. Nothing is promised of them.
+    /// Writes the state as words. They are not proved to be right.
     fn write(&self, words: &mut Vec<u32>) -> Result<(), AllocError>;
 
-    /// Reads a state of this flow. Other words may stand behind it.
+    /// Reads a state of this flow from the first of these words.
     fn read(&self, alloc: Global, words: &[u32]) -> Result<Self, AllocError>
         ensures { IfOk result (λ state. state ≡ read self.now words.now) };
 
-    /// Mixes the state into a number by which a search finds it again.
+    /// Mixes the state into a hash by which a search finds it again.
     fn mixed_into(&self, mark: u64) -> u64;
 }

@@ -6,12 +6,12 @@ use crate::record::Record;
 use crate::timed::Timed;
 use std::alloc::{AllocError, Global};
 
-/// Where a record is cut off.
+/// The moment at which a record is cut off.
 #[derive(Clone, Copy, Debug)]
 pub enum Cut {
-    /// Before a moment.
+    /// The record is cut off before this moment.
     Before(u64),
-    /// After a moment.
+    /// The record is cut off after this moment.
     By(u64),
 }
 

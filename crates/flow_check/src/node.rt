@@ -20,7 +20,7 @@ pub struct Move {
     pub skips: bool,
 }
 
-/// Where the nodes of a table are, by a number of each. If two nodes have the same number only the place of one is known.
+/// The places of the nodes in a table, by a hash of each node. If two nodes have the same hash, one place is known.
 #[derive(Drop)]
 pub struct Places {
     by_mark: HashMap<u64, usize>,
@@ -41,7 +41,7 @@ impl Places {
         }
     }
 
-    /// Returns where a state with these counts of calls may be.
+    /// Returns the place where a node with this state and these counts of calls may be.
     pub fn find<C, M: Machine<C>>(&self, state: &M, placed: &Vec<u32>) -> Option<usize> {
         let mark = mark_of(state, placed);
         self.by_mark.get(&mark).copied()

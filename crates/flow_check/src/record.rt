@@ -1,4 +1,4 @@
-//! Records of calls, and what is asked of one.
+//! Records of calls, and the faults that no record may have.
 ghost use Rattle.std.specs.Prelude.{◌≡◌, ℕ, ◌<◌, IfOk, IfErr, MatchOption, slice_get};
 ghost use Rattle.flow_check.specs.Records.{count_in, is_over_by, is_same_end, may_follow};
 ghost use Rattle.flow_check.specs.Records.{IsFaultOf, IsWellAt, IsWellTimed};
@@ -12,7 +12,7 @@ use std::marker::Model;
 pub enum FaultKind {
     /// It ends before it begins.
     EndsEarly,
-    /// It begins before its caller's call before it was over.
+    /// It begins before the caller's previous call was over.
     BeginsEarly,
 }
 
@@ -128,7 +128,7 @@ fn first_fault<C: Copy>(callers: &[Vec<Timed<C>>]) -> Option<Fault>
 }
 
 impl<C: Copy> Record<C> {
-    /// Makes a record of the calls of each caller, which stand in the caller's order.
+    /// Makes a record of the calls of each caller, in the caller's order.
     ///
     /// # Errors
     /// Returns the first fault if some call has one.

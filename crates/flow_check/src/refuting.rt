@@ -22,7 +22,7 @@ struct Claim<'a, C, M> {
 }
 
 impl<'a, C: Copy, M: Machine<C>> Claim<'a, C, M> {
-    /// Returns whether the node at this place has this state, in which so many calls have happened.
+    /// Returns whether the node at this place has this state and these counts of calls.
     fn is_node(&self, place: usize, state: &M, placed: &Vec<u32>) -> Result<bool, AllocError>
         ensures { IfOk result (λ yes. IsTrue yes →
             IsInTable (nodes_of M.read self.now.table.now) state.now placed.now.items) }
@@ -55,7 +55,7 @@ impl<'a, C: Copy, M: Machine<C>> Claim<'a, C, M> {
         Ok(yes)
     }
 
-    /// Returns whether the table has what follows if this call is made, if it may be.
+    /// Returns whether the table has the node that follows if this call is made, or the call may not be made.
     fn is_made_followed(&self, node: &Node<M>, caller: usize, call: &C) -> Result<bool, AllocError>
         ensures { IfOk result (λ yes. IsTrue yes →
             (after : M) → M.stepped node.now.state caller call.now ≡ Some after →
@@ -70,7 +70,7 @@ impl<'a, C: Copy, M: Machine<C>> Claim<'a, C, M> {
         Ok(yes)
     }
 
-    /// Returns whether the table has what follows if this call is skipped, if it may be.
+    /// Returns whether the table has the node that follows if this call is skipped, or the call may not be skipped.
     fn is_skip_followed(&self, node: &Node<M>, caller: usize, call: &C) -> Result<bool, AllocError>
         ensures { IfOk result (λ yes. IsTrue yes → M.may_skip call.now ≡ true →
             IsInTable (nodes_of M.read self.now.table.now) node.now.state
@@ -83,7 +83,7 @@ impl<'a, C: Copy, M: Machine<C>> Claim<'a, C, M> {
         Ok(yes)
     }
 
-    /// Returns whether the table has what follows if this caller's next call happens.
+    /// Returns whether the table has the nodes that follow if this caller's next call happens.
     fn is_followed_at(&self, node: &Node<M>, caller: usize) -> Result<bool, AllocError>
         ensures { IfOk result (λ yes. IsTrue yes →
             IsFollowedAt M.stepped M.may_skip M.is_look self.now.callers.now
@@ -103,7 +103,7 @@ impl<'a, C: Copy, M: Machine<C>> Claim<'a, C, M> {
         Ok(skipped)
     }
 
-    /// Returns whether the table has what follows if any caller's next call happens.
+    /// Returns whether the table has the nodes that follow if any caller's next call happens.
     fn is_each_followed(&self, node: &Node<M>) -> Result<bool, AllocError>
         ensures { IfOk result (λ yes. IsTrue yes → (caller : ℕ) →
             IsFollowedAt M.stepped M.may_skip M.is_look self.now.callers.now
@@ -118,7 +118,7 @@ impl<'a, C: Copy, M: Machine<C>> Claim<'a, C, M> {
         Ok(true)
     }
 
-    /// Returns whether this caller's next call is a look that ended, and the table has what follows.
+    /// Returns whether this caller's next call is a look that ended, and the table has the node that follows.
     fn is_look_followed(&self, node: &Node<M>, caller: usize) -> Result<bool, AllocError>
         ensures { IfOk result (λ yes. IsTrue yes →
             IsLookFollowed M.stepped M.may_skip M.is_look self.now.callers.now
@@ -137,7 +137,7 @@ impl<'a, C: Copy, M: Machine<C>> Claim<'a, C, M> {
         Ok(yes)
     }
 
-    /// Returns whether the table has what follows some look that ended.
+    /// Returns whether the table has the node that follows some look that ended.
     fn is_some_look_followed(&self, node: &Node<M>) -> Result<bool, AllocError>
         ensures { IfOk result (λ yes. IsTrue yes → (caller : ℕ) ×
             IsLookFollowed M.stepped M.may_skip M.is_look self.now.callers.now
@@ -152,8 +152,8 @@ impl<'a, C: Copy, M: Machine<C>> Claim<'a, C, M> {
         Ok(false)
     }
 
-    /// Returns whether the table has what follows a node, and the node is no end. A look changes nothing, so if an order
-    /// goes through the rest, one that begins with it does.
+    /// Returns whether the table has the nodes that follow this one, and this one is not an end. The node after a look
+    /// is enough: a look changes nothing, so if an order goes through the rest, one that begins with the look does.
     fn is_followed(&self, node: &Node<M>) -> Result<bool, AllocError>
         ensures { IfOk result (λ yes. IsTrue yes →
             IsFollowed M.stepped M.may_skip M.is_look self.now.callers.now
@@ -190,7 +190,7 @@ impl<'a, C: Copy, M: Machine<C>> Claim<'a, C, M> {
         Ok(true)
     }
 
-    /// Returns whether the table begins before any call.
+    /// Returns whether the table begins with the state before any call.
     fn begins(&self, first: &M) -> Result<bool, AllocError>
         ensures { IfOk result (λ yes. IsTrue yes →
             IsInTable (nodes_of M.read self.now.table.now) first.now

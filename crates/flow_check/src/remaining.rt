@@ -71,7 +71,7 @@ pub fn owes_nothing<C: Copy>(callers: &[Vec<Timed<C>>], placed: &Vec<u32>) -> bo
     true
 }
 
-/// Counts one more call of this caller if it returns true.
+/// Counts one more call of this caller, or returns false if it cannot.
 pub fn place(placed: &mut Vec<u32>, caller: usize) -> bool
     ensures { IsTrue result → placed.new.items ≡ placing caller placed.old.items }
 {
@@ -83,7 +83,7 @@ pub fn place(placed: &mut Vec<u32>, caller: usize) -> bool
     }
 }
 
-/// Returns how many calls of each caller have happened before any call: none.
+/// Returns the counts of calls before any call: 0 for each caller.
 pub fn none_placed<C>(alloc: Global, callers: &[Vec<Timed<C>>]) -> Result<Vec<u32>, AllocError>
     ensures { IfOk result (λ placed. placed.items ≡ none_placed callers.now) }
 {

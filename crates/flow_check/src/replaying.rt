@@ -19,7 +19,7 @@ pub fn callers_of(alloc: Global, order: &[Move]) -> Result<Vec<usize>, AllocErro
     Ok(callers)
 }
 
-/// Returns the state after a turn, or None if the flow may not answer so.
+/// Returns the state after a turn, or None if the flow may not give the recorded answer or the call may not be skipped.
 fn after<C, M: Machine<C>>(
     alloc: Global,
     state: &M,

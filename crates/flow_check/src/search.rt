@@ -1,4 +1,4 @@
-//! Searches for an order. Nothing is promised of what it finds, so its caller checks that.
+//! Searches for an order. What it finds is not proved, so its caller checks that.
 ghost use Rattle.std.specs.Prelude.{◌≡◌};
 
 use crate::candidates::{Candidate, first_look, turn_after};
@@ -13,7 +13,7 @@ use std::alloc::{AllocError, Global};
 #[derive(Drop)]
 pub enum Found<M> {
     Order(Vec<Move>),
-    /// It found no order, and went through all of these nodes.
+    /// The search found no order, and went through all of these nodes.
     Table(Table<M>),
     GaveUp,
 }
@@ -23,11 +23,11 @@ pub enum Found<M> {
 struct Frame {
     node: usize,
     tried: Option<Candidate>,
-    /// The turn is a look, and no other one is tried.
+    /// The turn is a look, so no other one is tried.
     looks: bool,
 }
 
-/// Takes the next turn of a node, the last one of the path.
+/// Takes the next turn at a node, which is the last one of the path.
 fn take_turn<C: Copy, M: Machine<C>>(
     callers: &[Vec<Timed<C>>],
     node: &Node<M>,
@@ -49,7 +49,7 @@ fn take_turn<C: Copy, M: Machine<C>>(
     Some(candidate.turn)
 }
 
-/// Returns what follows a node at this turn, if the call may be answered so.
+/// Returns the node that follows this turn, if the flow may give the recorded answer.
 fn advance<C: Copy, M: Machine<C>>(
     alloc: Global,
     callers: &[Vec<Timed<C>>],
@@ -74,7 +74,7 @@ fn advance<C: Copy, M: Machine<C>>(
     Ok(Some(Node { state, placed }))
 }
 
-/// Returns the turns that were tried last.
+/// Returns the turn that was tried last at each node of the path.
 fn turns_of(alloc: Global, path: &[Frame]) -> Result<Vec<Move>, AllocError> {
     let mut turns = Vec::new(alloc);
     for frame in path {
@@ -95,7 +95,7 @@ enum Turned {
     Exhausted,
 }
 
-/// The nodes that a search has found, and the one that it is at, the last one of the path.
+/// The nodes that a search has found, and its current node, which is the last one of the path.
 #[derive(Drop)]
 struct Walk<M> {
     table: Table<M>,
@@ -104,7 +104,7 @@ struct Walk<M> {
 }
 
 impl<M> Walk<M> {
-    /// Begins in this state, in which no call has happened.
+    /// Begins in this state, before any call.
     fn new<C>(alloc: Global, first: &M, placed: Vec<u32>) -> Result<Walk<M>, AllocError>
     where
         M: Machine<C>,
@@ -152,7 +152,7 @@ impl<M> Walk<M> {
         }
     }
 
-    /// Goes to a node that follows, if it is a new one.
+    /// Goes to the next node, if it is a new one.
     fn go_to<C: Copy>(
         &mut self,
         callers: &[Vec<Timed<C>>],
@@ -190,7 +190,7 @@ impl<M> Walk<M> {
         }
     }
 
-    /// Takes turns until the search ends, at most as many as `budget` says.
+    /// Takes turns until the search ends, at most `budget` of them.
     fn turns<C: Copy>(
         &mut self,
         alloc: Global,
@@ -210,8 +210,8 @@ impl<M> Walk<M> {
     }
 }
 
-/// Goes through states and counts of calls that have happened, each once, until an order is found
-/// or none is left.
+/// Goes through nodes, each once, until it finds an order, no node is left, or `budget` turns are
+/// taken.
 pub fn search<C: Copy, M: Machine<C>>(
     alloc: Global,
     first: &M,

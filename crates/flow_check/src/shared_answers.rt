@@ -11,7 +11,7 @@ use crate::shared_machine::{EmitCase, SharedMachine, last_values};
 use crate::shared_same::same_values;
 use crate::subscribed::present;
 
-/// Returns whether `Done` is the answer that was recorded, or any may be.
+/// Returns whether the recorded answer is `Done`, or no answer was recorded.
 fn is_done(recorded: Option<SharedAnswer<'_>>) -> bool
     ensures { result ≡ agrees (Some done) recorded.entry }
 {
@@ -57,7 +57,7 @@ fn are_values(values: &[u64], recorded: Option<SharedAnswer<'_>>) -> bool
     }
 }
 
-/// Returns whether this value was received, or nothing if there is none.
+/// Returns whether the recorded answer is this value (Empty for None), or no answer was recorded.
 fn is_received(value: Option<u64>, recorded: Option<SharedAnswer<'_>>) -> bool
     ensures { result ≡ agrees (Some (emitted_answer value)) recorded.entry }
 {
@@ -101,8 +101,9 @@ impl SharedMachine {
         }
     }
 
-    /// Returns whether the flow may answer so, and the caller may make the call: it has to have a
-    /// subscription for some, none for `subscribe`, and makes one `emit` at a time.
+    /// Returns whether the flow may give the recorded answer, and the caller may make the call.
+    /// `next` and `unsubscribe` need a subscription, and `subscribe` needs that the caller has none;
+    /// a caller makes one `emit` at a time.
     pub fn is_answer(
         &self,
         caller: usize,

@@ -1,23 +1,23 @@
 //! Calls of a shared flow, as they are recorded.
 ghost use Rattle.std.specs.Prelude.{◌≡◌};
 
-/// A call of a shared flow, or a part of one. `Next` and `Unsubscribe` speak of the caller's own
+/// A call of a shared flow, or a part of one. `Next` and `Unsubscribe` are calls of the caller's own
 /// subscription.
 ///
-/// An `emit` that was over is two parts with the moments of the one call: that it began, and how it
-/// ended. One that never ended is `Emit` alone.
+/// An `emit` that ended is recorded as two parts, how it began and how it ended, both with the
+/// moments of the call. An `emit` that never ended is only an `Emit`.
 #[derive(Clone, Copy, Debug)]
 pub enum SharedOperation<'a> {
     TryEmit(u64),
     /// An `emit` began, with this value.
     Emit(u64),
-    /// An `emit` that was cancelled began, or it was cancelled before it did.
+    /// An `emit` that was cancelled began, or it was cancelled before it began.
     EmitOrNot(u64),
     /// The caller's `emit` returned.
     EmitReturned,
     /// The caller's `emit` was cancelled.
     EmitCancelled,
-    /// With the subscription's own first values.
+    /// `subscribe` or `subscribe_with`, with the subscription's own first values.
     Subscribe(&'a [u64]),
     Next,
     Unsubscribe,
@@ -26,20 +26,20 @@ pub enum SharedOperation<'a> {
     SubscriptionCount,
 }
 
-/// What a caller was answered.
+/// The answer that a caller got.
 #[derive(Clone, Copy, Debug)]
 pub enum SharedAnswer<'a> {
-    /// Of the parts of `emit`, `subscribe`, `unsubscribe` and `reset_replay_cache`.
+    /// The answer to the parts of `emit`, `subscribe`, `unsubscribe` and `reset_replay_cache`.
     Done,
-    /// Of `next`.
+    /// The answer to `next`.
     Value(u64),
-    /// Of `try_emit`.
+    /// The answer to `try_emit`.
     Truth(bool),
-    /// Of `next`: the subscriber has received all that was emitted.
+    /// The answer to `next` if the subscriber has received all that was emitted.
     Empty,
-    /// Of `subscription_count`.
+    /// The answer to `subscription_count`.
     Number(u64),
-    /// Of `replay_cache`.
+    /// The answer to `replay_cache`.
     Values(&'a [u64]),
 }
 

@@ -15,7 +15,7 @@ use crate::wrong_moment::{Checker, guess_moment, wrong_moment};
 use flow_law::{Config, Overflow};
 use std::alloc::{AllocError, Global};
 
-/// Returns whether no flow is made of a configuration.
+/// Returns whether no flow can be made of a configuration.
 fn has_fault(config: Config) -> bool
     ensures { result ≡ is_some (config_fault config) }
 {
@@ -24,7 +24,7 @@ fn has_fault(config: Config) -> bool
 }
 
 /// Judges recorded calls of a shared flow of this configuration, as `check_state` does those of a
-/// state flow. There is no flow of a configuration that has a fault, so its calls are illegal.
+/// state flow. No flow has a configuration with a fault, so calls of one are illegal.
 pub fn check_shared<'a>(
     alloc: Global,
     config: Config,
@@ -78,7 +78,7 @@ impl<'a> Checker<SharedEntry<'a>> for SharedChecker {
 }
 
 /// Returns the first moment by which no order explains the calls of a record that `check_shared` calls illegal, as
-/// `state_goes_wrong` does those of a state flow.
+/// `state_goes_wrong` does for a state flow.
 pub fn shared_goes_wrong<'a>(
     alloc: Global,
     config: Config,

@@ -42,7 +42,7 @@ impl Own {
     }
 }
 
-/// What becomes of an emission.
+/// What an emission does.
 #[derive(Clone, Copy)]
 pub enum EmitCase {
     Appends,
@@ -53,10 +53,10 @@ pub enum EmitCase {
     DropsOldest,
 }
 
-/// A shared flow: the last emitted values, as many as can still be received or replayed; how many of
-/// them the replay cache has; how many emitted values each caller has still to receive, if it is
-/// subscribed, and what is left of its own first values; the emitters that wait, and the one whose
-/// value is offered.
+/// The state of a shared flow. It has the emitted values that can still be received or replayed,
+/// and how many of them the replay cache has. For each caller it has the lag, if the caller is
+/// subscribed, and what is left of the caller's own first values. It also has the emitters that
+/// wait, and the one whose value is offered.
 ///
 /// It has neither positions nor numbers, so that equal states are the same.
 #[derive(Drop)]
@@ -86,7 +86,7 @@ impl Model for SharedMachine {
     } };
 }
 
-/// Returns the most values that a subscriber has still to receive.
+/// Returns the greatest lag of a subscriber.
 pub fn most_lag(lags: &[Option<usize>]) -> usize
     ensures { result ≡ most_lag lags.now }
 {
@@ -101,7 +101,7 @@ pub fn most_lag(lags: &[Option<usize>]) -> usize
     most
 }
 
-/// Returns the last so many values.
+/// Returns the last `count` values.
 pub fn last_values(values: &[u64], count: usize) -> &[u64]
     ensures { result.now ≡ last_values count values.now }
 {
@@ -110,7 +110,7 @@ pub fn last_values(values: &[u64], count: usize) -> &[u64]
     last
 }
 
-/// Returns the list of this index, which is empty if there is none.
+/// Returns the list of this index, or an empty one if there is none.
 pub fn own_at(owns: &[Own], index: usize) -> &[u64]
     ensures { result.now ≡ own_left index owns.now }
 {
@@ -221,7 +221,7 @@ impl SharedMachine {
         self.config.replay as usize + self.config.extra as usize
     }
 
-    /// Returns the most values that a subscriber may have still to receive.
+    /// Returns the lag at which a subscriber blocks the flow.
     pub fn window(&self) -> usize
         ensures { result ≡ window self.now }
     {

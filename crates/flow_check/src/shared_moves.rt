@@ -9,7 +9,7 @@ use crate::shared_calls::SharedOperation;
 use crate::shared_machine::{EmitCase, Held, Own, SharedMachine, last_values, most_lag};
 use std::alloc::{AllocError, Global};
 
-/// Copies the lags after one more value was emitted; none becomes more than the window.
+/// Copies the lags after one more value was emitted; none becomes greater than the window.
 fn raised(
     alloc: Global,
     lags: &[Option<usize>],
@@ -27,7 +27,7 @@ fn raised(
     Ok(copy)
 }
 
-/// Copies the lags after all that was emitted is no more for any subscriber.
+/// Copies the lags after the offered value was withdrawn: no subscriber has a value to receive.
 fn cleared(alloc: Global, lags: &[Option<usize>]) -> Result<Vec<Option<usize>>, AllocError>
     ensures { IfOk result (λ copy. copy.items ≡ map cleared lags.now) }
 {
@@ -58,7 +58,7 @@ fn without(alloc: Global, queue: &[Held], caller: usize) -> Result<Vec<Held>, Al
 }
 
 impl SharedMachine {
-    /// Emits a caller's value. Without a buffer it is offered to those who are subscribed.
+    /// Emits a caller's value. Without a buffer it is offered to the subscribers.
     fn append(&mut self, alloc: Global, caller: usize, value: u64) -> Result<(), AllocError>
         ensures { OnOk result (self.new ≡ append caller value self.old) }
     {
@@ -105,7 +105,7 @@ impl SharedMachine {
         Ok(())
     }
 
-    /// Leaves out the values that can be neither received nor replayed, and what is offered to none.
+    /// Drops the values that can be neither received nor replayed, and an offer that all have received.
     fn trim(&mut self, alloc: Global) -> Result<(), AllocError>
         ensures { OnOk result (self.new ≡ trim self.old) }
     {
@@ -142,8 +142,8 @@ impl SharedMachine {
         }
     }
 
-    /// Withdraws the caller's value: an offered one is no more for those who have not received it, a
-    /// queued one is lost.
+    /// Withdraws the caller's value: subscribers that have not received an offered one miss it, and a
+    /// queued one is dropped.
     fn withdraw(&mut self, alloc: Global, caller: usize) -> Result<(), AllocError>
         ensures { OnOk result (self.new ≡ withdraw caller self.old) }
     {
@@ -202,7 +202,7 @@ impl SharedMachine {
         self.settle(alloc)
     }
 
-    /// Makes a call that is answered as the flow answers.
+    /// Makes a call that has the flow's own answer.
     fn make_call(
         &mut self,
         alloc: Global,
@@ -245,7 +245,7 @@ impl SharedMachine {
         }
     }
 
-    /// Makes a call that is answered as the flow answers, and brings the state into its normal form.
+    /// Makes a call that has the flow's own answer, and brings the state into its normal form.
     pub fn make(
         &mut self,
         alloc: Global,

@@ -10,7 +10,7 @@ use crate::shared_machine::{Held, Own, SharedMachine};
 use crate::shared_same::{are_same_owns, are_same_values, is_same_config};
 use std::alloc::{AllocError, Global};
 
-/// Mixes what each caller has still to receive into a number.
+/// Mixes the lag of each caller into a hash.
 fn mix_lags(mark: u64, lags: &[Option<usize>]) -> u64 {
     let mut mixed = mark;
     for lag in lags {

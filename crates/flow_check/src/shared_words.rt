@@ -79,7 +79,7 @@ impl Part for Own {
 }
 
 impl SharedMachine {
-    /// Writes the state. Nothing is promised of the words.
+    /// Writes the state as words. They are not proved to be right.
     pub fn write_words(&self, words: &mut Vec<u32>) -> Result<(), AllocError> {
         write_small(words, self.cached)?;
         write_maybe(words, self.offered)?;

@@ -1,11 +1,11 @@
-//! What a state flow answers to a caller that has received what the checker keeps.
+//! What a state flow answers to a caller, by what the caller has received.
 ghost use Rattle.std.specs.Prelude.{◌≡◌};
 ghost use Rattle.flow_check.specs.StateMachine.{subscribe_answer, next_answer, unsubscribe_answer};
 ghost use Rattle.flow_check.specs.StateMachine.{same_answer, agrees};
 
 use crate::state_calls::StateAnswer;
 
-/// Returns the answer to `subscribe` of a caller that has received this.
+/// Returns the answer to `subscribe`, or None if the caller is subscribed.
 pub fn subscribe_answer(reader: Option<Option<u64>>) -> Option<StateAnswer>
     ensures { result ≡ subscribe_answer reader }
 {
@@ -15,7 +15,7 @@ pub fn subscribe_answer(reader: Option<Option<u64>>) -> Option<StateAnswer>
     }
 }
 
-/// Returns the answer to `next`.
+/// Returns the answer to `next`, or None if the caller is not subscribed.
 pub fn next_answer(value: u64, reader: Option<Option<u64>>) -> Option<StateAnswer>
     ensures { result ≡ next_answer value reader }
 {
@@ -32,7 +32,7 @@ pub fn next_answer(value: u64, reader: Option<Option<u64>>) -> Option<StateAnswe
     }
 }
 
-/// Returns the answer to `unsubscribe`.
+/// Returns the answer to `unsubscribe`, or None if the caller is not subscribed.
 pub fn unsubscribe_answer(reader: Option<Option<u64>>) -> Option<StateAnswer>
     ensures { result ≡ unsubscribe_answer reader }
 {

@@ -1,14 +1,14 @@
 //! Calls of a state flow, as they are recorded.
 ghost use Rattle.std.specs.Prelude.{◌≡◌};
 
-/// A call of a state flow. `Next` and `Unsubscribe` speak of the caller's own subscription.
+/// A call of a state flow. `Next` and `Unsubscribe` are calls of the caller's own subscription.
 #[derive(Clone, Copy, Debug)]
 pub enum StateOperation {
     Value,
     Set(u64),
     TryEmit(u64),
-    /// With the expected value and the new one. An update that ended is recorded so, too: it
-    /// exchanged the value that it read for the one that it computed.
+    /// `compare_and_set`, with the expected value and the new one. An update that ended is recorded
+    /// as one, too, from the value that it read to the value that it computed.
     CompareAndSet(u64, u64),
     Subscribe,
     Next,
@@ -17,18 +17,18 @@ pub enum StateOperation {
     ReplayCache,
 }
 
-/// What a caller was answered.
+/// The answer that a caller got.
 #[derive(Clone, Copy, Debug)]
 pub enum StateAnswer {
-    /// Of `set`, `subscribe` and `unsubscribe`.
+    /// The answer to `set`, `subscribe` and `unsubscribe`.
     Done,
-    /// Of `value` and `next`, and the only value of `replay_cache`.
+    /// The answer to `value` and `next`, and the only value of `replay_cache`.
     Value(u64),
-    /// Of `try_emit` and `compare_and_set`.
+    /// The answer to `try_emit` and `compare_and_set`.
     Truth(bool),
-    /// Of `next`: the subscriber has received the current value.
+    /// The answer to `next` if the subscriber has received the current value.
     Empty,
-    /// Of `subscription_count`.
+    /// The answer to `subscription_count`.
     Number(u64),
 }
 

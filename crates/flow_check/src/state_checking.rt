@@ -14,8 +14,7 @@ use crate::wrong_moment::{Checker, guess_moment, wrong_moment};
 use std::alloc::{AllocError, Global};
 
 /// Judges recorded calls of a state flow with this initial value: whether a legal history of the
-/// documented flow explains them in some order. Gives up after as many turns of the search as
-/// `budget` says.
+/// documented flow explains them in some order. Gives up after `budget` turns of the search.
 pub fn check_state(
     alloc: Global,
     initial: u64,
@@ -63,8 +62,9 @@ impl Checker<StateEntry> for StateChecker {
     fn law_cut_off(&self) {}
 }
 
-/// Returns the first moment by which no order explains the calls of a record that `check_state` calls illegal: at each earlier
-/// moment some order explains what was known of them, and at no later one. Returns None if a search gave up.
+/// Returns the first moment by which no order explains the calls of a record that `check_state` calls illegal. At each
+/// earlier moment some order explains what was known of them, and from this moment on none does. Returns None if a
+/// search gave up, or what it found was not confirmed.
 pub fn state_goes_wrong(
     alloc: Global,
     initial: u64,

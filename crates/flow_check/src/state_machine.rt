@@ -130,7 +130,7 @@ impl Same for Option<Option<u64>> {
     }
 }
 
-/// Returns what words say that a caller has received.
+/// Returns what a caller has received, as words encode it.
 fn reader_in(words: &[u32]) -> Option<Option<u64>>
     ensures { result ≡ reader_in words.now }
 {

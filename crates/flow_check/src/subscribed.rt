@@ -1,4 +1,4 @@
-//! What is kept of each caller: None if it is not subscribed.
+//! Lists with what the checker keeps for each caller, or None if the caller is not subscribed.
 ghost use Rattle.std.specs.Prelude.{◌≡◌};
 ghost use Rattle.flow_check.specs.Subscribed.{present};
 

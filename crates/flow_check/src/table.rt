@@ -1,4 +1,4 @@
-//! The nodes of a search, packed.
+//! The nodes of a search, packed into words.
 ghost use Rattle.std.specs.Prelude.{◌≡◌, Some, IfOk, IfSome, length, slice_get};
 ghost use Rattle.flow_check.specs.Tables.{nodes_of, reached};
 
@@ -11,12 +11,12 @@ use std::marker::Model;
 /// The nodes of a search, as words.
 #[derive(Drop)]
 pub struct Table<M> {
-    /// A state of the flow, by which others are read.
+    /// A state of the flow, with which others are read.
     first: M,
     /// How many callers there are.
     callers: usize,
     words: Vec<u32>,
-    /// Where the words of each node begin.
+    /// The index at which the words of each node begin.
     begins: Vec<usize>,
     places: Places,
 }
@@ -59,7 +59,7 @@ impl<M> Table<M> {
         self.begins.len()
     }
 
-    /// Returns the node of this place.
+    /// Returns the node at this place.
     pub fn at<C>(&self, alloc: Global, place: usize) -> Result<Option<Node<M>>, AllocError>
     where
         M: Machine<C>,
@@ -75,7 +75,7 @@ impl<M> Table<M> {
         Ok(Some(Node { state, placed }))
     }
 
-    /// Returns where a state with these counts of calls may be.
+    /// Returns the place where a node with this state and these counts of calls may be.
     pub fn find<C>(&self, state: &M, placed: &Vec<u32>) -> Option<usize>
     where
         M: Machine<C>,

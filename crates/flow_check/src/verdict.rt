@@ -1,10 +1,10 @@
-//! What the checker answers.
+//! The verdict of the checker.
 ghost use Rattle.std.specs.Prelude.{◌≡◌};
 
-/// What the checker answers.
+/// The verdict of the checker on recorded calls.
 #[derive(Debug, Drop)]
 pub enum Verdict {
-    /// A legal history explains the calls in this order: at each turn the next call of a caller.
+    /// A legal history explains the calls in this order: at each turn the next call of the given caller.
     Legal(Vec<usize>),
     /// No legal history explains the calls, in any order.
     Illegal,

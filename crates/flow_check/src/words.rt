@@ -38,14 +38,14 @@ pub fn words_before(words: &[u32], index: usize) -> &[u32]
     }
 }
 
-/// Returns the number that the first two words say.
+/// Returns the number that the first two words encode.
 pub fn number_of(words: &[u32]) -> u64
     ensures { result ≡ number_of words.now }
 {
     word_at(words, 0) as u64 + 4_294_967_296 * word_at(words, 1) as u64
 }
 
-/// Returns a number that may be missing.
+/// Returns the number that a word encodes, or None if it is missing.
 pub fn maybe_of(word: u32) -> Option<usize>
     ensures { result ≡ maybe_of word }
 {
@@ -63,7 +63,7 @@ pub fn write_number(words: &mut Vec<u32>, number: u64) -> Result<(), AllocError>
     Ok(())
 }
 
-/// Writes a number, or a greatest word in place of one that is too large: it is then read as another one.
+/// Writes a number. One that is too large is written as the greatest word, and then read as another number.
 pub fn write_small(words: &mut Vec<u32>, number: usize) -> Result<(), AllocError> {
     words.push(u32::try_from(number).unwrap_or(u32::MAX))?;
     Ok(())
@@ -75,12 +75,12 @@ pub fn write_maybe(words: &mut Vec<u32>, number: Option<usize>) -> Result<(), Al
     write_small(words, word)
 }
 
-/// A part of a state, as the words that say it.
+/// A part of a state that words encode.
 pub trait Part: Drop {
-    /// The part that the first words say.
+    /// The part that the first words encode.
     ghost part: { List ℕ → Self };
 
-    /// The words behind it.
+    /// The words after it.
     ghost others: { List ℕ → List ℕ };
 
     fn read(alloc: Global, words: &[u32]) -> Result<Self, AllocError>
@@ -89,11 +89,11 @@ pub trait Part: Drop {
     fn others(words: &[u32]) -> &[u32]
         ensures { result.now ≡ others words.now };
 
-    /// Writes the part. Nothing is promised of what it writes.
+    /// Writes the part. The words are not proved to be right.
     fn write(&self, words: &mut Vec<u32>) -> Result<(), AllocError>;
 }
 
-/// Reads so many parts.
+/// Reads `count` parts.
 pub fn read_parts<P: Part>(alloc: Global, words: &[u32], count: usize) -> Result<Vec<P>, AllocError>
     ensures { IfOk result (λ read. read.items ≡ parts_of P.part P.others count words.now) }
 {

@@ -16,13 +16,13 @@ use std::alloc::{AllocError, Global};
 
 /// Judges records of calls of one flow.
 pub trait Checker<C: Copy> {
-    /// The orders that explain calls.
+    /// Whether an order explains calls.
     ghost explains: { Self → Calls C → List ℕ → Type 0 };
 
     fn check(&self, alloc: Global, calls: &Record<C>, budget: u64) -> Result<Verdict, AllocError>
         ensures { IfOk result (λ verdict. Judges (explains self.now calls.now) verdict) };
 
-    /// Returns the moment at which calls that no order explains go wrong first. Nothing is promised of it.
+    /// Returns the moment at which calls that no order explains go wrong first. It is not proved to be right.
     fn guess(
         &self,
         alloc: Global,
@@ -30,7 +30,7 @@ pub trait Checker<C: Copy> {
         budget: u64,
     ) -> Result<Option<u64>, AllocError>;
 
-    /// Proves that what explains calls explains in part what was known of them.
+    /// Proves that if some order explains calls, some order explains what was known of them at any cut.
     fn law_cut_off(&self)
         ensures { IsCutOff (explains self.now) };
 }
@@ -50,7 +50,8 @@ fn latest_deadline<C: Copy, M: Machine<C>>(
     Ok(latest)
 }
 
-/// Returns the first moment by which no order goes through the calls, if a search finds it. Nothing is promised of it.
+/// Returns the first moment by which no order goes through the calls, if a search finds it. It is not proved to be
+/// right.
 pub fn guess_moment<C: Copy, M: Machine<C>>(
     alloc: Global,
     first: &M,

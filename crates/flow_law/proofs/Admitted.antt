@@ -1,5 +1,5 @@
--- How long an emission waits. Key facts: `moves_on` (each value received moves a subscriber on), `waited_keeps` (the log and
--- what is ahead of a queued emission never grow together), `admits` (the law).
+-- How long an emission waits. Key facts: `moves_on` (each received value advances a subscriber), `waited_keeps` (the emitted
+-- values and those ahead of a queued emission never grow together), `admits` (the law).
 use Rattle.std.proofs.Common.{inl, inr, ◌≡◌, ℕ, suc, ◌+◌, ◌-◌, ◌≤◌, ◌<◌, Bool, true, false, not, ◌==◌, cond, List, [], ◌∷◌, ◌++◌, length, map, Some, refl, sym, ap, ◌∙◌, subst, arith, append_assoc, append-nil, length-append, ne_eqb}
 use Rattle.std.specs.Prelude.{filter, nat_le, IsSome}
 use Rattle.std.specs.List.{list_any, slice_get}
@@ -87,7 +87,7 @@ module _ {T : Type 0} where
   last_rises b top (y ∷ []) x more q h = let rest = last_above y.number top x more q h.1 in omega (arith, rest, last-cons y x more)
   last_rises b top (y ∷ z ∷ log) x more q h = let rest = last_rises y.number top (z ∷ log) x more q h.1 in omega (arith, rest, last-cons y z log, last-cons y z (log ++ x ∷ more))
 
-  -- ---- what stands before an emission in the queue
+  -- ---- the values before an emission in the queue
 
   above : (e b top : ℕ) (q : List (Numbered T)) → e ≤ b → RisesTo b (map (λ x. x.number) q) top → list_any (λ x. x.number == e) q ≡ false
   above e b top [] l h = refl
@@ -134,7 +134,7 @@ module _ {T : Type 0} where
   push_ahead e (x ∷ q) y h = split (x.number == e) (λ t. (x.number == e) ≡ t → cond t 0 (1 + ahead e (q ++ y ∷ [])) ≡ cond t 0 (1 + ahead e q)) (λ _ _. refl)
       (λ _ f. ap (λ n. 1 + n) (push_ahead e q y (rest_queued e x q h f))) refl
 
-  -- e waits in the queue, and then all that is to come before it and the log are at most so many
+  -- if e waits in the queue, the emitted values and those ahead of e are at most `top` together
   abbrev pub Early : ℕ → ℕ → SharedFlowState T → Type 0
   Early e top s = is_queued e s ≡ true → length s.emitted + ahead e s.queue ≤ top
 
@@ -237,7 +237,7 @@ module _ {T : Type 0} where
           let wide : window t ≡ window s = same_window s t (history_grown s since) in
           (slow.0.number, subst IsSome (sym slow.2) refl, omega (arith, far, wide, after_it.early now, count slow.0.number slow.0.position slow.2))
 
-      -- while a value is offered, some subscriber has received no more than what is before it
+      -- while e is offered and at most n values were emitted since, some subscriber has received at most n
       offering_to : (n : ℕ) → is_offered_as e (after_all s since) ≡ true → length (after_all s since).emitted ≤ length s.emitted + n → HasSlowSubscriber n s since
       offering_to n now short =
           let t : SharedFlowState T = after_all s since in

@@ -63,7 +63,7 @@ module _ {T : Type 0} where
       (λ _. (refl, refl, refl))
       (λ _. admit_subscribers (record s { emitted = s.emitted ++ e ∷ [] }) q)
 
-  -- nobody's box overflows by admission
+  -- no box overflows when queued values are admitted
   pub arrive_admitted : (u p : ℕ) (s : SharedFlowState T) (q : List (Numbered T)) (box : List T) → position_of u s.subscribers ≡ Some p → p ≤ length s.emitted → length box ≡ length s.emitted - p
       → arrive (window s) box (admitted s q) ≡ box ++ admitted s q
   arrive_admitted u p s [] box at l count = sym (append-nil box)
@@ -123,7 +123,7 @@ module _ {T : Type 0} where
       let count = box_length u p b s m h at in
       ap (arrive (window s) m.box) (append_arrivals s v) ∙ keep_room (window s) (m.box ++ v ∷ []) (omega (arith, room, count, length_push m.box v)))
 
-  -- no value comes
+  -- no value arrives if the flow does not change
   pub no_arrivals : (s : SharedFlowState T) → drop (length s.emitted) (values s) ≡ []
   no_arrivals s = drop_all (length s.emitted) (values s) (omega (arith, length_values s))
 

@@ -1,4 +1,4 @@
--- Of a closed history: each event is one of the tokens', and what they did is all that was done.
+-- In a closed history each event is one of the tokens', and what they did is all that was done.
 use Rattle.std.proofs.Common.{◌≡◌, ℕ, ◌+◌, ◌≤◌, ◌<◌, inl, inr, true, false, IsTrue, eqb, cond, suc, List, [], ◌∷◌, ◌++◌, length, refl, sym, ap, ◌∙◌, subst, arith, append_assoc, append-nil}
 use Rattle.std.specs.List.{AllByRecursion}
 use Rattle.std.proofs.lemmas.List.{append_cancel_left}
@@ -44,7 +44,7 @@ module _ {E : Type 0} where
 
   -- ---- what holds of all that was done
 
-  -- Q speaks of what an event says and of the name that it bears
+  -- Q is a property of an event's name and of what the event says
   module _ (Q : List ℕ → E → Type 0) where
     tail_every : (k : List ℕ) (e : HistoryEvent E) (es : List (HistoryEvent E)) → AllByRecursion (Q k) (said_by k (e ∷ es)) → AllByRecursion (Q k) (said_by k es)
     tail_every k e es = split (is_same_name k e.name) (λ b. AllByRecursion (Q k) (cond b (e.what ∷ said_by k es) (said_by k es)) → AllByRecursion (Q k) (said_by k es)) (λ _ a. a.1) (λ _ a. a)

@@ -1,4 +1,4 @@
--- A legal history of a state flow, beside the shared flow that keeps the last value alone.
+-- A legal history of a state flow, beside the shared flow that keeps only the last value.
 use Rattle.std.proofs.Common.{inl, inr, ◌≡◌, ◌≢◌, ◌⊎◌, ℕ, suc, ◌+◌, ◌-◌, ◌≤◌, ◌<◌, Bool, true, false, ◌==◌, cond, List, [], ◌∷◌, ◌++◌, length, map, Option, Some, None, refl, sym, ap, ◌∙◌, subst, arith}
 use Rattle.std.specs.Prelude.{IsTrue, is_some, max}
 use Rattle.std.specs.List.{slice_get}
@@ -201,7 +201,7 @@ module _ {T : Type 0} where
       ap (flow.next here.k) is ∙ next_newest here.k here.p limit a.issued a.emitted s.value
       (ap (λ l. slice_get l here.p) a.newest ∙ newest_at a.front s.value here.p (omega (arith, e, log_length a.emitted a.front s.value a.newest)))
 
-  -- the one subscriber now stands behind the newest value
+  -- the one subscriber has now passed the newest value
   caught_up : (u limit room : ℕ) (s s2 : StateFlowState T) (m : Beside T) (a : Along u limit (suc room) s m) (here : Here u s m (length a.emitted) a.us) → here.p + 1 ≡ length a.emitted
       → s2.value ≡ s.value → s2.issued ≡ s.issued → last_of u s2.subscribers ≡ Some (Some s.value)
       → Along u limit room s2 (record m { shared = built limit a.emitted (sole here.k (here.p + 1)) a.issued; last = Some s.value })

@@ -1,5 +1,5 @@
--- Threads that only update one state flow, each through a seat of its own: the value at the end is the function, as often as all
--- of them updated.
+-- Threads that only update one state flow, each through its own seat: the final value is the function applied once for each of
+-- their updates.
 use Rattle.std.proofs.Common.{◌≡◌, ℕ, suc, ◌+◌, ◌*◌, ◌<◌, List, [], ◌∷◌, length, get_or, map, refl, ap, ◌∙◌, arith}
 use Rattle.std.specs.List.{AllByRecursion}
 use Rattle.flow_law.specs.declared.history.Knowledge.{Knowledge}
@@ -35,7 +35,7 @@ module _ {Id E W : Type 0} (seat : W → Token Id E) where
         (λ i d l. let k = h (suc i) d (omega arith) in let e : m + suc (suc i) ≡ suc m + suc i = omega arith in (k.0 ∙ ap (child_name name) e, k.1)),
   )
 
-  -- the first seat, and the seats that were made through it alone
+  -- the first seat, and the seats that were made through it
   pub callers_are_all : (n : ℕ) (ws : List W) → length ws ≡ n
       → ((i : ℕ) (d : W) → i < n → ((seat (get_or ws i d)).knows.name ≡ child_name [] (suc i)) × ((seat (get_or ws i d)).knows.made ≡ 0)) → AreAll (makes_many n first_knowledge ∷ knows_all ws)
   callers_are_all n ws len h = first_and_made (makes_many n first_knowledge) (knows_all ws) refl (let e : length (knows_all ws) ≡ length ws = length_knows ws in omega arith)

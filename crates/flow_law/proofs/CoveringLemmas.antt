@@ -1,5 +1,5 @@
--- How a core goes on to cover the states after the one that it covers (specs/Covering).
--- The key facts: `covers-longer` (a value more), `covers-subscribers` (other positions). HoldingLemmas has what it holds then.
+-- How a core still covers the states after the one that it covers (specs/Covering).
+-- The key facts: `covers-longer` (one more value), `covers-subscribers` (other positions). HoldingLemmas has what it then holds.
 use Rattle.std.proofs.Common.{◌≡◌, ℕ, zero, suc, ◌+◌, ◌-◌, ◌≤◌, min, Bool, true, false, not, cond, ◌&&◌, ◌||◌, ◌==◌, if◌then◌else◌, List, [], ◌∷◌, ◌++◌, length, map, take, drop, Option, Some, None, refl, sym, ap, ◌∙◌, arith, append_assoc, length-append}
 use Rattle.std.specs.Option.{IfSome, option_map_or}
 use Rattle.std.specs.List.{list_any, slice_get}
@@ -73,7 +73,7 @@ least_position-position_of b number (u ∷ us) =
     above None h = tt
     above (Some p) h = omega (arith, h)
 
--- where a value is offered, somebody has still to receive it
+-- if a value is offered, some subscriber has still to receive it
 pub least_position_offered : {T : Type 0} (b n : ℕ) (us : List (Subscriber T)) → list_any (λ u. (n - u.position) == 1) us ≡ true → (least_position b us ≤ n - 1) × (1 ≤ n)
 least_position_offered b n [] h = absurd (cc)
 least_position_offered b n (u ∷ us) h =
@@ -114,7 +114,7 @@ slice_get_last xs x =
 -- ---- steps of a core
 
 module _ {T : Type 0} where
-  -- a core whose mark is within its values needs no more than there is
+  -- the first needed position is within the emitted values if the reset mark is
   pub needed_within : (core : Core T) (s : SharedFlowState T) → Covers core s → core.reset_mark ≤ core.appended → first_needed s ≤ length s.emitted
   needed_within core s stands h = omega (arith, least_position_bound (cache_start s) s.subscribers, stands.reset_mark, stands.appended)
 
@@ -141,7 +141,7 @@ module _ {T : Type 0} where
         issued = refl;
       }
 
-  -- other positions, none of which asks for an earlier value
+  -- a core still covers the state after positions change, if none needs an earlier value
   pub covers-subscribers : (core : Core T) (s : SharedFlowState T) (old new : List (Subscriber T)) (m n : ℕ) → Covers core s → old ≡ new → m ≡ n
       → least_position (cache_start s) s.subscribers ≤ least_position (cache_start s) new
       → Covers (record core { subscribers = old; issued = m }) (record s { subscribers = new; issued = n })

@@ -136,7 +136,7 @@ module _ {T : Type 0} where
   got_from-append u [] more last = refl
   got_from-append u (e ∷ es) more last = got_from-append u es more (got_by u e.what.call e.what.reply last)
 
-  -- what `next` may answer to a subscriber that is there
+  -- what `next` of a subscriber may answer
   current : (u : ℕ) (s : StateFlowState T) (last : Option T) (r : Next T) → Tracks u s last → IsThere u s → Replies s (TakeNext u) (Received r) → GivesCurrent s.value last r
   current u s last r h there legal = at (last_of u s.subscribers) refl there legal
     where

@@ -24,7 +24,7 @@ pub every_left : {X : Type 0} (P : X → Type 0) (xs ys : List X) → AllByRecur
 every_left P [] ys a = tt
 every_left P (x ∷ xs) ys a = (a.0, every_left P xs ys a.1)
 
--- a test is true or false, and then the goal speaks of that
+-- a goal about a test holds if it holds for true and for false
 pub split : (b : Bool) (P : Bool → Type 0) → (b ≡ true → P true) → (b ≡ false → P false) → P b
 split true P f g = f refl
 split false P f g = g refl
@@ -77,7 +77,7 @@ module _ {E : Type 0} where
   pub said_by_grown : (k : List ℕ) (h later : List (HistoryEvent E)) → GrowsByOthers k h later → said_by k later ≡ said_by k h
   said_by_grown k h later g = ap (said_by k) g.1 ∙ said_by_others k h g.0 g.2
 
-  -- where all other events give nothing, all events give what those of this name give
+  -- if all other events give nothing, all events give what those of this name give
   pub flat_alone : {X : Type 0} (f : E → List X) (k : List ℕ) (h : List (HistoryEvent E)) → AllByRecursion (λ (e : HistoryEvent E). (e.name ≡ k) ⊎ (f e.what ≡ [])) h → flat_map f (map (λ e. e.what) h) ≡ flat_map f (said_by k h)
   flat_alone f k [] a = refl
   flat_alone f k (e ∷ es) a = split (is_same_name k e.name) (λ b. f e.what ++ flat_map f (map (λ e. e.what) es) ≡ flat_map f (cond b (e.what ∷ said_by k es) (said_by k es)))
@@ -96,7 +96,7 @@ module _ {E : Type 0} where
   pub names_left : (name : List ℕ) (made : ℕ) (a b : List (HistoryEvent E)) → Extends a b → NamesOnlyMade name made b → NamesOnlyMade name made a
   names_left name made a b x n = every_left (λ (e : HistoryEvent E). IsMadeBy name made e.name) a x.0 (subst (NamesOnlyMade name made) x.1 n)
 
-  -- where the token has done the same after the later one, it has done so in between
+  -- if the token has done the same after the earliest and after the latest history, it has done the same after one in between
   pub squeezed : (k : List ℕ) (a h b : List (HistoryEvent E)) → Extends a h → Extends h b → said_by k b ≡ said_by k a → said_by k h ≡ said_by k a
   squeezed k a h b x y same =
       let one : said_by k h ≡ said_by k a ++ said_by k x.0 = ap (said_by k) x.1 ∙ said_by-append k a x.0 in
@@ -136,7 +136,7 @@ module _ {E : Type 0} where
     names = names_left k.name k.made h later.seen y (subst (λ (n : List ℕ). NamesOnlyMade n k.made later.seen) same.name (subst (λ (m : ℕ). NamesOnlyMade later.name m later.seen) same.made names));
   }
 
-  -- what a token accounts for is the same where it has done nothing since
+  -- a history that accounts for a token accounts for it before, if the token has done nothing since
   pub accounts_before : (h : List (HistoryEvent E)) (old k : Knowledge E) → Made [] old k → Accounts h k → Accounts h old
   accounts_before h old k same a = record {
     done = ap (λ (n : List ℕ). said_by n h) (sym same.name) ∙ a.done ∙ same.done ∙ append-nil (done_by old);

@@ -1,4 +1,4 @@
--- A drain as far as it has come, one value more, and how it ends.
+-- A drain after some values, after one more value, and at its end.
 use Rattle.std.proofs.Common.{◌≡◌, ◌≢◌, ℕ, ◌+◌, ◌<◌, List, [], ◌∷◌, ◌++◌, length, refl, sym, ap, ◌∙◌, subst, arith, length-append, append_assoc}
 use Rattle.std.specs.Prelude.{Result, Ok}
 use Rattle.std.specs.List.{FoldsTo}
@@ -15,7 +15,7 @@ takes_more R p q r [] x folds more = (r, subst (λ t. R t x r) (sym folds) more,
 takes_more R p q r (y ∷ ys) x folds more = (folds.0, folds.1, takes_more R folds.0 q r ys x folds.2 more)
 
 module _ {X T : Type 0} (Nexts : X → Result (Next T) FlowFault → X → Type 0) where
-  -- so many values were taken, and are in the list
+  -- `count` values were taken, and are in the list
   pub record HasTaken (count : ℕ) (old : X) (old_list new_list : List T) (now : X) : Type 0 where
     pub values : List T
     pub taken : NextsGive Nexts old values now
@@ -34,7 +34,7 @@ module _ {X T : Type 0} (Nexts : X → Result (Next T) FlowFault → X → Type 
     counted = length-append h.values (v ∷ []) ∙ ap (λ k. k + 1) h.counted;
   }
 
-  -- how it ends, where `Ends` says what may end it
+  -- how a drain ends, if `Ends` says what may end it
   module _ (Ends : X → Result Drained FlowFault → X → Type 0) where
     pub takes_most : (most : ℕ) (old now : X) (old_list list : List T) → HasTaken most old old_list list now → Ends now (Ok drained.Most) now
         → Takes Nexts Ends most old old_list (Ok drained.Most) list now

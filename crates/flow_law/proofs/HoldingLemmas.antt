@@ -50,7 +50,7 @@ module _ {T : Type 0} where
 
   -- ---- letting go of values
 
-  -- a core that lets go of values in front, but of none that may be asked for
+  -- a core still covers a state after it drops its first values, but none that a subscriber may still receive
   pub covers-drop : (core : Core T) (s : SharedFlowState T) (k : ℕ) → Covers core s → k + held s ≤ length core.held → Covers (record core { held = drop k core.held }) s
   covers-drop core s k stands enough =
       let all : length core.held ≡ length stands.held.0 + length (needed s) = ap length stands.held.1 ∙ length-append stands.held.0 (needed s) in
@@ -65,7 +65,7 @@ module _ {T : Type 0} where
         issued = stands.issued;
       }
 
-  -- a core that keeps the last n values, where no more than n may be asked for
+  -- a core still covers a state if it keeps the last n values, and a subscriber may still receive at most n
   pub covers-last : (core : Core T) (s : SharedFlowState T) (n : ℕ) → Covers core s → held s ≤ n → Covers (record core { held = drop (length core.held - n) core.held }) s
   covers-last core s n stands enough =
       let all : length core.held ≡ length stands.held.0 + length (needed s) = ap length stands.held.1 ∙ length-append stands.held.0 (needed s) in
@@ -127,7 +127,7 @@ module _ {T : Type 0} where
       ap (λ n. drop (n - (core.appended - length core.held)) core.held) (start_is core s (covers core s stands))
       ∙ same_rest core s (cache_start s) stands h (least_position_bound (cache_start s) s.subscribers)
 
-  -- ---- steps after which the same values may be asked for
+  -- ---- steps after which a subscriber may still receive the same values
 
   -- other subscribers
   pub stands-subscribers : (core : Core T) (s : SharedFlowState T) (old new : List (Subscriber T)) (m n : ℕ) → StandsFor core s → old ≡ new → m ≡ n

@@ -186,7 +186,7 @@ module _ {T : Type 0} where
   none_yet : (u : ℕ) (g : Config) → Trail u g (first_state g) 0 []
   none_yet u g p at = absurd (none_or_some p at)
 
-  -- with what is still to come, where the place is p
+  -- the law for a subscriber at the position p, by what it has read
   lags_at : (u p : ℕ) (config : Config) (h : History T) → Read (values (state_after config h)) (config.replay + config.extra) (began u config h).entry p (NoSkip config) (from_flow u (first_state config) h)
       → drop p (values (state_after config h)) ≡ box u config h → Lags u config h
   lags_at u p config h read rest =

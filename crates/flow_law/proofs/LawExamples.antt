@@ -1,4 +1,4 @@
--- What the words of the laws come to in worked examples, and why each bound and each premise is there.
+-- What the definitions of the laws give in worked examples, and why each bound and each premise is needed.
 use Rattle.std.proofs.Common.{◌≡◌, ℕ, true, false, List, [], ◌∷◌, Some, None, refl}
 use Rattle.flow_law.specs.declared.config.Config.{Config}
 use Rattle.flow_law.specs.declared.outcome.Next.TheVariants.{Value, Empty}
@@ -44,7 +44,7 @@ let_in_after_two = (refl, refl)
 let_in_by_unsubscribe : is_queued 4 (after_all two_queued (played_from two_queued (Unsubscribe 1 ∷ []))) ≡ false
 let_in_by_unsubscribe = refl
 
--- a cancelled emission makes room in the queue for those behind it
+-- a cancelled emission makes room in the queue for the ones after it
 nearer_by_cancel : ahead 4 (after_all two_queued (played_from two_queued (Cancel 3 ∷ []))).queue ≡ 0
 nearer_by_cancel = refl
 
@@ -52,7 +52,7 @@ nearer_by_cancel = refl
 abbrev one_offered : SharedFlowState ℕ
 one_offered = state_of (suspending 0 0) (Subscribe [] (8 ∷ []) ∷ Emit 7 ∷ Emit 6 ∷ [])
 
--- its own first value is none of the flow's: the offer goes on
+-- a subscriber's own first value is not one of the flow's, so the offer stays
 own_value_ends_no_offer : (is_offered_as 2 (after_all one_offered (played_from one_offered (TakeNext 1 ∷ []))) ≡ true)
     × (from_flow 1 one_offered (played_from one_offered (TakeNext 1 ∷ [])) ≡ [])
 own_value_ends_no_offer = (refl, refl)
@@ -111,7 +111,7 @@ queued_stays_out = (refl, refl)
 reset_leaves_nothing : enters_and_reads (state_of (suspending 2 0) (TryEmit 1 ∷ ResetReplayCache ∷ [])) 2 [] ≡ []
 reset_leaves_nothing = refl
 
--- ---- how a subscriber comes to the current value
+-- ---- how a subscriber gets the current value
 
 abbrev skips_an_update : StateHistory ℕ
 skips_an_update =

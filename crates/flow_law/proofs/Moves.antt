@@ -1,4 +1,4 @@
--- What a call of a shared flow comes to: each is one of a few moves.
+-- The moves of a shared flow: each call is one of a few.
 use Rattle.std.proofs.Common.{inl, inr, ◌≡◌, ℕ, ◌+◌, true, false, not, ◌&&◌, ◌==◌, cond, List, [], ◌∷◌, ◌++◌, length, Option, Some, None, refl, arith}
 use Rattle.std.specs.Prelude.{nat_le, nat_lt, Err}
 use Rattle.std.specs.List.{list_any, slice_get}
@@ -16,7 +16,7 @@ use Rattle.flow_law.specs.SharedStep.{admit, settle, withdraw, advance, leave, e
 use Rattle.flow_law.specs.SharedHistory.{answer_to, is_refused, after, History, after_all}
 
 module _ {T : Type 0} where
-  -- what keeps P, whichever call comes
+  -- each move keeps P
   pub record Keeps (P : SharedFlowState T → Type 0) (s : SharedFlowState T) : Type 0 where
     pub appends : (v : T) → is_blocked s ≡ false → P (append v s)
     pub suspends : (v : T) → is_blocked s ≡ true → s.config.overflow ≡ Suspend → P (suspend v s)

@@ -24,7 +24,7 @@ module _ {X : Type 0} where
   every_map P f h [] = tt
   every_map P f h (x ∷ xs) = (h x, every_map P f h xs)
 
--- a list isn't its own beginning, with something behind
+-- a list does not equal itself with more elements after it
 pub longer : (k : List ℕ) (j : ℕ) (r : List ℕ) → k ≡ k ++ j ∷ r → ⊥
 longer k j r e = let l : length k ≡ length (k ++ j ∷ r) = ap length e in let m : length (k ++ j ∷ r) ≡ length k + length (j ∷ r) = length-append k (j ∷ r) in omega arith
 
@@ -52,7 +52,7 @@ module _ {E : Type 0} where
   pub grew_more : (k : List ℕ) (h h' more : List (HistoryEvent E)) → GrowsByOthers k h h' → AllByRecursion (λ e. e.name ≢ k) more → GrowsByOthers k h (h' ++ more)
   grew_more k h h' more g a = (g.0 ++ more, ap (λ l. l ++ more) g.1 ∙ append_assoc h g.0 more, every_append (λ e. e.name ≢ k) g.0 more g.2 a)
 
-  -- a seat named n adds events, of which another seat sees that they aren't its own
+  -- a history still fits what a seat knows after another seat, named n, adds events
   pub fits_more : (log : List (HistoryEvent E)) (t : Knowledge E) (n : List ℕ) (w : List E) → n ≢ t.name → IsMadeBy t.name t.made n → Fits log t → Fits (log ++ events_of n w) t
   fits_more log t n w other num f = (
     grew_more t.name t.seen log (events_of n w) f.0 (every_map (λ (e : HistoryEvent E). e.name ≢ t.name) (event n) (λ _. other) w),

@@ -1,4 +1,4 @@
--- A shared flow that keeps the last value alone, with no subscriber or one.
+-- A shared flow that keeps only the last value, with at most one subscriber.
 use Rattle.std.proofs.Common.{inl, inr, ◌≡◌, ◌⊎◌, ℕ, zero, suc, ◌+◌, ◌-◌, ◌<◌, true, false, not, ◌==◌, ◌&&◌, ◌||◌, cond, List, [], ◌∷◌, ◌++◌, length, map, Some, None, refl, ap, ◌∙◌, arith, eq-eqb}
 use Rattle.std.specs.Prelude.{drop, nat_le, max, Err}
 use Rattle.std.specs.List.{slice_get}

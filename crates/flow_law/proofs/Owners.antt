@@ -1,4 +1,4 @@
--- A history of any kind of flow in two parts: what holds of each, and to whom a number belongs after it.
+-- A history of any kind of flow in two parts: what holds of each part, and which token owns a number after it.
 use Rattle.std.proofs.Common.{◌≡◌, ◌≢◌, ℕ, ◌≤◌, ◌<◌, true, List, [], ◌∷◌, ◌++◌, Option, Some, None, refl, sym, ap, ◌∙◌, subst, arith, eq-eqb}
 use Rattle.std.specs.List.{AllByRecursion}
 use Rattle.std.proofs.lemmas.Bool.{cond_both, cond-true}
@@ -73,7 +73,7 @@ module _ {T S C R : Type 0} (kind : Kind T S C R) where
   pub history_left : (first : S) (h more : List (HistoryEvent (Said C R))) → IsHistory kind first (h ++ more) → IsHistory kind first h
   history_left first h more is = record { begins = is.begins; legal = legal_left first h more is.legal; owned = owned_left [] h more is.owned }
 
-  -- who is given a number by the last event
+  -- the token to which the last event gives a number owns it
   pub last_given : (h : List (HistoryEvent (Said C R))) (e : HistoryEvent (Said C R)) (o : Owner) → kind.gives e.name e.what.call e.what.reply ≡ Some o → IsGiven kind o.name o.number (h ++ e ∷ [])
   last_given h e o is =
       ap (owner_of o.number) (owners_all-append [] h (e ∷ []) ∙ ap (λ z. with_owner z (owners_all kind [] h)) is) ∙ newest_owner o (owners_all kind [] h)
@@ -124,7 +124,7 @@ module _ {T S C R : Type 0} (kind : Kind T S C R) (law : Lawful kind) where
   -- ---- what only the owner of a number can end
 
   module _ (u : ℕ) where
-    -- who calls with a name that is not the owner's does not speak of the number
+    -- a caller whose name is not the owner's makes no call that names the number
     others_speak : (c : C) (owners : List Owner) (name caller : List ℕ) → owner_of (subscriber u) owners ≡ Some name → caller ≢ name → MaySpeak kind (kind.speaks_of c) owners caller
         → kind.speaks_of c ≢ Some (subscriber u)
     others_speak c owners name caller is other may e =
@@ -134,7 +134,7 @@ module _ {T S C R : Type 0} (kind : Kind T S C R) (law : Lawful kind) where
         same_name : (a b : List ℕ) → Some a ≡ Some b → a ≡ b
         same_name a b p = cc
 
-    -- what holds of a state and stays so whoever calls, unless the call speaks of the number, stays so in silence
+    -- what holds of a state, and is kept by each call that does not name the number, is kept while the number's owner is silent
     module _ (Holds : S → Type 0) (stays : (s : S) (c : C) (r : R) → kind.speaks_of c ≢ Some (subscriber u) → Holds s → Holds (kind.after s c r)) where
       fact_kept : (s : S) (owners : List Owner) (h : List (HistoryEvent (Said C R))) (name : List ℕ) → UpTo (law.issued s) owners → IsLegal kind s h → IsOwned kind owners h
           → IsSilent name h → owner_of (subscriber u) owners ≡ Some name → Holds s → Holds (after_all kind s h)
@@ -143,7 +143,7 @@ module _ {T S C R : Type 0} (kind : Kind T S C R) (law : Lawful kind) where
           fact_kept (kind.after s e.what.call e.what.reply) (owners_after kind owners e) es name (step_up_to s owners e l.0 i) l.1 o.1 silent.1 (step_owner s owners e (subscriber u) name l.0 i is)
           (stays s e.what.call e.what.reply (others_speak e.what.call owners name e.name is silent.0 o.0) has)
 
-      -- after the history h, in which the number was given to a token, come events of others
+      -- the same after a history h that gave the number to a token, if events of others follow
       pub kept_while_silent : (s : S) (h between : List (HistoryEvent (Said C R))) (name : List ℕ) → IsLegal kind s (h ++ between) → IsOwned kind [] (h ++ between)
           → IsSilent name between → IsGiven kind name (subscriber u) h → Holds (after_all kind s h) → Holds (after_all kind s (h ++ between))
       kept_while_silent s h between name l o silent is has =

@@ -1,5 +1,5 @@
--- What a subscriber gets of a flow that suspends with a buffer, if it entered before anything was emitted: the first of what the
--- flow accepted, in order.
+-- What a subscriber gets from a flow that suspends and has a buffer, if it entered before anything was emitted: the first values
+-- that the flow accepted, in order.
 use Rattle.std.proofs.Common.{◌⊎◌, ◌≡◌, ◌≢◌, ℕ, ◌+◌, ◌<◌, ◌≤◌, false, length, ◌==◌, List, [], ◌∷◌, ◌++◌, drop, map, Some, refl, sym, ap, ◌∙◌, subst, arith, append_assoc}
 use Rattle.std.specs.List.{AllByRecursion, flat_map}
 use Rattle.std.proofs.lemmas.Bool.{cond_both}
@@ -69,7 +69,7 @@ module _ {T : Type 0} where
   all_first u s (e ∷ es) a = let c = e.what.call in let r = e.what.reply in
       ap (began_from u (after s c r) es) (event_first u s c r a.0) ∙ all_first u (after s c r) es a.1
 
-  -- what a subscriber that is there received begins what the flow accepted
+  -- what a subscriber received is the beginning of what the flow accepted
   pub passed : (config : Config) (h : History T) → IsLegal config h → config.overflow ≡ Suspend → 0 < config.replay + config.extra → NoneCancelled h → AllEnterFirst (first_state config) h
       → (u p : ℕ) → position_of u (state_after config h).subscribers ≡ Some p → (rest : List T) × (received u h ++ rest ≡ accepted (map (λ e. e.what) h))
   passed config h legal o room kept enters u p at =
@@ -86,7 +86,7 @@ module _ {T : Type 0} where
             ∙ accepts config h legal o kept,
       )
 
-  -- ---- no subscription comes after the first accepted value
+  -- ---- no subscription follows the first accepted value
 
   -- a subscription has no first values
   abbrev pub BringsNone : SharedCall T → Type 0

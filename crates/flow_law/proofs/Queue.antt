@@ -1,4 +1,4 @@
--- The queue of a shared flow: empty where the flow is not blocked, and under each strategy but one.
+-- The queue of a shared flow: empty if the flow is not blocked, and under each strategy except Suspend.
 use Rattle.std.proofs.Common.{◌≡◌, ℕ, ◌+◌, Bool, not, ◌==◌, List, [], ◌∷◌, ◌++◌, length, map, refl, sym, ap, ◌∙◌, subst}
 use Rattle.std.specs.Prelude.{filter, nat_le}
 use Rattle.std.proofs.lemmas.Bool.{cond_both, or_parts, both_ways}

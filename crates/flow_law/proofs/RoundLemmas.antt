@@ -105,7 +105,7 @@ module _ {Id T S C R : Type 0} (kind : Kind T S C R) (first : S) where
         tail_at [] i d = refl
         tail_at (v ∷ vs) i d = refl
 
--- an element is replaced by one of which f is the same
+-- f gives the same at each place if one element is replaced by one with the same f
 pub same_by_place : {W X : Type 0} (f : W → X) (xs ys : List W) (k : ℕ) (o y : W) → k < length ys → ((j : ℕ) (d : W) → f (get_or ys j d) ≡ f (get_or xs j d)) → f y ≡ f (get_or ys k o)
     → (j : ℕ) (d : W) → f (get_or (set ys k y) j d) ≡ f (get_or xs j d)
 same_by_place {W} f xs ys k o y l same e j d = split (eqb j k) (λ b. f (get_or (set ys k y) j d) ≡ f (get_or xs j d))

@@ -7,7 +7,7 @@ use Rattle.std.proofs.lemmas.Bool.Decides.{Decides-eqb, nat_tests}
 use Rattle.flow_law.specs.SharedFlow.{Numbered, Subscriber, position_of, stand_at, move_to, without, own_of, leave_own, with_own}
 use Rattle.flow_law.specs.Laws.{RisesTo}
 
--- a test is true or false, and then the goal speaks of that
+-- a goal about a test holds if it holds for true and for false
 pub split : (b : Bool) (P : Bool → Type 0) → (b ≡ true → P true) → (b ≡ false → P false) → P b
 split true P f g = f refl
 split false P f g = g refl
@@ -35,7 +35,7 @@ every_move P number p k [] h = tt
 every_move P number p k (u ∷ us) h = cond_both (u.number == number) (stand_at p u ∷ us) (u ∷ move_to number p us) (AllByRecursion P)
     (λ _. (k u h.0, h.1)) (λ _. (h.0, every_move P number p k us h.1))
 
--- ---- where a subscriber stands
+-- ---- a subscriber's position
 
 pub absent : {T : Type 0} (n number : ℕ) (us : List (Subscriber T)) → AllByRecursion (λ u. u.number ≤ n) us → n < number → position_of number us ≡ None
 absent n number [] h l = refl
@@ -103,7 +103,7 @@ position-map f number q (u ∷ us) e = split (u.number == number)
     some_same : (a b : ℕ) → Some a ≡ Some b → a ≡ b
     some_same a b e = cc
 
--- where nobody has so much to receive, neither has this subscriber
+-- if no subscriber has a lag of at least w, this one's lag is less
 pub lag_below : {T : Type 0} (w n number p : ℕ) (us : List (Subscriber T)) → list_any (λ u. nat_le w (n - u.position)) us ≡ false → position_of number us ≡ Some p → n - p < w
 lag_below w n number p [] h e = absurd (cc)
 lag_below w n number p (u ∷ us) h e =

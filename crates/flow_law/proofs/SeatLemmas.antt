@@ -1,4 +1,4 @@
--- The tokens among the views of a table's seats, where one view changes, where two tokens meet in one view and part, and where a
+-- The tokens among the views of a table's seats after one view changes, after two tokens meet in one view and part, and after a
 -- token is made through another. Begin with `changed`.
 use Rattle.std.proofs.Common.{◌≡◌, ◌≢◌, ℕ, zero, suc, ◌≤◌, ◌⊎◌, List, [], ◌∷◌, ◌++◌, map, length, set, refl, sym, ap, ◌∙◌, subst, inl, inr, ⊎_elim, arith, le_refl}
 use mathlib.Core.Option.{some, some-injective, some-ne-none}
@@ -50,9 +50,9 @@ module _ {X : Type 0} where
   of_map f (x ∷ xs) zero y e = (x, refl, some-injective (f x) y e)
   of_map f (x ∷ xs) (suc a) y e = of_map f xs a y e
 
--- ---- where a token stood before
+-- ---- where a token was before
 
--- where a token of two views that became one was
+-- where a token was before two views became one
 abbrev pub Joined : ℕ → ℕ → ℕ → ℕ → ℕ → ℕ → Type 0
 Joined id other i a p q = ((i ≡ id) × (a ≡ 0) × (p ≡ id) × (q ≡ 0)) ⊎ (((i ≡ id) × (a ≡ 1) × (p ≡ other) × (q ≡ 0)) ⊎ ((i ≢ id) × (i ≢ other) × (p ≡ i) × (q ≡ a)))
 
@@ -69,7 +69,7 @@ joined_once id other ne i a j b p q x y = ⊎_elim
     (λ (v : (j ≡ id) × (b ≡ 0) × (p ≡ id) × (q ≡ 0)). absurd (u.0 (omega arith)))
     (λ w. ⊎_elim (λ (v : (j ≡ id) × (b ≡ 1) × (p ≡ other) × (q ≡ 0)). absurd (u.1 (omega arith))) (λ (v : (j ≢ id) × (j ≢ other) × (p ≡ j) × (q ≡ b)). (omega arith, omega arith)) w) y) z) x
 
--- where a token of a view that was cut in two was; the new view is the n-th
+-- where a token was before its view was cut in two; the new view is the n-th
 abbrev pub Parted : ℕ → ℕ → ℕ → ℕ → ℕ → ℕ → Type 0
 Parted id n i a p q = ((i ≡ n) × (a ≡ 0) × (p ≡ id) × (q ≡ 1)) ⊎ (((i ≡ id) × (a ≡ 0) × (p ≡ id) × (q ≡ 0)) ⊎ ((i ≢ id) × (p ≡ i) × (q ≡ a)))
 
@@ -104,7 +104,7 @@ module _ {V X E : Type 0} (seats : V → List X) (knows : X → Knowledge E) whe
   seat_end views i a w x p = ⊎_elim (λ (q : get_elem? views i ≡ some p.0). inl (p.0, q, p.2))
       (λ (q : (i ≡ length views) × (w ≡ p.0)). inr (q.0, subst (λ (v : V). get_elem? (seats v) a ≡ some x) (sym q.1) p.2)) (at_end views w p.0 i p.1)
 
-  -- a token of the new views comes from one of the old, with its name, and has made no fewer
+  -- a token of the new views was one of the old views, with the same name, and has made no fewer seats
   abbrev ComesFrom : List V → (ℕ → ℕ → ℕ → ℕ → Type 0) → ℕ → ℕ → X → Type 0
   ComesFrom views Old i a x = (p : ℕ) × (q : ℕ) × (y : X) × At views p q y × ((knows y).name ≡ (knows x).name) × ((knows y).made ≤ (knows x).made) × Old i a p q
 
@@ -122,7 +122,7 @@ module _ {V X E : Type 0} (seats : V → List X) (knows : X → Knowledge E) whe
       (λ n. inr n)) (λ n. inl n) in
       apart_like (knows f.2) (knows g.2) (knows t) (knows u) f.4 f.5 g.4 (all f.0 f.1 g.0 g.1 f.2 g.2 f.3 g.3 away)
 
-  -- the tokens of one view change, but for their names, and have made no fewer
+  -- the tokens stay apart if those of one view change, keep their names, and have made no fewer seats
   pub changed_apart : (f : X → X) → ((x : X) → (knows x).name ≡ (knows (f x)).name) → ((x : X) → (knows x).made ≤ (knows (f x)).made) → (views : List V) (id : ℕ) (v w : V)
       → get_elem? views id ≡ some v → seats w ≡ map f (seats v) → Apart views → Apart (set views id w)
   changed_apart f name made views id v w at is all = apart_from views (set views id w) (λ i a p q. (i ≡ p) × (a ≡ q)) (λ i a j b' p q x y. (x.0 ∙ sym y.0, x.1 ∙ sym y.1))
@@ -132,7 +132,7 @@ module _ {V X E : Type 0} (seats : V → List X) (knows : X → Knowledge E) whe
       (λ (h : (i ≢ id) × At views i a t). (i, a, t, h.1, refl, le_refl (knows t).made, (refl, refl)))
       (seat_set views id i a w t x)) all
 
-  -- and each token is then as it should be
+  -- the views still fit if each changed token is as it should be
   pub changed : (IsFine : X → Type 0) (f : X → X) → ((x : X) → (knows x).name ≡ (knows (f x)).name) → ((x : X) → (knows x).made ≤ (knows (f x)).made) → (views : List V) (id : ℕ) (v w : V)
       → get_elem? views id ≡ some v → seats w ≡ map f (seats v) → ((a : ℕ) (x : X) → get_elem? (seats v) a ≡ some x → IsFine (f x)) → ((i a : ℕ) (x : X) → i ≢ id → At views i a x → IsFine x)
       → Apart views → Fit IsFine (set views id w)
@@ -244,7 +244,7 @@ module _ {V X E : Type 0} (seats : V → List X) (knows : X → Knowledge E) whe
         new_apart : IsApartFrom (knows maker) (knows new) × IsApartFrom (knows new) (knows maker)
         new_apart = subst (λ (z : Knowledge E × Knowledge E). IsApartFrom z.0 z.1 × IsApartFrom z.1 z.0) (λ n. (sym is_maker n, sym is_new n)) (makes_child (knows t), child_makes (knows t))
 
-        -- what stands before the new one
+        -- what is before the new one
         one : (i a : ℕ) (x : X) → At mid i a x → IsFine x × IsApartFrom (knows x) (knows new) × IsApartFrom (knows new) (knows x)
         one i a x p = ⊎_elim
             (λ (k : (i ≡ id) × (get_elem? (seats left) a ≡ some x)). subst (λ (z : X). IsFine z × IsApartFrom (knows z) (knows new) × IsApartFrom (knows new) (knows z)) (first a x k.1).1

@@ -51,7 +51,7 @@ module _ {T : Type 0} where
   history_converges first h is u = subst (λ (s : StateFlowState T). Converges u s h) (sym is.begins)
       (currents first.limit first.value h (subst (λ (s : StateFlowState T). IsLegalState s h) is.begins is.legal) u)
 
-  -- a subscription is there after all that its token has seen
+  -- after all that its token has seen, a subscription is subscribed
   pub shared_has : (first : SharedFlowState T) (k : Knowledge (Said (SharedCall T) (SharedReply T))) (u : ℕ) → IsHistory shared_flow first k.seen → IsSubscription shared_flow k u
       → IsSome (position_of u (state_after first.config k.seen).subscribers)
   shared_has first k u is subscription = subst (λ (s : SharedFlowState T). IsSome (position_of u (after_all s k.seen).subscribers)) is.begins.0 (subscription.1 first is.legal)

@@ -79,7 +79,7 @@ module _ {T : Type 0} where
   issuing_waits : (e : ℕ) (s : SharedFlowState T) (a : Answer Emit T) → Waits e s a → Waits e s (issuing s a)
   issuing_waits e s a w f = cond_both (is_exhausted s) (record { reply = Err Exhausted; after = s }) a (Waits e s) (λ _ f. absurd (cc)) (λ _. w) f
 
-  -- who waits has the next number
+  -- an emission that waits has the next number
   waits : (s : SharedFlowState T) (v : T) (e : ℕ) (m : EmitCase) → Waits e s (emit_in m v s)
   waits s v e appends f = issuing_waits e s (answer Done (append v s)) (λ f. absurd (cc)) f
   waits s v e offers f = issuing_waits e s (answer (Queued (s.issued + 1)) (append v s)) (λ f. (cc, cc)) f
@@ -90,7 +90,7 @@ module _ {T : Type 0} where
   abbrev Enrolls : ℕ → List T → SharedFlowState T → Answer ℕ T → Type 0
   Enrolls u first s a = ◌≡◌ {A = SharedReply T} (reply.Subscribed u) (reply_by reply.Subscribed a.reply) → (u ≡ s.issued + 1) × (a.after ≡ enroll first s)
 
-  -- who subscribes has the next number
+  -- a new subscriber has the next number
   enrolls : (s : SharedFlowState T) (first : List T) (u : ℕ) → Enrolls u first s (subscribe first s)
   enrolls s first u f = cond_both (is_exhausted s) (record { reply = Err Exhausted; after = s }) (answer (s.issued + 1) (enroll first s)) (Enrolls u first s) (λ _ f. absurd (cc)) (λ _ f. (cc, refl)) f
 
@@ -147,7 +147,7 @@ module _ {T : Type 0} where
       from [] = at (position_of n s.subscribers)
       from (v ∷ own) = subst IsSome (sym (position-with_own u n own s.subscribers)) h
 
-  -- whoever calls what, a subscriber stays unless it is unsubscribed
+  -- each call keeps a subscriber, except its `unsubscribe`
   answer_has : (u : ℕ) (s : SharedFlowState T) (c : SharedCall T) → c ≢ call.Unsubscribe u → Has u s → Has u (answer_to c s).after
   answer_has u s (call.TryEmit v) other h = try_emit_split (λ a. Has u a.after) s v h (λ _. h) (λ _. dropped_has u v s h) (λ _. h)
   answer_has u s (call.Emit v) other h = emit_split (λ a. Has u a.after) s v h (λ _ _. h) h (λ _. dropped_has u v s h) h
@@ -164,7 +164,7 @@ module _ {T : Type 0} where
   pub event_has : (u : ℕ) (s : SharedFlowState T) (c : SharedCall T) (r : SharedReply T) → c ≢ call.Unsubscribe u → Has u s → Has u (after s c r)
   event_has u s c r other h = cond_both (is_refused r) s (answer_to c s).after (Has u) (λ _. h) (λ _. answer_has u s c other h)
 
-  -- ---- what a subscriber is told
+  -- ---- what a subscriber's calls reply
 
   never_gone : (s : SharedFlowState T) (u : ℕ) → Has u s → Replies s (call.TakeNext u) (reply.Received Gone) → ⊥
   never_gone s u h = not_gone

@@ -1,4 +1,4 @@
--- A subscriber of a shared flow that found nothing finds nothing, until a value is emitted.
+-- A subscriber of a shared flow with nothing to receive has nothing to receive until a value is emitted.
 use Rattle.std.proofs.Common.{◌≡◌, ◌≢◌, ℕ, ◌+◌, ◌≤◌, false, ◌==◌, cond, List, [], ◌∷◌, ◌++◌, length, map, filter, not, Option, Some, None, refl, sym, ap, ◌∙◌, subst, arith, length-append}
 use Rattle.std.specs.Prelude.{IsSome, slice_get, ◌<◌}
 use Rattle.std.specs.Option.{option_map_or}
@@ -24,7 +24,7 @@ use Rattle.flow_law.proofs.SharedLawful.{event_has}
 use Rattle.flow_law.proofs.SharedWaiting.{cancels, Lasting, lasting_begins, lasting_keeps, event_goes, first_first}
 use Rattle.flow_law.proofs.Steps.{past_here}
 
--- who is there is not the one that comes
+-- a new subscriber does not change the position of one that is subscribed
 position-snoc_some : {T : Type 0} (number : ℕ) (us : List (Subscriber T)) (v : Subscriber T) → IsSome (position_of number us) → position_of number (us ++ v ∷ []) ≡ position_of number us
 position-snoc_some number [] v h = absurd (cc)
 position-snoc_some number (u ∷ us) v h = split (u.number == number)
@@ -52,7 +52,7 @@ module _ {T : Type 0} where
   abbrev replies : Answer (Next T) T → SharedReply T
   replies a = reply_by reply.Received a.reply
 
-  -- ---- who finds nothing has all, and the other way round
+  -- ---- a subscriber has nothing to receive exactly if it has all
 
   found_here : (u p : ℕ) (s : SharedFlowState T) (o : Option T) → slice_get (values s) p ≡ o
       → ◌≡◌ {A = SharedReply T} (reply.Received Empty) (replies (option_map_or (λ value. answer (Value value) (settle (advance u (p + 1) s))) o (answer Empty s))) → length s.emitted ≤ p
@@ -84,9 +84,9 @@ module _ {T : Type 0} where
   finds_nothing : (u : ℕ) (s : SharedFlowState T) → HasAll u s → IsSome (position_of u s.subscribers) → FindsNothing shared_flow u s
   finds_nothing u s h some = subst (λ (own : List T). ◌≡◌ {A = SharedReply T} (reply.Received Empty) (replies (next_from u own s))) (sym h.own) (nothing_at u s (position_of u s.subscribers) some h.emitted)
 
-  -- ---- who has all has all after a call that emits nothing
+  -- ---- a subscriber that has all still has all after a call that emits nothing
 
-  -- t has as many emitted values as s, and the subscriber, if it is there, has all of them
+  -- t has as many emitted values as s, and the subscriber, if it is subscribed, has all of them
   abbrev Still : ℕ → SharedFlowState T → SharedFlowState T → Type 0
   Still u s t = length t.emitted ≡ length s.emitted → IsSome (position_of u t.subscribers) → HasAll u t
 
@@ -174,7 +174,7 @@ module _ {T : Type 0} where
       let there : IsSome (position_of u (after s c r).subscribers) = event_has u s c r (λ e. others (ap ends e)) old.1 in
       finds_nothing u (after s c r) (event_keeps (Still u s) s (λ _ _. old.0) (keeps u s old.0 old.1) c r same there) there
 
-  -- who finds nothing changes nothing
+  -- a `next` that finds nothing changes nothing
   rests : (u : ℕ) (s : SharedFlowState T) → HasAll u s → IsSome (position_of u s.subscribers) → (next u s).after ≡ s
   rests u s h some = subst (λ (own : List T). (next_from u own s).after ≡ s) (sym h.own) (at (position_of u s.subscribers) some h.emitted)
     where

@@ -1,4 +1,4 @@
--- An emission of a shared flow that waits goes on waiting, until the first that waits is one behind it.
+-- An emission of a shared flow that waits keeps waiting, until the first that waits is a later one.
 use Rattle.std.proofs.Common.{inl, inr, ◌≡◌, ◌≢◌, ◌⊎◌, ℕ, suc, ◌+◌, ◌-◌, ◌<◌, ◌≤◌, Bool, true, false, ◌==◌, ◌&&◌, ◌||◌, cond, List, [], ◌∷◌, ◌++◌, length, map, filter, not, Option, Some, None, refl, sym, ap, ◌∙◌, subst, arith, eq-eqb}
 use Rattle.std.specs.Prelude.{IsSome, IsSomeAnd, nat_le, max, slice_get}
 use Rattle.std.specs.List.{list_any}
@@ -58,13 +58,13 @@ module _ {T : Type 0} where
   abbrev queue_numbers : SharedFlowState T → List ℕ
   queue_numbers s = map (λ q. q.number) s.queue
 
-  -- where an emission of this number or a later one is the first that waits, this one waits
+  -- if the first emission that waits has this number or a smaller one, the emission of this number waits
   abbrev Goes : ℕ → SharedFlowState T → Type 0
   Goes e t = IsSomeAnd (first_waiting t) (λ f. f ≤ e) → is_waiting e t ≡ true
 
   -- ---- numbers
 
-  -- the number of the last value, where there is one
+  -- the number of the last value, or b if there is none
   abbrev last_or : ℕ → List (Numbered T) → ℕ
   last_or b [] = b
   last_or b (x ∷ log) = last_or x.number log
@@ -97,9 +97,9 @@ module _ {T : Type 0} where
     | inr later ↦ omega (arith, rises.0, within e x.number top q later rises.1)
   ]
 
-  -- ---- emissions whose value has come
+  -- ---- emissions whose value was emitted
 
-  -- the emission's value was emitted, and those in the queue are behind it
+  -- the emission's value was emitted, and those in the queue have later numbers
   record Past (e : ℕ) (t : SharedFlowState T) : Type 0 where
     rises : RisesTo e (queue_numbers t) t.issued
     newest : e ≤ newest t
@@ -140,7 +140,7 @@ module _ {T : Type 0} where
 
   -- ---- calls
 
-  -- a state with the same values settles: who waited in s waits on, or has ended
+  -- after a state with the same values settles, an emission that waited in s still waits, or has ended
   settles : (e : ℕ) (s t : SharedFlowState T) → is_waiting e s ≡ true → t.emitted ≡ s.emitted
       → (is_queued e s ≡ true → has e t.queue ≡ true) → (is_offered_as e s ≡ true → newest s ≡ e)
       → RisesTo (newest s) (queue_numbers t) t.issued → Goes e (settle t)
@@ -158,7 +158,7 @@ module _ {T : Type 0} where
   offered_last : (e : ℕ) (s : SharedFlowState T) → is_offered_as e s ≡ true → newest s ≡ e
   offered_last e s now = (Decides-eqb (newest s) e).0 (and_parts (is_offering s) (newest s == e) now).1
 
-  -- who is offered a value has not received it, so the flow is blocked
+  -- a subscriber that is offered a value has not received it, so the flow is blocked
   offering_blocks : (s : SharedFlowState T) → is_offering s ≡ true → is_blocked s ≡ true
   offering_blocks s offering = let parts = and_parts (capacity s == 0) (list_any (λ u. lag s u == 1) s.subscribers) offering in any s.subscribers parts.1
     where
@@ -172,7 +172,7 @@ module _ {T : Type 0} where
         | inr later ↦ or_right (nat_le (max (capacity s) 1) (lag s u)) (list_any (λ u. nat_le (max (capacity s) 1) (lag s u)) us) (any us later)
       ]
 
-  -- where a value is appended at once nobody waits
+  -- no emission waits if the flow is not blocked
   none_waits : (e : ℕ) (s : SharedFlowState T) → Sound s → is_blocked s ≡ false → is_waiting e s ≡ true → ⊥
   none_waits e s h free waits = elim (or_cases (is_queued e s) (is_offered_as e s) waits) as (λ _. ⊥) [
     | inl queued ↦ let no_queue : s.queue ≡ [] = h.calm.idle free in let none : has e s.queue ≡ false = ap (has e) no_queue in absurd (both_ways (has e s.queue) none queued)

@@ -1,5 +1,5 @@
--- A sharing that stops 100 milliseconds after its last subscriber has gone: a subscriber comes at 0 and goes, another comes at 149 and goes
--- before 200, a third comes at 301.
+-- A sharing that stops 100 milliseconds after its last subscriber left: one subscriber enters at 0 and leaves, another enters at 149
+-- and leaves before 200, a third enters at 301.
 use Rattle.std.proofs.Common.{◌≡◌, ℕ, List, [], ◌∷◌, Some, refl}
 use Rattle.flow_law.specs.declared.sharing.Started.{Started}
 use Rattle.flow_law.specs.declared.sharing.Started.TheVariants.{WhileSubscribed}
@@ -30,13 +30,13 @@ counts_from_the_first_zero : idle_since (observed 149 0 ∷ observed 50 0 ∷ ob
 unfolding observed
 counts_from_the_first_zero = refl
 
--- It forgets what it replays 50 milliseconds after the stop: the subscriber of 0 is gone at 10, and another one comes at 161.
+-- The flow is reset 50 milliseconds after the stop: the subscriber of 0 has left at 10, and another one enters at 161.
 expires : commands (WhileSubscribed 100 50) (observed 161 1 ∷ observed 161 0 ∷ observed 160 0 ∷ observed 159 0 ∷ observed 110 0 ∷ observed 109 0 ∷ observed 10 0 ∷ observed 0 1 ∷ [])
     ≡ Start ∷ Keep ∷ StopAndReset ∷ Keep ∷ Stop ∷ Keep ∷ Keep ∷ Start ∷ []
 unfolding commands observed
 expires = refl
 
--- without an observation between, a subscriber who comes late starts it, and nothing is forgotten
+-- without an observation between, a late subscriber starts the sharing, and the flow is not reset
 expires_unseen : commands (WhileSubscribed 100 50) (observed 300 1 ∷ observed 110 0 ∷ observed 10 0 ∷ observed 0 1 ∷ []) ≡ Start ∷ Stop ∷ Keep ∷ Start ∷ []
 unfolding commands observed
 expires_unseen = refl

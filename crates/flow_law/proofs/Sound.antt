@@ -22,7 +22,7 @@ issued_more : {T : Type 0} (us : List (Subscriber T)) (n : ℕ) → AllByRecursi
 issued_more us n h = every_weaker (λ u. u.number ≤ n) (λ u. u.number ≤ n + 1) (λ u k. omega (arith, k)) us h
 
 module _ {T : Type 0} where
-  -- subscribers stand within the log, and have numbers that were issued
+  -- subscribers have positions within the emitted values, and numbers that were issued
   pub record Placed (s : SharedFlowState T) : Type 0 where
     pub reset_mark : s.reset_mark ≤ length s.emitted
     pub within : AllByRecursion (λ u. u.position ≤ length s.emitted) s.subscribers

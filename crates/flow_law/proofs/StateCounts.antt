@@ -16,7 +16,7 @@ use Rattle.flow_law.proofs.StateSubscriberLemmas.{last-snoc_other, last-without,
 use Rattle.std.specs.Prelude.{is_some}
 
 module _ {T : Type 0} where
-  -- each number stands once
+  -- each number is in the list once
   abbrev pub Once : List (StateSubscriber T) → Type 0
   Once [] = Unit {0}
   Once (u ∷ us) = (is_some (last_of u.number us) ≡ false) × Once us
@@ -24,7 +24,7 @@ module _ {T : Type 0} where
   abbrev pub UpTo : ℕ → List (StateSubscriber T) → Type 0
   UpTo n = AllByRecursion (λ (u : StateSubscriber T). u.number ≤ n)
 
-  -- what is so after any legal history
+  -- what holds after any legal history
   pub record IsCounted (limit : ℕ) (s : StateFlowState T) : Type 0 where
     pub limit_is : s.limit ≡ limit
     pub issued : s.issued ≤ limit
@@ -48,7 +48,7 @@ module _ {T : Type 0} where
       let small = h.0 in let other : v.number ≢ u.number = λ q. absurd (omega arith) in
       (ap is_some (last-snoc_other u.number us v (ne_eqb v.number u.number other)) ∙ o.0, once-snoc n us v e h.1 o.1)
 
-  -- nobody has a number that was not issued
+  -- no subscriber has a number that was not issued
   pub none_above : (m n : ℕ) (us : List (StateSubscriber T)) → UpTo m us → m < n → last_of n us ≡ None
   none_above m n [] h l = refl
   none_above m n (u ∷ us) h l = let small = h.0 in let other : u.number ≢ n = λ q. absurd (omega arith) in
@@ -95,7 +95,7 @@ module _ {T : Type 0} where
   without_none n (u ∷ us) h = split (u.number == n) (λ t. is_some (cond t (Some u.last) (last_of n us)) ≡ false → cond (not t) (u ∷ without_subscriber n us) (without_subscriber n us) ≡ u ∷ us)
       (λ _ q. absurd (cc)) (λ _ q. ap (λ l. u ∷ l) (without_none n us q)) h
 
-  -- who was there and leaves is one fewer
+  -- without one that was subscribed there is one subscriber fewer
   pub one_fewer : (n : ℕ) (us : List (StateSubscriber T)) → Once us → is_some (last_of n us) ≡ true → suc (length (without_subscriber n us)) ≡ length us
   one_fewer n [] o h = absurd (cc)
   one_fewer n (u ∷ us) o h = split (u.number == n) (λ t. (u.number == n) ≡ t → is_some (cond t (Some u.last) (last_of n us)) ≡ true → suc (length (cond (not t) (u ∷ without_subscriber n us) (without_subscriber n us))) ≡ suc (length us))

@@ -37,7 +37,7 @@ module _ {T : Type 0} where
 
   -- ---- numbers
 
-  -- who subscribes has the next number
+  -- a new subscriber has the next number
   pub enrolls : (s : StateFlowState T) (given : List ℕ) (u : ℕ) → Replies s (call.Subscribe given) (reply.Subscribed u) → u ≡ s.issued + 1
   enrolls s given u l = cond_both (is_exhausted s) (reply.Refused Exhausted) (reply.Subscribed (s.issued + 1)) (λ (r : StateReply T). ◌≡◌ {A = StateReply T} (reply.Subscribed u) r → u ≡ s.issued + 1)
       (λ _ e. absurd (cc)) (λ _ e. cc) l
@@ -65,7 +65,7 @@ module _ {T : Type 0} where
       apart : (n == u) ≡ false
       apart = split (n == u) (λ t. (n == u) ≡ t → (n == u) ≡ false) (λ _ e. absurd (other (ap call.Unsubscribe ((Decides-eqb n u).0 e)))) (λ _ e. e) refl
 
-  -- whoever calls what, a subscriber stays unless it is unsubscribed
+  -- each call keeps a subscriber, except its `unsubscribe`
   event_has : (u : ℕ) (s : StateFlowState T) (c : StateCall T) (r : StateReply T) → c ≢ call.Unsubscribe u → Has u s → Has u (after s c r)
   event_has u s (call.CompareAndSet a b) (reply.Answered true) other h = h
   event_has u s (call.Subscribe given) (reply.Subscribed n) other h = some-snoc u s.subscribers _ h
@@ -73,7 +73,7 @@ module _ {T : Type 0} where
   event_has u s (call.Unsubscribe n) (reply.Answered b) other h = leave_has u n s.subscribers other h
   event_has u s c r other h = h
 
-  -- ---- what a subscriber is told
+  -- ---- what a subscriber's calls reply
 
   never_gone : (s : StateFlowState T) (u : ℕ) → Has u s → Replies s (call.TakeNext u) (reply.Received Gone) → ⊥
   never_gone s u h l = at (last_of u s.subscribers) h l

@@ -22,7 +22,7 @@ module _ {T : Type 0} where
   apart : (u n : ℕ) (c : ℕ → StateCall T) → speaks_of (c n) ≡ Some (subscriber n) → speaks_of (c n) ≢ Some (subscriber u) → (n == u) ≡ false
   apart u n c is other = ne_eqb n u (λ e. other (is ∙ ap (λ k. Some (subscriber k)) e))
 
-  -- whoever calls what of other subscribers, the last value that this one got stays
+  -- a call that does not name this subscriber keeps the last value that it got
   last_stays : (u : ℕ) (last : Option T) (s : StateFlowState T) (c : StateCall T) (r : StateReply T) → speaks_of c ≢ Some (subscriber u) → last_of u s.subscribers ≡ Some last
       → last_of u (after s c r).subscribers ≡ Some last
   last_stays u last s (call.CompareAndSet a b) (reply.Answered true) other h = h

@@ -1,4 +1,4 @@
--- A subscriber of a state flow that found nothing finds nothing, until the value is set.
+-- A subscriber of a state flow with nothing to receive has nothing to receive until the value is set.
 use Rattle.std.proofs.Common.{inl, inr, ◌≡◌, ◌≢◌, ℕ, Bool, true, false, ◌==◌, cond, List, [], ◌∷◌, ◌++◌, Option, Some, None, refl, sym, ap, subst}
 use Rattle.std.specs.Prelude.{IsSome}
 use Rattle.std.proofs.lemmas.Bool.Decides.{Decides-eqb}
@@ -28,7 +28,7 @@ module _ {T : Type 0} where
   is_set (call.CompareAndSet a b) (reply.Answered true) = true
   is_set _ _ = false
 
-  -- who is there is not the one that comes
+  -- a new subscriber does not change the last value of one that is subscribed
   last-snoc_some : (number : ℕ) (us : List (StateSubscriber T)) (v : StateSubscriber T) → IsSome (last_of number us) → last_of number (us ++ v ∷ []) ≡ last_of number us
   last-snoc_some number [] v h = absurd (cc)
   last-snoc_some number (u ∷ us) v h = split (u.number == number)
@@ -39,7 +39,7 @@ module _ {T : Type 0} where
   there v None f = absurd (cc)
   there v (Some last) f = refl
 
-  -- it was told Empty, so it is not told a value
+  -- a `next` that may reply Empty may not reply a value
   not_both : (v x : T) (o : Option (Option T)) → Receives v o (reply.Received Empty) → Receives v o (reply.Received (Value x)) → ⊥
   not_both v x None f g = cc
   not_both v x (Some last) f g = elim f as (λ _. ⊥) [

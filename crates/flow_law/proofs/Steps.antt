@@ -143,7 +143,7 @@ module _ {T : Type 0} where
         sym (append-nil m.taken),
       ))
 
-  -- the reader of a value has it no more in the box
+  -- a value that the subscriber received is no longer in its box
   took : (u : ℕ) (b : Beginning T) (p : ℕ) (v : T) (s : SharedFlowState T) (m : Mailbox T) → Placed s → own_of u s.subscribers ≡ [] → position_of u s.subscribers ≡ Some p → slice_get (values s) p ≡ Some v → Boxed u s m b
       → Boxed u (advance u (p + 1) s) (take_first m.taken m.own m.box) b × ((take_first m.taken m.own m.box).taken ≡ m.taken ++ v ∷ [])
   took u b p v s m placed none at here h =
@@ -166,7 +166,7 @@ module _ {T : Type 0} where
   own_without_place u (w ∷ us) e = split (w.number == u) (λ t. cond t (Some w.position) (position_of u us) ≡ None → cond t w.own (own_of u us) ≡ [])
       (λ _ e. absurd (cc)) (λ _ e. own_without_place u us e) e
 
-  -- who has own values left is there
+  -- a subscriber with own values left is subscribed
   owner_stands : (u : ℕ) (us : List (Subscriber T)) (v : T) (own : List T) → own_of u us ≡ v ∷ own → (p : ℕ) × (position_of u us ≡ Some p)
   owner_stands u us v own e = at (position_of u us) refl
     where
@@ -174,7 +174,7 @@ module _ {T : Type 0} where
       at None f = absurd (own_or_none v own (sym (own_without_place u us f) ∙ e))
       at (Some p) f = (p, f)
 
-  -- the reader of an own value has it no more
+  -- an own value that the subscriber received is no longer left
   took_own : (u : ℕ) (b : Beginning T) (v : T) (own : List T) (s : SharedFlowState T) (m : Mailbox T) → Placed s → own_of u s.subscribers ≡ v ∷ own → Boxed u s m b
       → Boxed u (keep_own u own s) (take_first m.taken m.own m.box) b × ((take_first m.taken m.own m.box).taken ≡ m.taken ++ v ∷ [])
   took_own u b v own s m placed mine h =

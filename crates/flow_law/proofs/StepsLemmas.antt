@@ -1,10 +1,10 @@
--- What holds of steps, whatever they are of: `takes-along` carries them to other states, `always-takes` says what holds of the result,
--- and `takes-plays` that calls which answer by a function lead where `plays` says.
+-- Facts of all steps: `takes-along` carries them to other states, `always-takes` says what holds of the result, and `takes-plays`
+-- that calls which answer by a function lead to what `plays` gives.
 use Rattle.std.proofs.Common.{◌≡◌, ◌⊎◌, inl, inr, sym, refl, ap, ◌∙◌, subst}
 use Rattle.flow_law.specs.Steps.{Steps, answers, calls, After, Takes, plays}
 
 module _ {C : Type 0} {Answer : C → Type 0} {Res : Type 0} where
-  -- where each call does the same to the states on the other side, the steps do
+  -- if each call does the same to the states on the other side, the steps do the same
   pub takes-along : {S U : Type 0} (does : (c : C) → S → Answer c → S → Type 0) (does' : (c : C) → U → Answer c → U → Type 0)
       (Stands : S → U → Type 0)
       → ((c : C) (s t : S) (a : Answer c) (u : U) → Stands s u → does c s a t → (v : U) × Stands t v × does' c u a v)
@@ -17,15 +17,15 @@ module _ {C : Type 0} {Answer : C → Type 0} {Res : Type 0} where
       let rest = takes-along does does' Stands along (next h.0) h.1 t one.0 r one.1 h.3 in
       (rest.0, rest.1, (h.0, one.0, one.2, rest.2))
 
--- ---- what comes of the answers
+-- ---- what follows from the answers
 
 module _ {C : Type 0} {Answer : C → Type 0} {Res : Type 0} where
-  -- whatever comes back, of what may come back, the result is of this kind
+  -- for all answers that `May` allows, `Is` holds of the result
   abbrev pub Always : ((c : C) → Answer c → Type 0) → (Res → Type 0) → Steps C Answer Res → Type 0
   Always May Is (answers r) = Is r
   Always May Is (calls c next) = (a : Answer c) → May c a → Always May Is (next a)
 
-  -- an answer that lacks something leads to a result that tells it
+  -- an answer that lacks something leads to a result that shows it
   abbrev pub Tells : ((c : C) → Answer c → Type 0) → (Res → Type 0) → Steps C Answer Res → Type 0
   Tells Lacks Is (answers r) = Unit {0}
   Tells Lacks Is (calls c next) = (a : Answer c) → (Lacks c a → Always (λ c a. Unit {0}) Is (next a)) × Tells Lacks Is (next a)
@@ -37,7 +37,7 @@ module _ {C : Type 0} {Answer : C → Type 0} {Res S : Type 0} (does : (c : C) �
   always-takes May Is may (calls c next) s t r is h =
       always-takes May Is may (next h.0) h.1 t r (is h.0 (may c s h.1 h.0 h.2)) h.3
 
-  -- where each call answers by a function, or else lacks something, they lead to what `plays` gives, or the result tells what lacked
+  -- if each call answers by a function or lacks something, the steps lead to what `plays` gives, or the result shows what lacked
   pub takes-plays : (reply : (c : C) → S → After (Answer c) S) (Lacks : (c : C) → Answer c → Type 0) (Is : Res → Type 0)
       → ((c : C) (s t : S) (a : Answer c) → does c s a t → (reply c s ≡ record { result = a; state = t }) ⊎ Lacks c a)
       → (steps : Steps C Answer Res) (s t : S) (r : Res) → Tells Lacks Is steps → Takes does steps s r t

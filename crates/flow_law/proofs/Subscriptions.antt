@@ -27,7 +27,7 @@ module _ {T S C R : Type 0} (kind : Kind T S C R) (law : Lawful kind) where
         (there other (legal_left kind other old grown.0 l)),
   )
 
-  -- and where the token takes the next value
+  -- the same after the token's own `next`
   pub subscription_next : (first : S) (name : List ℕ) (u : ℕ) (h : Log) (r : R) → IsHistory kind first (h ++ event name (said (kind.take_next u) r) ∷ [])
       → IsGiven kind name (subscriber u) h → IsSubscribed kind u h
       → IsGiven kind name (subscriber u) (h ++ event name (said (kind.take_next u) r) ∷ []) × IsSubscribed kind u (h ++ event name (said (kind.take_next u) r) ∷ [])

@@ -27,7 +27,7 @@ module _ {K T S C R : Type 0} (kind : Kind T S C R) (StandsAs : K → S → Type
   )
 
 module _ {T S C R : Type 0} (kind : Kind T S C R) (law : Lawful kind) where
-  -- a call that a token may make it still may where others have called
+  -- a call that a token may make, it may still make after calls of others
   pub may_grows : (first : S) (c : C) (name : List ℕ) (old new : List (HistoryEvent (Said C R))) → IsHistory kind first new → GrowsByOthers name old new → MayCall kind c name old → MayCall kind c name new
   may_grows first c name old new is grown = at (kind.speaks_of c)
     where
@@ -35,7 +35,7 @@ module _ {T S C R : Type 0} (kind : Kind T S C R) (law : Lawful kind) where
       at None may = tt
       at (Some number) may = given_grows kind law first name number old new is grown may
 
-  -- who speaks of no number may call
+  -- a call that names no number may be made
   pub may_speak_of_none : (c : C) (name : List ℕ) (h : List (HistoryEvent (Said C R))) → kind.speaks_of c ≡ None → MayCall kind c name h
   may_speak_of_none c name h none = subst (λ o. MaySpeak kind o (owners_all kind [] h) name) (sym none) tt
 
@@ -88,12 +88,12 @@ module _ {T S C R : Type 0} (kind : Kind T S C R) (law : Lawful kind) where
       let grown = subscription_next kind law first before.name u (earlier first before after (kind.take_next u) r a) r (whole first before after (kind.take_next u) r a) now.0 now.1 in
       subst (λ (z : List ℕ × List (HistoryEvent (Said C R))). IsGiven kind z.0 (subscriber u) z.1 × IsSubscribed kind u z.1) (λ i. (sym a.name i, sym a.grows.1 i)) grown
 
-  -- a subscriber is never told that it is gone
+  -- `next` of a subscription never replies Gone
   pub never_gone : (first : S) (before after : Knowledge (Said C R)) (u : ℕ) → AddsOne (IsHistory kind first) before (kind.take_next u) (kind.received Gone) after → IsSubscription kind before u → ⊥
   never_gone first before after u a old =
       law.never_gone (after_all kind first (earlier first before after _ _ a)) u (there first before after (kind.take_next u) (kind.received Gone) a u old) (replies first before after (kind.take_next u) (kind.received Gone) a)
 
-  -- and who unsubscribes was there
+  -- `unsubscribe` of a subscription replies true
   pub was_there : (first : S) (before after : Knowledge (Said C R)) (u : ℕ) (answer : Bool) → AddsOne (IsHistory kind first) before (kind.unsubscribe u) (kind.tested answer) after → IsSubscription kind before u → answer ≡ true
   was_there first before after u answer a old =
       law.was_there (after_all kind first (earlier first before after _ _ a)) u answer (there first before after (kind.unsubscribe u) (kind.tested answer) a u old) (replies first before after (kind.unsubscribe u) (kind.tested answer) a)

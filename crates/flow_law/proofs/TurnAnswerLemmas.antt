@@ -17,7 +17,7 @@ use Rattle.flow_law.specs.SharingTurn.{SharingState, Turned, TurnSteps, refusal,
 use Rattle.flow_law.proofs.StepsLemmas.{Always}
 use Rattle.flow_law.proofs.TurnLemmas.{by-if, neither-due}
 
--- What the answer of a turn is like, where the hub's answers are as `May` says. A count, a poll and a cancel are not refused.
+-- `Is` holds of each answer that a turn may give, if the hub's answers are as `May` says. A count, a poll and a cancel are not refused.
 pub record Likeness (T : Type 0) (May : (c : HubCall T) → HubAnswer c → Type 0) (Is : Result Report ShareFault → Type 0) : Type 0 where
   pub counts_on : (fault : FlowFault) → May counts (Err fault) → ⊥
   pub polls_on : (fault : FlowFault) → May polls (Err fault) → ⊥
@@ -40,7 +40,7 @@ module _ {T : Type 0} (May : (c : HubCall T) → HubAnswer c → Type 0) (Is : R
   MayCall asks a = Unit {0}
   MayCall rewinds a = Unit {0}
 
-  -- the answer is like that, and no cancel is left where none was due before
+  -- `Is` holds of the answer, and no cancel is left if none was due before
   abbrev pub IsSettled : Turned T → Type 0
   IsSettled turned = Is turned.answer × (Given → turned.state.cancel_due ≡ false)
 

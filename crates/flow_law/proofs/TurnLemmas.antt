@@ -45,7 +45,7 @@ module _ {T H : Type 0} (does : (c : HubCall T) → H → HubAnswer c → H → 
   leads-takes (calls rewinds next) old r new leads h =
       leads-takes (next h.0) h.1 r new (subst (Leads (next h.0)) (sym h.2) leads) h.3
 
-  -- what comes of the answers alone
+  -- what follows from the answers alone
   pub always-leads : (OfAnswer : Turned T → Type 0) → ((r : Turned T) (new : ChainAndHub T H) → OfAnswer r → Is r new)
       → (steps : TurnSteps T) (both : ChainAndHub T H) → Always (λ c a. Unit {0}) OfAnswer steps → Leads steps both
   always-leads OfAnswer so (answers r) both is = so r both is
@@ -62,7 +62,7 @@ module _ {T H : Type 0} (does : (c : HubCall T) → H → HubAnswer c → H → 
   leads-so so (calls rewinds next) both is = leads-so so (next tt) (record both { rest = both.whole }) is
 
 module _ {T H : Type 0} (does : (c : HubCall T) → H → HubAnswer c → H → Type 0) (Is Also So : Turned T → ChainAndHub T H → Type 0) where
-  -- where the turn ends in two ways at once
+  -- two facts of the end of a turn together
   pub leads-both : ((r : Turned T) (new : ChainAndHub T H) → Is r new → Also r new → So r new) → (steps : TurnSteps T) (both : ChainAndHub T H)
       → Leads does Is steps both → Leads does Also steps both → Leads does So steps both
   leads-both so (answers r) both is also = so r both is also
@@ -98,7 +98,7 @@ module _ {T H F : Type 0} (does : (c : HubCall T) → H → HubAnswer c → H �
     ap (λ (x : ChainAndHub T H). with_hub x u.hub) told ∙ ap (λ (x : ChainAndHub T F). record x { rest = x.whole }) (sym same.1),
   )
 
-  -- where each call of the hub does the same to what it stands for, so do the steps
+  -- if each call of the hub does the same to what the hub stands for, the steps do the same
   pub turn-along : ((c : HubCall T) (h k : H) (a : HubAnswer c) (f : F) → Stands h f → does c h a k → (g : F) × Stands k g × does' c f a g)
       → (steps : TurnSteps T) (old new : ChainAndHub T H) (f : F) (r : Turned T) → Stands old.hub f → Takes (CallDoes does) steps old r new
       → (g : F) × Stands new.hub g × Takes (CallDoes does') steps (with_hub old f) r (with_hub new g)
@@ -222,7 +222,7 @@ module _ {T F : Type 0} (does : (c : HubCall T) → F → HubAnswer c → F → 
       ]
   call-plays either rewinds s t a told = inl (ap (λ (x : ChainAndHub T F). record { result = a; state = x }) (sym told))
 
-  -- where the answer does not say that memory was refused, the turn is the one over a flow that answers so
+  -- if the answer is not `OutOfMemory`, the turn is the one over a flow that answers by `reply`
   pub turn-plays : ((c : HubCall T) (f g : F) (a : HubAnswer c) → does c f a g → (reply c f ≡ record { result = a; state = g }) ⊎ (a ≡ Err OutOfMemory))
       → (started : Started) (now : ℕ) (seen : List SharingObservation) (s : SharingState T) (old new : ChainAndHub T F) (turned : Turned T)
       → Takes (CallDoes does) (turn_steps started now seen s) old turned new → HadMemory turned.answer

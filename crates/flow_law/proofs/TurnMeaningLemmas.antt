@@ -43,7 +43,7 @@ module _ {T H : Type 0} (does : (c : HubCall T) → H → HubAnswer c → H → 
     done = λ r d. absurd (not-both d on);
   }
 
-  -- what follows the command, where the items that were accepted are given
+  -- what follows the command, if these items were accepted
   module _ (Given : Type 0) (command : Command) (seen : List SharingObservation) (before : ChainRun T) (accepted : List T) where
     abbrev Comes : Turned T → ChainAndHub T H → Type 0
     Comes turned new =
@@ -167,7 +167,7 @@ module _ {T H : Type 0} (does : (c : HubCall T) → H → HubAnswer c → H → 
         (λ due. cancel-means s both going between same held)
         (λ none. running-means s both going between same held)
 
-  -- the turn, where the hub had accepted these items since the last start
+  -- the turn, if the hub had accepted these items since the last start
   module _ (accepted : List T) (s : SharingState T) (old : ChainAndHub T H) where
     abbrev Ends : Turned T → ChainAndHub T H → Type 0
     Ends turned new =

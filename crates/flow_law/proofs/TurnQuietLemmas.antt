@@ -1,4 +1,4 @@
--- No emission waits while a sharing does not run, but one that is still to be cancelled. Begin with `turn-quiet`.
+-- While a sharing does not run, no emission waits, except one whose cancel is due. Begin with `turn-quiet`.
 use Rattle.std.proofs.Common.{◌≡◌, ℕ, Bool, true, false, nat_lt, List, ◌∷◌, ◌||◌, Option, Some, None, Result, Ok, Err, subst, sym, refl, ◌∙◌}
 use Rattle.flow_law.specs.declared.fault.FlowFault.{FlowFault}
 use Rattle.flow_law.specs.declared.fault.FlowFault.TheVariants.{OutOfMemory, TooLarge, NeedsBuffer, Exhausted, Unsupported, Busy as LockTaken}
@@ -66,7 +66,7 @@ module _ {T : Type 0} where
         by-if (Always (λ c a. Unit {0}) IsAtWork) s.completed _ _ (λ e. (runs, λ is. let e : Completed ≡ Idle = is in cc)) (λ e. poll-works s runs)
 
 module _ {T H : Type 0} (does : (c : HubCall T) → H → HubAnswer c → H → Type 0) (waits : H → Bool) where
-  -- nothing waits where it does not run, and an answer that it is idle says so
+  -- the turn leaves the hub quiet, and nothing waits if its answer is Idle
   abbrev LeavesQuiet : Turned T → ChainAndHub T H → Type 0
   LeavesQuiet turned new = IsQuiet waits turned.state new × (IsIdle turned.answer → waits new.hub ≡ false)
 

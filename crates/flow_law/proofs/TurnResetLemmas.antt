@@ -160,7 +160,7 @@ module _ {T H : Type 0} (does : (c : HubCall T) → H → HubAnswer c → H → 
     none-means true answer t new was not none = inl (none, was refl)
     none-means false answer t new was not none = (none, not refl)
 
-    -- where the reset was to be done it was just made
+    -- if there was a reset to do, it was just made, and else none was made
     abbrev Made : Bool → H → Type 0
     Made asked k = (asked ≡ true → JustReset k) × (asked ≡ false → WasNotReset does old k)
 
@@ -228,7 +228,7 @@ module _ {T H : Type 0} (does : (c : HubCall T) → H → HubAnswer c → H → 
     stays-due false answer new is may not = (is, not)
 
     module _ (Is : Command → Type 0) where
-      -- where the count was refused, where nothing was called, and where the moment goes back
+      -- if the count was refused, if nothing was called, and if the moment is before the last one
       pub uncounted-resets : (fault : FlowFault) (new : H) → Is Keep → does counts old (Err fault) new → TurnResets does Is s old (reported Keep (refusal fault)) s new
       uncounted-resets fault new keeps told =
           (Keep, had-command Keep (refusal fault), keeps, stays-due s.reset_due (reported Keep (refusal fault)) new refl (refused-leaves Keep fault) (not-by counts old (Err fault) new tt told))

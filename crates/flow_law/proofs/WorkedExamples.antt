@@ -81,7 +81,7 @@ few_numbers : replies (record { replay = 1; extra = 1; overflow = Suspend; limit
     ≡ Subscribed 1 ∷ Tested true ∷ Tested true ∷ Tested false ∷ Refused Exhausted ∷ Refused Exhausted ∷ Received (Value 1) ∷ Refused Exhausted ∷ Tested false ∷ Tested false ∷ Received Gone ∷ []
 few_numbers = refl
 
--- own first values come before the cache and before what is emitted, and no strategy drops them
+-- a subscriber receives its own first values before the cache and before what is emitted, and no strategy drops them
 own_values_first : replies (dropping_oldest 1 1) (TryEmit 1 ∷ Subscribe [] (8 ∷ 9 ∷ []) ∷ Emit 2 ∷ Emit 3 ∷ Emit 4 ∷ TakeNext 2 ∷ TakeNext 2 ∷ TakeNext 2 ∷ TakeNext 2 ∷ TakeNext 2 ∷ ReplayCache ∷ [])
     ≡ Tested true ∷ Subscribed 2 ∷ Emitted Done ∷ Emitted Done ∷ Emitted Done ∷ Received (Value 8) ∷ Received (Value 9) ∷ Received (Value 3) ∷ Received (Value 4) ∷ Received Empty ∷ Cached (4 ∷ []) ∷ []
 own_values_first = refl

@@ -43,7 +43,7 @@ module _ {T : Type 0} where
   abbrev pub found_at_entry : SharedFlowState T → List T
   found_at_entry s = if is_offering s then drop (length s.emitted - 1) (values s) else cache s
 
-  -- the mailbox after what the event does to it itself, before any value arrives
+  -- the mailbox after the event's own effect on it, before any value arrives
   abbrev pub before_arrivals : ℕ → SharedFlowState T → SharedCall T → SharedReply T → Mailbox T → Mailbox T
   before_arrivals u s (call.Subscribe name first) (reply.Subscribed n) m = if n == u then record m { own = first; box = found_at_entry s } else m
   before_arrivals u s (call.TakeNext n) (reply.Received Gone) m = m
@@ -88,7 +88,7 @@ module _ {T : Type 0} where
   abbrev pub delivered : ℕ → Config → History T → List T
   delivered u config h = taken u config h ++ (own u config h ++ box u config h)
 
-  -- the values that `next` gave to u
+  -- the value that `next` gave to u in an event, if it gave one
   abbrev pub received_by : ℕ → SharedCall T → SharedReply T → List T
   received_by u (call.TakeNext n) (reply.Received (Value v)) = if n == u then v ∷ [] else []
   received_by u _ _ = []
@@ -98,7 +98,7 @@ module _ {T : Type 0} where
   received u [] = []
   received u (e ∷ es) = received_by u e.what.call e.what.reply ++ received u es
 
-  -- what u began with
+  -- what u began with, after an event before which it was `b`
   abbrev pub began_by : ℕ → SharedFlowState T → SharedCall T → SharedReply T → Beginning T → Beginning T
   began_by u s (call.Subscribe name first) (reply.Subscribed n) b = if n == u then record { first = first; entry = entry s } else b
   began_by u s _ _ b = b

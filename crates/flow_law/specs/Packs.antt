@@ -1,4 +1,4 @@
--- Packs of values that are made of others, and that a value has one pack. Begin with `packs_option` and `packs_pair`.
+-- Packs of options and pairs, and proofs that each value has only one pack. Begin with `packs_option` and `packs_pair`.
 use Rattle.std.specs.Prelude.{◌≡◌, ◌≢◌, ℕ, ◌+◌, ◌*◌, ◌/◌, ◌%◌, ◌^◌, ◌<◌, ◌==◌, is_some, Option, Some, None}
 use Rattle.std.specs.Char.{IsScalar}
 use Rattle.std.specs.Int.{cast_signed, cast_unsigned}
@@ -15,7 +15,7 @@ use lib.Utf8.{scalar_cases}
 use mir.Syntax.{Width}
 use mir.Val.{bits}
 
--- 0 is the pack of None, and the pack of a value is one more than that of what it holds
+-- which words are packs of options: 0 is the pack of None, and the pack of Some is one more than that of its value
 abbrev pub packs_option : (ℕ → Type 0) → ℕ → Type 0
 packs_option packs zero = Unit {0}
 packs_option packs (suc w) = packs w
@@ -25,7 +25,7 @@ abbrev pub option_of : {T : Type 0} → (ℕ → T) → ℕ → Option T
 option_of value_of zero = None
 option_of value_of (suc w) = Some (value_of w)
 
--- the first value lies in the upper half, the second in the lower one
+-- which words are packs of pairs: the first value is in the upper half of the word, the second in the lower one
 abbrev pub packs_pair : (ℕ → Type 0) → (ℕ → Type 0) → ℕ → Type 0
 packs_pair first second w = first (w / 2 ^ 32) × second (w % 2 ^ 32)
 
@@ -63,7 +63,7 @@ none_below w h = subst (λ n. n < 2 ^ 32) (sym h) (pow_pos 32)
 bit_none : (v : ℕ) → v < 2 → v ≢ 1 → v ≡ 0
 bit_none v p other = le_antisymm (le-pred_of_lt (lt_of_le_of_ne (le-pred_of_lt p) other)) zero-le
 
--- a truth has one bit
+-- a boolean has one pack
 pub bit_once : (v w : ℕ) → v < 2 → w < 2 → (v == 1) ≡ (w == 1) → v ≡ w
 bit_once v w p q e =
     elim (eqb_tells v 1) [

@@ -44,7 +44,7 @@ config_fault config =
     if nat_lt largest_capacity (config.replay + config.extra) then Some TooLarge
     else (if (config.replay + config.extra == 0) && not (needs_no_buffer config.overflow) then Some NeedsBuffer else None)
 
--- making a flow of this configuration may fail so: with the configuration's fault, or with `OutOfMemory` if it has none
+-- making a flow of this configuration may fail with this fault: the configuration's, or `OutOfMemory` if it has none
 abbrev pub NoFlow : Config → FlowFault → Type 0
 NoFlow config fault = (config_fault config ≡ Some fault) ⊎ ((config_fault config ≡ None) × (fault ≡ OutOfMemory))
 

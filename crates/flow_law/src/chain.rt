@@ -26,7 +26,7 @@ pub enum ChainFault {
 /// How a chain ended.
 #[derive(Clone, Copy, Debug, PartialEq, Eq)]
 pub enum End {
-    /// The chain gave its last item.
+    /// The chain has given all its items.
     Completed,
     /// The source, a closure or the chain itself failed.
     Failed(ChainFault),

@@ -16,7 +16,7 @@ pub struct OutOfMemory;
 #[error("the flow has issued as many numbers as its limit allows")]
 pub struct Exhausted;
 
-/// Another caller was inside the flow at that moment. Nothing was done.
+/// Another caller was inside the flow at that moment. The call did nothing.
 #[derive(Clone, Copy, Debug, PartialEq, Eq, Error)]
 #[error("another caller was inside the flow")]
 pub struct Busy;
@@ -44,7 +44,7 @@ pub enum EmitNowError {
     /// The flow has issued as many numbers as its limit allows.
     #[error("the flow has issued as many numbers as its limit allows")]
     Exhausted,
-    /// Another caller was inside the flow at that moment. Nothing was done.
+    /// Another caller was inside the flow at that moment. The call did nothing.
     #[error("another caller was inside the flow")]
     Busy,
 }
@@ -54,7 +54,7 @@ pub enum EmitNowError {
 pub enum TryNextError {
     #[error("out of memory")]
     OutOfMemory,
-    /// Another caller was inside the flow at that moment. Nothing was done.
+    /// Another caller was inside the flow at that moment. The call did nothing.
     #[error("another caller was inside the flow")]
     Busy,
 }

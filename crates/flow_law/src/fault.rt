@@ -22,7 +22,7 @@ pub enum FlowFault {
     /// A state flow always has a value, so its replay cache cannot be reset.
     #[error("a state flow's replay cache cannot be reset")]
     Unsupported,
-    /// Another caller was inside the flow at that moment. Nothing was done.
+    /// Another caller was inside the flow at that moment. The call did nothing.
     #[error("another caller was inside the flow")]
     Busy,
 }

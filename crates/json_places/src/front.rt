@@ -1,4 +1,4 @@
-//! Where a text stops being JSON.
+//! Finds where a text stops being JSON.
 
 use crate::parts::{Quoted, Text};
 use serde_json::{Error, Value};
@@ -8,23 +8,23 @@ use std::str::from_utf8;
 /// Where and why a text stops being JSON.
 #[derive(Clone, Copy)]
 pub struct Stop {
-    /// The offset: that of the text's end where the text only breaks off.
+    /// The offset, which is the text's end if the text only breaks off.
     pub at: usize,
-    /// Whether what stands there is to be told before what is wrong with it.
+    /// Whether a message should show the value at the offset before `what`.
     pub tells_value: bool,
-    /// What is wrong there, in words. They follow the value where that is told.
+    /// What is wrong there, in words that follow the value if it is shown.
     pub what: &'static str,
     /// What was expected there, in words.
     pub expected: &'static str,
 }
 
-/// How deep a text may nest.
+/// How many brackets of a text may be open at once.
 const MOST_NESTED: usize = 127;
 
-/// The last word before a place, as far as it says what may follow.
+/// The kind of the last token before a place, which decides what may follow.
 #[derive(Clone, Copy)]
 enum Last {
-    /// There is none.
+    /// There is no token before the place.
     Nothing,
     Brace,
     Bracket,
@@ -34,10 +34,10 @@ enum Last {
     Value,
 }
 
-/// The front of a text that is JSON so far.
+/// The first part of a text, which is JSON so far.
 #[derive(Clone, Copy)]
 struct Front {
-    /// The brackets that are open, as many as `nesting`, which may be one more than there is room for.
+    /// The open brackets. There are `nesting` of them, which may be one more than the array has room for.
     open: [u8; MOST_NESTED],
     nesting: usize,
     last: Last,
@@ -45,12 +45,12 @@ struct Front {
 }
 
 impl Front {
-    /// Returns whether the innermost bracket that is open is that of an object.
+    /// Returns whether the innermost open bracket is that of an object.
     fn is_in_object(&self) -> bool {
         matches!(self.open.get(self.nesting.wrapping_sub(1)), Some(b'{'))
     }
 
-    /// The next byte.
+    /// Takes the next byte.
     fn take(&mut self, byte: u8) {
         if !matches!(self.quoted, Quoted::Outside) {
             self.quoted = self.quoted.after(byte);
@@ -103,7 +103,7 @@ impl Front {
         }
     }
 
-    /// Returns what was expected where a byte is that may not follow.
+    /// Returns what was expected in place of a byte that may not follow.
     fn expected_before(&self, byte: Option<&u8>) -> &'static str {
         match (self.last, byte) {
             (Last::Comma, Some(b']')) if !self.is_in_object() => "no comma before \"]\"",
@@ -113,8 +113,8 @@ impl Front {
     }
 }
 
-/// Returns how many bytes there are before an offset, or up to the first bracket that nests too deep, and what may
-/// follow them.
+/// Takes the bytes before an offset, up to the first bracket that nests too deep. Returns the offset at which it
+/// stopped, and the front that it took.
 fn front_before(bytes: &[u8], offset: usize) -> (usize, Front) {
     let mut front = Front {
         open: [0; MOST_NESTED],
@@ -131,7 +131,7 @@ fn front_before(bytes: &[u8], offset: usize) -> (usize, Front) {
     (offset, front)
 }
 
-/// Returns the offset of a fault of the JSON reader.
+/// Returns the offset of an error of the JSON reader.
 fn offset_of(bytes: &[u8], error: &Error) -> usize {
     if error.is_eof() {
         return bytes.len();
@@ -150,7 +150,7 @@ fn offset_of(bytes: &[u8], error: &Error) -> usize {
     start.saturating_add(error.column().saturating_sub(1))
 }
 
-/// Returns what is wrong where the reader stopped at an offset, or before it.
+/// Returns what is wrong at or before the offset at which the reader stopped.
 fn fault_at(bytes: &[u8], offset: usize) -> Stop {
     let (at, deepest) = front_before(bytes, offset.saturating_add(1));
     if deepest.nesting > MOST_NESTED {
@@ -182,9 +182,11 @@ fn fault_at(bytes: &[u8], offset: usize) -> Stop {
     }
 }
 
-/// Returns where a text stops being JSON, and what was expected there: nothing, where all of it is JSON. Bytes that are
-/// no UTF-8 are no JSON, nor is a text with more than 127 brackets open at once. The error says that memory was
-/// wanting.
+/// Returns where a text stops being JSON and what was expected there, or None if all of it is JSON. Bytes that are not
+/// UTF-8 are not JSON, and neither is a text with more than 127 brackets open at once.
+///
+/// # Errors
+/// `AllocError`: out of memory.
 pub fn not_json(text: Text<'_>) -> Result<Option<Stop>, AllocError> {
     match Value::from_slice(text.alloc, text.bytes) {
         Ok(_) => Ok(None),

@@ -1,13 +1,12 @@
-//! Places in JSON texts: where each value and each key of a text stands, and where a text stops being JSON.
+//! Places in JSON texts: the offset of each value and each key, and the offset at which a text stops being JSON.
 //!
-//! A `Text` was read, or could not be read. In a text that was read, a `Spot` is a value and the offset at which it
-//! begins; `member` and `item` lead from the spot of an object or a list to that of one of its parts, `member_from`
-//! from member to member, and `part_from` and `part_after` from item to item. `not_json` finds where another text stops
-//! being JSON, and what was expected there. A `Place` is an offset as a reader counts it. `nearest` finds the right
-//! word beside one that is wrong.
+//! In a `Text` that is JSON, a `Spot` is a value and the offset at which it begins. `member` and `item` lead from the
+//! spot of an object or a list to that of one of its parts, `member_from` from member to member, and `part_from` and
+//! `part_after` from item to item. In a text that is not JSON, `not_json` finds where it stops being JSON, and what was
+//! expected there. A `Place` is an offset as a line and a column. `nearest` finds the right word for a wrong one.
 //!
-//! Offsets count bytes from the front of the text, and those behind its end are taken, too. The caller sees to it that
-//! a text was read as the values of its spots: for others an answer says nothing.
+//! Offsets count bytes from the start of the text, and may be beyond its end. The values of spots have to be those that
+//! were read from the text: for other values the results mean nothing.
 #![tactic(auto)]
 
 mod front;

@@ -1,14 +1,14 @@
-//! Where the parts of an object or a list stand in a JSON text.
+//! Finds the parts of objects and lists in a JSON text.
 
 use serde_json::Value;
 use std::alloc::{AllocError, Global};
 
-/// A text, and the memory in which what is told of it is made.
+/// A text, and the allocator for what is read from it.
 #[derive(Clone, Copy)]
 pub struct Text<'a> {
-    /// Where the memory comes from.
+    /// The allocator.
     pub alloc: Global,
-    /// All of the text, which need be neither JSON nor UTF-8.
+    /// All bytes of the text, which may be neither JSON nor UTF-8.
     pub bytes: &'a [u8],
 }
 
@@ -26,25 +26,25 @@ pub struct Spot<'a> {
 pub struct Member<'a> {
     /// Its key as it was read.
     pub name: &'a str,
-    /// The offset at which the key begins, by its quote.
+    /// The offset of the key's opening quote.
     pub key: usize,
-    /// Its value, and where that begins. Where a key is there twice, the value is the last one.
+    /// Its value, and the offset at which that begins. If the object has the key twice, the value is the last one.
     pub spot: Spot<'a>,
-    /// The offset behind the value.
+    /// The offset after the value.
     pub end: usize,
 }
 
-/// Whether a byte stands in a text between quotes.
+/// Whether a byte is in a text between quotes.
 #[derive(Clone, Copy)]
 pub enum Quoted {
     Outside,
     Inside,
-    /// Behind a backslash.
+    /// After a backslash.
     Escaped,
 }
 
 impl Quoted {
-    /// Behind a byte that stands here.
+    /// Returns the state after this byte.
     pub fn after(self, byte: u8) -> Quoted {
         match (self, byte) {
             (Quoted::Outside, b'"') => Quoted::Inside,
@@ -57,7 +57,7 @@ impl Quoted {
     }
 }
 
-/// How long the object, the list or the text between quotes is with which these bytes begin.
+/// Returns the length of the object, the list or the text between quotes with which these bytes begin.
 fn enclosed_len(bytes: &[u8]) -> usize {
     let mut nesting = 0usize;
     let mut quoted = Quoted::Outside;
@@ -74,7 +74,7 @@ fn enclosed_len(bytes: &[u8]) -> usize {
     bytes.len()
 }
 
-/// How long the number or the plain word is with which these bytes begin.
+/// Returns the length of the number or the plain word with which these bytes begin.
 fn plain_len(bytes: &[u8]) -> usize {
     for (index, byte) in bytes.iter().enumerate() {
         if matches!(
@@ -87,7 +87,7 @@ fn plain_len(bytes: &[u8]) -> usize {
     bytes.len()
 }
 
-/// How many bytes of a value are told.
+/// How many bytes of a value messages show.
 const MOST_TOLD: usize = 48;
 
 impl<'a> Text<'a> {
@@ -106,8 +106,8 @@ impl<'a> Text<'a> {
         rest.get(..length).unwrap_or(rest)
     }
 
-    /// Returns where the next key or value begins, from an offset outside of them on, if the object, the list or the
-    /// text does not end before it.
+    /// Returns the offset of the next key or value, from an offset between two of them, or None if the object, the list
+    /// or the text ends first.
     pub fn part_from(self, from: usize) -> Option<usize> {
         for (index, byte) in self.rest(from).iter().enumerate() {
             match *byte {
@@ -119,14 +119,17 @@ impl<'a> Text<'a> {
         None
     }
 
-    /// Returns where the key or the value begins that follows the one at an offset, if the object, the list or the text
-    /// does not end before it.
+    /// Returns the offset of the key or the value after the one at an offset, or None if the object, the list or the
+    /// text ends first.
     pub fn part_after(self, at: usize) -> Option<usize> {
         self.part_from(at.saturating_add(self.raw(at).len()))
     }
 
-    /// Returns the next member of an object, if there is one more, from the offset behind its opening bracket or the
-    /// `end` of the member before on. What is no object has none. The error says that memory was refused.
+    /// Returns the next member of an object, if there is one more. `from` is the offset after the opening bracket, or
+    /// the `end` of the member before. A value that is not an object has no members.
+    ///
+    /// # Errors
+    /// `AllocError`: out of memory.
     pub fn member_from(
         self,
         object: Spot<'a>,
@@ -141,7 +144,7 @@ impl<'a> Text<'a> {
         let Some(members) = object.value.as_object() else {
             return Ok(None);
         };
-        // The key was read before: only memory can be wanting.
+        // The key was read before, so only an allocation can fail.
         let Ok(word) = Value::from_slice(self.alloc, self.raw(key)) else {
             return Err(AllocError);
         };
@@ -156,8 +159,11 @@ impl<'a> Text<'a> {
         }
     }
 
-    /// Returns the value of a key of an object, if there is one. Where a key is there twice, the last one counts. What
-    /// is no object has none. The error says that memory was refused.
+    /// Returns the value of a key of an object, if there is one. If the object has the key twice, the last one counts.
+    /// A value that is not an object has no keys.
+    ///
+    /// # Errors
+    /// `AllocError`: out of memory.
     pub fn member(self, object: Spot<'a>, key: &str) -> Result<Option<Spot<'a>>, AllocError> {
         let mut found = None;
         if object.value.get(key).is_none() {
@@ -176,7 +182,8 @@ impl<'a> Text<'a> {
         Ok(found)
     }
 
-    /// Returns an item of a list, if it has so many: the first one has the index 0. What is no list has none.
+    /// Returns the item of this index of a list, if there is one. The first item has the index 0. A value that is not a
+    /// list has no items.
     pub fn item(self, list: Spot<'a>, index: usize) -> Option<Spot<'a>> {
         let value = list.value.get(index)?;
         let mut at = self.part_from(list.at.saturating_add(1))?;
@@ -186,8 +193,9 @@ impl<'a> Text<'a> {
         Some(Spot { value, at })
     }
 
-    /// Returns the value that begins at an offset as messages show it, and what follows it: at most 48 bytes, which may
-    /// end within a character, and then "..". Of an object, a list and the end of the text messages say what they are.
+    /// Returns the value that begins at an offset as messages show it, and what follows it. A value of more than 48
+    /// bytes is cut, perhaps within a character, and followed by "..". Messages only name an object, a list and the end
+    /// of the text.
     pub fn told(self, at: usize) -> (&'a [u8], &'static str) {
         match self.rest(at).first() {
             None => ("the end of the text".as_bytes(), ""),

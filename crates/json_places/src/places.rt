@@ -1,4 +1,4 @@
-//! Places in a text, as a reader counts them.
+//! Places in a text, as lines and columns.
 ghost use Rattle.std.specs.Prelude.{◌<◌};
 
 use std::fmt;
@@ -8,12 +8,12 @@ use std::fmt;
 pub struct Place {
     /// The line, from 1.
     pub line: usize,
-    /// The character of the line, from 1.
+    /// The column, from 1.
     pub column: usize,
 }
 
 impl Place {
-    /// Returns the place of the byte at an offset. That of an offset behind the text's end is the end.
+    /// Returns the place of the byte at an offset, or the end of the text if the offset is beyond it.
     pub fn at(bytes: &[u8], offset: usize) -> Place
         ensures from_one { (0 < result.line) × (0 < result.column) }
     {

@@ -1,15 +1,16 @@
-//! The nearest right word.
+//! The nearest right word to a wrong one.
 ghost use Rattle.std.specs.Prelude.{IfOk, IfSome, Contains};
 
 use std::alloc::{AllocError, Global};
 use strsim::osa_distance;
 
-/// Longer words have no near one.
+/// The length of the longest word that may have a near one, in bytes.
 const LONGEST: usize = 64;
 
-/// Returns the choice that the fewest edits make of this word, if one is near. An edit is a letter more, a letter less,
-/// another letter, or two that change places. A choice is near by edits of a third of its letters, or by one of a short
-/// word. The choices have no capital letters, and those of the word count as small ones.
+/// Returns the choice that needs the fewest edits of this word, if one is near. An edit adds, removes or replaces a
+/// letter, or swaps two neighbours. A choice is near if its edits are at most a third of the letters of the longer of
+/// the two words, or one edit if that has two letters. The choices have no capital letters, and those of the word count
+/// as small ones.
 ///
 /// # Errors
 /// `AllocError`: out of memory.
