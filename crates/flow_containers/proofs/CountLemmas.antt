@@ -1,6 +1,6 @@
--- A row of counts beside the subscribers whose positions it counts.
--- The key facts: `blocked_by_count` (one look tells who is a whole window behind), `fits-shift` (the floor rises by one), `fits-enroll`,
--- `fits-take_out`, `fits-move_to`, `least_is` (where a walk along the row ends).
+-- A row of counts, and the subscribers whose positions it counts.
+-- The key facts: `blocked_by_count` (one count shows whether a subscriber is a whole window behind), `fits-shift` (the floor rises by
+-- one), `fits-enroll`, `fits-take_out`, `fits-move_to`, `least_is` (where a walk along the row ends).
 use Rattle.std.proofs.Common.{◌≡◌, ◌≢◌, ◌⊎◌, inl, inr, ℕ, suc, ◌+◌, ◌-◌, ◌<◌, ◌≤◌, ◌%◌, max, Bool, true, false, ◌||◌, ◌==◌, nat_lt, nat_le, if◌then◌else◌, List, [], ◌∷◌, ◌++◌, length, get_or, set, Some, refl, sym, ap, subst, ◌∙◌, arith}
 use Rattle.std.specs.List.{list_any}
 use Rattle.std.proofs.Math.Nat.{add-mod_right}
@@ -20,7 +20,7 @@ unequal a b other = elim (a == b) as (λ t. (a == b) ≡ t → t ≡ false) [ tr
 pub equal : (a b : ℕ) → a ≡ b → (a == b) ≡ true
 equal a b same = (Decides-eqb a b).1 same
 
--- a position of the last w + 1 has the place of the next one exactly where it is the first of them
+-- one of the last w + 1 positions has the place of the next position exactly if it is the first of them
 pub at_end : (w n p : ℕ) → p ≤ n → n ≤ p + w → (p % (w + 1) == (n + 1) % (w + 1)) ≡ nat_le w (n - p)
 at_end w n p le near =
     elim (leb_tells w (n - p)) [
@@ -30,7 +30,7 @@ at_end w n p le near =
       | inr less ↦ unequal _ _ (other_place (w + 1) p (n + 1) (omega arith) (omega arith) (omega (arith, less.1))) ∙ sym less.0
     ]
 
--- ---- whether the flow is blocked is one look at one count
+-- ---- one count shows whether the flow is blocked
 
 some_more : (t : Bool) (k : ℕ) → nat_lt 0 (if t then suc k else k) ≡ (t || nat_lt 0 k)
 some_more true k = grind (arith, nat_tests)
@@ -49,7 +49,7 @@ pub blocked_by_count : {T : Type 0} (w n : ℕ) (row : List ℕ) (us : List (Sub
 blocked_by_count w n row us fits =
     ap (nat_lt 0) (fits.counts ((n + 1) % (w + 1)) (mod_below (n + 1) (w + 1) (omega arith))) ∙ any_at_end w n us fits.window
 
--- whether a subscriber stands at a position is one look, too
+-- one count shows whether a subscriber is at a position
 pub any_at : {T : Type 0} (w n q : ℕ) (us : List (Subscriber T)) → AreWithin w n us → q ≤ n → n ≤ q + w
     → nat_lt 0 (count_of (w + 1) (q % (w + 1)) us) ≡ list_any (λ u. u.position == q) us
 any_at w n q [] h le near = refl
@@ -65,7 +65,7 @@ any_at w n q (u ∷ us) h le near =
           | inr there ↦ unequal _ _ (λ e. there.1 (same_place_in (w + 1) (n - w) u.position q (omega arith) (omega (arith, h.1)) (omega (arith, h.0)) (omega (arith, near)) (omega (arith, le)) e)) ∙ sym there.0
         ]
 
--- ---- an append where nobody is a whole window behind changes no count
+-- ---- an append while no subscriber is a whole window behind changes no count
 
 or_left : (a b : Bool) → (a || b) ≡ false → a ≡ false
 or_left true b h = h
@@ -88,7 +88,7 @@ within-append w n (u ∷ us) h none =
 pub fits-append : {T : Type 0} (w n : ℕ) (row : List ℕ) (us : List (Subscriber T)) → CountsPositions w n row us → list_any (λ u. nat_le w (n - u.position)) us ≡ false → CountsPositions w (n + 1) row us
 fits-append w n row us fits none = record { long = fits.long; counts = fits.counts; window = within-append w n us fits.window none }
 
--- ---- the floor rises by one place: all who stand at the last place go one further
+-- ---- the floor rises by one: all subscribers at the oldest position move on by one
 
 sum_step : (a b c : Bool) (x y z : ℕ) → ((a ≡ true) × (b ≡ true) × (c ≡ false)) ⊎ ((b ≡ false) × (a ≡ c)) → x ≡ y + z
     → (if a then suc x else x) ≡ (if b then suc y else y) + (if c then suc z else z)
@@ -102,7 +102,7 @@ sum_step false b c x y z (inl h) e = absurd (cc (h.0))
 sum_step true false false x y z (inr h) e = absurd (cc (h.1))
 sum_step false false true x y z (inr h) e = absurd (cc (h.1))
 
--- p is where they stood, and the floor is behind it
+-- p is their position, and the floor is the next one
 module _ (w p : ℕ) (h : 0 < w) where
   step_place : (q : ℕ) → p ≤ q → q ≤ p + w → ((q ≡ p) × (max q (p + 1) ≡ p + 1)) ⊎ ((q % (w + 1) ≢ p % (w + 1)) × (max q (p + 1) ≡ q))
   step_place q le near =
@@ -225,7 +225,7 @@ pub within-enroll : {T : Type 0} (w n : ℕ) (us : List (Subscriber T)) (v : Sub
 within-enroll w n [] v h le near = (le, near, tt)
 within-enroll w n (u ∷ us) v h le near = (h.0, h.1, within-enroll w n us v h.2 le near)
 
--- a row where one more is counted at a position
+-- a row that counts one more subscriber at a position
 pub fits_more : {T : Type 0} (w n p : ℕ) (row : List ℕ) (us more : List (Subscriber T)) → CountsPositions w n row us → AreWithin w n more
     → ((r : ℕ) → count_of (w + 1) r more ≡ (if p % (w + 1) == r then suc (count_of (w + 1) r us) else count_of (w + 1) r us))
     → CountsPositions w n (set row (p % (w + 1)) (get_or row (p % (w + 1)) 0 + 1)) more
@@ -305,7 +305,7 @@ within-move_to w n number q (u ∷ us) h le near =
       | false ↦ (h.0, h.1, within-move_to w n number q us h.2 le near)
     ]
 
--- whoever is found stands within the window, and is counted
+-- a subscriber that is found is within the window, and is counted
 pub found_within : {T : Type 0} (w n number p : ℕ) (us : List (Subscriber T)) → AreWithin w n us → position_of number us ≡ Some p → (p ≤ n) × (n ≤ p + w)
 found_within w n number p [] h found = absurd (cc)
 found_within w n number p (u ∷ us) h found =
@@ -322,7 +322,7 @@ found_counted n number p us found =
     whole ∙ ap (λ t. if t then suc (count_of n (p % n) (take_out number us)) else count_of n (p % n) (take_out number us)) here in
     omega (arith, all)
 
--- a row where one less is counted
+-- a row that counts one subscriber less
 pub fits-take_out : {T : Type 0} (w n number p : ℕ) (row : List ℕ) (us : List (Subscriber T)) → CountsPositions w n row us → position_of number us ≡ Some p
     → CountsPositions w n (set row (p % (w + 1)) (get_or row (p % (w + 1)) 0 - 1)) (take_out number us)
 fits-take_out w n number p row us fits found = record {
@@ -348,7 +348,7 @@ fits-move_to w n number p q row us fits found le near =
     fits_more w n q _ (take_out number us) (move_to number q us) (fits-take_out w n number p row us fits found)
     (within-move_to w n number q us fits.window le near) (λ r. count-move_to (w + 1) r number p q us found)
 
--- how many others stand where one was found that goes one further
+-- the count shows whether other subscribers stay at the position of one that moves on
 pub others_at : {T : Type 0} (w n number p : ℕ) (row : List ℕ) (us : List (Subscriber T)) → 0 < w → CountsPositions w n row us → position_of number us ≡ Some p → p < n
     → nat_lt 0 (get_or row (p % (w + 1)) 0 - 1) ≡ list_any (λ u. u.position == p) (move_to number (p + 1) us)
 others_at w n number p row us some fits found less =

@@ -1,4 +1,4 @@
--- The list of all members that are found by number, up to the last: what a change of what is found does to the list.
+-- The list of all members that are found by number, up to the last one: how it changes when one of them changes.
 use Rattle.std.proofs.Common.{inl, inr, ◌≡◌, ◌≢◌, ℕ, zero, suc, ◌<◌, ◌≤◌, ◌==◌, true, false, not, cond, if◌then◌else◌, List, [], ◌∷◌, ◌++◌, map, Option, Some, None, refl, sym, ap, subst, ◌∙◌, arith, eq-eqb, append-nil}
 use Rattle.std.proofs.lemmas.Bool.{cases_eq}
 use Rattle.std.proofs.lemmas.Bool.Decides.{eqb_tells}
@@ -11,7 +11,7 @@ use Rattle.flow_containers.specs.Members.{numbers, row_of, member_with, with_row
 use Rattle.flow_containers.proofs.MemberLemmas.{rises_insert, row_above, take_out_is, rewritten, with_row_is}
 
 module _ {R : Type 0} where
-  -- what is found of a number has it
+  -- a member that is found for a number has that number
   abbrev pub HasNumbers : (ℕ → Option (Member R)) → Type 0
   HasNumbers find = (n : ℕ) (member : Member R) → find n ≡ Some member → member.number ≡ n
 

@@ -1,4 +1,4 @@
--- Subscribers to whom nobody has subscribed yet: their fields are sound.
+-- The fields of an empty list of subscribers are sound.
 use Rattle.std.proofs.Common.{◌≡◌, ℕ, ◌+◌, ◌-◌, ◌<◌, List, [], length, replicate, get_or, Option, refl, sym, subst, ◌∙◌, ap, arith}
 use Rattle.std.proofs.lemmas.List.{length-replicate, get_or-replicate}
 use Rattle.flow_containers.specs.declared.members.Member.{Member}

@@ -1,5 +1,5 @@
--- The list of members by number: what a call on one of them makes of the list, and of subscribers that stand for the members.
--- Of a list whose numbers rise: `rises_insert`, `rises_with_row`, `rises_without`, `take_out_is`.
+-- The list of members by number: how a call on one of them changes the list, and the list of subscribers made from it.
+-- For a list whose numbers rise: `rises_insert`, `rises_with_row`, `rises_without`, `take_out_is`.
 use Rattle.std.proofs.Common.{inl, inr, ◌≡◌, ℕ, suc, ◌+◌, ◌<◌, ◌≤◌, ◌==◌, true, false, not, cond, if◌then◌else◌, List, [], ◌∷◌, ◌++◌, length, map, Some, None, refl, sym, ap, ◌∙◌, arith}
 use Rattle.std.proofs.lemmas.Bool.Decides.{eqb_tells}
 use Rattle.flow_law.specs.Laws.{RisesTo}
@@ -31,7 +31,7 @@ module _ {R : Type 0} where
         | false ↦ (rises.0, rises_without member.number top number members rises.1)
       ]
 
-  -- nobody has a number that is no greater than what is below them all
+  -- no member has a number that is at most a lower bound of all numbers
   pub row_below : (floor top number : ℕ) (members : List (Member R)) → RisesTo floor (numbers members) top → number ≤ floor → row_of number members ≡ None
   row_below floor top number [] rises below = refl
   row_below floor top number (member ∷ members) rises below =
@@ -40,7 +40,7 @@ module _ {R : Type 0} where
         | inr other ↦ ap (λ t. cond t (Some member.row) (row_of number members)) other.0 ∙ row_below member.number top number members rises.1 (omega (arith, rises.0))
       ]
 
-  -- nobody has a number above the last
+  -- no member has a number above the last one
   pub row_above : (floor top number : ℕ) (members : List (Member R)) → RisesTo floor (numbers members) top → top < number → row_of number members ≡ None
   row_above floor top number [] rises above = refl
   row_above floor top number (member ∷ members) rises above =
@@ -61,7 +61,7 @@ module _ {R : Type 0} where
         | false ↦ λ rest. ap (λ l. member ∷ l) (without_absent number members rest)
       ] none
 
-  -- where numbers rise, the first of a number is all of them
+  -- if the numbers rise, removing the first member of a number removes all of them
   pub take_out_is : (floor top number : ℕ) (members : List (Member R)) → RisesTo floor (numbers members) top → take_out number members ≡ without_number number members
   take_out_is floor top number [] rises = refl
   take_out_is floor top number (member ∷ members) rises =
@@ -117,7 +117,7 @@ module _ {R : Type 0} where
         | false ↦ λ rest. omega (arith, length-take_out number row members rest)
       ] there
 
-  -- where there is none of a number, nothing changes
+  -- if no member has the number, nothing changes
   pub with_row_absent : (number : ℕ) (row : R) (members : List (Member R)) → row_of number members ≡ None → with_row number row members ≡ members
   with_row_absent number row [] none = refl
   with_row_absent number row (member ∷ members) none =
@@ -126,7 +126,7 @@ module _ {R : Type 0} where
         | false ↦ λ rest. ap (λ l. member ∷ l) (with_row_absent number row members rest)
       ] none
 
-  -- what is kept already is kept again
+  -- replacing a row by itself changes nothing
   pub with_row_same : (number : ℕ) (row : R) (members : List (Member R)) → row_of number members ≡ Some row → with_row number row members ≡ members
   with_row_same number row [] there = refl
   with_row_same number row (member ∷ members) there =

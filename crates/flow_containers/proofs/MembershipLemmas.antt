@@ -1,4 +1,4 @@
--- What each call on `Members` makes of the fields, from what the slab's call ensures.
+-- How each call on `Members` changes the fields, from what the slab's call ensures.
 use Rattle.std.proofs.Common.{inl, inr, ◌≡◌, ◌⊎◌, ℕ, ◌+◌, ◌<◌, ◌≤◌, [], ◌∷◌, ◌++◌, map, length, Some, None, is_some, refl, sym, ap, ◌∙◌, arith, subst}
 use Rattle.std.proofs.Math.ListN.{get_or-map}
 use Rattle.std.proofs.Math.Seq.{map-set_same}
@@ -14,7 +14,7 @@ use Rattle.flow_containers.proofs.SlotLemmas.{IsFree, seek_is, seek_number, free
 use Rattle.flow_containers.proofs.MemberLemmas.{length-with_row, length-take_out}
 use Rattle.flow_containers.proofs.FoundLemmas.{found_to-rises, row_absent, row_found, found_to-insert, found_to-gone, found_to-taken, found_to-replaced}
 
--- a `&mut` that is lent under one name, where what it leaves is told in two ways
+-- a `&mut` that is lent under one name, with its result described by two equal functions
 pub lent_alike : {N W V E : Type 0} (name : N) (f g : W → V) → ((w : W) → f w ≡ g w) → ◌≡◌ {A = (N × (W → V)) ⊎ E} (inl (name, f)) (inl (name, g))
 lent_alike name f g alike = λ i. inl (name, λ w. alike w i)
 
@@ -50,7 +50,7 @@ module _ {R A : Type 0} where
   pub row_none : (s : Inside R A) (n : ℕ) → IsSound s → ((key : ℕ) (x : Member R) → get s.slab key ≡ Some x → x.number ≡ n → ⊥) → row_of n (membership_of s).members ≡ None
   row_none s n sound none = row_absent (λ n. seek n s.slab.slots) n s.last (has_numbers s) (seek_is s.slab n None sound.distinct none)
 
-  -- more room is nothing that is seen
+  -- a greater capacity does not change the model
   pub reserved_sound : (s : Inside R A) (new : Slab (Member R)) → IsSound s → new ≡ record s.slab { capacity = new.capacity } → IsSound (with_slab s new)
   reserved_sound s new sound same = subst (λ slab. IsSound (with_slab s slab)) (sym same) (record { distinct = sound.distinct; within = sound.within; count = sound.count })
 

@@ -4,7 +4,7 @@ use Rattle.std.proofs.Math.Nat.{mod-eq_of_lt, add-mod_right, mod-add-mod, mod-ad
 use Rattle.std.proofs.lemmas.Nat.{mod_below, mod-mul-add}
 use Rattle.std.proofs.lemmas.Bool.Decides.{leb_tells}
 
--- two numbers less than a row apart have one remainder only where they are the same
+-- two numbers less than a row apart have the same remainder only if they are equal
 pub same_place : (n p q : ℕ) → 0 < n → p ≤ q → q < p + n → p % n ≡ q % n → p ≡ q
 same_place n p q pos le lt same =
     let e = q - p in
@@ -32,7 +32,7 @@ same_place_in n low p q pos a b c d same =
       | inr gt ↦ sym (same_place n q p pos (omega (arith, gt.1)) (omega arith) (sym same))
     ]
 
--- the place of a position that lies no further back than the last one's place
+-- the place of a position whose distance to the last position is at most the last one's place
 pub place_before : (n last p end : ℕ) → end < n → end ≡ last % n → p ≤ last → last - p ≤ end → end - (last - p) ≡ p % n
 place_before n last p end low_end at le near =
     let whole : end + last / n * n ≡ last = ap (λ k. k + last / n * n) at ∙ mod-add-div' last n in
@@ -40,7 +40,7 @@ place_before n last p end low_end at le near =
     let low : end - (last - p) < n = omega (arith, low_end) in
     sym (mod-mul-add (last / n) n (end - (last - p)) low) ∙ ap (λ k. k % n) here
 
--- and of one that lies further back
+-- the place of a position whose distance to the last position is greater than the last one's place
 pub place_round : (n last p end : ℕ) → end < n → end ≡ last % n → p ≤ last → last < p + n → end < last - p → n - (last - p - end) ≡ p % n
 place_round n last p end low_end at le near far =
     let d : ℕ = last - p - end in
@@ -51,6 +51,6 @@ place_round n last p end low_end at le near far =
     let rest : p + n ≡ last / n * n + (n - d) = omega (arith, here, near) in
     sym (mod-mul-add (last / n) n (n - d) low) ∙ ap (λ k. k % n) (sym rest) ∙ add-mod_right p n
 
--- the place after the last one is that of the next position
+-- the place after the last position's is the place of the next position
 pub place_of_next : (n last end : ℕ) → end ≡ last % n → (end + 1) % n ≡ (last + 1) % n
 place_of_next n last end at = ap (λ k. (k + 1) % n) at ∙ mod-add-mod last n 1

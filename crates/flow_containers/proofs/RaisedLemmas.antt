@@ -1,4 +1,4 @@
--- Subscribers whose positions are read with a floor: what a change of the rows is on the list.
+-- Subscribers whose positions are read with a floor: how a change of the rows changes the list.
 use Rattle.std.proofs.Common.{◌≡◌, ℕ, suc, ◌≤◌, ◌==◌, max, true, false, if◌then◌else◌, List, [], ◌∷◌, ◌++◌, length, map, Some, None, refl, sym, ap, ◌∙◌, arith}
 use Rattle.std.specs.Option.{option_map, option_map_or}
 use Rattle.flow_law.specs.declared.states.Subscriber.{Subscriber}
@@ -27,7 +27,7 @@ pub length-read : {T A : Type 0} (floor : ℕ) (members : List (Member (Row T A)
 length-read floor [] = refl
 length-read floor (member ∷ members) = ap suc (length-read floor members)
 
--- where everybody stands at the last position or just before it, the floor of the last position brings all there
+-- if all positions are the last one or the one before, raising the floor to the last position moves all subscribers there
 pub raise_to_last : {T : Type 0} (n : ℕ) (us : List (Subscriber T)) → AreWithin 1 n us → raise_to n us ≡ map (stand_at n) us
 raise_to_last n [] within = refl
 raise_to_last n (u ∷ us) within =

@@ -1,4 +1,4 @@
--- What `receive` shows of a subscriber whose row was found: where it stands, and what the rows are after each case.
+-- What `receive` shows of a subscriber whose row was found: its position, and the rows after each case.
 use Rattle.std.proofs.lemmas.Bool.Decides.{nat_tests}
 use Rattle.std.proofs.Common.{◌≡◌, ℕ, ◌+◌, ◌-◌, ◌<◌, ◌≤◌, ◌%◌, ◌^◌, ◌==◌, ◌&&◌, not, nat_lt, max, List, [], length, get_or, Some, None, refl, sym, ap, subst, ◌∙◌, arith, zero, suc, ◌∷◌}
 use Rattle.std.specs.List.{slice_get, list_any}
@@ -33,7 +33,7 @@ module _ {T A : Type 0} (s : Inside T A) (number : ℕ) where
   abbrev pub position_in : Row T A → ℕ
   position_in row = max row.position s.floor
 
-  -- the subscribers with this row of the one of this number
+  -- the subscribers, with this row for the one of this number
   abbrev pub putting : Row T A → Inside T A
   putting row = record s { members = record s.members { members = with_row number row s.members.members } }
 
@@ -44,7 +44,7 @@ module _ {T A : Type 0} (s : Inside T A) (number : ℕ) where
     pub stands_at : position_of number (standing_of s).list ≡ Some (position_in row)
     stands_at = position_of-row s.floor number s.members.members ∙ ap (option_map position_in) found
 
-    -- what is kept of all positions holds of this one
+    -- a bound on the subscriber's position holds of its row's position
     pub kept_here : (first : ℕ) → IfSome (position_of number (standing_of s).list) (λ position. first ≤ position) → first ≤ position_in row
     kept_here first kept = subst (λ p. IfSome p (λ position. first ≤ position)) stands_at kept
 
@@ -68,7 +68,7 @@ module _ {T A : Type 0} (s : Inside T A) (number : ℕ) where
       pub room_here : (q : ℕ) → get_or (left_at s.counts.row (position_in row)) (q % length (left_at s.counts.row (position_in row))) 0 + 1 < 2 ^ 64
       room_here q = enter_again s.counts.row s.counts.emitted s.floor s.members.last s.members.members sound number (position_in row) stands_at q
 
-    -- the row is as it was
+    -- the row does not change
     pub untouched : putting row ≡ s
     untouched = ap (λ (members : List (Member (Row T A))). record s { members = record s.members { members = members } }) (with_row_same number row s.members.members found)
 
@@ -100,7 +100,7 @@ module _ {T A : Type 0} (s : Inside T A) (number : ℕ) where
         ∙ ap (λ l. not (list_any (λ (u : Subscriber T). u.position == p) l)) (sym is)
         )
 
-    -- nothing of one's own was left
+    -- no own value was left
     module _ (own : List T) (taken : (row.own ≡ []) × (own ≡ [])) where
       pub none_left : own_of number (standing_of s).list ≡ []
       none_left = own_left ∙ taken.0
@@ -117,7 +117,7 @@ module _ {T A : Type 0} (s : Inside T A) (number : ℕ) where
       pub stays_sound : IsSound s → IsSound (putting (left own row))
       stays_sound sound = subst IsSound (sym same) sound
 
-      -- it stands so much further
+      -- the subscriber moves on by `count`
       module _ (sound : IsSound s) (count : ℕ) (more : position_in row + count ≤ s.counts.emitted) (next : ℕ) (is : next ≡ position_in row + count) where
         abbrev pub going : Row T A
         going = record { own = own; position = next }

@@ -73,7 +73,7 @@ module _ {R : Type 0} where
 
   -- ---- a write of one slot
 
-  -- what is under this key has this number, and nobody else has it
+  -- the member at this key, if any, has this number, and no other member has it
   pub record IsFree (s : Slab (Member R)) (key number : ℕ) : Type 0 where
     pub here : (y : Member R) → get s key ≡ Some y → y.number ≡ number
     pub others : (k : ℕ) (y : Member R) → get s k ≡ Some y → y.number ≡ number → k ≡ key
@@ -119,7 +119,7 @@ module _ {R : Type 0} where
             | inr differs ↦ sym (gone.others k differs) ∙ there
           ]
 
-  -- what is found of another number stays
+  -- the member that is found for another number stays the same
   seek_other : (old new : Slab (Member R)) (key number n : ℕ) (slot : Option (Member R)) → AreDistinct new → IsFree old key number → Updates old new key slot → ((x : Member R) → slot ≡ Some x → x.number ≡ number)
       → n ≢ number → seek n new.slots ≡ seek n old.slots
   seek_other old new key number n slot distinct free put has other = seek_is new n (seek n old.slots) distinct (carried (seek n old.slots) (seek_tells old n))

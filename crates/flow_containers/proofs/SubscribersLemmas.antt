@@ -17,7 +17,7 @@ use Rattle.flow_containers.proofs.CountLemmas.{blocked_by_count, fits-append, fi
 use Rattle.flow_containers.proofs.MemberLemmas.{length-with_row}
 use Rattle.flow_containers.proofs.RaisedLemmas.{read_higher, length-read, raise_to_last, position_of-row, move_to-row, with_own-row, take_out-row, append-row}
 
--- one row of counts after the value that was emitted, and after a shift
+-- the row of counts after a shift from position p
 abbrev pub shifted : List ℕ → ℕ → List ℕ
 shifted row p = set (set row ((p + 1) % length row) (get_or row (p % length row) 0 + get_or row ((p + 1) % length row) 0)) (p % length row) 0
 
@@ -48,7 +48,7 @@ pub standing_same : {T : Type 0} (xs ys : List (Subscriber T)) (m n v w f g k l 
     → ◌≡◌ {A = Standing T} (record { list = xs; emitted = m; window = v; floor = f; last = k; by_key = at }) (record { list = ys; emitted = n; window = w; floor = g; last = l; by_key = at })
 standing_same xs ys m n v w f g k l at a b c d e = cc (a, b, c, d, e)
 
--- a row of another length list, for the window that is read off its length
+-- another row of the same length gives the same window
 pub resized : {T A : Type 0} (row new : List ℕ) (emitted floor last : ℕ) (members : List (Member (Row T A))) → length new ≡ length row
     → AreSound (length row - 1) new emitted floor members last → AreSound (length new - 1) new emitted floor members last
 resized row new emitted floor last members same sound = subst (λ k. AreSound (k - 1) new emitted floor members last) (sym same) sound
@@ -110,7 +110,7 @@ module _ {T A : Type 0} (row : List ℕ) (emitted floor last : ℕ) (members : L
       let same : p + 1 ≡ emitted + 1 - w = omega (arith, at) in
       sym (read_higher floor (p + 1) members (omega (arith, sound.floor, at))) ∙ ap (λ k. raise_to k us) same
 
-  -- without a buffer all are brought to the last position
+  -- without a buffer all subscribers are moved to the last position
   pub gathered_list : w ≡ 1 → read emitted members ≡ map (stand_at emitted) us
   gathered_list one =
       sym (read_higher floor emitted members (omega (arith, sound.floor, one)))

@@ -23,7 +23,7 @@ copied_one_more from k xs list longer v at is =
     let here : slice_get (drop from xs) k ≡ Some v = slice_get-drop from xs k (from + k) (omega arith) ∙ at in
     ap (λ l. l ++ v ∷ []) is ∙ append_assoc list (take k (drop from xs)) (v ∷ []) ∙ ap (λ l. list ++ l) (sym (take_more k (drop from xs) v here))
 
--- what holds where a result is no refusal
+-- a fact about `Ok`, for a result that is `Ok`
 pub where_ok : {X E : Type 0} (P : Type 0) (r : Result X E) → is_ok r ≡ true → OnOk r P → P
 where_ok P (Ok x) ok holds = holds
 where_ok P (Err e) ok holds = absurd (cc)

@@ -1,7 +1,7 @@
 -- Subscribers in a slab, seen as a list in the order of their numbers, and by key. No public clause cites this module.
 --   slots      None   Some 7   Some 2   None   Some 5      by key
 --   members      2  5  7                                     by number
---   by_key     None   Some 7   Some 2   None   Some 5      the numbers alone
+--   by_key     None   Some 7   Some 2   None   Some 5      only the numbers
 -- Begin with `Membership`. The key facts on it are in proofs/MemberLemmas.
 use Rattle.std.specs.Prelude.{◌≡◌, ◌≢◌, ℕ, zero, suc, ◌<◌, ◌≤◌, ◌==◌, not, if◌then◌else◌, [], ◌∷◌, ◌++◌, List, map, filter, length, Option, Some, None, slice_index_or}
 use Rattle.std.specs.Option.{option_map}
@@ -9,7 +9,7 @@ use Rattle.slab.specs.Slab.{get, slab_len}
 use Rattle.flow_containers.specs.declared.members.Member.{Member}
 use Rattle.flow_containers.specs.declared.members.Members.TheInside.{Inside}
 
--- the subscribers in the order of their numbers, the greatest number that any has had, and whose number is at each key
+-- the subscribers in the order of their numbers, the greatest number that a subscriber has had, and the number at each key
 pub record Membership (R : Type 0) : Type 0 where
   pub members : List (Member R)
   pub last : ℕ
@@ -19,13 +19,13 @@ pub record Membership (R : Type 0) : Type 0 where
 abbrev pub number_at : List (Option ℕ) → ℕ → Option ℕ
 number_at by_key key = slice_index_or by_key key None
 
--- the new subscriber has this key, which was free; each other subscriber has the key that it had
+-- the new subscriber gets this key, which was free; every other subscriber keeps its key
 abbrev pub EntersAt : ℕ → ℕ → List (Option ℕ) → List (Option ℕ) → Type 0
 EntersAt number key old new =
     (number_at old key ≡ None) × (number_at new key ≡ Some number)
     × ((other : ℕ) → other ≢ key → number_at new other ≡ number_at old other)
 
--- each subscriber but that of this number has the key that it had
+-- every other subscriber keeps its key
 abbrev pub OthersStay : ℕ → List (Option ℕ) → List (Option ℕ) → Type 0
 OthersStay number old new = (key : ℕ) → number_at old key ≢ Some number → number_at new key ≡ number_at old key
 
@@ -34,7 +34,7 @@ module _ {R : Type 0} where
   abbrev pub numbers : List (Member R) → List ℕ
   numbers = map (λ member. member.number)
 
-  -- what is kept of the subscriber of this number, if there is one
+  -- what is kept about the subscriber of this number, or `None`
   abbrev pub row_of : ℕ → List (Member R) → Option R
   row_of number [] = None
   row_of number (member ∷ members) = if member.number == number then Some member.row else row_of number members
@@ -43,16 +43,16 @@ module _ {R : Type 0} where
   abbrev pub member_with : R → Member R → Member R
   member_with row member = record { number = member.number; row = row }
 
-  -- this is kept of the subscriber of this number instead
+  -- the members, with this row for the subscriber of this number
   abbrev pub with_row : ℕ → R → List (Member R) → List (Member R)
   with_row number row [] = []
   with_row number row (member ∷ members) = if member.number == number then member_with row member ∷ members else member ∷ with_row number row members
 
-  -- the subscribers without all of this number
+  -- the members whose number is another one
   abbrev pub without_number : ℕ → List (Member R) → List (Member R)
   without_number number = filter (λ member. not (member.number == number))
 
-  -- the subscribers without the first of this number
+  -- the members without the first one of this number
   abbrev pub take_out : ℕ → List (Member R) → List (Member R)
   take_out number [] = []
   take_out number (member ∷ members) = if member.number == number then members else member ∷ take_out number members
@@ -70,7 +70,7 @@ module _ {R : Type 0} where
   listed None = []
   listed (Some member) = member ∷ []
 
-  -- what is found of the numbers from 1 on
+  -- the members that are found for the numbers from 1 to n, in this order
   abbrev pub found_to : (ℕ → Option (Member R)) → ℕ → List (Member R)
   found_to find zero = []
   found_to find (suc n) = found_to find n ++ listed (find (suc n))
@@ -83,7 +83,7 @@ module _ {R : Type 0} where
   abbrev pub membership_of : {A : Type 0} → Inside R A → Membership R
   membership_of s = record { members = found_to (λ number. seek number s.slab.slots) s.last; last = s.last; by_key = map number_in s.slab.slots }
 
-  -- no two keys have one number, and every number is within the bound
+  -- no two keys have the same number, and no number is 0 or above the last one
   pub record IsSound {A : Type 0} (s : Inside R A) : Type 0 where
     pub distinct : (a b : ℕ) (x y : Member R) → get s.slab a ≡ Some x → get s.slab b ≡ Some y → x.number ≡ y.number → a ≡ b
     pub within : (key : ℕ) (member : Member R) → get s.slab key ≡ Some member → (0 < member.number) × (member.number ≤ s.last)

@@ -18,7 +18,7 @@ queue_of q = map numbered_of q.items.items
 abbrev pub Rises : {T : Type 0} → List (Numbered T) → Type 0
 Rises queue = RisesTo 0 (map (λ q. q.number) queue) (2 ^ 64)
 
--- the place of a number in a queue: what is found there, and what is left without it
+-- the place of the value with this number, or `None` if no value has it; and the queue without that value
 abbrev pub IsPlace : {T : Type 0} → ℕ → List (Numbered T) → Option ℕ → Type 0
 IsPlace number queue None = (list_any (λ q. q.number == number) queue ≡ false) × (queue ≡ filter (λ q. not (q.number == number)) queue)
 IsPlace number queue (Some place) =

@@ -10,17 +10,17 @@ use Rattle.flow_containers.specs.declared.subscribers.receive.Received.TheVarian
 use Rattle.flow_containers.specs.Subscribers.{Standing}
 
 module _ {T : Type 0} where
-  -- the subscriber has no own values left and stands here, where this one of the values that are kept stands, or none yet
+  -- the subscriber has no own values left and is at this position, where the kept values have this value, or none yet
   abbrev pub StandsAt : ℕ → List T → Standing T → ℕ → Option T → Type 0
   StandsAt number kept s position value =
       (own_of number s.list ≡ []) × (position_of number s.list ≡ Some position)
       × (slice_get kept (position - (s.emitted - length kept)) ≡ value)
 
-  -- this was the first position that is held, and of these subscribers none stands there
+  -- the position is the first one that is held, and none of these subscribers is at it
   abbrev pub was_last_at : ℕ → ℕ → List (Subscriber T) → Bool
   was_last_at first position us = (position == first) && not (list_any (λ u. u.position == position) us)
 
-  -- its first own value, else the value where it stands, which it then stands behind; a copy that is refused changes nothing
+  -- a subscriber receives its first own value, or else the value at its position, which it then passes; a refused copy changes nothing
   abbrev pub Receives : ℕ → List T → Standing T → Result (Received T) FlowFault → Standing T → Type 0
   Receives number kept old (Ok Gone) new = (own_of number old.list ≡ []) × (position_of number old.list ≡ None) × (new ≡ old)
   Receives number kept old (Ok (Own value)) new =
@@ -32,7 +32,7 @@ module _ {T : Type 0} where
   Receives number kept old (Err fault) new =
       (position : ℕ) × (value : T) × StandsAt number kept old position (Some value) × (fault ≡ OutOfMemory) × (new ≡ old)
 
-  -- without own values it has so many values more in the list, in order from where it stands, and then stands behind them
+  -- a subscriber without own values takes `count` values into the list, in order from its position, and passes them
   abbrev pub TakesSome : ℕ → List T → Standing T → List T → ℕ → List T → Standing T → Type 0
   TakesSome number kept old list count longer new =
       (position : ℕ) × (own_of number old.list ≡ []) × (position_of number old.list ≡ Some position) × (position + count ≤ old.emitted)

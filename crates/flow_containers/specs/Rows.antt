@@ -1,4 +1,4 @@
--- What a shared core keeps of a subscriber, and how that changes. No public clause cites this module.
+-- What a shared core keeps about a subscriber, and how that changes. No public clause cites this module.
 use Rattle.std.specs.Prelude.{ℕ, List}
 use Rattle.flow_containers.specs.declared.members.enroll.Row.{Row}
 

@@ -7,7 +7,7 @@ use Rattle.flow_containers.specs.declared.members.enroll.Row.{Row}
 use Rattle.flow_containers.specs.declared.subscribers.Subscribers.TheInside.{Inside}
 use Rattle.flow_containers.specs.PositionCounts.{CountsPositions}
 
--- the subscribers, and what the row of counts knows besides
+-- what contracts see of the subscribers and of the row of counts
 pub record Standing (T : Type 0) : Type 0 where
   -- in the order of their numbers
   pub list : List (Subscriber T)
@@ -22,7 +22,7 @@ pub record Standing (T : Type 0) : Type 0 where
   -- the number of the subscriber at each key, if there is one
   pub by_key : List (Option ℕ)
 
--- a subscriber has a whole window of values still to receive
+-- a subscriber is a whole window behind
 abbrev pub is_full : {T : Type 0} → ℕ → ℕ → List (Subscriber T) → Bool
 is_full window emitted us = list_any (λ u. nat_le window (emitted - u.position)) us
 
@@ -31,7 +31,7 @@ module _ {T A : Type 0} where
   abbrev pub subscriber_of : ℕ → Member (Row T A) → Subscriber T
   subscriber_of floor member = record { number = member.number; own = member.row.own; position = max member.row.position floor }
 
-  -- the subscribers as the definitions have them, each at the floor at least
+  -- the subscribers as the definitions have them, none below the floor
   abbrev pub read : ℕ → List (Member (Row T A)) → List (Subscriber T)
   read floor = map (subscriber_of floor)
 

@@ -69,7 +69,7 @@ fn key_of<R: Drop, A: Allocator>(
 impl<R: Drop, A: Allocator> Members<R, A> {
     ghost use Rattle.flow_containers.specs.MembersLends.{lends_row};
 
-    /// Returns an empty list. It takes no memory.
+    /// Returns an empty list. Does not allocate.
     pub fn new(alloc: A) -> Self
         ensures empty { result.members ≡ [] }
         ensures last { result.last ≡ 0 }
@@ -84,7 +84,7 @@ impl<R: Drop, A: Allocator> Members<R, A> {
     /// Returns the number of subscribers.
     pub fn len(&self) -> usize
         ensures value { result ≡ length self.now.members }
-        // This holds of every list, so a caller learns here that no two subscribers have one number.
+        // This holds for every list: a caller learns here that all numbers differ.
         ensures rising { RisesTo 0 (numbers self.now.members) self.now.last }
     {
         self.slab.len()
@@ -120,7 +120,7 @@ impl<R: Drop, A: Allocator> Members<R, A> {
         }
     }
 
-    /// Returns what is kept about a subscriber, to be changed.
+    /// Returns a mutable reference to what is kept about a subscriber.
     pub fn get_mut(&mut self, number: u64, hint: usize) -> Option<&mut R>
         ensures* writes_back { sem 𝓛 (lends_row R.row A.row A.Allocator self.entry number result) }
         ensures value { option_copied_mut result ≡ row_of number self.old.members }
@@ -134,7 +134,7 @@ impl<R: Drop, A: Allocator> Members<R, A> {
         }
     }
 
-    /// Replaces what is kept about a subscriber, if there is such a subscriber.
+    /// Replaces what is kept about a subscriber, if it is present.
     pub fn set(&mut self, number: u64, hint: usize, row: R)
         ensures members { self.new.members ≡ with_row number row self.old.members }
         ensures last { self.new.last ≡ self.old.last }

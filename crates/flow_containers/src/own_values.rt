@@ -4,7 +4,7 @@ ghost use Rattle.std.specs.Prelude.{◌≡◌, ◌∷◌, [], length, MatchOptio
 use std::alloc::Allocator;
 use std::marker::Model;
 
-/// Values that are taken from the front without moving the others: the next one is stored last.
+/// Values that are taken from the front without moving the others: they are stored in reverse.
 #[derive(Drop)]
 pub struct OwnValues<T: Drop, A: Allocator> {
     reversed: Vec<T, A>,
@@ -19,7 +19,7 @@ impl<T: Drop, A: Allocator> Model for OwnValues<T, A> {
 }
 
 impl<T: Drop, A: Allocator> OwnValues<T, A> {
-    /// Keeps these values; the first one is taken first.
+    /// Makes a list that gives these values in their order.
     pub fn new(first: Vec<T, A>) -> Self
         ensures { result ≡ first.items }
     {
@@ -35,7 +35,7 @@ impl<T: Drop, A: Allocator> OwnValues<T, A> {
         self.reversed.len()
     }
 
-    /// Takes the next value out.
+    /// Removes the next value, and returns it.
     pub fn pop_front(&mut self) -> Option<T>
         ensures { MatchOption result ((self.old ≡ []) × self.new ≡ [])
             (λ first. self.old ≡ first ∷ self.new) }

@@ -1,14 +1,14 @@
-//! The number of subscribers at each position. One look at it shows whether a subscriber is a whole window behind.
+//! The number of subscribers at each position. One of these counts shows whether a subscriber is a whole window behind.
 ghost use Rattle.std.specs.Prelude.{◌≡◌, ℕ, ◌+◌, ◌-◌, ◌<◌, ◌≤◌, ◌%◌, ◌^◌, length, get_or, set, replicate, IfOk};
 ghost use Rattle.flow_containers.specs.PositionCounts.{IsLeast, entered, left_at};
 
 use std::alloc::{AllocError, Allocator};
 use std::marker::Model;
 
-/// A row of counts. The count of a position is at the place that is the position's remainder by the length of the row.
+/// A row of counts. The count of a position is at the place that is the position modulo the length of the row.
 ///
-/// Subscribers have at most as many different positions as the row has places, so no two positions share a place. No
-/// place is found by a division: each is computed from the place of the last position and the distance to it.
+/// Subscribers have at most as many different positions as the row has places, so no two positions share a place. A
+/// place is computed without a division, from the place of the last position and the distance to it.
 #[derive(Drop)]
 pub struct PositionCounts<A: Allocator> {
     row: Vec<u64, A>,
@@ -36,7 +36,7 @@ fn empty_row<A: Allocator>(alloc: A, places: usize) -> Result<Vec<u64, A>, Alloc
 }
 
 impl<A: Allocator> PositionCounts<A> {
-    /// Returns a row of so many places, with no subscriber.
+    /// Returns a row of `places` counts, all zero.
     pub fn new(alloc: A, places: usize) -> Result<Self, AllocError>
         requires { 0 < places }
         ensures row { IfOk result (λ counts. counts.row ≡ replicate places 0) }
@@ -105,7 +105,7 @@ impl<A: Allocator> PositionCounts<A> {
         self.row[place] = count;
     }
 
-    /// Counts the subscribers that are a whole window behind. Their place is the one that the next position takes.
+    /// Counts the subscribers that are a whole window behind. The next position will take their place in the row.
     pub fn at_oldest(&self) -> u64
         ensures { result ≡ get_or self.now.row ((self.now.emitted + 1) % length self.now.row) 0 }
     {

@@ -37,7 +37,7 @@ impl<T: Drop, A: Allocator> Model for Queue<T, A> {
 }
 
 impl<T: Drop, A: Allocator> Queue<T, A> {
-    /// Returns an empty queue. It takes no memory.
+    /// Returns an empty queue. Does not allocate.
     pub fn new(alloc: A) -> Self
         ensures { result ≡ [] }
     {
@@ -87,7 +87,7 @@ impl<T: Drop, A: Allocator> Queue<T, A> {
         }
     }
 
-    /// Adds a value, whose number is above those in the queue. If memory is refused, returns the value.
+    /// Appends a value, whose number is above those in the queue. If memory is refused, returns the value.
     pub fn push(&mut self, value: T, number: u64) -> Result<(), T>
         requires positive { 0 < number }
         requires above { RisesTo 0 (map (λ q. q.number) self.old) (number - 1) }

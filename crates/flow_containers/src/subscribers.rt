@@ -1,4 +1,4 @@
-//! The subscribers with their positions, and which of them is a whole window behind.
+//! Subscribers with their positions, and whether one of them is a whole window behind.
 ghost use Rattle.std.specs.Prelude.{◌≡◌, ◌+◌, ◌-◌, ◌<◌, ◌≤◌, ◌^◌, ◌∷◌, ◌++◌, [], Some, None, false, is_some, length, map, IfOk, MatchResult};
 ghost use Rattle.std.specs.Option.{option_map};
 ghost use Rattle.flow_law.specs.SharedFlow as flow;
@@ -17,7 +17,7 @@ use std::marker::Model;
 
 /// Subscribers, in the order of their numbers.
 ///
-/// A position below the floor is read as the floor. So raising the floor moves all slow subscribers without a visit.
+/// A position below the floor is read as the floor. So raising the floor moves all slow subscribers at once.
 #[derive(Drop)]
 pub struct Subscribers<T: Drop, A: Allocator> {
     members: Members<Row<T, A>, A>,
@@ -72,7 +72,7 @@ impl<T: Drop, A: Allocator> Subscribers<T, A> {
         self.counts.emitted()
     }
 
-    /// Returns how many emitted values a subscriber has still to receive, or `None` if there is no such subscriber.
+    /// Returns how many emitted values a subscriber has not received yet, or `None` if no subscriber has this number.
     pub fn lag(&self, number: u64, key: usize) -> Option<u64>
         ensures { result ≡ option_map (λ position. self.now.emitted - position)
             (flow.position_of number self.now.list) }
@@ -83,7 +83,7 @@ impl<T: Drop, A: Allocator> Subscribers<T, A> {
         }
     }
 
-    /// Returns whether a subscriber has a whole window of values still to receive.
+    /// Returns whether a subscriber is a whole window behind.
     pub fn is_blocked(&self) -> bool
         ensures { result ≡ is_full self.now.window self.now.emitted self.now.list }
     {
@@ -165,7 +165,7 @@ impl<T: Drop, A: Allocator> Subscribers<T, A> {
         }
     }
 
-    /// Removes a subscriber, and returns whether it was there.
+    /// Removes a subscriber, and returns whether it was present.
     pub fn remove(&mut self, number: u64, key: usize) -> bool
         ensures there { result ≡ is_some (flow.position_of number self.old.list) }
         ensures removed { self.new ≡ record self.old {

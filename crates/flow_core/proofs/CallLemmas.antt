@@ -1,4 +1,4 @@
--- What the documented calls come to where a core has found out which case it is in.
+-- What the documented calls do in each case that a core has found.
 use Rattle.std.proofs.Common.{◌≡◌, ℕ, ◌+◌, Bool, true, false, not, ◌&&◌, ◌||◌, cond, ◌==◌, List, Some, None, refl, sym, ap, subst, ◌∙◌, ◌≤◌, ◌<◌, length, ◌∷◌, [], arith}
 use Rattle.std.specs.Prelude.{Err, filter, nat_le, nat_lt}
 use Rattle.std.specs.List.{list_any, slice_get}
@@ -49,7 +49,7 @@ module _ {T : Type 0} where
   pub tries_in : (v : T) (s : SharedFlowState T) (k : EmitCase) → emit_case s ≡ k → try_emit v s ≡ try_emit_in k v s
   tries_in v s k e = ap (λ c. try_emit_in c v s) e
 
-  -- a call that took the next number, and one that is refused since none is left
+  -- a call that took the next number, and one that is refused because no number is left
   pub took_number : {R : Type 0} (said : R → SharedReply T) (core after : Core T) (s t : SharedFlowState T) (a : Answer R T) (r : R) → Covers core s → (core.issued ≡ core.config.limit → ⊥)
       → a ≡ issuing s (answer r t) → StandsFor after t → (said r ≡ reply_by said a.reply) × StandsFor after a.after
   took_number said core after s t a r stands left is there =

@@ -1,4 +1,4 @@
--- How a drain ends before it has taken enough: no value is there, the subscriber is gone, a call is refused, or memory is refused.
+-- How a drain ends early: there is no value, the subscriber is gone, a call is refused, or memory is refused.
 use Rattle.std.proofs.Common.{◌≡◌, ◌≢◌, ℕ, ◌<◌, true, List, inl, inr, refl, sym, subst}
 use Rattle.std.specs.Prelude.{Result, Ok, Err}
 use Rattle.std.specs.Result.{is_ok, OnOk, IsErr}
@@ -10,7 +10,7 @@ use Rattle.flow_law.specs.declared.outcome.Drained.TheVariants as drained
 use Rattle.flow_law.specs.Draining.{DrainsBy, EndsBy}
 use Rattle.flow_law.proofs.DrainingLemmas.{HasTaken, takes_before}
 
--- so many values were taken, and the list has room since it was as it is now
+-- n values were taken, and the list then got room without changing its items
 module _ {X T : Type 0} (R : X → Result (Next T) FlowFault → X → Type 0) (n most : ℕ) (old now : X) (old_list list same : List T) (taken : HasTaken R n old old_list list now) (less : n < most) (is : same ≡ list) where
   so_far : HasTaken R n old old_list same now
   so_far = subst (λ l. HasTaken R n old old_list l now) {x = list} {y = same} (sym is) taken
@@ -27,7 +27,7 @@ module _ {X T : Type 0} (R : X → Result (Next T) FlowFault → X → Type 0) (
   pub for_memory : DrainsBy R most old old_list (Err OutOfMemory) same now
   for_memory = takes_before R (EndsBy R) n most old now now old_list same (Err OutOfMemory) so_far less (inr (refl, refl)) (λ e. cc)
 
--- what holds where a result is no refusal
+-- a fact about `Ok`, for a result that is `Ok`
 pub where_ok : {X E : Type 0} (P : Type 0) (r : Result X E) → is_ok r ≡ true → OnOk r P → P
 where_ok P (Ok x) ok holds = holds
 where_ok P (Err e) ok holds = absurd (cc)

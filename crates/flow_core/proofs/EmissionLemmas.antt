@@ -1,4 +1,4 @@
--- A value more: how a core whose ring lets go of the oldest covers the states after an emission.
+-- One more value: a core whose ring drops its oldest value covers the states after an emission.
 -- The key facts: `covers-pushed`, `covers-appended`, `covers-dropped`; `blocked_is` and `offering_is` (what is read off a core).
 use Rattle.std.proofs.Common.{inl, inr, ◌≡◌, ℕ, ◌+◌, ◌-◌, ◌<◌, ◌≤◌, max, false, true, ◌&&◌, ◌==◌, List, [], ◌∷◌, ◌++◌, length, drop, length-append, refl, ap, ◌∙◌, subst, arith}
 use Rattle.std.specs.List.{list_any}
@@ -43,9 +43,9 @@ module _ {T : Type 0} where
         | inr some ↦ rw some.0 refl
       ]
 
-  -- ---- a value more
+  -- ---- one more value
 
-  -- the core with a value more, whole, and the state after it
+  -- the core with one more value and none dropped, and the state after it
   abbrev longer_core : Core T → Numbered T → List (Numbered T) → ℕ → Core T
   longer_core core e q n = record core { held = core.held ++ e.value ∷ []; appended = core.appended + 1; newest = e.number; queue = q; issued = n }
 
@@ -82,7 +82,7 @@ module _ {T : Type 0} where
         | inr more ↦ omega (arith, least_position-beyond a b us le more.1)
       ]
 
-  -- if a subscriber decides how many values are held, and not the cache, one value more makes none superfluous
+  -- if the ring does not begin where the cache does, all its values are still needed after one more value
   pub stands-appended : (core : Core T) (s : SharedFlowState T) (v : T) → core.reset_mark ≤ core.appended → StandsFor core s
       → (core.appended - length core.held == kept_start core) ≡ false
       → Covers (pushed v (core.issued + 1) (record core { issued = core.issued + 1 })) (append v s)
@@ -112,7 +112,7 @@ module _ {T : Type 0} where
       subst (λ n. Covers (pushed e.value e.number (record core { queue = q })) (record s { emitted = s.emitted ++ e ∷ []; queue = q; issued = n })) stands.issued
       (covers-pushed core s e q core.issued h stands near)
 
-  -- and nobody has more than a buffer to receive. The oldest value is let go after they were moved on
+  -- the same, with each subscriber at most a buffer behind: they are moved on before the oldest value is dropped
   pub covers-dropped : (core : Core T) (s : SharedFlowState T) (v : T) → core.reset_mark ≤ core.appended → Covers core s
       → core.appended + 1 ≤ least_position (max core.reset_mark (core.appended + 1 - core.config.replay))
       (raise_to (core.appended + 1 - (core.config.replay + core.config.extra)) core.subscribers) + window_of core.config
@@ -135,7 +135,7 @@ module _ {T : Type 0} where
       covers-last core_after after (window_of core.config) moved (omega (arith, need_is core_after after moved, moved.appended, near)) in
       subst (λ (t : SharedFlowState T). Covers (dropped (pushed v (core.issued + 1) (record core { issued = core.issued + 1 }))) (drop_oldest t)) (appended_is core s v stands) kept
 
--- ---- how near everybody is after a value more
+-- ---- how far behind subscribers are after one more value
 
 module _ {T A : Type 0} where
   pub near_free : (c : Inside T A) → IsSound c → kept_full (fields_of c) ≡ false

@@ -1,5 +1,5 @@
--- Lists that a ring keeps the end of, and subscribers who stand within a window.
--- The key facts: `copied_more`, `within_least` (nobody asks for a value before the window), `within-more`, `offered_full`.
+-- Lists whose last values a ring keeps, and subscribers whose positions are within a window.
+-- The key facts: `copied_more`, `within_least` (no subscriber needs a value before the window), `within-more`, `offered_full`.
 use Rattle.std.proofs.Common.{inl, inr, ◌≡◌, ◌≢◌, ℕ, zero, suc, ◌+◌, ◌-◌, ◌≤◌, ◌<◌, min, Bool, true, false, not, ◌&&◌, ◌||◌, ◌==◌, if◌then◌else◌, nat_le, List, [], ◌∷◌, ◌++◌, length, map, take, drop, Some, Result, Ok, Err, OnErr, refl, sym, ap, ◌∙◌, subst, arith}
 use Rattle.std.specs.List.{list_any, slice_get}
 use Rattle.std.specs.Option.{IfSome}
@@ -45,16 +45,16 @@ copied_more from place xs v le at =
     let next : place - from + 1 ≡ place + 1 - from = omega (arith, le) in
     sym (take_more (place - from) (drop from xs) v (kept_at from place xs v le at)) ∙ ap (λ n. take n (drop from xs)) next
 
--- what holds holds of an error
+-- a fact holds in case of an error
 pub of_an_error : {X E P : Type 0} (r : Result X E) → P → OnErr r P
 of_an_error (Ok x) holds = tt
 of_an_error (Err e) holds = holds
 
--- up to the end all is copied
+-- at the end of the list all values are copied
 pub all_copied : {X : Type 0} (from place : ℕ) (xs : List X) → length xs ≤ place → take (place - from) (drop from xs) ≡ drop from xs
 all_copied from place xs le = take_all (place - from) (drop from xs) (omega (arith, le, length-drop from xs))
 
--- where there is a value at this place, there is something to copy
+-- if there is a value at this place, there is something to copy
 pub more_to_copy : {X : Type 0} (from place : ℕ) (xs : List X) (v : X) → from ≤ place → slice_get xs place ≡ Some v → drop from xs ≢ []
 more_to_copy from place xs v le at none =
     nowhere (place - from) v (sym (ap (λ l. slice_get l (place - from)) none) ∙ kept_at from place xs v le at)
@@ -63,10 +63,10 @@ more_to_copy from place xs v le at none =
     nowhere zero v found = absurd (cc)
     nowhere (suc k) v found = absurd (cc)
 
--- ---- subscribers who stand within a window
+-- ---- subscribers within a window
 
 module _ {T : Type 0} where
-  -- nobody asks for a value that lies before the window
+  -- no subscriber needs a value before the window
   pub within_least : (floor n w b : ℕ) (us : List (Subscriber T)) → AreWithin floor n w us → n ≤ b + w → n ≤ least_position b us + w
   within_least floor n w b [] h le = le
   within_least floor n w b (u ∷ us) h le = omega (arith, h.0.2, within_least floor n w b us h.1 le)
@@ -75,7 +75,7 @@ module _ {T : Type 0} where
   floor_least floor n w b [] h le = le
   floor_least floor n w b (u ∷ us) h le = omega (arith, h.0.0, floor_least floor n w b us h.1 le)
 
-  -- one value more, where nobody had a whole window to receive
+  -- one more value, if no subscriber was a whole window behind
   pub within-more : (floor n w : ℕ) (us : List (Subscriber T)) → AreWithin floor n w us → is_full w n us ≡ false → AreWithin floor (n + 1) w us
   within-more floor n w [] h free = tt
   within-more floor n w (u ∷ us) h free =
@@ -86,7 +86,7 @@ module _ {T : Type 0} where
       ] in
       ((h.0.0, omega (arith, h.0.1), omega (arith, near, h.0.1)), within-more floor n w us h.1 parts.1)
 
-  -- one value more, and nobody is left behind the window
+  -- one more value, after which all subscribers are moved into the window
   pub within-raised : (floor n w : ℕ) (us : List (Subscriber T)) → AreWithin floor n w us → 0 < w → w ≤ n → AreWithin (n + 1 - w) (n + 1) w (raise_to (n + 1 - w) us)
   within-raised floor n w [] h some le = tt
   within-raised floor n w (u ∷ us) h some le =
@@ -96,7 +96,7 @@ module _ {T : Type 0} where
   within-gathered n w [] = tt
   within-gathered n w (u ∷ us) = ((omega arith, omega arith, omega arith), within-gathered n w us)
 
-  -- where somebody has a whole window to receive, there was a whole window
+  -- if a subscriber is a whole window behind, at least a window of values was emitted
   pub full_long : (w n : ℕ) (us : List (Subscriber T)) → 0 < w → is_full w n us ≡ true → w ≤ n
   full_long w n [] some full = absurd (cc)
   full_long w n (u ∷ us) some full =
@@ -105,7 +105,7 @@ module _ {T : Type 0} where
         | inr near ↦ full_long w n us some (subst (λ t. (t || is_full w n us) ≡ true) near.0 full)
       ]
 
-  -- in a window of one, who has the whole window to receive has the last value to receive
+  -- in a window of one, a subscriber that is a whole window behind has not received the last value
   pub offered_full : (floor n w : ℕ) (us : List (Subscriber T)) → AreWithin floor n w us → w ≡ 1 → is_full w n us ≡ list_any (λ u. (n - u.position) == 1) us
   offered_full floor n w [] h one = refl
   offered_full floor n w (u ∷ us) h one =
@@ -133,13 +133,13 @@ module _ {T : Type 0} where
   pub within-snoc : (floor n w : ℕ) (us : List (Subscriber T)) (v : Subscriber T) → AreWithin floor n w us → floor ≤ v.position → v.position ≤ n → n ≤ v.position + w → AreWithin floor n w (us ++ v ∷ [])
   within-snoc floor n w us v h low high near = every_snoc (λ u. (floor ≤ u.position) × (u.position ≤ n) × (n ≤ u.position + w)) us v h (low, high, near)
 
-  -- where a subscriber stands
+  -- the bounds of a subscriber's position
   pub within_at : (floor n w number p : ℕ) (us : List (Subscriber T)) → AreWithin floor n w us → position_of number us ≡ Some p → (floor ≤ p) × (p ≤ n) × (n ≤ p + w)
   within_at floor n w number p us h at =
       let found = position_holds (λ u. (floor ≤ u.position) × (u.position ≤ n) × (n ≤ u.position + w)) number p us h at in
       subst (λ q. (floor ≤ q) × (q ≤ n) × (n ≤ q + w)) found.2 found.3
 
-  -- where a value is offered, the first needed one is no later
+  -- if a value is being offered, the first needed value is no later
   pub offered_least : (floor n w b : ℕ) (us : List (Subscriber T)) → AreWithin floor n w us → w ≡ 1 → is_full w n us ≡ true → least_position b us ≤ n - 1
   offered_least floor n w b us h one full = (least_position_offered b n us (sym (offered_full floor n w us h one) ∙ full)).0
 
@@ -148,7 +148,7 @@ module _ {T : Type 0} where
 
   -- ---- one subscriber moves on
 
-  -- the others and where it stood have the least position that there was
+  -- the least position was the lesser of the subscriber's old position and the least position now
   pub least_position-moved : (b number p q : ℕ) (us : List (Subscriber T)) → position_of number us ≡ Some p → p ≤ q
       → least_position b us ≡ min p (least_position b (move_to number q us))
   least_position-moved b number p q [] at le = absurd (cc)
@@ -167,7 +167,7 @@ module _ {T : Type 0} where
         | inr there ↦ omega (arith, least_position_any b p us (subst (λ t. (t || list_any (λ v. v.position == p) us) ≡ true) there.0 some))
       ]
 
-  -- unless it was the last one at the first position that is held, the least position stays
+  -- the least position stays unless the subscriber was the last one at the first position that is held
   pub least_stays : (b number p : ℕ) (us : List (Subscriber T)) → position_of number us ≡ Some p
       → was_last_at (least_position b us) p (move_to number (p + 1) us) ≡ false → least_position b us ≡ least_position b (move_to number (p + 1) us)
   least_stays b number p us at not_last =
@@ -184,7 +184,7 @@ module _ {T : Type 0} where
       is_true true e = refl
       is_true false e = absurd (cc)
 
-  -- and a core that held what may be asked for still does
+  -- then a core that held only needed values still does
   pub stays_tidy : (core : Core T) (s : SharedFlowState T) (number p : ℕ) → StandsFor core s → core.reset_mark ≤ core.appended → position_of number core.subscribers ≡ Some p
       → was_last_at (core.appended - length core.held) p (move_to number (p + 1) core.subscribers) ≡ false
       → StandsFor (record core { subscribers = move_to number (p + 1) core.subscribers }) (advance number (p + 1) s)

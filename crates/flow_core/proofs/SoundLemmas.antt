@@ -1,5 +1,5 @@
--- How the core's invariant is kept, for the fields that a private step leaves.
--- The key facts: `sound_emitted` (a value more in the ring), `sound_trimmed`, `sound_standing` (other subscribers).
+-- The private steps of a core keep its invariant.
+-- The key facts: `sound_emitted` (one more value in the ring), `sound_trimmed`, `sound_standing` (changed subscribers).
 use Rattle.std.proofs.Common.{◌≡◌, ◌≢◌, ℕ, ◌+◌, ◌-◌, ◌≤◌, ◌<◌, max, List, [], ◌∷◌, ◌++◌, length, map, Option, sym, ap, ◌∙◌, arith, length-append, length-drop}
 use Rattle.circular_buffer.specs.Buffer.{buffer, keep_last}
 use Rattle.flow_law.specs.declared.states.Subscriber.{Subscriber}
@@ -18,15 +18,15 @@ pub length-keep_last : {X : Type 0} (n : ℕ) (xs : List X) → length (keep_las
 length-keep_last n xs = length-drop (length xs - n) xs
 
 module _ {T A : Type 0} where
-  -- where the cache begins after a value more
+  -- the start of the cache after one more value
   abbrev pub next_start : Inside T A → ℕ
   next_start c = max c.reset_mark (c.subscribers.emitted + 1 - c.config.replay)
 
-  -- the subscribers after a value more
+  -- the subscribers after one more value
   abbrev pub standing_more : Inside T A → List (Subscriber T) → ℕ → Standing T
   standing_more c us floor = record c.subscribers { list = us; emitted = c.subscribers.emitted + 1; floor = floor }
 
-  -- a value more in the ring, after which nobody asks for one before the window
+  -- one more value in the ring, after which no subscriber needs a value before the window
   abbrev pub emitted_inside : Inside T A → T → ℕ → List (Subscriber T) → ℕ → Inside T A
   emitted_inside c v number us floor = record c {
     values = buffer (keep_last c.values.capacity (c.values.items ++ v ∷ [])) c.values.capacity;
@@ -34,7 +34,7 @@ module _ {T A : Type 0} where
     newest = number;
   }
 
-  -- nobody asks for a value before the window, after a value more
+  -- no subscriber needs a value before the window after one more value
   pub window_more : (c : Inside T A) (us : List (Subscriber T)) (floor : ℕ) → IsSound c → AreWithin floor (c.subscribers.emitted + 1) (window_of c.config) us
       → c.subscribers.emitted + 1 ≤ least_position (next_start c) us + window_of c.config
   window_more c us floor sound within = within_least floor (c.subscribers.emitted + 1) (window_of c.config) (next_start c) us within (omega arith)
@@ -67,7 +67,7 @@ module _ {T A : Type 0} where
         rising = sound.rising;
       }
 
-  -- the values that nobody asks for are let go
+  -- the values that are not needed are dropped
   pub sound_trimmed : (c : Inside T A) (count : ℕ) → IsSound c → count ≡ c.subscribers.emitted - kept_need (fields_of c)
       → IsSound (record c { values = buffer (keep_last count c.values.items) c.values.capacity })
   sound_trimmed c count sound is =
@@ -89,7 +89,7 @@ module _ {T A : Type 0} where
         rising = sound.rising;
       }
 
-  -- other subscribers, who ask for no earlier value, and more numbers
+  -- changed subscribers that need no earlier value, and more numbers
   pub sound_standing : (c : Inside T A) (us : List (Subscriber T)) (last floor issued : ℕ) (keys : List (Option ℕ)) → IsSound c → AreWithin floor c.subscribers.emitted (window_of c.config) us
       → floor ≤ kept_start (fields_of c) → least_position (kept_start (fields_of c)) c.subscribers.list ≤ least_position (kept_start (fields_of c)) us
       → last ≤ issued → c.issued ≤ issued → issued ≤ c.config.limit → RisesTo 0 (map (λ q. q.number) c.queue) issued
@@ -112,13 +112,13 @@ module _ {T A : Type 0} where
         rising = rising;
       }
 
-  -- other subscribers alone
+  -- only changed subscribers
   pub sound_subscribers : (c : Inside T A) (us : List (Subscriber T)) (floor : ℕ) → IsSound c → AreWithin floor c.subscribers.emitted (window_of c.config) us
       → floor ≤ kept_start (fields_of c) → least_position (kept_start (fields_of c)) c.subscribers.list ≤ least_position (kept_start (fields_of c)) us
       → IsSound (record c { subscribers = record c.subscribers { list = us; floor = floor } })
   sound_subscribers c us floor sound within low later = sound_standing c us c.subscribers.last floor c.issued c.subscribers.by_key sound within low later sound.last (omega arith) sound.issued sound.rising
 
-  -- a number more
+  -- one more number
   pub sound_issued : (c : Inside T A) → IsSound c → (c.issued ≡ c.config.limit → ⊥) → IsSound (record c { issued = c.issued + 1 })
   sound_issued c sound left =
       let issued = sound.issued in
@@ -169,7 +169,7 @@ module _ {T A : Type 0} where
         rising = sound.rising;
       }
 
-  -- the next number, where one is left
+  -- the next number, if one is left
   pub number_left : (c : Inside T A) (core : Core T) → fields_of c ≡ core → (c.issued ≡ c.config.limit → ⊥) → (c.issued + 1 ≡ core.issued + 1) × (core.issued ≢ core.config.limit)
   number_left c core is left = (
     ap (λ (k : Core T). k.issued + 1) is,

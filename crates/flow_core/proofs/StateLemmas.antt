@@ -1,4 +1,4 @@
--- Rows of a state core beside the subscribers that the definitions have.
+-- Rows of a state core, as the subscribers of the definitions.
 use Rattle.std.proofs.Common.{◌≡◌, ◌≢◌, ℕ, inl, inr, Bool, true, false, List, map, Option, Some, refl, ap, sym, subst, ◌∙◌}
 use Rattle.std.specs.Prelude.{◌↔◌, IsTrue}
 use Rattle.std.proofs.lemmas.Bool.{both_ways}
@@ -15,7 +15,7 @@ use Rattle.std.proofs.lemmas.Iterator.Adapters.{option_map_id}
 use Rattle.flow_core.specs.StateCore.{subscriber_of}
 
 module _ {T : Type 0} where
-  -- the last value that a subscriber got is what is kept of it
+  -- the last value that a subscriber got is the row that is kept for it
   pub last_is : (number : ℕ) (members : List (Member (Option T))) → last_of number (map subscriber_of members) ≡ row_of number members
   last_is number members = last_of-row subscriber_of (λ member. refl) number members ∙ option_map_id (row_of number members)
 
@@ -23,13 +23,13 @@ module _ {T : Type 0} where
       → map subscriber_of (with_row number (Some value) members) ≡ with_last number value (map subscriber_of members)
   got number value old members there = sym (with_last-row subscriber_of (λ member. refl) number value old (Some value) refl members there)
 
-  -- who is there and has not got the value may be refused its copy
+  -- a present subscriber that has not got the value may be refused its copy
   pub copy_refused : (s : StateFlowState T) (number : ℕ) (last : Option T) (fault : FlowFault) → last_of number s.subscribers ≡ Some last → last ≢ Some s.value → fault ≡ OutOfMemory
       → Replies s (TakeNext number) (Refused fault)
   copy_refused s number last fault there differs is =
       subst (λ f. Replies s (TakeNext number) (Refused f)) (sym is) (subst (λ o. IsDue s.value o) (sym there) differs)
 
-  -- the comparison with what is expected, and what becomes of the value
+  -- the comparison with the expected value, and the value after it
   pub exchanged : (inside now s : StateFlowState T) (expect update : T) (found is : Bool) → inside ≡ now → now ≡ s → (IsTrue is ↔ inside.value ≡ expect) → found ≡ is → found ≡ true
       → Replies s (CompareAndSet expect update) (Answered true) × (record inside { value = update } ≡ record s { value = update })
   exchanged inside now s expect update found is view same exact finds it =

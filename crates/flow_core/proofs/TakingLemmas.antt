@@ -1,5 +1,5 @@
--- Several values that are taken at once are what so many `next` in a row give.
--- The key facts: `taken_at_once` (of a core where nothing is queued), `drains_on` (one drain and then another one),
+-- Several values taken at once are those that as many calls of `next` in a row give.
+-- The key facts: `taken_at_once` (for a core without queued values), `drains_on` (one drain and then another one),
 -- `drains_lifted` (of a part, and so of the whole).
 use Rattle.std.proofs.Common.{◌≡◌, ℕ, zero, suc, ◌+◌, ◌-◌, ◌<◌, ◌≤◌, ◌==◌, true, false, if◌then◌else◌, List, [], ◌∷◌, ◌++◌, length, take, drop, Some, refl, sym, ap, ◌∙◌, subst, arith, length-append, length-drop, append_assoc}
 use Rattle.std.specs.Prelude.{Result, Ok}
@@ -62,7 +62,7 @@ module _ {T : Type 0} where
         | false ↦ λ there. ap (λ l. u ∷ l) (move_to-here number p us there)
       ] at
 
-  -- ---- a core that holds more than may be asked for
+  -- ---- a core that holds more values than are needed
 
   untidied : (core : Core T) (s : SharedFlowState T) → StandsFor (tidied core) s → Covers core s
   untidied core s stands =
@@ -95,7 +95,7 @@ module _ {T : Type 0} where
     abbrev pub first : ℕ
     first = core.appended - length core.held
 
-    -- the core as it is when the subscriber has moved and no value is dropped yet
+    -- the core after the subscriber has moved and before values are dropped
     abbrev pub moved : ℕ → Core T
     moved q = record core { subscribers = move_to number q core.subscribers }
 

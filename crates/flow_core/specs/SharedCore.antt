@@ -42,7 +42,7 @@ abbrev pub emit_reply : {T : Type 0} → Result Emit (Refused T) → SharedReply
 emit_reply (Ok emission) = reply.Emitted emission
 emit_reply (Err refused) = reply.Refused refused.fault
 
--- what `subscribe` returned, as a reply: a history has the number alone
+-- what `subscribe` returned, as a reply: a history has only the number
 abbrev pub subscribe_reply : {T : Type 0} → Result SubId FlowFault → SharedReply T
 subscribe_reply = replied shared_flow (λ id. reply.Subscribed (number_of id))
 
@@ -64,7 +64,7 @@ cache_reply = replied shared_flow (λ values. reply.Cached values.items)
 abbrev pub window_of : Config → ℕ
 window_of config = max (config.replay + config.extra) 1
 
--- what a core's fields keep of a flow
+-- what contracts see of a core's fields
 abbrev pub fields_of : {T A : Type 0} → Inside T A → Core T
 fields_of c = record {
   config = c.config;
@@ -77,7 +77,7 @@ fields_of c = record {
   issued = c.issued;
 }
 
--- each of them stands within the last values, and none before the floor
+-- each subscriber's position is within the last `window` values and not below the floor
 abbrev pub AreWithin : {T : Type 0} → ℕ → ℕ → ℕ → List (Subscriber T) → Type 0
 AreWithin floor emitted window = AllByRecursion (λ u. (floor ≤ u.position) × (u.position ≤ emitted) × (emitted ≤ u.position + window))
 
@@ -89,10 +89,10 @@ pub record IsSound {T A : Type 0} (c : Inside T A) : Type 0 where
   pub within : AreWithin c.subscribers.floor c.subscribers.emitted (window_of c.config) c.subscribers.list
   pub floor : c.subscribers.floor ≤ kept_start (fields_of c)
   pub reset_mark : c.reset_mark ≤ c.subscribers.emitted
-  -- the ring has all that may still be asked for
+  -- the ring has every value that a present or a new subscriber may still receive
   pub enough : c.subscribers.emitted ≤ length c.values.items + kept_need (fields_of c)
   pub held : length c.values.items ≤ c.subscribers.emitted
-  -- each value and each subscriber took a number of its own
+  -- each value and each subscriber has taken one number
   pub last : c.subscribers.last ≤ c.issued
   pub numbers : c.subscribers.emitted + length c.queue ≤ c.issued
   pub issued : c.issued ≤ c.config.limit
@@ -100,7 +100,7 @@ pub record IsSound {T A : Type 0} (c : Inside T A) : Type 0 where
 
 -- ---- private steps
 
--- the case of the definitions that a case of the code is
+-- a case of the code as a case of the definitions
 abbrev pub case_of : EmitCase → law.EmitCase
 case_of Appends = law.appends
 case_of Offers = law.offers
@@ -108,26 +108,26 @@ case_of Queues = law.queues
 case_of DropsLatest = law.drops_latest
 case_of DropsOldest = law.drops_oldest
 
--- by the core's own numbers: a subscriber has a whole window of values still to receive
+-- by the core's fields, a subscriber is a whole window behind
 abbrev pub kept_full : {T : Type 0} → Core T → Bool
 kept_full core = is_full (window_of core.config) core.appended core.subscribers
 
--- what a core finds for an emission that is to be appended
+-- what holds of a core in each case of an emission that appends the value
 abbrev pub MayAppend : {T : Type 0} → EmitCase → Core T → Type 0
 MayAppend Appends core = kept_full core ≡ false
 MayAppend Offers core = kept_full core ≡ false
 MayAppend DropsOldest core = (kept_full core ≡ true) × (core.config.overflow ≡ DropOldest)
 MayAppend _ core = Unit {0}
 
--- in each state that the core covers, what is read off it is this
+-- `read` gives this result in each state that the core covers
 abbrev pub Shows : {T R : Type 0} → Core T → (SharedFlowState T → R) → R → Type 0
 Shows {T} core read result = (s : SharedFlowState T) → Covers core s → result ≡ read s
 
--- why an emission at once was refused
+-- the fault is `Exhausted`, and the core has issued all its numbers
 abbrev pub IsExhausted : {T : Type 0} → FlowFault → Core T → Type 0
 IsExhausted fault core = (fault ≡ Exhausted) × (core.issued ≡ core.config.limit)
 
--- why a step that issues a number was refused
+-- the fault is `Exhausted` if the core has issued all its numbers, else `OutOfMemory`
 abbrev pub RefusedFor : {T : Type 0} → FlowFault → Core T → Type 0
 RefusedFor Exhausted core = core.issued ≡ core.config.limit
 RefusedFor OutOfMemory core = core.issued ≡ core.config.limit → ⊥
@@ -141,7 +141,7 @@ IsSettled {T} core = (s : SharedFlowState T) → Covers core s → settle s ≡ 
 abbrev pub Leads : {T : Type 0} → Core T → (SharedFlowState T → SharedFlowState T) → Core T → Type 0
 Leads {T} old step new = (s : SharedFlowState T) → Covers old s → Covers new (step s)
 
--- and the new core holds no more than what may be asked for there
+-- from each state that the old core covers, this step leads to one that the new core stands for: it holds only the values needed there
 abbrev pub Reaches : {T : Type 0} → Core T → (SharedFlowState T → SharedFlowState T) → Core T → Type 0
 Reaches {T} old step new = (s : SharedFlowState T) → Covers old s → StandsFor new (step s)
 
@@ -149,7 +149,7 @@ Reaches {T} old step new = (s : SharedFlowState T) → Covers old s → StandsFo
 abbrev pub Keeps : {T : Type 0} → Core T → (SharedFlowState T → SharedFlowState T) → Core T → Type 0
 Keeps {T} old step new = (s : SharedFlowState T) → StandsFor old s → StandsFor new (step s)
 
--- a value was emitted, and the oldest was let go where the ring was full
+-- the core after a value was emitted; a full ring has dropped its oldest value
 abbrev pub pushed : {T : Type 0} → T → ℕ → Core T → Core T
 pushed value number core = record core {
   held = keep_last (window_of core.config) (core.held ++ value ∷ []);
@@ -157,10 +157,10 @@ pushed value number core = record core {
   newest = number;
 }
 
--- and no subscriber has more than a buffer to receive
+-- the core after each subscriber that was more than a buffer behind was moved to a buffer behind
 abbrev pub dropped : {T : Type 0} → Core T → Core T
 dropped core = record core { subscribers = raise_to (core.appended - (core.config.replay + core.config.extra)) core.subscribers }
 
--- the first queued value was emitted, and what is left to settle is the same
+-- the queue is shorter, and settling leads to the same states as before
 abbrev pub Admits : {T : Type 0} → Core T → Core T → Type 0
 Admits {T} old new = (length new.queue < length old.queue) × ((s : SharedFlowState T) → Covers old s → (t : SharedFlowState T) × Covers new t × settle t ≡ settle s)

@@ -20,7 +20,7 @@ module _ {T : Type 0} where
   abbrev pub value_reply : Result T FlowFault → StateReply T
   value_reply = replied state_flow reply.Got
 
-  -- what `subscribe` returned, as a reply: a history has the number alone
+  -- what `subscribe` returned, as a reply: a history has only the number
   abbrev pub subscribe_reply : Result SubId FlowFault → StateReply T
   subscribe_reply = replied state_flow (λ id. reply.Subscribed (number_of id))
 
@@ -36,15 +36,15 @@ module _ {T : Type 0} where
   abbrev pub cache_reply : {A : Type 0} → Result (Vec T A) FlowFault → StateReply T
   cache_reply = replied state_flow (λ values. reply.Cached values.items)
 
-  -- a state flow's cache is never reset: `Ok` would be no reply of it
+  -- what `reset_replay_cache` returned, as a reply: no state flow gives the reply that stands for `Ok`
   abbrev pub reset_reply : Result (Unit {0}) FlowFault → StateReply T
   reset_reply = replied state_flow (λ none. reply.Done)
 
-  -- a subscriber by its number and the value that it got last
+  -- a subscriber as the definitions have it: its number, and the value that it received last
   abbrev pub subscriber_of : Member (Option T) → StateSubscriber T
   subscriber_of member = record { number = member.number; last = member.row }
 
-  -- the state of the documented flow that a core's fields are
+  -- a core's fields as a state of the documented flow
   abbrev pub fields_of : {A : Type 0} → Inside T A → StateFlowState T
   fields_of c = record {
     limit = c.limit;

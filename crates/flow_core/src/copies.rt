@@ -5,7 +5,7 @@ use circular_buffer::HeapCircularBuffer;
 use flow_law::{FlowFault, FlowValue};
 use std::alloc::Allocator;
 
-/// Copies the values from this place on, in order.
+/// Copies the values from the place `from` on, in order.
 pub(crate) fn copies<T: FlowValue, A: Allocator, B: Allocator>(
     alloc: A,
     values: &HeapCircularBuffer<T, B>,

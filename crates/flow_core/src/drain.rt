@@ -14,7 +14,7 @@ use crate::sub_id::SubId;
 use flow_law::{Drained, FlowFault, FlowValue, Next};
 use std::alloc::Allocator;
 
-/// What draining needs of a flow.
+/// What draining needs from a flow.
 trait TakesNext {
     type Item: FlowValue;
 
@@ -46,7 +46,7 @@ impl<T: FlowValue, A: Allocator + Copy> TakesNext for StateCore<T, A> {
     }
 }
 
-/// Calls `next` until it has no value or enough were taken. Makes room for each value before taking it.
+/// Calls `next` until it has no value or `most` values were taken. Reserves room for each value before taking it.
 fn take_all<S: TakesNext, B: Allocator>(
     core: &mut S,
     id: SubId,
@@ -71,12 +71,12 @@ fn take_all<S: TakesNext, B: Allocator>(
 }
 
 impl<T: FlowValue, A: Allocator + Copy> SharedCore<T, A> {
-    /// Appends what the subscriber can receive now, at most `most` values, to the list, just as so many calls of `next`
-    /// would return it. `Ok` says why it stopped.
+    /// Appends the values that the subscriber can receive now, at most `most`, to the list, as if by calls of `next`.
+    /// `Ok` says why it stopped.
     ///
     /// # Errors
-    /// `OutOfMemory` if the list has no room or a copy was refused. That value is still in the flow, the values before
-    /// it are in the list, and a later call continues.
+    /// `OutOfMemory` if the list cannot grow or a copy is refused. The next value is still in the flow, the values
+    /// before it are in the list, and a later call continues.
     pub fn drain<B: Allocator>(
         &mut self,
         id: SubId,
@@ -94,7 +94,7 @@ impl<T: FlowValue, A: Allocator + Copy> SharedCore<T, A> {
 
 impl<T: FlowValue, A: Allocator + Copy> StateCore<T, A> {
     /// Appends what the subscriber can receive now, which is at most one value, to the list. `Ok` says why it stopped.
-    /// Use it if a state flow takes the place of a shared flow.
+    /// It lets a state flow be used in place of a shared flow.
     pub fn drain<B: Allocator>(
         &mut self,
         id: SubId,

@@ -42,17 +42,18 @@ pub trait FlowCore: Guarded<Said = Said<Self::Call, Self::Reply>> {
         ensures { (name : List ℕ) → Documents kind stands_as self.old (kind.subscribe name)
             (replied kind (λ id. kind.subscribed (number_of id)) result) self.new };
 
-    /// Returns the next value of a subscriber, `Empty` if it has none to receive, or `Gone` if there is no such subscriber.
+    /// Returns the next value of a subscriber, `Empty` if there is none for it, or `Gone` if no subscriber has this
+    /// number.
     ///
     /// # Errors
-    /// `OutOfMemory` if the value cannot be copied. The subscriber has it still to receive.
+    /// `OutOfMemory` if the value cannot be copied. The subscriber has not received it.
     fn next(&mut self, id: SubId) -> Result<Next<Self::Item>, FlowFault>
         ensures documented { Documents kind stands_as self.old (kind.take_next (number_of id))
             (replied kind kind.received result) self.new }
         ensures given { Self.Item.IsAlwaysCopied → IsOk result };
 
-    /// Takes values that the subscriber can receive, at most so many, to the end of the list. Returns how many, which may be
-    /// none; `next` gives the others.
+    /// Appends values that the subscriber can receive, at most `most`, to the list. Returns how many, which may be 0;
+    /// `next` returns the others.
     fn take_held<B: Allocator>(
         &mut self,
         id: SubId,
@@ -67,7 +68,7 @@ pub trait FlowCore: Guarded<Said = Said<Self::Call, Self::Reply>> {
         ensures room { (vec_len values.new ≡ vec_len values.old + result) ×
             (vec_capacity values.old ≤ vec_capacity values.new) };
 
-    /// Removes a subscriber, and returns whether it was there.
+    /// Removes a subscriber, and returns whether it was present.
     fn unsubscribe(&mut self, id: SubId) -> bool
         ensures { Documents kind stands_as self.old (kind.unsubscribe (number_of id))
             (kind.tested result) self.new };
@@ -76,10 +77,10 @@ pub trait FlowCore: Guarded<Said = Said<Self::Call, Self::Reply>> {
     fn subscription_count(&self) -> u64
         ensures { Documents kind stands_as self.now kind.count (kind.counted result) self.now };
 
-    /// When a caller that sleeps still has nothing.
+    /// When a caller that sleeps still finds nothing, or its emission still waits.
     ghost sleeping: { Sleeping kind };
 
-    /// Counts the values that subscribers could have seen so far.
+    /// Counts the values that subscribers could see so far.
     fn mark(&self) -> u64
         ensures { (s : Self.State) → stands_as self.now s → result ≡ sleeping.mark s };
 
@@ -87,10 +88,10 @@ pub trait FlowCore: Guarded<Said = Said<Self::Call, Self::Reply>> {
     fn first_waiting(&self) -> Option<u64>
         ensures { (s : Self.State) → stands_as self.now s → result ≡ sleeping.first_waiting s };
 
-    /// The facts that hold of its kind.
+    /// The kind satisfies the facts of `Lawful`.
     ghost lawful: { Lawful kind };
 
-    /// Behind a gate, it stands for the histories of its kind.
+    /// Behind a gate, a core stands for the histories of its kind.
     ghost stands_so: { (start core : Self) (h : List (HistoryEvent (Said Self.Call Self.Reply)))
         → Self.stands start core h → StandsForHistory kind stands_as (first start) core h };
 

@@ -6,26 +6,26 @@
 //! core from `new` stands for the first state. A `drain` is a chain of calls of `next` (`DrainsBy`).
 //!
 //! # Waiting
-//! An emitter waits if a subscriber has a whole window of values still to receive. `emit` then answers `Queued` with a
+//! With `Suspend`, an emitter waits if a subscriber is a whole window behind. `emit` then returns `Queued` with a
 //! number, and `poll` of that number returns whether the emission still waits. `cancel` takes it back. An emission that
-//! is only forgotten stays queued, and is emitted when there is room.
+//! is neither polled nor cancelled stays queued, and is emitted when there is room.
 //!
 //! # Capacity zero
 //! Without a buffer a value is offered to the present subscribers, and its emitter waits until each of them has
-//! received it or left. A subscriber that comes meanwhile is offered the value, too.
+//! received it or left. A subscriber that subscribes meanwhile is offered the value, too.
 //!
 //! # Own first values
 //! `subscribe_with` gives a subscriber values of its own, which it receives before any value of the flow. They block no
 //! emitter, and only the subscriber's `next` removes them.
 //!
 //! # Memory
-//! A shared flow keeps just the values that a new subscriber may get or a present one has still to receive (`held`).
-//! The room for them is reserved when the flow is made.
+//! A shared flow keeps only the values that a present or a new subscriber may still receive (`held`). `new` reserves
+//! the room for them.
 //!
 //! # Errors
-//! A call that would issue a number after `limit` numbers fails with `Exhausted`, also if memory would be refused. A
-//! refused call returns its value and changes nothing. Memory is taken for subscribers, for queued values and for
-//! copies. `try_emit`, `poll`, `cancel`, `unsubscribe`, `reset_replay_cache` and the calls that count take none.
+//! After `limit` numbers, a call that would issue another one fails with `Exhausted`, even if memory would be refused,
+//! too. A refused call returns its value and changes nothing. Subscribers, queued values and copies take memory.
+//! `try_emit`, `poll`, `cancel`, `unsubscribe`, `reset_replay_cache` and the calls that count take none.
 #![tactic(auto)]
 
 mod copies;

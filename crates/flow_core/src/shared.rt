@@ -23,12 +23,12 @@ use std::marker::Model;
 
 /// A shared flow (`MutableSharedFlow`) for one thread.
 ///
-/// It keeps the values that may still be asked for, in room for `replay + extra` values that is reserved when it is
-/// made. A subscription that is only forgotten stays, and may block emitters; `unsubscribe` ends it.
+/// It keeps the values that a present or a new subscriber may still receive. `new` reserves room for `replay + extra`
+/// of them, or for one. A subscription stays, and may block emitters, until `unsubscribe` ends it.
 pub struct SharedCore<T: FlowValue, A: Allocator + Copy = Global> {
     alloc: A,
     config: Config,
-    /// The last emitted values, from the first one that may still be asked for.
+    /// The last emitted values, from the first one that a present or a new subscriber may still receive.
     values: HeapCircularBuffer<T, A>,
     /// The number of the last emitted value, or 0.
     newest: u64,
@@ -38,7 +38,7 @@ pub struct SharedCore<T: FlowValue, A: Allocator + Copy = Global> {
     issued: u64,
 }
 
-// Not derived: each crate that drops a core would prove again how its parts are dropped.
+// Not derived: each crate that drops a core would have to prove again how its parts are dropped.
 impl<T: FlowValue, A: Allocator + Copy> Drop for SharedCore<T, A> {
     fn drop(self) {
         let Self {
@@ -68,7 +68,7 @@ impl<T: FlowValue, A: Allocator + Copy> Model for SharedCore<T, A> {
 
 const LARGEST_CAPACITY: u64 = 65_536;
 
-/// Returns why no flow can have this configuration, if none can.
+/// Returns the fault of a configuration that no flow can have.
 fn fault_of(config: Config) -> Option<FlowFault>
     ensures { result ≡ flow.config_fault config }
 {
@@ -133,7 +133,7 @@ impl<T: FlowValue, A: Allocator + Copy> SharedCore<T, A> {
         capacity_of(self.config)
     }
 
-    /// Returns whether a subscriber has a whole window of values still to receive.
+    /// Returns whether a subscriber is a whole window behind.
     fn is_blocked(&self) -> bool
         ensures own { result ≡ kept_full self.now }
         ensures shown { Shows self.now flow.is_blocked result }
@@ -166,7 +166,7 @@ impl<T: FlowValue, A: Allocator + Copy> SharedCore<T, A> {
         (position - self.held_from()) as usize
     }
 
-    /// Drops the values that may not be asked for any more.
+    /// Drops the values that neither a present nor a new subscriber can receive.
     fn trim(&mut self)
         ensures { Reaches self.old (λ s. s) self.new }
     {
@@ -175,7 +175,7 @@ impl<T: FlowValue, A: Allocator + Copy> SharedCore<T, A> {
         self.values.truncate_front(count as usize);
     }
 
-    /// Drops values after an emission, if the replay cache decided how many are held.
+    /// Trims the ring after an emission, if the ring began where the replay cache did.
     #[inline]
     fn trim_after(&mut self, by_cache: bool)
         ensures { (s : SharedFlowState T) →
@@ -231,7 +231,7 @@ impl<T: FlowValue, A: Allocator + Copy> SharedCore<T, A> {
         }
     }
 
-    /// Emits queued values until the flow is blocked, and then drops the values that may not be asked for any more.
+    /// Emits queued values until the flow is blocked or none is queued, and then trims the ring.
     fn settle(&mut self)
         ensures { Reaches self.old step.settle self.new }
     {

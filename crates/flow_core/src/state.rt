@@ -18,8 +18,8 @@ use std::marker::Model;
 /// A state flow (`MutableStateFlow`) for one thread. It has one current value; a subscriber receives the most recent
 /// value that it has not received.
 ///
-/// It is a conflated shared flow (`law_conflated` of `flow_law`). A subscription that is only forgotten stays; it keeps
-/// one value, and blocks no caller.
+/// It is a conflated shared flow (`law_conflated` of `flow_law`). A subscription stays until `unsubscribe` ends it; it
+/// keeps one value, and blocks no caller.
 pub struct StateCore<T: FlowValue, A: Allocator + Copy = Global> {
     alloc: A,
     value: T,
@@ -76,7 +76,7 @@ fn two_copies<T: FlowValue>(value: &T) -> Result<(T, T), FlowFault>
 }
 
 impl<T: FlowValue, A: Allocator + Copy> StateCore<T, A> {
-    /// Makes a state flow with this value, which issues at most `limit` numbers to subscribers. It takes no memory.
+    /// Makes a state flow with this value, which issues at most `limit` numbers to subscribers. Does not allocate.
     pub fn new(alloc: A, initial: T, limit: u64) -> Self
         ensures { result ≡ flow.first_state_flow limit initial }
     {
@@ -107,7 +107,7 @@ impl<T: FlowValue, A: Allocator + Copy> StateCore<T, A> {
         self.value = value;
     }
 
-    /// Does the same as `set`, and returns `true`: a state flow always has room.
+    /// Sets the current value, as `set` does, and returns `true`: a state flow always has room.
     pub fn try_emit(&mut self, value: T) -> bool
         ensures documented { StateConforms self.old
             (call.TryEmit value) (reply.Answered result) self.new }
@@ -116,8 +116,8 @@ impl<T: FlowValue, A: Allocator + Copy> StateCore<T, A> {
         true
     }
 
-    /// Sets the value to `update` if the current value is `expect`, and returns whether it was. At `false` it drops
-    /// `update`. If both are the current value, it returns `true`.
+    /// Sets the value to `update` if the current value is `expect`, and returns whether it was; if not, drops `update`.
+    /// Returns `true` also if `expect` and `update` are both the current value.
     pub fn compare_and_set(&mut self, expect: &T, update: T) -> bool
         ensures documented { StateConforms self.old (call.CompareAndSet expect.now update)
             (reply.Answered result) self.new }
@@ -173,7 +173,7 @@ impl<T: FlowValue, A: Allocator + Copy> StateCore<T, A> {
         }
     }
 
-    /// Ends a subscription, and returns whether it was there.
+    /// Ends a subscription, and returns whether it was active.
     pub fn unsubscribe(&mut self, id: SubId) -> bool
         ensures documented { StateConforms self.old (call.Unsubscribe (number_of id))
             (reply.Answered result) self.new }
@@ -197,7 +197,7 @@ impl<T: FlowValue, A: Allocator + Copy> StateCore<T, A> {
         }
     }
 
-    /// Fails with `Unsupported`, always: a state flow has a value at any time.
+    /// Always fails with `Unsupported`: a state flow has a value at any time.
     pub fn reset_replay_cache(&mut self) -> Result<(), FlowFault>
         ensures documented { StateConforms self.old call.ResetReplayCache
             (reset_reply result) self.new }

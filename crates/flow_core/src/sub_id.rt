@@ -2,8 +2,8 @@
 ghost use Rattle.std.specs.Prelude.{◌≡◌};
 ghost use Rattle.flow_core.specs.SubId.{number_of};
 
-/// A subscription of a shared or state core, by its number. Two of the same number are equal, and a core does not ask
-/// where one came from.
+/// A subscription of a shared or state core, identified by its number. Two with the same number are equal, and a core
+/// does not check which core issued the number.
 #[derive(Clone, Copy, Debug)]
 pub struct SubId {
     pub(crate) number: u64,

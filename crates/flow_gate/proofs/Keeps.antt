@@ -35,7 +35,7 @@ module _ {S E : Type 0} (stands : S → List (HistoryEvent E) → Type 0) where
   abbrev word : St → ℕ
   word s = get_or s.words 0 0
 
-  -- the known of one view change, but for their names
+  -- the tokens of one view learn something, and keep their names
   changed_apart : (f : Knowledge E → Knowledge E) → ((u : Knowledge E) → u.name ≡ (f u).name) → ((u : Knowledge E) → u.made ≤ (f u).made) → (views : List (SeatView E)) (id : ℕ) (v : SeatView E) (b : Bool)
       → get_elem? views id ≡ some v → AllApart views → AllApart (set views id (seat_view (map f v.known) b))
   changed_apart f name made views id v b at all = apart_from views (set views id (seat_view (map f v.known) b)) (λ i a p q. (i ≡ p) × (a ≡ q)) (λ i a j b' p q x y. (x.0 ∙ sym y.0, x.1 ∙ sym y.1))
@@ -44,7 +44,7 @@ module _ {S E : Type 0} (stands : S → List (HistoryEvent E) → Type 0) where
       (λ (h : (i ≢ id) × KnownAt views i a t). (i, a, t, h.1, refl, le_refl t.made, (refl, refl)))
       (known_set views id i a (seat_view (map f v.known) b) t x)) all
 
-  -- and still fit the history
+  -- the tokens of one view learn something, and still fit the history
   changed_fits : (log : List (HistoryEvent E)) (f : Knowledge E → Knowledge E) → ((u : Knowledge E) → Fits log u → Fits log (f u)) → (views : List (SeatView E)) (id : ℕ) (v : SeatView E) (b : Bool)
       → get_elem? views id ≡ some v → ((i a : ℕ) (t : Knowledge E) → KnownAt views i a t → Fits log t) → (i a : ℕ) (t : Knowledge E) → KnownAt (set views id (seat_view (map f v.known) b)) i a t → Fits log t
   changed_fits log f still views id v b at all i a t x = ⊎_elim
@@ -52,13 +52,13 @@ module _ {S E : Type 0} (stands : S → List (HistoryEvent E) → Type 0) where
       (λ (h : (i ≢ id) × KnownAt views i a t). all i a t h.1)
       (known_set views id i a (seat_view (map f v.known) b) t x)
 
-  -- where nobody holds the state, or one that is not this one does
+  -- what holds of each view that holds the state holds after a view that does not hold it was changed
   quiet : (views : List (SeatView E)) (id : ℕ) (w : SeatView E) → w.holds ≡ false → (P : ℕ → SeatView E → Type 0) → ((i : ℕ) (v : SeatView E) → get_elem? views i ≡ some v → v.holds ≡ true → P i v)
       → (i : ℕ) (v : SeatView E) → get_elem? (set views id w) i ≡ some v → v.holds ≡ true → P i v
   quiet views id w off P old i v at on = ⊎_elim (λ (h : (i ≡ id) × (w ≡ v)). absurd (true≢false (sym on ∙ (ap (λ (z : SeatView E). z.holds) (sym h.1) ∙ off))))
       (λ (h : (i ≢ id) × (get_elem? views i ≡ some v)). old i v h.1 on) (at_set views id i w v at)
 
-  -- where a seat that does not hold the state changes its view, who holds it holds it still
+  -- if a seat that does not hold the state changes its view, the seat that holds it still does
   held_set : (views : List (SeatView E)) (id : ℕ) (v w : SeatView E) → get_elem? views id ≡ some v → v.holds ≡ false → IsHeld views → IsHeld (set views id w)
   held_set views id v w at off h = let x : SeatView E = seat_view (h.1 ∷ []) true in
       let ne : h.0 ≢ id = λ e. let same : x ≡ v = some-injective x v (sym h.2 ∙ (ap (λ n. get_elem? views n) e ∙ at)) in true≢false (ap (λ (z : SeatView E). z.holds) same ∙ off) in
@@ -70,7 +70,7 @@ module _ {S E : Type 0} (stands : S → List (HistoryEvent E) → Type 0) where
   all_fit : (s : St) (r : Rule s) (id : ℕ) (v : SeatView E) → get_elem? s.views id ≡ some v → AllByRecursion (Fits r.history) v.known
   all_fit s r id v at = every_at (Fits r.history) v.known (λ a t e. r.fits id a t (v, at, e))
 
-  -- a step that leaves the word as it is, by a seat that does not hold the state
+  -- a step that does not change the word, by a seat that does not hold the state
   unmoved : (s : St) (r : Rule s) (id : ℕ) (v w : SeatView E) (cs : List (ℕ × Option S)) → get_elem? s.views id ≡ some v → v.holds ≡ false → w.holds ≡ false
       → ((i a : ℕ) (t : Knowledge E) → KnownAt (set s.views id w) i a t → Fits r.history t) → AllApart (set s.views id w)
       → Rule (stepped s 0 (word s) id cs w keeps)
@@ -183,7 +183,7 @@ module _ {S E : Type 0} (stands : S → List (HistoryEvent E) → Type 0) where
         refl,
       ))
 
-  -- a rule that stays where the views change, with the word and the state as they are
+  -- the rule holds after a change of the views that does not change the word and the state
   reseated : (s : St) (r : Rule s) (views : List (SeatView E)) → ((i : ℕ) (y : SeatView E) → get_elem? views i ≡ some y → y.holds ≡ true → (v : SeatView E) × (get_elem? s.views i ≡ some v) × (v.holds ≡ true) × (v.known ≡ y.known))
       → (IsHeld s.views → IsHeld views) → ((i a : ℕ) (t : Knowledge E) → KnownAt views i a t → Fits r.history t) → AllApart views → Rule record { words = s.words; homes = s.homes; views = views }
   reseated s r views old still fits apart = record {
@@ -250,7 +250,7 @@ module _ {S E : Type 0} (stands : S → List (HistoryEvent E) → Type 0) where
       let v : SeatView E = seat_view (t ∷ []) false in let left : SeatView E = seat_view (makes t ∷ []) false in let right : SeatView E = seat_view (child t ∷ []) false in
       let mid : List (SeatView E) = set s.views id left in let views : List (SeatView E) = mid ++ right ∷ [] in let t_at : KnownAt s.views id 0 t = (v, at, refl) in
       let mid_apart : AllApart mid = changed_apart makes (λ _. refl) (λ u. omega arith) s.views id v false at r.apart in
-      -- what stands before the new one
+      -- the tokens before the new one
       let one : (i a : ℕ) (x : Knowledge E) → KnownAt mid i a x → Fits r.history x × IsApartFrom x (child t) × IsApartFrom (child t) x = λ i a x p. ⊎_elim
       (λ (k : (i ≡ id) × (get_elem? (makes t ∷ []) a ≡ some x)). subst (λ (z : Knowledge E). Fits r.history z × IsApartFrom z (child t) × IsApartFrom (child t) z) (at_only (makes t) x a k.1).1
       (makes_fits t r.history (r.fits id 0 t t_at), makes_child t, child_makes t))
@@ -269,7 +269,7 @@ module _ {S E : Type 0} (stands : S → List (HistoryEvent E) → Type 0) where
       (λ (k : (j ≡ length mid) × (get_elem? (child t ∷ []) b ≡ some y)). let za = (at_only (child t) x a h.1).0 in let zb = (at_only (child t) y b k.1).0 in ⊎_elim (λ n. absurd (n (h.0 ∙ sym k.0))) (λ n. absurd (n (za ∙ sym zb))) ne) (known_end mid j b right y q))
       (known_end mid i a right x p))
 
--- The same, where what the histories begin from is known to the step by another name.
+-- The same, if the step knows the first state by another name.
 module _ {F S E : Type 0} (stands : F → S → List (HistoryEvent E) → Type 0) (k : F) (f : Option F) (from : f ≡ Some k) (slots id : ℕ) where
   pub enters_from : (t : Knowledge E) (me : Me (Option S) (SeatView E)) → me.0 ≡ seat_view (t ∷ []) false → Allows (GateHolds (stands k)) slots id me 0 (λ n. either (eqb n 0) 1 n) (entered (stands_from stands f) (step slots 0 0 1 none) me)
   enters_from t me is = subst (λ (h : Option F). Allows (GateHolds (stands k)) slots id me 0 (λ n. either (eqb n 0) 1 n) (entered (stands_from stands h) (step slots 0 0 1 none) me)) (sym from) (enters (stands k) slots id t me is)

@@ -1,4 +1,4 @@
--- The rule holds of a gate that nobody has entered.
+-- The rule holds of a new gate.
 use Rattle.std.proofs.Common.{◌≡◌, ℕ, List, [], ◌∷◌, Option, Some, sym, subst}
 use Rattle.atomic_table.specs.Table.{opening}
 use Rattle.flow_law.specs.declared.history.HistoryEvent.{HistoryEvent}

@@ -1,4 +1,4 @@
--- Where known stand among the views.
+-- The places of tokens' knowledge among the views.
 use Rattle.std.proofs.Common.{◌≡◌, ◌≢◌, ℕ, zero, suc, ◌≤◌, ◌<◌, ◌⊎◌, List, [], ◌∷◌, ◌++◌, map, length, set, refl, sym, ap, subst, inl, inr, ⊎_elim, arith}
 use mathlib.Core.Option.{some, some-injective, some-ne-none}
 use mathlib.Core.Logic.{dite}
@@ -30,7 +30,7 @@ module _ {X : Type 0} where
   at_inside (x ∷ xs) zero y e = omega arith
   at_inside (x ∷ xs) (suc a) y e = let h = at_inside xs a y e in omega arith
 
-  -- the last, or one before
+  -- an element of a list with one appended is the last one or an earlier one
   pub at_end : (xs : List X) (x y : X) (a : ℕ) → get_elem? (xs ++ x ∷ []) a ≡ some y → (get_elem? xs a ≡ some y) ⊎ ((a ≡ length xs) × (x ≡ y))
   at_end [] x y a e = inr (at_only x y a e)
   at_end (z ∷ xs) x y zero e = inl e
@@ -57,7 +57,7 @@ module _ {E : Type 0} where
   abbrev pub AllApart : List (SeatView E) → Type 0
   AllApart views = (i a j b : ℕ) (t u : Knowledge E) → KnownAt views i a t → KnownAt views j b u → (i ≢ j) ⊎ (a ≢ b) → IsApartFrom t u
 
-  -- a knowledge of the new views comes from one of the old, with its name, and has made no fewer
+  -- a token of the new views comes from one of the old views, with the same name, and has made at least as many seats
   abbrev pub ComesFrom : List (SeatView E) → (ℕ → ℕ → ℕ → ℕ → Type 0) → ℕ → ℕ → Knowledge E → Type 0
   ComesFrom views Old i a t = (p : ℕ) × (q : ℕ) × (u : Knowledge E) × KnownAt views p q u × (u.name ≡ t.name) × (u.made ≤ t.made) × Old i a p q
 

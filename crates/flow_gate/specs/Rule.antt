@@ -1,4 +1,5 @@
--- The rule of the gate's table. Word 0 is 0 while the gate is free, and the one slot has the state then. Otherwise the seat of one token holds the state.
+-- The rule of the gate's table. Word 0 is 0 while the gate is free, and the one slot has the state then. Otherwise the seat of one token
+-- holds the state.
 use Rattle.std.specs.Prelude.{◌≡◌, ◌≢◌, ℕ, true, false, List, [], ◌∷◌, ◌⊎◌, Option, Some, length, slice_index}
 use Rattle.std.specs.List.{AllByRecursion}
 use mathlib.Core.Option.{some}
@@ -22,7 +23,7 @@ pub record GateHolds {S E : Type 0} (stands : S → List (HistoryEvent E) → Ty
   -- the one history of the gate
   pub history : List (HistoryEvent E)
   pub wide : length s.words ≡ 1
-  -- some state stood for it, also while the gate is taken
+  -- some state stood for the history, also while the gate is taken
   pub sound : (state : S) × stands state history
   pub free : slice_index s.words 0 ≡ 0 → (state : S) × (get_elem? s.homes 0 ≡ some (some (Some state))) × stands state history
   pub nobody : slice_index s.words 0 ≡ 0 → (i : ℕ) (v : SeatView E) → get_elem? s.views i ≡ some v → v.holds ≡ false
@@ -31,7 +32,7 @@ pub record GateHolds {S E : Type 0} (stands : S → List (HistoryEvent E) → Ty
   -- the caller that holds the state has seen all of it
   pub holder : (i : ℕ) (v : SeatView E) → get_elem? s.views i ≡ some v → v.holds ≡ true → AllByRecursion (λ k. k.seen ≡ history) v.known
   pub single : (i j : ℕ) (v w : SeatView E) → get_elem? s.views i ≡ some v → get_elem? s.views j ≡ some w → v.holds ≡ true → w.holds ≡ true → i ≡ j
-  -- it begins with what each token has seen, and keeps each one's rule of names
+  -- the history begins with what each token has seen, and keeps each token's rule of names
   pub fits : (i a : ℕ) (k : Knowledge E) → KnownAt s.views i a k → Fits history k
   -- names differ, and each token's rule of names allows the others
   pub apart : (i a j b : ℕ) (k other : Knowledge E) → KnownAt s.views i a k → KnownAt s.views j b other → (i ≢ j) ⊎ (a ≢ b) → IsApartFrom k other

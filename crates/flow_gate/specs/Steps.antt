@@ -9,7 +9,7 @@ use Rattle.flow_gate.specs.declared.view.SeatView.{SeatView}
 use Rattle.flow_gate.specs.View.{seat_view}
 
 module _ {E : Type 0} where
-  -- a joined view has what two tokens know. Its two parts
+  -- what the first token of a view knows (a joined view has two tokens)
   abbrev pub first_of : List (Knowledge E) → List (Knowledge E)
   first_of [] = []
   first_of (k ∷ ks) = k ∷ []
@@ -19,11 +19,11 @@ module _ {E : Type 0} where
   others_of [] = []
   others_of (k ∷ ks) = ks
 
-  -- the state lies in a box, so that what is moved in and out of the slot is small
+  -- a boxed state stands for what its state stands for (a box is small to move in and out of the slot)
   abbrev pub boxed : {S A : Type 0} → (S → S → List (HistoryEvent E) → Type 0) → S → Box S A → List (HistoryEvent E) → Type 0
   boxed stands first state history = stands first state.value history
 
-  -- for which histories a state stands, where the first state may not be known
+  -- for which histories a state stands; every history if the first state is not known
   abbrev pub stands_from : {S F : Type 0} → (F → S → List (HistoryEvent E) → Type 0) → Option F → S → List (HistoryEvent E) → Type 0
   stands_from stands (Some first) state history = stands first state history
   stands_from stands None state history = Unit {0}
@@ -33,14 +33,14 @@ module _ {E : Type 0} where
     abbrev pub Pass : Type 0
     Pass = Me (Option S) (SeatView E)
 
-    -- the gate was free, and the seat has the state with the history that it stands for; or the exchange was lost
+    -- if the gate was free, the seat holds the state and has seen the history that it stands for; if not, the exchange was lost
     abbrev pub entered : Step (Option S) → Pass → ℕ → Pass → Type 0
     entered step before found after =
         (found ≡ 0 → (history : List (HistoryEvent E)) × (state : S) × stands state history × AllByRecursion (Fits history) before.0.known
         × (after ≡ (seat_view (map (sees history) before.0.known) true, (0, Some state) ∷ before.1)))
         × (found ≢ 0 → after ≡ (seat_view (map loses before.0.known) false, before.1))
 
-    -- the history so far was seen, and some state stands for it
+    -- the seat has seen the history so far, and some state stands for it
     abbrev pub observed : Step (Option S) → Pass → ℕ → Pass → Type 0
     observed step before found after =
         (history : List (HistoryEvent E)) × (state : S) × stands state history × AllByRecursion (Fits history) before.0.known × (after ≡ (seat_view (map (sees history) before.0.known) before.0.holds, before.1))
@@ -50,6 +50,6 @@ module _ {E : Type 0} where
     looked step before found after =
         (history : List (HistoryEvent E)) × (state : S) × stands state history × AllByRecursion (Fits history) before.0.known × (after ≡ before)
 
-  -- the state is at home, with what the seat adds
+  -- the seat no longer holds the state, and has seen the events that it added
   abbrev pub left : {S : Type 0} → List E → Step (Option S) → Me (Option S) (SeatView E) → ℕ → Me (Option S) (SeatView E) → Type 0
   left added step before found after = after ≡ (seat_view (map (adds added) before.0.known) false, rest before.1)

@@ -18,7 +18,7 @@ Token = flows.Token TableId
 abbrev pub Origin : Type 0 → Type 0
 Origin = flows.Origin TableId
 
--- a caller inside has the state too
+-- a caller inside: the state that its gate began with, its token, and the state that it holds
 pub record HeldState (S E : Type 0) : Type 0 where
   pub first : S
   pub token : Token E
@@ -34,11 +34,11 @@ module _ {S E : Type 0} where
   abbrev pub token_of : TableSeat (Option S) (SeatView E) → Token E
   token_of s = token s.table_id (only_known s.me.0.known)
 
-  -- the seat is one token's, and holds nothing
+  -- the seat has one token, and holds nothing
   abbrev pub IsIdle : TableSeat (Option S) (SeatView E) → Type 0
   IsIdle s = s.me ≡ (seat_view (only_known s.me.0.known ∷ []) false, [])
 
-  -- the seat is one token's, and holds the state's slot, which is empty
+  -- the seat has one token, and holds the state's slot, which is empty
   abbrev pub IsInside : TableSeat (Option S) (SeatView E) → Type 0
   IsInside s = s.me ≡ (seat_view (only_known s.me.0.known ∷ []) true, (0, None) ∷ [])
 
@@ -47,8 +47,8 @@ module _ {S E : Type 0} where
   held_state first t state = record { first = first; token = t; state = state }
 
 module _ {S E : Type 0} (stands : S → S → List (HistoryEvent E) → Type 0) (gate : Origin S) where
-  -- A caller that enters finds a state that stands for a history. It begins with all that the token had seen and goes
-  -- on with events of others, within the token's rule of names; the token has seen it from then on.
+  -- A caller that enters finds a state that stands for a history. The history is what the token had seen, followed by
+  -- events of other callers, within the token's rule of names. The token has then seen this history.
   pub record Finds (before : Token E) (held : HeldState S E) : Type 0 where
     pub history : List (HistoryEvent E)
     pub stood : stands gate.first held.state history
@@ -56,7 +56,7 @@ module _ {S E : Type 0} (stands : S → S → List (HistoryEvent E) → Type 0) 
     pub first : held.first ≡ gate.first
     pub token : held.token ≡ knowing before (knowledge before.knows.name before.knows.made held.token.knows.lost history)
 
-  -- the same, and no exchange was lost
+  -- `Finds`, and no exchange was lost
   abbrev pub FindsAtOnce : Token E → HeldState S E → Type 0
   FindsAtOnce before held = Finds before held × (held.token.knows.lost ≡ before.knows.lost)
 
@@ -73,15 +73,15 @@ module _ {S E : Type 0} (stands : S → S → List (HistoryEvent E) → Type 0) 
   abbrev pub StandsForSome : S → Type 0
   StandsForSome state = (history : List (HistoryEvent E)) × stands gate.first state history
 
-  -- the state stands for a history that begins with all that the token has seen and goes on with events of others, within
-  -- the token's rule of names
+  -- the state stands for a history: what the token has seen, followed by events of other callers, within the token's
+  -- rule of names
   abbrev pub StandsAfter : Token E → S → Type 0
   StandsAfter t state = (history : List (HistoryEvent E)) × stands gate.first state history × Fits history t.knows
 
-  -- some state stood for such a history
+  -- some state satisfies `StandsAfter`
   abbrev pub HasStood : Token E → Type 0
   HasStood t = (state : S) × StandsAfter t state
 
--- the state of a caller inside stands for what was found followed by events of its own
+-- the state of a caller inside stands for what its token has seen, followed by these events under its name
 abbrev pub StandsWith : {S E : Type 0} → (S → S → List (HistoryEvent E) → Type 0) → HeldState S E → List E → Type 0
 StandsWith stands held added = stands held.first held.state (held.token.knows.seen ++ events_of held.token.knows.name added)

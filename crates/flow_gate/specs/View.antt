@@ -9,6 +9,6 @@ module _ {E : Type 0} where
   abbrev pub seat_view : List (Knowledge E) → Bool → SeatView E
   seat_view known holds = record { known = known; holds = holds }
 
-  -- of the first seat
+  -- the view of the first seat
   abbrev pub first_view : SeatView E
   first_view = seat_view (first_knowledge ∷ []) false

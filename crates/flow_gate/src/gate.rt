@@ -101,8 +101,7 @@ impl<S: Guarded + Drop, A: Allocator + Copy> Gate<S, A> {
         self.table.shared.peek(0) == 0
     }
 
-    /// Enters, and waits while another caller is inside: it lets other threads go first, and tries when the gate is
-    /// free.
+    /// Enters. While another caller is inside, yields the thread, and tries again when the gate is free.
     ///
     /// No contract says that it ever enters: a caller may stay inside, and others may be faster.
     #[inline]
@@ -120,8 +119,8 @@ impl<S: Guarded + Drop, A: Allocator + Copy> Gate<S, A> {
         }
     }
 
-    /// Enters, after the gate was found taken. It is a call of its own, so that a call that need not wait saves no registers
-    /// for it.
+    /// Enters after the gate was found taken. This is a separate function, so that a call that need not wait saves no
+    /// registers for it.
     #[cold]
     #[inline(never)]
     fn enter_waiting<R: Wait>(&self, rt: &R, seat: Seat<S, A>) -> Held<'_, S, A>
@@ -204,7 +203,7 @@ impl<S: Guarded + Drop, A: Allocator + Copy> Gate<S, A> {
 
     /// Returns the state, or `None` if a caller entered and never left. It does not wait.
     ///
-    /// Call it if no seat is at hand; with a seat, `close_with` says more about the state.
+    /// Call it if there is no seat left; with a seat, `close_with` says more about the state.
     pub fn close(self) -> Option<S>
         ensures { IfSome result (StandsForSome S.stands self) }
     {
@@ -220,10 +219,10 @@ impl<S: Guarded + Drop, A: Allocator + Copy> Gate<S, A> {
         }
     }
 
-    /// Closes the gate by one of its seats. The state is the one after the last history, which begins with all that the
-    /// seat has seen. Returns `None` if a caller entered and never left.
+    /// Closes the gate with one of its seats, and returns the state, or `None` if a caller entered and never left. The
+    /// state stands for a history that begins with all that the seat has seen.
     ///
-    /// Seats that are left are of no further use.
+    /// Other seats of the gate are of no further use.
     pub fn close_with(self, seat: Seat<S, A>) -> Option<S>
         requires { seat.table_id ≡ self.table_id }
         ensures { IfSome result (StandsAfter S.stands self seat) }

@@ -37,7 +37,7 @@ impl<'a, S: Guarded, A: Allocator> Held<'a, S, A> {
     ghost use Rattle.flow_gate.specs.Lending.{LendsState};
     ghost use Rattle.flow_gate.specs.Tokens.{StandsWith};
 
-    /// Lends the state, which may be changed.
+    /// Returns a mutable reference to the state.
     #[inline]
     pub fn state(&mut self) -> &mut S
         ensures* writes_back { sem 𝓛
@@ -47,7 +47,7 @@ impl<'a, S: Guarded, A: Allocator> Held<'a, S, A> {
         &mut *self.state
     }
 
-    /// Puts the state back. The added events are those of `W`, which may speak of the evidence if it is `Brand`.
+    /// Puts the state back. The added events are those of `W`, which may depend on the evidence if `W` is `Brand`.
     #[inline]
     fn leave_adding<W: Adds<S::Said>, X>(self, _evidence: &X) -> Seat<S, A>
         requires { StandsWith S.stands self W.adds }

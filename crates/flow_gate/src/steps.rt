@@ -25,11 +25,11 @@ impl<E> Adds<E> for Brand {
 /// Evidence of the events that a caller added while it was inside, such as the call that it made and the answer. For
 /// contracts only.
 pub trait NamesEvents<E> {
-    /// The events, if the caller's token knew this.
+    /// The events that this evidence names for a caller whose token has this knowledge.
     ghost events: { Self → Knowledge E → List E };
 }
 
-/// Nothing was added.
+/// Names no events.
 impl<E> NamesEvents<E> for () {
     ghost events = { λ _ _. [] };
 }
@@ -44,7 +44,7 @@ impl<S: Guarded, A: Allocator> TableRule<Option<Box<S, A>>, SeatView<S::Said>, S
     ghost first = { λ _. first_view };
 }
 
-/// The state with which the gate began. A step does not see it by itself; a call at `Brand` chooses it.
+/// The state with which the gate began. A step does not know it; a call at `Brand` chooses it in its proof.
 pub(crate) trait StartsFrom<F> {
     ghost first: { Option F };
 }
@@ -73,7 +73,7 @@ impl<S: Guarded, A: Allocator, B: StartsFrom<S>> Play<Option<Box<S, A>>, SeatVie
     ghost then = { observed (stands_from (boxed S.stands) B.first) };
 }
 
-/// A load that changes nothing, by which a seat learns that what it has seen begins a history.
+/// A load that changes nothing, and proves that what a seat has seen begins a history.
 pub(crate) struct Look<B> {
     starts: PhantomData<B>,
 }

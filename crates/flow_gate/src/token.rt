@@ -8,7 +8,7 @@ use std::marker::Model;
 
 /// A seat at a gate, by which a caller may enter. Contracts see its name, its counts and the history that it has seen.
 ///
-/// If a seat is dropped, no call is made under its name any more. The gate goes on.
+/// After a seat is dropped, no call is made under its name. Other seats are not affected.
 #[derive(Drop)]
 pub struct Seat<S: Guarded, A: Allocator = Global> {
     pub(crate) seat: atomic_table::Seat<Option<Box<S, A>>, SeatView<S::Said>>,

@@ -1,4 +1,4 @@
--- A token that meets one that has seen a `set`, and then reads, reads after it.
+-- A token that meets one that has seen a `set`, and then reads, reads after that `set`.
 use Rattle.std.proofs.Common.{◌≡◌, ℕ, [], ◌∷◌, ◌++◌, sym, ap, ◌∙◌, append_assoc}
 use Rattle.flow_law.specs.declared.call.StateCall.TheVariants.{GetValue}
 use Rattle.flow_law.specs.declared.call.StateReply.TheVariants.{Got}

@@ -37,6 +37,6 @@ read_by name value = event name (said GetValue (Got value))
 abbrev pub IsSetByMaker : ℕ → Knowledge Says → Type 0
 IsSetByMaker value k = (maker : List ℕ) × (j : ℕ) × (k.name ≡ child_name maker j) × Has (set_by maker value) k.seen
 
--- some other caller set the value before this token read what it found
+-- a caller set `value`, and later in the history this token read `found`
 abbrev pub ReadsAfterSet : ℕ → ℕ → Knowledge Says → Type 0
 ReadsAfterSet value found k = (sender : List ℕ) × ComesBefore (set_by sender value) (read_by k.name found) k.seen

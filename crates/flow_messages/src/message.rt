@@ -6,7 +6,7 @@ ghost use Rattle.flow_messages.specs.Before.{IsSetByMaker, ReadsAfterSet};
 use flow_word::WordSetter;
 use std::marker::{Brand, PhantomData};
 
-/// Which flow the callers in messages are of, for contracts alone. A call at `Brand` picks it in its proof.
+/// The flow of the callers in messages, for contracts only. A call at `Brand` chooses it in its proof.
 pub trait OneFlow {
     ghost id: { Option WordId };
 }
@@ -15,7 +15,7 @@ impl OneFlow for Brand {
     ghost id = { None };
 }
 
-/// A value that was set, and a caller that has seen it being set.
+/// A value that was set, and a caller that has seen the `set`.
 #[derive(Drop)]
 pub struct Message<'a, F: OneFlow> {
     pub value: u64,
@@ -26,7 +26,7 @@ pub struct Message<'a, F: OneFlow> {
 }
 
 impl<'a, F: OneFlow> Message<'a, F> {
-    /// Sets the value, and makes a message of it.
+    /// Sets the value, and returns a message about it.
     pub fn of_set(setter: &mut WordSetter<'a, u64>, value: u64) -> Message<'a, F>
         requires { F.id ≡ Some setter.old.flow.table_id }
         ensures { result.value ≡ value }

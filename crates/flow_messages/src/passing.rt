@@ -1,4 +1,4 @@
-//! The two threads.
+//! Passing a message from one thread to another.
 ghost use Rattle.std.specs.Prelude.{◌≡◌, Some, IfSome};
 ghost use Rattle.flow_messages.specs.Before.{ReadsAfterSet};
 
@@ -10,7 +10,7 @@ use std::marker::Brand;
 use std::sync::Wait;
 use std::thread::{Threads, join};
 
-/// The reader of a message, the value that the message was about, and the value that the reader found then.
+/// What the reader of a message has at the end: its token, the value of the message, and the value that it then read.
 #[derive(Drop)]
 pub struct Heard<'a> {
     pub reader: WordSetter<'a, u64>,
@@ -18,7 +18,7 @@ pub struct Heard<'a> {
     pub found: u64,
 }
 
-/// Sets the value, and sends a message of it.
+/// Sets the value, and sends a message about it.
 fn tell<'a, F: OneFlow, R: Wait>(
     rt: &R,
     setter: WordSetter<'a, u64>,
@@ -33,7 +33,7 @@ fn tell<'a, F: OneFlow, R: Wait>(
     let _ = to.send(rt, message);
 }
 
-/// Waits for a message, and reads the value. `None` if no message comes.
+/// Waits for a message, and then reads the value. Returns `None` if no message arrives.
 fn hear<'a, F: OneFlow, R: Wait>(
     rt: &R,
     reader: WordSetter<'a, u64>,
@@ -74,10 +74,10 @@ fn pass_between<'a, F: OneFlow + Send, R: Threads + Wait + Sync>(
     heard
 }
 
-/// One thread sets the value and sends a message of it; another waits for the message and then reads the value.
+/// Runs two threads: one sets the value and sends a message about it, the other waits for the message and then reads.
 ///
-/// Returns `None` if there is no memory for the channel or the message. What the reader found is the value that was
-/// set, or one that another caller set after it.
+/// Returns `None` if there is no memory for the channel or the message. The reader finds the value that was set, or one
+/// that another caller set after it.
 pub fn pass_on<'a, R: Threads + Wait + Sync>(
     rt: &R,
     alloc: Global,

@@ -6,6 +6,6 @@ use Rattle.flow_sleepers.specs.declared.sleepers.Sleeper.{Sleeper}
 abbrev pub numbers_of : {A : Type 0} → List (Sleeper A) → List ℕ
 numbers_of list = map (λ s. s.number) list
 
--- the number is in the list already, or no waker was kept, or it comes to the others
+-- the list has not changed (it had the number already, or no waker was kept), or the number was inserted
 abbrev pub Adds : ℕ → List ℕ → List ℕ → Type 0
 Adds number old new = (new ≡ old) ⊎ ((place : ℕ) × (new ≡ insert old place number))

@@ -1,7 +1,7 @@
-//! Callers that sleep until there is something for them, tasks and threads, each under a number.
+//! Tasks and threads that sleep until they are woken, each under a number.
 //!
-//! Neither the `Waker` of a task nor that of a thread can be copied or dropped without waking the sleeper. So a sleeper
-//! whose number is in no list any more was woken. A `Limit` bounds a wait in time.
+//! The waker of a task or of a thread cannot be copied, and dropping it wakes the sleeper. So a sleeper whose number is
+//! in no list any more was woken. A `Limit` bounds a wait in time.
 #![tactic(auto)]
 
 mod limit;

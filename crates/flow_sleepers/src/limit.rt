@@ -1,7 +1,7 @@
 //! Time limits of waits.
 use std::time::{Clock, Duration, Instant};
 
-/// A time limit, from the moment at which it was made.
+/// A time limit that runs from the moment at which it was made.
 #[derive(Clone, Copy)]
 pub struct Limit {
     /// `None` if the clock could not be read.

@@ -16,7 +16,8 @@ struct Sleeper<A: Allocator = Global> {
     wakers: Wakers<A>,
 }
 
-// Not derived, nor are the next ones: each crate that drops a flow would prove again how its sleepers are dropped.
+// Not derived, nor are the next ones: each crate that drops a flow would have to prove again how its sleepers are
+// dropped.
 impl<A: Allocator> Drop for Sleeper<A> {
     fn drop(self) {
         let Self {
@@ -47,7 +48,7 @@ impl<A: Allocator> Model for Sleepers<A> {
     ghost view = { λ s. numbers_of s.list.items };
 }
 
-/// Callers that are to be woken: dropping this wakes each.
+/// Sleepers that were removed from a list. Dropping this wakes them.
 pub struct Woken<A: Allocator = Global> {
     list: Vec<Sleeper<A>, A>,
 }
@@ -68,7 +69,7 @@ fn is_at<A: Allocator>(list: &[Sleeper<A>], place: usize, number: u64) -> bool
     }
 }
 
-/// Returns the place of the sleeper of this number, which is added if there is none, or `None` if memory is refused.
+/// Returns the place of the sleeper of this number, after adding one if there is none, or `None` if memory is refused.
 fn place_in<A: Allocator>(list: &mut Vec<Sleeper<A>, A>, number: u64) -> Option<usize>
     ensures within { IfSome result (λ place. place < vec_len list.new) }
     ensures adds { Adds number (numbers_of list.old.items) (numbers_of list.new.items) }
@@ -88,14 +89,14 @@ fn place_in<A: Allocator>(list: &mut Vec<Sleeper<A>, A>, number: u64) -> Option<
 }
 
 impl<A: Allocator + Copy> Woken<A> {
-    /// Returns an empty list. It takes no memory.
+    /// Returns an empty list. Does not allocate.
     pub fn new(alloc: A) -> Self {
         Woken {
             list: Vec::new(alloc),
         }
     }
 
-    /// Returns all of them, and leaves an empty list.
+    /// Takes all sleepers out, and leaves an empty list.
     pub fn take(&mut self) -> Self {
         let alloc = *self.list.allocator();
         Woken {
@@ -105,7 +106,7 @@ impl<A: Allocator + Copy> Woken<A> {
 }
 
 impl<A: Allocator + Copy> Sleepers<A> {
-    /// Returns an empty list. It takes no memory.
+    /// Returns an empty list. Does not allocate.
     pub fn new(alloc: A) -> Self
         ensures { result ≡ [] }
     {
@@ -121,8 +122,8 @@ impl<A: Allocator + Copy> Sleepers<A> {
         self.list.is_empty()
     }
 
-    /// Keeps the waker of a caller under this number, unless the caller asks again first. It asks again if memory is refused,
-    /// too.
+    /// Keeps the waker of a caller under this number. If the caller asks again first, or memory is refused, keeps no
+    /// waker, and the caller asks again. Always returns `Pending`.
     pub fn sleep<W: Waiter<A>, T>(&mut self, waiter: &mut W, number: u64) -> Poll<T>
         ensures pending { result ≡ Poll.Pending }
         ensures armed { W.is_armed waiter.new }

@@ -11,12 +11,12 @@ use std::thread::Parker;
 use std::time::{Clock, Duration};
 use std::{mem, thread};
 
-/// How often a thread asks before it leaves its waker. What it waits for often comes soon, and a sleep costs as much as many
-/// looks.
+/// How often a thread asks before it leaves its waker. What it waits for often happens soon, and a sleep costs as much
+/// as many looks.
 const LOOKS: u32 = 32;
 
-/// How often a thread yields between two looks, at most. A look enters the flow, and holds up the callers that are about to
-/// give the thread something.
+/// How often a thread yields between two looks, at most. A look enters the flow, and so delays the callers that the
+/// thread waits for.
 const YIELDS: u32 = 4;
 
 /// The wakers of a sleeper: that of its task, or of its thread. Dropping them wakes it.
@@ -46,7 +46,7 @@ pub trait Waiter<A: Allocator> {
     /// The caller has left its waker, or asks again.
     ghost is_armed: { Self → Type 0 };
 
-    /// What stays as it was when the caller leaves its waker.
+    /// What does not change when the caller leaves its waker or asks again.
     ghost keeps: { Self → Self → Type 0 };
 
     /// Leaves the caller's waker. If memory is refused, the caller asks again.
@@ -54,15 +54,15 @@ pub trait Waiter<A: Allocator> {
         ensures armed { is_armed self.new }
         ensures kept { keeps self.old self.new };
 
-    /// Lets the caller ask again.
+    /// Makes the caller ask again instead of sleeping.
     fn ask_again(&mut self)
         ensures armed { is_armed self.new }
         ensures kept { keeps self.old self.new };
 
-    /// Returns whether the caller asks again, and leaves no waker yet. Nothing is promised of it.
+    /// Returns whether the caller asks again before it leaves a waker. No contract says when.
     fn asks_first(&self) -> bool;
 
-    /// A caller that was not touched is kept.
+    /// `keeps` holds of a caller that has not changed.
     ghost keeps_same: { (w : Self) → keeps w w };
 }
 
@@ -87,7 +87,7 @@ impl<'a, A: Allocator> Waiter<A> for Context<'a> {
     }
 }
 
-/// Wakes one thread when it is dropped.
+/// The waker of a thread, which wakes it when dropped.
 struct ThreadWaker<A: Allocator = Global> {
     parker: Arc<Parker, A>,
 }
@@ -99,19 +99,19 @@ impl<A: Allocator> Drop for ThreadWaker<A> {
     }
 }
 
-/// How a thread waits.
+/// What a thread does at its next wait.
 #[derive(Drop)]
 enum Rest {
-    /// It was not told to wait.
+    /// It yields: since its last wait it has neither left a waker nor asked again.
     None,
     /// It sleeps until the waker that it left is dropped.
     Asleep,
-    /// It lets other threads go first, and asks again.
+    /// It yields, and asks again.
     Again,
 }
 
-/// The calling thread, which first asks some times, and then sleeps until a waker of it is dropped. No other caller leaves a
-/// waker under its numbers.
+/// The calling thread, which first asks several times, and then sleeps until one of its wakers is dropped. No other
+/// caller leaves a waker under its numbers.
 #[derive(Drop)]
 pub struct ThreadWaiter<A: Allocator = Global> {
     /// Made when the thread first leaves a waker.
@@ -122,7 +122,7 @@ pub struct ThreadWaiter<A: Allocator = Global> {
 }
 
 impl<A: Allocator + Copy> ThreadWaiter<A> {
-    /// Makes a waiter that has left no waker. It takes no memory.
+    /// Makes a waiter that has left no waker. Does not allocate.
     pub fn new() -> Self {
         ThreadWaiter {
             parker: None,
@@ -147,7 +147,7 @@ impl<A: Allocator + Copy> ThreadWaiter<A> {
         Ok(waker)
     }
 
-    /// Forgets how an earlier wait ended: the next sleep is ended only by wakers that are left from now on. The thread leaves
+    /// Forgets how an earlier wait ended: only wakers that are left from now on end the next sleep. The thread leaves
     /// one at the first call that finds nothing.
     pub fn begin<R: Wait>(&mut self, rt: &R) {
         self.rest = Rest::None;
@@ -158,7 +158,7 @@ impl<A: Allocator + Copy> ThreadWaiter<A> {
     }
 
     /// Sleeps until a waker that was left is dropped, or for `most`, if that is given; it may return early. If none was
-    /// left, or the thread has to ask again, it lets other threads go first.
+    /// left, or the thread has to ask again, yields instead.
     pub fn sleep<R: Wait>(&mut self, rt: &R, most: Option<Duration>) {
         match (mem::replace(&mut self.rest, Rest::None), &self.parker, most) {
             (Rest::Asleep, Some(parker), Some(most)) => parker.park_timeout(rt, most),
@@ -174,15 +174,15 @@ impl<A: Allocator + Copy> ThreadWaiter<A> {
         }
     }
 
-    /// Sleeps until the waker that was left is dropped, or lets other threads go first if the thread has to ask again.
+    /// Sleeps until the waker that was left is dropped, or yields if the thread has to ask again.
     pub fn wait<R: Wait>(&mut self, rt: &R)
         requires { IsToldToWait self.old }
     {
         self.sleep(rt, None);
     }
 
-    /// Sleeps as `wait` does, but no longer than the limit allows; it may return early. Returns `false` at once if no time is
-    /// left.
+    /// Sleeps as `wait` does, but no longer than the limit allows; it may return early. Returns `false` at once if no
+    /// time is left.
     pub fn wait_within<R: Wait + Clock>(&mut self, rt: &R, limit: &Limit) -> bool
         requires { IsToldToWait self.old }
     {
@@ -203,7 +203,7 @@ impl<A: Allocator + Copy> Waiter<A> for ThreadWaiter<A> {
 
     fn leave_waker(&mut self, alloc: A, wakers: &mut Wakers<A>)
         ensures left { (self.new.rest ≡ Rest.Again) ⊎ IsSome wakers.new.thread }
-        // The trait's own clauses.
+        // The clauses of the trait.
         ensures armed { IsToldToWait self.new }
         ensures kept { ⊤ }
     {

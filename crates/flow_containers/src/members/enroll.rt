@@ -6,7 +6,7 @@ use super::{Member, Members};
 use crate::own_values::OwnValues;
 use std::alloc::Allocator;
 
-/// What is left of a subscriber's own first values, and its position when it last moved.
+/// A subscriber's remaining own first values, and its position when it last moved.
 #[derive(Drop)]
 pub struct Row<T: Drop, A: Allocator> {
     pub own: OwnValues<T, A>,

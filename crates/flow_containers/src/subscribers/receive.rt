@@ -11,12 +11,12 @@ use std::alloc::Allocator;
 /// What one subscriber receives.
 #[derive(Drop)]
 pub enum Received<T> {
-    /// There is no such subscriber.
+    /// No subscriber has this number.
     Gone,
     /// The first of the subscriber's own values.
     Own(T),
-    /// A copy of an emitted value, which the subscriber has now passed. The flag says whether the value is the first
-    /// one that the flow holds and no other subscriber has still to receive it.
+    /// A copy of an emitted value, which the subscriber has now passed. The flag is `true` if this was the first value
+    /// that the flow holds, and no other subscriber is at its position.
     Emitted(T, bool),
     /// The subscriber has received all values.
     Empty,

@@ -1,4 +1,4 @@
-//! Several emitted values for a subscriber at once.
+//! Taking several emitted values for a subscriber at once.
 ghost use Rattle.std.specs.Prelude.{◌≡◌, ◌+◌, ◌-◌, ◌<◌, ◌≤◌, ◌++◌, length, take, drop, IfSome};
 ghost use Rattle.std.specs.Vec.{vec_len, vec_capacity};
 ghost use Rattle.flow_law.specs.SharedFlow as flow;
@@ -9,8 +9,8 @@ use circular_buffer::HeapCircularBuffer;
 use flow_law::FlowValue;
 use std::alloc::Allocator;
 
-/// Appends copies of at most so many values, in order from this place, to the list. Returns how many: fewer if there
-/// are no more or a copy is refused, and 0 if the list has no room for them.
+/// Appends copies of at most `most` values to the list, in order from the place `from`. Returns how many: fewer if
+/// there are no more or a copy is refused, and 0 if the list gets no memory.
 fn copy_to<T: FlowValue, A: Allocator, B: Allocator>(
     values: &HeapCircularBuffer<T, A>,
     from: usize,
@@ -41,8 +41,8 @@ fn copy_to<T: FlowValue, A: Allocator, B: Allocator>(
 }
 
 impl<T: FlowValue, A: Allocator> Subscribers<T, A> {
-    /// Appends copies of the emitted values that a subscriber without own values receives next, at most so many, to the
-    /// list. Returns how many. `values` are the last emitted values.
+    /// Appends copies of the emitted values that a subscriber receives next, at most `most`, to the list. Returns how
+    /// many: none if the subscriber has own values left. `values` are the last emitted values.
     #[inline]
     pub fn take<B: Allocator>(
         &mut self,

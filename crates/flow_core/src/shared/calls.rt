@@ -38,7 +38,7 @@ impl<T: FlowValue, A: Allocator + Copy> SharedCore<T, A> {
         }
     }
 
-    /// Ends a subscription, and returns whether it was there. Emissions that waited only for it are done.
+    /// Ends a subscription, and returns whether it was active. Emissions that waited only for it are done.
     pub fn unsubscribe(&mut self, id: SubId) -> bool
         ensures documented { Conforms self.old (call.Unsubscribe (number_of id))
             (reply.Tested result) self.new }

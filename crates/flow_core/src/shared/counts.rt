@@ -21,8 +21,7 @@ impl<T: FlowValue, A: Allocator + Copy> SharedCore<T, A> {
         self.subscribers.len() as u64
     }
 
-    /// Returns how many values the flow keeps: those that a new subscriber may get or a present one has still to
-    /// receive.
+    /// Returns how many values the flow keeps: those that a present or a new subscriber may still receive.
     ///
     /// There are at most `replay + extra` of them, or one if both are 0. Queued values and own first values do not
     /// count.
@@ -42,11 +41,11 @@ impl<T: FlowValue, A: Allocator + Copy> SharedCore<T, A> {
         self.subscribers.emitted()
     }
 
-    /// How many emitted values a subscriber has still to receive, and `None` where it is not there. Its own first values do
-    /// not count.
+    /// Returns how many emitted values a subscriber has not received yet, or `None` if no subscriber has this number.
+    /// Its own first values do not count.
     ///
-    /// It is at most `replay + extra`, or 1 where both are 0. A subscriber that is so far behind makes emitters wait,
-    /// or loses values, or has new ones dropped: as `overflow` says.
+    /// The lag is at most `replay + extra`, or 1 if both are 0. If a subscriber has the greatest lag, `overflow`
+    /// decides: emitters wait, the subscriber loses its oldest value, or new values are dropped.
     pub fn lag(&self, id: SubId) -> Option<u64>
         ensures lag { (s : SharedFlowState T) →
             StandsFor self.now s → result ≡ lag_of (number_of id) s }

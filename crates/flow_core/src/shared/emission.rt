@@ -1,4 +1,4 @@
-//! Emissions into a shared core: their cases, their waits, and cancelling them.
+//! Emissions into a shared core: their cases, how they wait, and how they are cancelled.
 ghost use Rattle.std.specs.Prelude.{◌≡◌, ◌≢◌, ◌+◌, ◌<◌, true, false, length, IfErr, MatchResult};
 ghost use Rattle.std.specs.Bool.{OnTrue};
 ghost use Rattle.flow_law.specs.SharedFlow as flow;
@@ -70,7 +70,7 @@ impl<T: FlowValue, A: Allocator + Copy> SharedCore<T, A> {
         Ok(number)
     }
 
-    /// Emits a value; slow subscribers lose what exceeds a buffer. Returns its number.
+    /// Emits a value, and returns its number. A subscriber that was a whole buffer behind loses its oldest value.
     fn append_dropping(&mut self, value: T) -> Result<u64, Refused<T>>
         requires full { (kept_full self.old ≡ true) ×
             (self.old.config.overflow ≡ Overflow.DropOldest) }
@@ -93,7 +93,7 @@ impl<T: FlowValue, A: Allocator + Copy> SharedCore<T, A> {
         Ok(number)
     }
 
-    /// Appends a value; slow subscribers lose what exceeds a buffer.
+    /// Appends a value. A subscriber that was a whole buffer behind loses its oldest value.
     fn push_dropping(&mut self, value: T, number: u64)
         requires full { (kept_full self.old ≡ true) ×
             (self.old.config.overflow ≡ Overflow.DropOldest) }
@@ -134,7 +134,7 @@ impl<T: FlowValue, A: Allocator + Copy> SharedCore<T, A> {
 
     /// Emits a value if it need not wait. Returns `true` if the flow took it or, under `DropLatest`, dropped it.
     ///
-    /// At `false` an `emit` would wait; the value is dropped, and nothing changes. The call takes no memory, so its
+    /// If `emit` would wait, drops the value, changes nothing and returns `false`. The call takes no memory, so its
     /// only error is `Exhausted`, which returns the value.
     #[inline]
     pub fn try_emit(&mut self, value: T) -> Result<bool, Refused<T>>
@@ -158,7 +158,7 @@ impl<T: FlowValue, A: Allocator + Copy> SharedCore<T, A> {
 
     /// Emits a value, or queues it.
     ///
-    /// At `Queued` the emitter waits: `poll` returns whether it still does, and `cancel` ends the wait. An emission
+    /// After `Queued` the emitter waits: `poll` returns whether it still waits, and `cancel` ends the wait. An emission
     /// that is neither polled nor cancelled stays, and is emitted when there is room. Only a queued value takes memory.
     /// An error, `Exhausted` or else `OutOfMemory`, returns the value.
     #[inline]
@@ -196,8 +196,8 @@ impl<T: FlowValue, A: Allocator + Copy> SharedCore<T, A> {
 
     /// Returns whether the emission of this number still waits: its value is queued, or offered to a subscriber.
     ///
-    /// At `false` its call is done, or it was cancelled, or there is no such emission. With a buffer, a call is done once the
-    /// flow has taken its value; without one, once each subscriber has received it.
+    /// `false` means that its call is done, that it was cancelled, or that no emission has this number. With a buffer,
+    /// a call is done once the flow has taken its value; without one, once each subscriber has received it or left.
     pub fn poll(&self, number: u64) -> bool
         ensures documented { Conforms self.now (call.Poll number) (reply.Tested result) self.now }
     {

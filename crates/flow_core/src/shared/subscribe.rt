@@ -14,7 +14,7 @@ impl<T: FlowValue, A: Allocator + Copy> SharedCore<T, A> {
     /// Adds a subscriber. It receives the replay cache first, or the value that is being offered, and then what is
     /// emitted.
     ///
-    /// A subscriber that does not read blocks emitters or loses values, depending on the strategy, until `unsubscribe`.
+    /// A subscriber that does not read blocks emitters or loses values, depending on `overflow`, until `unsubscribe`.
     ///
     /// # Errors
     /// `Exhausted` if the flow has issued as many numbers as its limit allows, else `OutOfMemory`.

@@ -1,4 +1,4 @@
-//! Several values for a subscriber at once.
+//! Taking several values for a subscriber at once.
 ghost use Rattle.std.specs.Prelude.{◌≡◌, ◌+◌, ◌≤◌, Ok};
 ghost use Rattle.std.specs.Vec.{vec_len, vec_capacity};
 ghost use Rattle.flow_law.specs.Draining.{DrainsBy};
@@ -12,8 +12,8 @@ use flow_law::FlowValue;
 use std::alloc::Allocator;
 
 impl<T: FlowValue, A: Allocator + Copy> SharedCore<T, A> {
-    /// Takes values that the subscriber can receive, at most so many, if no emission waits. Returns how many. `next`
-    /// returns what is left.
+    /// Appends values that the subscriber can receive, at most `most`, to the list, if no value is queued. Returns how
+    /// many; `next` returns the others.
     ///
     /// It looks the subscriber up once, moves it once, and trims the ring once.
     pub(crate) fn take_held<B: Allocator>(

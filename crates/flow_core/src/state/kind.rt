@@ -40,7 +40,7 @@ impl<T: FlowValue, A: Allocator + Copy> FlowCore for StateCore<T, A> {
         StateCore::next(self, id)
     }
 
-    /// A subscriber can receive one value at most, so `next` is as fast.
+    /// Takes nothing: a subscriber can receive one value at most, so `next` is as fast.
     fn take_held<B: Allocator>(
         &mut self,
         _id: SubId,
@@ -60,12 +60,12 @@ impl<T: FlowValue, A: Allocator + Copy> FlowCore for StateCore<T, A> {
 
     ghost sleeping = { state_sleeping };
 
-    /// A state flow has one value at any time.
+    /// Returns 0: values of a state flow are not counted.
     fn mark(&self) -> u64 {
         0
     }
 
-    /// No emission into a state flow waits.
+    /// Returns `None`: no emission into a state flow waits.
     fn first_waiting(&self) -> Option<u64> {
         None
     }

@@ -8,7 +8,7 @@ use Rattle.flow_law.proofs.HoldingLemmas.{same_cache}
 use Rattle.flow_core.specs.SharedCore.{fields_of}
 use Rattle.flow_core.proofs.shared.SharedCore.replay_cache.Goals as goal
 
--- a cache that has a value hands it out
+-- the reply of a cache that is not empty hands out values
 handed_out : {T : Type 0} (values : List T) → values ≢ [] → hands_out (reply.Cached values) ≡ true
 handed_out [] some = absurd (some refl)
 handed_out (v ∷ vs) some = refl

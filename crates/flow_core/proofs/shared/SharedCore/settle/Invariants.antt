@@ -4,7 +4,7 @@ use Rattle.flow_law.specs.SharedStep.{settle}
 use Rattle.flow_law.specs.Covering.{Covers}
 use Rattle.flow_core.proofs.shared.SharedCore.settle.Given as goal
 
--- whatever was to settle when the loop began is to settle still
+-- settling leads to the same states as when the loop began
 abbrev pub invariant-loop : goal.invariant-loop
 invariant-loop g l = (s : SharedFlowState g.row.T.Denot) → Covers l.initial.self s → (t : SharedFlowState g.row.T.Denot) × Covers l.self t × (settle t ≡ settle s)
 
