@@ -1,4 +1,4 @@
--- Who sleeps has nothing to receive: that stays so after a call, and when one more sleeps.
+-- Callers that sleep have nothing to receive: this still holds after a call, and when one more caller sleeps.
 use Rattle.std.proofs.Common.{inl, inr, ◌≡◌, ◌≢◌, ◌⊎◌, ℕ, ◌≤◌, ◌==◌, Bool, true, false, not, List, [], ◌∷◌, take, drop, Option, Some, None, Result, Ok, Err, ap, sym, ◌∙◌, subst, arith}
 use Rattle.std.specs.Prelude.{All, filter, nat_le, IsSomeAnd}
 use Rattle.std.proofs.lemmas.Bool.Decides.{Decides-eqb, nat_tests}
@@ -42,7 +42,7 @@ one_less number old new P less (inr holds) = inr holds
 both : (P Q : ℕ → Type 0) (xs : List ℕ) → All P xs → All Q xs → All (λ u. P u × Q u) xs
 both P Q xs p q = λ k d l. (p k d l, q k d l)
 
--- who is left is not the one of this number
+-- the sleepers that are left do not have this number
 left : (P : ℕ → Type 0) (ended : Option ℕ) (xs : List ℕ) → All P xs → All (λ u. P u × (ended ≢ Some u)) (without ended xs)
 left P None xs all = All-weaker P (λ u. P u × (None ≢ Some u)) (λ u p. (p, λ e. cc)) xs all
 left P (Some n) xs all =
@@ -130,7 +130,7 @@ module _ {K T S C R : Type 0} {kind : Kind T S C R} (sleeping : Sleeping kind) (
   }
 
 module _ {K A T S C R : Type 0} {kind : Kind T S C R} (sleeping : Sleeping kind) (start : K → S) (StandsAs : K → S → Type 0) where
-  -- a core of which no call was made yet
+  -- a core before its first call
   pub begins : (w : Attended K A T S C R) → kind.MayBegin (start w.core) → StandsAs w.core (start w.core) → (w.readers ≡ []) × (w.emitters ≡ []) × (w.watchers ≡ []) → attended_stands sleeping start StandsAs w w []
   begins w may stands alone = (
     record { begins = may; legal = tt; owned = tt },
@@ -143,7 +143,7 @@ module _ {K A T S C R : Type 0} {kind : Kind T S C R} (sleeping : Sleeping kind)
     },
   )
 
--- what is not told to be done is not done
+-- an emission whose answer is not `Done` is not done
 pub undone_by : {T A : Type 0} (r : Emitted T A) (answer : Result Emit (Refused T)) → emitted_reply r ≡ emit_reply answer → EmitIsWait r → IsUndone answer
 undone_by (emitted.Done t) answer is waits = absurd waits
 undone_by (emitted.Queued e) (Ok Done) is waits = absurd (cc)
@@ -153,7 +153,7 @@ undone_by (emitted.Refused t v fault) (Ok Done) is waits = absurd (cc)
 undone_by (emitted.Refused t v fault) (Ok (Queued n)) is waits = tt
 undone_by (emitted.Refused t v fault) (Err refused) is waits = tt
 
--- where a future has nothing to answer nothing was received
+-- if a future has nothing to give, nothing was received
 pub nothing_given : {T : Type 0} (answer : Result (Next T) FlowFault) → given_by answer ≡ None → IsWait answer
 nothing_given (Ok (Value v)) is = absurd (cc)
 nothing_given (Ok Empty) is = tt

@@ -1,5 +1,5 @@
--- From what a core does at each `next` under one entry to a drain of the caller: the first call has the history that was found on
--- entering before it, the others follow at once.
+-- From what a core does at each `next` in one entry to a drain of the caller: the first call comes after the history that was found
+-- on entering, and the other calls follow at once.
 use Rattle.std.proofs.Common.{◌≡◌, ◌≢◌, ℕ, ◌+◌, ◌≤◌, List, [], ◌∷◌, ◌++◌, length, drop, Result, Ok, Err, refl, sym, ap, ◌∙◌, subst, inl, arith, append_assoc, append-nil, length-append}
 use Rattle.std.proofs.Math.Seq.{drop-append_seam}
 use Rattle.std.proofs.lemmas.List.{map-append}
@@ -25,7 +25,7 @@ use Rattle.flow_gate.specs.Tokens.{Token, Origin, HeldState, Finds}
 use Rattle.flow_shared.specs.Calls.{NextsOf, NumberedToken}
 use Rattle.flow_shared.specs.Drains.{CoreNexts, TakesInside, said_values, said_end, said_since}
 
--- a drain as far as it has come, and how it ends
+-- the part of a drain so far, and how it ends
 module _ {X T : Type 0} (R : X → Result (Next T) FlowFault → X → Type 0) where
   -- the drains under one entry each, one after the other
   folds_on : {A : Type 0} (P : X → A → X → Type 0) (p q r : X) (xs ys : List A) → FoldsTo P p xs q → FoldsTo P q ys r → FoldsTo P p (xs ++ ys) r
@@ -58,7 +58,7 @@ module _ {X T : Type 0} (R : X → Result (Next T) FlowFault → X → Type 0) w
         }
 
 module _ {K T S C R : Type 0} (kind : Kind T S C R) (StandsAs : K → S → Type 0) (law : Lawful kind) (flow : Origin S) (n : ℕ) where
-  -- the caller is a subscriber still, and the core stands for what it has seen
+  -- the caller still is a subscriber, and the core stands for what it has seen
   pub record Stays (t : Token (Said C R)) (core : K) : Type 0 where
     pub stood : StandsForHistory kind StandsAs flow.first core t.knows.seen
     pub subscribed : IsSubscription kind t.knows n
@@ -67,7 +67,7 @@ module _ {K T S C R : Type 0} (kind : Kind T S C R) (StandsAs : K → S → Type
   abbrev pub seeing : Token (Said C R) → ℕ → List (HistoryEvent (Said C R)) → Token (Said C R)
   seeing t lost history = knowing t (knowledge t.knows.name t.knows.made lost history)
 
-  -- one call more, of a caller who found this history
+  -- one more call of a caller that found this history
   module _ (before : Token (Said C R)) (lost : ℕ) (history : List (HistoryEvent (Said C R))) (core after_core : K) (r : R) (more : before.knows.lost ≤ lost) (fits : Fits history before.knows)
       (stood : StandsForHistory kind StandsAs flow.first core history) (subscribed : IsSubscription kind before.knows n) (documents : Documents kind StandsAs core (kind.take_next n) r after_core) where
     abbrev after : Token (Said C R)
@@ -119,7 +119,7 @@ module _ {K T S C R : Type 0} (kind : Kind T S C R) (StandsAs : K → S → Type
       let all = subst (λ (h : List (HistoryEvent (Said C R))). Gives middle values (seeing t t.knows.lost h) last) (append_assoc t.knows.seen (e ∷ []) (events_of t.knows.name (said_values kind n values))) others in
       ((numbered middle n, (one, refl), all.0), all.1)
 
-  -- the call that ended it, of a caller who found this history
+  -- the call that ended the drain of a caller that found this history
   module _ (before : Token (Said C R)) (lost : ℕ) (history : List (HistoryEvent (Said C R))) (core : K) (more : before.knows.lost ≤ lost) (fits : Fits history before.knows)
       (stood : StandsForHistory kind StandsAs flow.first core history) (subscribed : IsSubscription kind before.knows n) where
     abbrev Ends : Result Drained FlowFault → K → Type 0
@@ -157,7 +157,7 @@ module _ {K T S C R : Type 0} (kind : Kind T S C R) (StandsAs : K → S → Type
       ∙ append_assoc history (event name e ∷ []) (events_of name values ++ events_of name end)
       ∙ ap (λ (l : List (HistoryEvent (Said C R))). history ++ event name e ∷ l) (sym (map-append (event name) values end))
 
-  -- all calls of a caller who found this history
+  -- all calls of a caller that found this history
   module _ (before : Token (Said C R)) (lost : ℕ) (history : List (HistoryEvent (Said C R))) (core : K) (more : before.knows.lost ≤ lost) (fits : Fits history before.knows)
       (stood : StandsForHistory kind StandsAs flow.first core history) (subscribed : IsSubscription kind before.knows n) where
     -- what it has seen then
@@ -207,9 +207,9 @@ module _ {K T S C R : Type 0} (kind : Kind T S C R) (StandsAs : K → S → Type
 pub appended_since : {T : Type 0} (old new values : List T) → new ≡ old ++ values → drop (length old) new ≡ values
 appended_since old new values e = ap (drop (length old)) e ∙ drop-append_seam old values
 
--- Who is inside, from the core that was lent to it to leaving: `since` is what the evidence says of the list before.
+-- A caller inside, from the core that was lent to it up to leaving: `since` is what the evidence says of the list before.
 module _ {K T S C R : Type 0} (kind : Kind T S C R) (start : K → S) (StandsAs : K → S → Type 0) (law : Lawful kind) (n : ℕ) where
-  -- from the first core on, it stands for this history
+  -- the core stands for this history from the first core on
   abbrev stands_since : K → K → List (HistoryEvent (Said C R)) → Type 0
   stands_since first core h = StandsForHistory kind StandsAs (start first) core h
 
@@ -240,7 +240,7 @@ module _ {K T S C R : Type 0} (kind : Kind T S C R) (start : K → S) (StandsAs 
     unfolding takes
     has_taken _ left = record { core = new; takes = takes; left = left ∙ ap (λ (values : List T). knowing held.token (adds (said_values kind n values ++ said_end kind n result) held.token.knows)) given }
 
-  -- who entered, and what the drain then is
+  -- the caller that entered, and the drain that follows
   module _ (flow : Origin S) (gate : Origin K) (before : Token (Said C R)) (held : HeldState K (Said C R)) (is : origin gate.table_id (start gate.first) ≡ flow) (f : Finds stands_since gate before held) (subscribed : IsSubscription kind before.knows n) where
     found : StandsForHistory kind StandsAs flow.first held.state f.history
     found = subst (λ (o : Origin S). StandsForHistory kind StandsAs o.first held.state f.history) is f.stood

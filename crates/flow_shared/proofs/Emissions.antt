@@ -1,4 +1,4 @@
--- Emissions of a shared flow: from what one call says to what `emit` and `emit_now` answer.
+-- Emissions of a shared flow: from the contract of one call to those of `emit` and `emit_now`.
 use Rattle.std.proofs.Common.{◌≡◌, ℕ, List, Result, Ok, Err, IfErr, refl, sym, ◌∙◌, subst}
 use Rattle.flow_law.specs.declared.fault.FlowFault.TheVariants.{OutOfMemory, TooLarge, NeedsBuffer, Exhausted, Unsupported, Busy}
 use Rattle.flow_law.specs.declared.fault.Refused.{Refused}

@@ -1,4 +1,4 @@
--- From one poll of an emit future to what a whole run of it gives.
+-- From one poll of an emit future to what its whole run gives.
 use Rattle.std.proofs.Common.{◌≡◌, ℕ, ◌⊎◌, inl, inr, true, false, List, [], ◌∷◌, subst}
 use Rattle.futures.specs.declared.task.Poll.{Poll as Polled}
 use Rattle.futures.specs.declared.task.Poll.TheVariants.{Ready, Pending}

@@ -1,4 +1,4 @@
--- From what the gate says to whoever enters, and what a core says of one call, to what a call of a flow says.
+-- From the contract of entering a gate and that of one call of a core to the contract of a call of a flow.
 use Rattle.std.proofs.Common.{◌≡◌, ℕ, ◌≤◌, List, [], ◌∷◌, ◌++◌, refl, sym, ap, ◌∙◌, subst, Option, Some, None, IfSome}
 use Rattle.flow_law.specs.declared.history.HistoryEvent.{HistoryEvent}
 use Rattle.flow_law.specs.declared.history.Said.{Said}
@@ -14,9 +14,9 @@ use Rattle.flow_law.proofs.TokenLemmas.{stands_next, may_grows}
 use Rattle.flow_gate.specs.Tokens.{Token, Origin, HeldState, Finds, HasStood}
 use Rattle.flow_shared.specs.Calls.{SaysIn}
 
--- K are what a gate guards; `start` is the state that a new one stands for
+-- K is the type of what a gate guards; `start` is the state that a new one stands for
 module _ {K T S C R : Type 0} (kind : Kind T S C R) (start : K → S) (StandsAs : K → S → Type 0) where
-  -- from the first one on, it stands for this history
+  -- the guarded state stands for this history from the first one on
   abbrev stands : K → K → List (HistoryEvent (Said C R)) → Type 0
   stands first core h = StandsForHistory kind StandsAs (start first) core h
 
@@ -38,7 +38,7 @@ module _ {K T S C R : Type 0} (kind : Kind T S C R) (start : K → S) (StandsAs 
   has_seen flow gate t is stood = let of_gate = stood.1 in let grown = of_gate.2.0 in
       history_left kind flow.first t.knows.seen grown.0 (subst (λ (z : S × List (HistoryEvent (Said C R))). IsHistory kind z.0 z.1) (λ i. ((is i).first, grown.1 i)) of_gate.1.0)
 
-  -- who enters, and what it then says
+  -- a caller that enters, makes a call and leaves
   module _ (law : Lawful kind) (flow : Origin S) (gate : Origin K) (before : Token (Said C R)) (held : HeldState K (Said C R)) (is : origin gate.table_id (start gate.first) ≡ flow) (f : Finds stands gate before held) where
     pub found : stands held.first held.state held.token.knows.seen
     found = subst (λ (z : K × Token (Said C R)). stands z.0 held.state z.1.knows.seen) (λ i. (sym f.first i, sym f.token i)) f.stood
@@ -52,7 +52,7 @@ module _ {K T S C R : Type 0} (kind : Kind T S C R) (start : K → S) (StandsAs 
     same_name : subscription_name before.knows ≡ subscription_name held.token.knows
     same_name = ap (λ (t : Token (Said C R)). subscription_name t.knows) (sym f.token)
 
-    -- what the token may call it may still call inside
+    -- a call that the token may make is one that it may still make inside
     pub may_inside : (c : List ℕ → C) → MayCall kind (c (subscription_name before.knows)) before.knows.name before.knows.seen
         → MayCall kind (c (subscription_name held.token.knows)) held.token.knows.name held.token.knows.seen
     may_inside c may = subst (λ (z : List ℕ × List ℕ). MayCall kind (c z.0) z.1 held.token.knows.seen) (λ i. (same_name i, sym found_name i))
@@ -88,7 +88,7 @@ module _ {K T S C R : Type 0} (kind : Kind T S C R) (start : K → S) (StandsAs 
       pub calls_at_once : held.token.knows.lost ≡ before.knows.lost → CallsAtOnceIn kind flow.first before call r after
       calls_at_once same = (calls (omega (Rattle.std.proofs.Common.arith, same)), ap (λ (t : Token (Said C R)). t.knows.lost) is_after ∙ same)
 
--- what holds of a value that is there
+-- a fact about the value of an option, weakened
 pub if_some : {X : Type 0} {P Q : X → Type 0} → ((x : X) → P x → Q x) → (o : Option X) → IfSome o P → IfSome o Q
 if_some more (Some x) h = more x h
 if_some more None h = tt

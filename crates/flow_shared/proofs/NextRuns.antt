@@ -1,4 +1,4 @@
--- From one poll of a next future to what a whole run of it gives.
+-- From one poll of a next future to what its whole run gives.
 use Rattle.std.proofs.Common.{◌≡◌, ◌⊎◌, inl, inr, List, [], ◌∷◌, Option, Some, None, Result, Ok, Err, refl, ◌∙◌, subst}
 use Rattle.futures.specs.declared.task.Poll.{Poll as Polled}
 use Rattle.futures.specs.declared.task.Poll.TheVariants.{Ready, Pending}
@@ -39,7 +39,7 @@ module _ {T : Type 0} (flow : Origin (SharedFlowState T)) where
   waited_same s u p (w, Ok v) h = (h.0 ∙ p.0, waits_finds s u (reply.Received (Value v)) w.token p.1 (subst (λ n. FindsInTheEnd flow (call.TakeNext n) (reply.Received (Value v)) u.token w.token) p.0 h.1))
   waited_same s u p (w, Err fault) h = (h.0 ∙ p.0, h.1, waits_finds s u (reply.Refused fault) w.token p.1 (subst (λ n. FindsInTheEnd flow (call.TakeNext n) (reply.Refused fault) u.token w.token) p.0 h.2))
 
-  -- the poll that answers what a call gave
+  -- the poll that returns what a call gave
   abbrev pub PollsBy : Option (Result T FlowFault) → SharedNumbered T → SharedNumbered T → Type 0
   PollsBy None s u = NextPolls flow (Some s) Pending (Some u)
   PollsBy (Some given) s u = NextPolls flow (Some s) (Ready (u, given)) None

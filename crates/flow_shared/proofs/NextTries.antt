@@ -36,7 +36,7 @@ module _ {T S C R X : Type 0} (kind : Kind T S C R) (law : Lawful kind) (flow : 
   next_tried before result is gives = subst (λ (z : NumberedToken (Said C R)). NextsNow kind flow z result (numbered new n)) is
       (subst (λ (r : Result (Next T) FlowFault). NextsNow kind flow (numbered old n) r (numbered new n)) (sym gives) (said tried called busy))
 
--- a subscriber that waits for other callers is never told that it is gone
+-- a `next` that waits for other callers never returns `Gone`
 module _ {T S C R : Type 0} (kind : Kind T S C R) (law : Lawful kind) (first : S) (old new : Knowledge (Said C R)) (n : ℕ) where
   pub finds_itself : (answer : Result (Next T) FlowFault) → AddsOne (IsHistory kind first) old (kind.take_next n) (replied kind kind.received answer) new → IsSubscription kind old n → answer ≢ Ok Gone
   finds_itself answer called subscribed gone =

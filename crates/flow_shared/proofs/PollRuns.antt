@@ -61,7 +61,7 @@ module _ {T S C R : Type 0} (kind : Kind T S C R) (flow : Origin S) where
   after_later [] s u answer new busy h = nexts_later s u new answer busy h
   after_later (x ∷ us) s u answer new busy h = (nexts_later s u x (Ok Empty) busy h.0, h.1)
 
-  -- a pending poll leads on
+  -- a pending poll and then a run is a run
   pub receives_on : (s u w : NumberedToken (Said C R)) (result : Result T FlowFault) → PollsNext kind flow s Pending u → Receives kind flow u result w → Receives kind flow s result w
   receives_on s u w result (inl busy) h = (h.0, after_later h.0 s u (taken result) w busy h.1)
   receives_on s u w result (inr called) h = (u ∷ h.0, (called, h.1))

@@ -43,7 +43,7 @@ module _ {T : Type 0} (flow : Origin (SharedFlowState T)) (t u : SharedToken T) 
   cache_fault (Ok values) called = tt
   cache_fault (Err fault) called = let there = replied_in shared_flow shared_lawful flow.first t.knows u.knows call.ReplayCache (reply.Refused fault) called.1 in cache_refused there.0 fault there.1
 
--- r is what the core replied, and x what the caller is answered
+-- r is the core's reply, and x the answer to the caller
 pub answer_fault : {T A : Type 0} (flow : Origin (SharedFlowState T)) (t u : SharedToken T) (v : T) (r : SharedReply T) (x : Emitted T A) → emitted_reply x ≡ r → Calls flow t (call.Emit v) r u → EmitRefusedIfDue x
 answer_fault flow t u v r (emitted.Done u') is called = tt
 answer_fault flow t u v r (emitted.Queued e) is called = tt

@@ -17,9 +17,9 @@ use Rattle.flow_shared.specs.StateReplies.{StateToken}
 abbrev StateCaller : Type 0 → Type 0
 StateCaller T = CallerOf TableId (StateFlowState T) (Said (StateCall T) (StateReply T))
 
--- what a round left: before it the handle was `now`, after its read it is `mid`, and then `end`
+-- one round: the handle is `now` before it, `mid` after its read, and `end` after it
 module _ {T : Type 0} (flow : Origin (StateFlowState T)) (Gives : T → T → Type 0) (now mid end : StateCaller T) (x y : T) where
-  -- the handles are of this flow, the value x was read, and the function answered y
+  -- the handles are of this flow, the value x was read, and the function returned y
   pub record Reads : Type 0 where
     pub of_flow : now.flow ≡ flow
     pub kept : mid.flow ≡ now.flow
@@ -40,7 +40,7 @@ module _ {T : Type 0} (flow : Origin (StateFlowState T)) (Gives : T → T → Ty
   pub won_by : (before : StateToken T) → LosesRounds flow.first Gives before now.token → Reads → CallsIn state_flow mid.flow.first mid.token (CompareAndSet x y) (Answered true) end.token → Updates flow.first Gives before x y end.token
   won_by before lost r exchanged = record { between = now.token; lost = lost; won = round_by true r exchanged }
 
--- what a read in vain left: before it the handle was `now`, and then `end`
+-- a read in vain: the handle is `now` before it, and `end` after it
 pub stopped_by : {T : Type 0} (flow : Origin (StateFlowState T)) (Gives : T → T → Type 0) (Stops : T → Type 0) (now end : StateCaller T) (before : StateToken T)
     → LosesRounds flow.first Gives before now.token → now.flow ≡ flow → ReadsInVain now.flow.first Stops now.token end.token → StopsAt flow.first Gives Stops before end.token
 stopped_by flow Gives Stops now end before lost of_flow vain =

@@ -1,4 +1,4 @@
--- A call through a seat that is taken out of its place and put back: what is said of the one is said of the other.
+-- A call through a seat that is taken out of its place and put back: the contract holds of both forms of the seat.
 use Rattle.std.proofs.Common.{◌≡◌, ℕ, List, sym, subst}
 use Rattle.flow_law.specs.declared.history.Said.{Said}
 use Rattle.flow_law.specs.History.{Kind, MayCall}

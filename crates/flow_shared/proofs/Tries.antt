@@ -22,7 +22,7 @@ pub lost_one : {E : Type 0} (t u : Token E) → IsBusy t u → u.knows.lost ≡ 
 lost_one t u busy = ap (λ z. z.knows.lost) busy
 
 module _ {T S C R : Type 0} (kind : Kind T S C R) (flow : Origin S) where
-  -- what ends the subscription from here on ends it from there on
+  -- after lost tries, an `unsubscribe` of the returned subscription is one of the old subscription
   abbrev pub LeavesOn : NumberedToken (Said C R) → NumberedToken (Said C R) → Type 0
   LeavesOn old now = (after : Token (Said C R)) → Unsubscribes kind flow now after → Unsubscribes kind flow old after
 
@@ -35,7 +35,7 @@ module _ {T S C R : Type 0} (kind : Kind T S C R) (flow : Origin S) where
       (subst (λ n. flows.Calls kind flow u.token (kind.unsubscribe n) (kind.tested true) after) same h))
 
 module _ {T : Type 0} (flow : Origin (SharedFlowState T)) where
-  -- what cancels the emission from here on cancels it from there on
+  -- after lost tries, a cancel of the returned emission is one of the old emission
   abbrev pub CancelsOn : SharedNumbered T → SharedNumbered T → Type 0
   CancelsOn old now = (ended : SharedToken T × Bool) → Cancels flow now ended → Cancels flow old ended
 

@@ -1,4 +1,4 @@
--- Calls that found nothing, or an emission that waits, before one that ends the wait.
+-- Calls that found nothing, or found an emission waiting, before the call that ends the wait.
 use Rattle.std.proofs.Common.{◌≡◌, inr, ℕ, true, false, [], ◌∷◌, Option, None, Result, Ok, Err, subst, arith}
 use Rattle.flow_law.specs.declared.fault.FlowFault.{FlowFault}
 use Rattle.flow_law.specs.declared.history.Said.{Said}
@@ -30,7 +30,7 @@ module _ {T S C R : Type 0} (kind : Kind T S C R) (flow : Origin S) where
     record { name = a.1.name; made = a.1.made; lost = omega (arith, a.1.lost); history = a.1.history; grows = a.1.grows; names = a.1.names },
   )
 
-  -- so far nothing was found: what comes in the end from here on comes from there on
+  -- so far nothing was found: every run of `next` from here on is the rest of a run from the old subscription
   abbrev pub LeadsOn : NumberedToken (Said C R) → NumberedToken (Said C R) → Type 0
   LeadsOn old now = (answer : Result (Next T) FlowFault) (new : NumberedToken (Said C R)) → NextsUntil kind flow now answer new → NextsUntil kind flow old answer new
 
@@ -57,7 +57,7 @@ module _ {T S C R : Type 0} (kind : Kind T S C R) (flow : Origin S) where
         (subst (λ (o : Option T). NextsOf kind flow t (Ok (next_of o)) u) is (subst (λ (f : Origin S). NextsOf kind f t (Ok (next_of found)) u) same called))
 
 module _ {T : Type 0} (flow : Origin (SharedFlowState T)) where
-  -- so far the emission waits: where it ends from here on it ends from there on
+  -- so far the emission waits: every end of its wait from here on is an end from the old token
   abbrev pub EndsOn : SharedNumbered T → SharedNumbered T → Type 0
   EndsOn old now = (after : SharedToken T) → Ends flow now.number now.token after → Ends flow old.number old.token after
 

@@ -1,4 +1,4 @@
--- An emission that waits, beside the flow that it is in.
+-- An emission that waits, with its flow.
 use Rattle.flow_law.specs.declared.history.Said.{Said}
 use Rattle.flow_law.specs.declared.call.SharedCall.{SharedCall}
 use Rattle.flow_law.specs.declared.call.SharedReply.{SharedReply}

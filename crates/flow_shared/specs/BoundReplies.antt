@@ -1,4 +1,4 @@
--- What the answers of a handle stand for among those of the flow's own calls: the same answer with tokens in place of handles.
+-- The answers of handles as answers of the flow's own calls: the same answers, with tokens in place of handles.
 use Rattle.std.specs.Prelude.{Bool, Result, Ok, Err}
 use Rattle.atomic_table.specs.Seated.{TableId}
 use Rattle.flow_law.specs.declared.fault.FlowFault.{FlowFault}
@@ -26,7 +26,7 @@ use Rattle.flow_shared.specs.declared.handles.emission.PollAnswer.TheVariants as
 use Rattle.flow_shared.specs.declared.handles.reader.DrainEnd.{DrainEnd}
 use Rattle.flow_shared.specs.declared.handles.reader.DrainEnd.TheVariants as drain_end
 
--- a drain through a reader
+-- the flow's own answer to a drain through a reader
 abbrev pub drained_by : Result DrainEnd FlowFault → Result Drained FlowFault
 drained_by (Ok drain_end.Most) = Ok drained.Most
 drained_by (Ok drain_end.Empty) = Ok drained.Empty
@@ -65,7 +65,7 @@ module _ {T A : Type 0} where
   polled_now_by (Ok (poll_answer.Waiting e)) = polled_now.Waiting e.emission
   polled_now_by (Err e) = polled_now.Busy e.emission
 
-  -- the flow of the handle that such a poll gives back
+  -- the flow of the handle that a poll which does not wait gives back
   abbrev pub polled_now_flow : Result (PollAnswer T A) (EmissionOf T) → Origin (SharedFlowState T)
   polled_now_flow (Ok p) = polled_flow p
   polled_now_flow (Err e) = e.flow

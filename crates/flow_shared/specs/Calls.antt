@@ -23,15 +23,15 @@ module _ {T S C R : Type 0} (kind : Kind T S C R) (flow : Origin S) where
   abbrev pub Calls : Token (Said C R) → C → R → Token (Said C R) → Type 0
   Calls = CallsIn kind flow.first
 
-  -- the same, and no exchange was lost
+  -- `Calls`, and no exchange was lost
   abbrev pub CallsAtOnce : Token (Said C R) → C → R → Token (Said C R) → Type 0
   CallsAtOnce = CallsAtOnceIn kind flow.first
 
-  -- both tokens have then seen one history
+  -- two tokens meet: both have then seen the same history, which begins with what each had seen
   abbrev pub Meets : Token (Said C R) → Token (Said C R) → Token (Said C R) → Token (Said C R) → Type 0
   Meets = MeetsIn kind flow.first
 
-  -- the call comes first, by the subscription's name
+  -- a `subscribe` with the subscription's name, after which the subscription's token is made through the caller's
   abbrev pub Subscribes : (List ℕ → C) → Token (Said C R) → Result (NumberedToken (Said C R)) FlowFault → Token (Said C R) → Type 0
   Subscribes = SubscribesIn kind flow.first
 
@@ -39,7 +39,7 @@ module _ {T S C R : Type 0} (kind : Kind T S C R) (flow : Origin S) where
   abbrev pub Nexts : NumberedToken (Said C R) → Result (Next T) FlowFault → NumberedToken (Said C R) → Type 0
   Nexts = NextsIn kind flow.first
 
-  -- the same, and the subscription has its number still
+  -- a `next`, after which the subscription has the same number
   abbrev pub NextsOf : NumberedToken (Said C R) → Result (Next T) FlowFault → NumberedToken (Said C R) → Type 0
   NextsOf old result new = Nexts old result new × (new.number ≡ old.number)
 
@@ -55,7 +55,7 @@ module _ {T S C R : Type 0} (kind : Kind T S C R) (flow : Origin S) where
   abbrev pub NextsNow : NumberedToken (Said C R) → Result (Next T) FlowFault → NumberedToken (Said C R) → Type 0
   NextsNow = NextsNowIn kind flow.first
 
-  -- the subscription was there and ended, with no exchange lost; or another caller was inside, and it is still there
+  -- the subscription was active and has ended, and no exchange was lost; or another caller was inside, and the subscription is returned
   abbrev pub UnsubscribesNow : NumberedToken (Said C R) → Result (Token (Said C R)) (NumberedToken (Said C R)) → Type 0
   UnsubscribesNow old (Ok after) = CallsAtOnce old.token (kind.unsubscribe old.number) (kind.tested true) after
   UnsubscribesNow old (Err back) = (back.number ≡ old.number) × IsBusy old.token back.token
@@ -64,15 +64,15 @@ module _ {T S C R : Type 0} (kind : Kind T S C R) (flow : Origin S) where
   abbrev pub CountsNow : Token (Said C R) → Result ℕ FlowFault → Token (Said C R) → Type 0
   CountsNow = CountsNowIn kind flow.first
 
-  -- The core stands for the state after a history of the flow, which begins with all that the token had seen, goes on with events
-  -- of others and keeps the token's rule of names.
+  -- The core stands for the state after a history of the flow: what the token had seen, followed by events of other callers, within
+  -- the token's rule of names.
   abbrev pub ClosesAs : {K : Type 0} → (K → S → Type 0) → Token (Said C R) → K → Type 0
   ClosesAs StandsAs t core = (history : List (HistoryEvent (Said C R))) × StandsForHistory kind StandsAs flow.first core history × Fits history t.knows
 
 -- ---- a caller inside
 
 module _ {T S C R : Type 0} (kind : Kind T S C R) (first : S) where
-  -- a caller that was inside made this call, had this reply and left
+  -- a caller that was inside made this call, got this reply and left
   abbrev pub SaysIn : {K : Type 0} → HeldState K (Said C R) → C → R → Token (Said C R) → Type 0
   SaysIn held call reply after =
       (after ≡ flows.knowing held.token (adds (said call reply ∷ []) held.token.knows)) × IsHistory kind first (held.token.knows.seen ++ event held.token.knows.name (said call reply) ∷ [])

@@ -1,4 +1,4 @@
--- Draining under one entry: what the calls of the core do in a row, and what the caller has then said.
+-- Draining in one entry: what the calls of the core do in a row, and the events with which the caller leaves.
 use Rattle.std.specs.Prelude.{◌≡◌, ℕ, List, [], ◌∷◌, ◌++◌, map, length, drop, Result, Ok, Err}
 use Rattle.flow_law.specs.declared.fault.FlowFault.{FlowFault}
 use Rattle.flow_law.specs.declared.history.Said.{Said}
@@ -23,14 +23,14 @@ module _ {T S C R : Type 0} (kind : Kind T S C R) (number : ℕ) where
   abbrev pub said_values : List T → List (Said C R)
   said_values values = map (λ v. said (kind.take_next number) (kind.received (next.Value v))) values
 
-  -- the call that ended it, if one did
+  -- the call that ended the drain, if one did
   abbrev pub said_end : Result Drained FlowFault → List (Said C R)
   said_end (Ok drained.Most) = []
   said_end (Ok drained.Empty) = said (kind.take_next number) (kind.received next.Empty) ∷ []
   said_end (Ok drained.Gone) = said (kind.take_next number) (kind.received next.Gone) ∷ []
   said_end (Err fault) = said (kind.take_next number) (kind.refused fault) ∷ []
 
-  -- the calls by which a list became another one, and the call that ended it
+  -- the calls that gave the values by which the list has grown, and the call that ended the drain
   abbrev pub said_since : List T → List T → Result Drained FlowFault → List (Said C R)
   said_since old new result = said_values (drop (length old) new) ++ said_end result
 

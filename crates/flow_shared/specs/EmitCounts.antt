@@ -1,4 +1,4 @@
--- How many events of a name are an `emit`.
+-- How many events with a name are an `emit`.
 use Rattle.std.specs.Prelude.{ℕ, ◌+◌, nat_eq, Bool, true, List, [], ◌∷◌, Option, Some, None}
 use Rattle.flow_law.specs.declared.history.HistoryEvent.{HistoryEvent}
 use Rattle.flow_law.specs.declared.history.Said.{Said}
@@ -13,17 +13,17 @@ abbrev pub is_same_name : List ℕ → List ℕ → Bool
 is_same_name = is_same_list nat_eq
 
 module _ {T : Type 0} where
-  -- 1 for an `emit` of this name, else 0
+  -- 1 for an `emit` of an event with this name, else 0
   abbrev pub emit_of : Bool → SharedCall T → ℕ
   emit_of true (Emit v) = 1
   emit_of _ _ = 0
 
-  -- how many events of a name are an `emit`
+  -- how many events with this name are an `emit`
   abbrev pub emits : List ℕ → List (HistoryEvent (Said (SharedCall T) (SharedReply T))) → ℕ
   emits name [] = 0
   emits name (e ∷ es) = emit_of (is_same_name name e.name) e.what.call + emits name es
 
-  -- the `emit`s that the token has made
+  -- how many `emit`s the token has made
   abbrev pub emitted : Option (SharedToken T) → ℕ
   emitted (Some t) = emits t.knows.name t.knows.seen
   emitted None = 0

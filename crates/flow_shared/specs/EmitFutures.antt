@@ -19,7 +19,7 @@ use Rattle.flow_shared.specs.declared.emit_future.Sent.TheVariants as sent
 use Rattle.flow_shared.specs.EmitCounts.{emitted}
 use Rattle.flow_shared.specs.SharedReplies.{SharedToken, Calls, CallsAtOnce, IsEmitFault}
 
--- an emit future: its flow, and how far it is
+-- an emit future: its flow, and its stage
 pub record Emitting (T A : Type 0) : Type 0 where
   pub flow : Origin (SharedFlowState T)
   pub stage : EmitStage T A
@@ -34,7 +34,7 @@ module _ {T : Type 0} (flow : Origin (SharedFlowState T)) where
   abbrev pub Ends : ℕ → SharedToken T → SharedToken T → Type 0
   Ends e t after = (us : List (SharedToken T)) × EndsAfter us e t after
 
-  -- one `emit` of the value, and where that is queued polls of this one emission
+  -- one `emit` of the value and, if it was queued, polls of its emission up to the one that finds it done
   abbrev pub EmitsOnce : T → SharedToken T → SharedToken T → Type 0
   EmitsOnce v t after = Calls flow t (call.Emit v) (reply.Emitted Done) after
       ⊎ ((e : ℕ) × (u : SharedToken T) × Calls flow t (call.Emit v) (reply.Emitted (Queued e)) u × Ends e u after)
@@ -44,7 +44,7 @@ module _ {T A : Type 0} where
   abbrev pub emitting : Origin (SharedFlowState T) → EmitStage T A → Emitting T A
   emitting flow stage = record { flow = flow; stage = stage }
 
-  -- what the future holds is of this flow
+  -- the token that the future holds is of this flow
   abbrev pub HoldsOf : TableId → EmitStage T A → Type 0
   HoldsOf id (Fresh t v) = t.table_id ≡ id
   HoldsOf id (Waiting e) = e.token.table_id ≡ id
@@ -62,7 +62,7 @@ module _ {T A : Type 0} where
   Says (sent.Refused t v fault) r = r ≡ reply.Refused fault
   Says _ _ = ⊥
 
-  -- where the value was refused, it was for one of those
+  -- the fault of a refused value is one of an `emit`
   abbrev pub IsRefusedIfDue : Sent T A → Type 0
   IsRefusedIfDue (sent.Done t) = ⊤
   IsRefusedIfDue (sent.Refused t v fault) = IsEmitFault fault
@@ -79,30 +79,30 @@ module _ {T A : Type 0} where
   token_in (Waiting e) = Some e.token
   token_in Ended = None
 
-  -- the token after a poll: the answer has it, or still the future
+  -- the token after a poll: the answer has it, or the future if the poll is pending
   abbrev pub token_after : Polled (Sent T A) → EmitStage T A → Option (SharedToken T)
   token_after (Ready s) stage = Some (sent_token s)
   token_after Pending stage = token_in stage
 
   -- ---- at most one `emit`
 
-  -- those that the future has still to make
+  -- how many `emit`s the future will still make at most
   abbrev pub to_emit : EmitStage T A → ℕ
   to_emit (Fresh t v) = 1
   to_emit (Waiting e) = 0
   to_emit Ended = 0
 
-  -- what was made and what is still to be made come to the same after the poll: in all its polls a future makes one `emit` at most
+  -- a poll does not change the sum of the `emit`s made and yet to make: all polls of a future make one `emit` at most
   abbrev pub KeepsCount : EmitStage T A → Polled (Sent T A) → EmitStage T A → Type 0
   KeepsCount old polled new = emitted (token_after polled new) + to_emit new ≡ emitted (token_in old) + to_emit old
 
-  -- the seat has made one `emit` more
+  -- the seat has made one more `emit`
   abbrev pub EmitsOne : SharedToken T → Sent T A → Type 0
   EmitsOne before s = emitted (Some (sent_token s)) ≡ emitted (Some before) + 1
 
   module _ (flow : Origin (SharedFlowState T)) where
-    -- One poll, by the stage before it, its answer and the stage after it. A busy one has lost one exchange, and the stage is
-    -- as it was; after the end a poll does nothing; any other makes one call, and is ready where the reply is no wait.
+    -- One poll, by the stage before it, its answer and the stage after it. A busy poll has lost one exchange and keeps the stage;
+    -- a poll after the end does nothing; any other poll makes one call, and is ready if the reply is no wait.
     abbrev pub EmitPolls : EmitStage T A → Polled (Sent T A) → EmitStage T A → Type 0
     EmitPolls (Fresh t v) Pending (Fresh u w) = (w ≡ v) × IsBusy t u
     EmitPolls (Fresh t v) Pending (Waiting e) = CallsAtOnce flow t (call.Emit v) (reply.Emitted (Queued e.number)) e.token
@@ -120,18 +120,18 @@ module _ {T A : Type 0} where
     Sends (Waiting e) (sent.Done u) = Ends flow e.number e.token u
     Sends _ _ = ⊥
 
-  -- what the future may give, and that the token which comes back is of its flow
+  -- what the future may give; the token in it is of the future's flow
   abbrev pub GivesSent : Emitting T A → Sent T A → Type 0
   GivesSent f s = ((sent_token s).table_id ≡ f.flow.table_id) × Sends f.flow f.stage s
 
-  -- what a caller has that walks away: nothing after the end, the seat if nothing was emitted yet, and else what a
-  -- cancel gives
+  -- what a caller gets that cancels the future at this stage: nothing after the end, the seat if nothing was emitted yet,
+  -- and else what a cancel of the emission gives
   abbrev pub CancelsAt : Origin (SharedFlowState T) → EmitStage T A → Option (SharedToken T × Bool) → Type 0
   CancelsAt flow (Fresh t v) back = back ≡ Some (t, true)
   CancelsAt flow (Waiting e) (Some back) = Calls flow e.token (call.Cancel e.number) (reply.Tested back.1) back.0
   CancelsAt flow (Waiting e) None = ⊥
   CancelsAt flow Ended back = back ≡ None
 
-  -- a caller walks away from the future and gets this back
+  -- a caller that cancels the future gets this
   abbrev pub Cancels : Emitting T A → Option (SharedToken T × Bool) → Type 0
   Cancels f back = CancelsAt f.flow f.stage back

@@ -29,7 +29,7 @@ module _ {T : Type 0} where
   is_wait _ = false
 
   module _ {Answer : Type 0} (Says : Answer → SharedReply T → Type 0) where
-    -- pending where the reply is a wait, else ready with an answer that says what the reply says
+    -- pending if the reply is a wait, else ready with an answer that says what the reply says
     abbrev pub PassesOn : Polled Answer → SharedReply T → Type 0
     PassesOn Pending r = is_wait r ≡ true
     PassesOn (Ready answer) r = (is_wait r ≡ false) × Says answer r
@@ -39,6 +39,6 @@ module _ {T : Type 0} where
     abbrev pub PollsOnce : Origin (SharedFlowState T) → SharedToken T → SharedCall T → Polled Answer → SharedToken T → Type 0
     PollsOnce flow before call polled after = (IsBusy before after × (polled ≡ Pending)) ⊎ ((r : SharedReply T) × CallsAtOnce flow before call r after × PassesOn polled r)
 
-    -- While the future holds a token, each poll is busy or makes this one call through it; the token is then there still.
+    -- While the future holds a token, each poll is busy or makes this one call through it, and does not lose the token.
     abbrev pub OneEach : Origin (SharedFlowState T) → Option (SharedToken T × SharedCall T) → Polled Answer → Option (SharedToken T) → Type 0
     OneEach flow held polled after = IfSome held (λ h. (t : SharedToken T) × (after ≡ Some t) × PollsOnce flow h.0 h.1 polled t)

@@ -35,7 +35,7 @@ module _ {T : Type 0} where
   abbrev pub IsTo : TableId → Option (SharedNumbered T) → Type 0
   IsTo id subscription = IfSome subscription (λ s. s.token.table_id ≡ id)
 
-  -- what a call of the flow gives a future to answer: nothing where it is to ask again
+  -- what a future gives for this answer of the flow: nothing if it has to ask again
   abbrev pub given_by : Result (Next T) FlowFault → Option (Result T FlowFault)
   given_by (Ok (Value v)) = Some (Ok v)
   given_by (Ok _) = None
@@ -47,7 +47,7 @@ module _ {T : Type 0} where
   Says (s, Ok v) r = r ≡ reply.Received (Value v)
   Says (s, Err fault) r = r ≡ reply.Refused fault
 
-  -- where nothing was received, memory was refused
+  -- if nothing was received, the fault is `OutOfMemory`
   abbrev pub IsRefusedIfDue : Received T → Type 0
   IsRefusedIfDue r = IfErr r.1 (λ fault. fault ≡ OutOfMemory)
 
@@ -56,15 +56,15 @@ module _ {T : Type 0} where
   held (Some s) = Some (s.token, call.TakeNext s.number)
   held None = None
 
-  -- the token after a poll: the answer has it, or still the future
+  -- the token after a poll: the answer has it, or the future if the poll is pending
   abbrev pub token_after : Polled (Received T) → Option (SharedNumbered T) → Option (SharedToken T)
   token_after (Ready r) new = Some r.0.token
   token_after Pending (Some s) = Some s.token
   token_after Pending None = None
 
   module _ (flow : Origin (SharedFlowState T)) where
-    -- One poll, by the subscription before it, its answer and the subscription after it. A busy one has lost one exchange; after
-    -- the end a poll does nothing; any other makes one call, and is ready where there is a value or a refusal.
+    -- One poll, by the subscription before it, its answer and the subscription after it. A busy poll has lost one exchange; a poll
+    -- after the end does nothing; any other poll makes one call, and is ready if that gave a value or was refused.
     abbrev pub NextPolls : Option (SharedNumbered T) → Polled (Received T) → Option (SharedNumbered T) → Type 0
     NextPolls (Some s) Pending (Some u) = (u.number ≡ s.number) × (IsBusy s.token u.token ⊎ CallsAtOnce flow s.token (call.TakeNext s.number) (reply.Received Empty) u.token)
     NextPolls (Some s) (Ready (u, Ok v)) None = (u.number ≡ s.number) × CallsAtOnce flow s.token (call.TakeNext s.number) (reply.Received (Value v)) u.token
@@ -83,12 +83,12 @@ module _ {T : Type 0} where
     abbrev pub FindsInTheEnd : SharedCall T → SharedReply T → SharedToken T → SharedToken T → Type 0
     FindsInTheEnd next r t after = (us : List (SharedToken T)) × FindsAfter us next r t after
 
-    -- what the future may give: of so many calls of `next` the last one's value, or its refusal
+    -- what the future may give: after some calls of `next` that found nothing, the value or the refusal of one more
     abbrev pub Receives : Option (SharedNumbered T) → Received T → Type 0
     Receives (Some s) (u, Ok v) = (u.number ≡ s.number) × FindsInTheEnd (call.TakeNext s.number) (reply.Received (Value v)) s.token u.token
     Receives (Some s) (u, Err fault) = (u.number ≡ s.number) × (fault ≡ OutOfMemory) × FindsInTheEnd (call.TakeNext s.number) (reply.Refused fault) s.token u.token
     Receives None r = ⊥
 
-  -- what the future may give, and that the subscription which comes back is to its flow
+  -- what the future may give; the subscription in it is to the future's flow
   abbrev pub GivesReceived : Receiving T → Received T → Type 0
   GivesReceived f r = (r.0.token.table_id ≡ f.flow.table_id) × Receives f.flow f.subscription r

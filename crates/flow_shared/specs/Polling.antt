@@ -18,7 +18,7 @@ use Rattle.flow_gate.specs.Tokens.{Origin}
 use Rattle.flow_shared.specs.Calls.{NumberedToken, NextsOf}
 use Rattle.flow_shared.specs.Receiving.{Receives, taken}
 
--- what a poll answers to the answer of the flow
+-- what a poll returns for this answer of the flow
 abbrev pub polled_by : {T : Type 0} → Result (Next T) FlowFault → Polled (Result T MemoryError)
 polled_by (Ok (Value v)) = Ready (Ok v)
 polled_by (Ok _) = Pending
@@ -26,18 +26,18 @@ polled_by (Err Busy) = Pending
 polled_by (Err fault) = Ready (Err (record {}))
 
 module _ {T S C R : Type 0} (kind : Kind T S C R) (flow : Origin S) where
-  -- One poll: it was busy, and one exchange was lost, or it made one call of `next`, and is ready with what that gave.
+  -- One poll: it was busy and lost one exchange, or it made one call of `next`, and is ready if that gave a value or was refused.
   abbrev pub PollsNext : NumberedToken (Said C R) → Polled (Result T MemoryError) → NumberedToken (Said C R) → Type 0
   PollsNext old Pending new = ((new.number ≡ old.number) × IsBusy old.token new.token) ⊎ NextsOf kind flow old (Ok Empty) new
   PollsNext old (Ready given) new = NextsOf kind flow old (taken (answer_by memory_fault given)) new
 
-  -- each item is what `receive` may give at its turn, by calls of `next` in their order; there is no end
+  -- each item is what one `receive` may give, in order, and the stream does not end
   abbrev pub Yields : NumberedToken (Said C R) → List (Result T MemoryError) → Option (Result T MemoryError) → Type 0
   Yields old [] (Some x) = (u : NumberedToken (Said C R)) × Receives kind flow old (answer_by memory_fault x) u
   Yields old [] None = ⊥
   Yields old (x ∷ xs) next = (u : NumberedToken (Said C R)) × Receives kind flow old (answer_by memory_fault x) u × Yields u xs next
 
--- what a future of a reader may give: the reader, which has received this value or was refused it. None is left once it was ready
+-- what a future of a reader may give: the reader, and the value that it received or its refusal; nothing more after `Ready`
 abbrev pub GivesChanged : {T S C R : Type 0} → Kind T S C R → Option (ReaderOf TableId S (Said C R)) → ReaderOf TableId S (Said C R) × Result T MemoryError → Type 0
 GivesChanged kind (Some reader) given = (given.0.flow ≡ reader.flow) × Receives kind reader.flow reader.subscription (answer_by memory_fault given.1) given.0.subscription
 GivesChanged kind None given = ⊥

@@ -20,10 +20,10 @@ module _ {T S C R : Type 0} (kind : Kind T S C R) (flow : Origin S) where
   NextsAfter [] old answer new = NextsOf kind flow old answer new
   NextsAfter (u ∷ us) old answer new = NextsOf kind flow old (Ok Empty) u × NextsAfter us u answer new
 
-  -- so many calls of `next` that found nothing, each one event, and then one with this answer
+  -- some calls of `next` that found nothing, each one event, and then one with this answer
   abbrev pub NextsUntil : NumberedToken (Said C R) → Result (Next T) FlowFault → NumberedToken (Said C R) → Type 0
   NextsUntil old answer new = (us : List (NumberedToken (Said C R))) × NextsAfter us old answer new
 
-  -- the same, where the last one gave this value or this refusal
+  -- some calls of `next` that found nothing, and then one that gave this value or this refusal
   abbrev pub Receives : NumberedToken (Said C R) → Result T FlowFault → NumberedToken (Said C R) → Type 0
   Receives old result new = NextsUntil old (taken result) new

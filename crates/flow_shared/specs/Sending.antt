@@ -23,7 +23,7 @@ module _ {T : Type 0} (flow : Origin (SharedFlowState T)) where
     not_polled : {t : SharedToken T} → FindsWaiting e t t
     one_more : {t u w : SharedToken T} → FindsWaiting e t u → Calls flow u (call.Poll e) (reply.Tested true) w → FindsWaiting e t w
 
-  -- A cancel at the end of the time: it found the emission waiting, or done.
+  -- A cancel when the time is up: it found the emission waiting, or done.
   abbrev pub EndsBy : ℕ → SharedToken T → SendEnd → SharedToken T → Type 0
   EndsBy e t ended.Done after = Calls flow t (call.Cancel e) (reply.Tested false) after
   EndsBy e t ended.Cancelled after = Calls flow t (call.Cancel e) (reply.Tested true) after
@@ -41,7 +41,7 @@ module _ {T : Type 0} (flow : Origin (SharedFlowState T)) where
   abbrev pub WaitsInTime : T → SharedToken T → SendEnd → SharedToken T → Type 0
   WaitsInTime v t how after = (e : ℕ) × (u : SharedToken T) × Calls flow t (call.Emit v) (reply.Emitted (Queued e)) u × EndsInTime e u how after
 
-  -- One `emit` of the value that was done, or one that was queued and ended so. A refusal is one `emit` that was refused.
+  -- One `emit` of the value that was done, or one that was queued and whose wait ended this way. A refusal is one refused `emit`.
   abbrev pub SendsInTime : T → SharedToken T → Result SendEnd (Refused T) → SharedToken T → Type 0
   SendsInTime v t (Ok ended.Done) after = Calls flow t (call.Emit v) (reply.Emitted Done) after ⊎ WaitsInTime v t ended.Done after
   SendsInTime v t (Ok ended.Cancelled) after = WaitsInTime v t ended.Cancelled after

@@ -1,4 +1,4 @@
--- What the calls of a shared flow for several threads answer. `flow` is the flow: which one, and its configuration.
+-- What the calls of a shared flow for several threads return. `flow` is the flow: which one, and its configuration.
 use Rattle.std.specs.Prelude.{◌≡◌, ◌⊎◌, ⊤, ℕ, Bool, true, false, Result, Ok, Err}
 use Rattle.flow_law.specs.declared.fault.FlowFault.{FlowFault}
 use Rattle.flow_law.specs.declared.fault.FlowFault.TheVariants.{OutOfMemory, Exhausted, Busy}
@@ -34,7 +34,7 @@ module _ {T : Type 0} (flow : Origin (SharedFlowState T)) where
   abbrev pub Calls : SharedToken T → SharedCall T → SharedReply T → SharedToken T → Type 0
   Calls = flows.Calls shared_flow flow
 
-  -- the same, and no exchange was lost
+  -- `Calls`, and no exchange was lost
   abbrev pub CallsAtOnce : SharedToken T → SharedCall T → SharedReply T → SharedToken T → Type 0
   CallsAtOnce = flows.CallsAtOnce shared_flow flow
 
@@ -42,7 +42,7 @@ module _ {T : Type 0} (flow : Origin (SharedFlowState T)) where
 abbrev pub IsEmitFault : FlowFault → Type 0
 IsEmitFault fault = (fault ≡ OutOfMemory) ⊎ (fault ≡ Exhausted)
 
--- ---- answers that hand a token over
+-- ---- answers that give a token
 
 module _ {T A : Type 0} where
   -- the reply that an answer stands for
@@ -51,23 +51,23 @@ module _ {T A : Type 0} where
   emitted_reply (emitted.Queued e) = reply.Emitted (Queued e.number)
   emitted_reply (emitted.Refused t v fault) = reply.Refused fault
 
-  -- the token that the caller has then
+  -- the token that the caller then has
   abbrev pub emitted_token : Emitted T A → SharedToken T
   emitted_token (emitted.Done t) = t
   emitted_token (emitted.Queued e) = e.token
   emitted_token (emitted.Refused t v fault) = t
 
-  -- where the value was refused, it was for one of those
+  -- the fault of a refused value is one of an `emit`
   abbrev pub EmitRefusedIfDue : Emitted T A → Type 0
   EmitRefusedIfDue (emitted.Refused t v fault) = IsEmitFault fault
   EmitRefusedIfDue _ = ⊤
 
-  -- a refused emission hands its value back
+  -- a refused emission returns its value
   abbrev pub HandsBack : T → Emitted T A → Type 0
   HandsBack value (emitted.Refused t v fault) = v ≡ value
   HandsBack value _ = ⊤
 
-  -- the reply that a poll answers
+  -- the reply that the answer of a poll stands for
   abbrev pub polled_reply : Polled T A → SharedReply T
   polled_reply (polled.Done t) = reply.Tested false
   polled_reply (polled.Waiting e) = reply.Tested true
@@ -83,7 +83,7 @@ module _ {T A : Type 0} where
   KeepsNumber number _ = ⊤
 
   module _ (flow : Origin (SharedFlowState T)) where
-    -- the call is one event, with the reply and the token that the answer has; at a refusal the value comes back
+    -- the call is one event, with the reply and the token that the answer has; a refusal returns the value
     abbrev pub Emits : SharedToken T → T → Emitted T A → Type 0
     Emits before value answer = Calls flow before (call.Emit value) (emitted_reply answer) (emitted_token answer) × HandsBack value answer
 
@@ -91,7 +91,7 @@ module _ {T A : Type 0} where
     abbrev pub Polls : NumberedToken (Said (SharedCall T) (SharedReply T)) → Polled T A → Type 0
     Polls e answer = Calls flow e.token (call.Poll e.number) (polled_reply answer) (polled_token answer) × KeepsNumber e.number answer
 
-    -- ---- calls that do not wait: Busy exactly where one exchange was lost
+    -- ---- calls that do not wait: Busy exactly if one exchange was lost
 
     -- an `emit` that does not wait
     abbrev pub EmitsNow : SharedToken T → T → Emitted T A → Type 0
@@ -136,7 +136,7 @@ module _ {T : Type 0} (flow : Origin (SharedFlowState T)) where
   CancelsNow e (Ok ended) = CallsAtOnce flow e.token (call.Cancel e.number) (reply.Tested ended.1) ended.0
   CancelsNow e (Err back) = (back.number ≡ e.number) × IsBusy e.token back.token
 
--- the history gave the emission's number to the token, where the emission waits
+-- if the emission waits, the history gave its number to the token
 abbrev pub IsGivenIfQueued : {T : Type 0} → Knowledge (Said (SharedCall T) (SharedReply T)) → Result Emit (Refused T) → Type 0
 IsGivenIfQueued k (Ok (Queued number)) = IsEmission shared_flow k number
 IsGivenIfQueued k _ = ⊤

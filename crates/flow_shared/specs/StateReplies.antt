@@ -1,4 +1,4 @@
--- What the calls of a state flow for several threads answer. `flow` is the flow: which one, and the state that it began with.
+-- What the calls of a state flow for several threads return. `flow` is the flow: which one, and the state that it began with.
 use Rattle.std.specs.Prelude.{◌≡◌, Result, Ok, Err}
 use Rattle.flow_law.specs.declared.fault.FlowFault.TheVariants.{Busy}
 use Rattle.flow_law.specs.declared.fault.Refused.{Refused}
@@ -22,7 +22,7 @@ module _ {T : Type 0} (flow : Origin (StateFlowState T)) where
   abbrev pub StateCalls : StateToken T → StateCall T → StateReply T → StateToken T → Type 0
   StateCalls = flows.Calls state_flow flow
 
-  -- a call that does not wait: where it is Busy the value comes back
+  -- a `set` that does not wait: if it is Busy, it returns the value
   abbrev pub SetsNow : StateToken T → T → Result (Unit {0}) (Refused T) → StateToken T → Type 0
   SetsNow before value (Ok none) after = flows.CallsAtOnce state_flow flow before (call.Set value) reply.Done after
   SetsNow before value (Err refused) after = (refused.fault ≡ Busy) × (refused.value ≡ value) × IsBusy before after

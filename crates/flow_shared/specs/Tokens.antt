@@ -9,7 +9,7 @@ use Rattle.flow_gate.specs.Tokens.{Token}
 abbrev pub nowhere : TableId
 nowhere = record { words = 0; slots = 0; views_name = 0; atom = 0; block = 0; offset = 0; slot_names = [] }
 
--- the seat is there but in the middle of a call
+-- the token of a seat, which is missing only in the middle of a call
 abbrev pub seat_in : {E : Type 0} → Option (Token E) → Token E
 seat_in (Some t) = t
 seat_in None = token nowhere first_knowledge

@@ -24,7 +24,7 @@ module _ {T : Type 0} (flow : Origin (StateFlowState T)) where
   abbrev pub ValuesBy : StateNumbered T → Result T FlowFault → StateNumbered T → Type 0
   ValuesBy old answer new = StateCalls flow old.token GetValue (value_reply answer) new.token × (new.number ≡ old.number)
 
-  -- One `value`, and then one `next`. It comes to what the `next` gave, or, if that found nothing, to what the `value` had given.
+  -- One `value`, and then one `next`. The result is what the `next` gave or, if that found nothing, what the `value` had given.
   pub data Looks : StateNumbered T → Result T FlowFault → StateNumbered T → Type 0 where
     got_now : {s t u : StateNumbered T} {shown value : T} → ValuesBy s (Ok shown) t → NextsOf state_flow flow t (Ok (Value value)) u → Looks s (Ok value) u
     got_before : {s t u : StateNumbered T} {value : T} → ValuesBy s (Ok value) t → NextsOf state_flow flow t (Ok Empty) u → Looks s (Ok value) u
@@ -36,14 +36,14 @@ module _ {T : Type 0} (flow : Origin (StateFlowState T)) where
     looked : {s t : StateNumbered T} {value : T} → Looks s (Ok value) t → ComesTo Fails s value t
     passed_over : {s t u : StateNumbered T} {failed value : T} → ComesTo Fails s failed t → Fails failed → NextsUntil state_flow flow t (Ok (Value value)) u → ComesTo Fails s value u
 
-  -- The value that these came to passed the test. Or the look was refused. Or the value failed, and the calls of `next` after it
-  -- were refused, or found nothing.
+  -- The last value of these passed the test. Or the look was refused. Or the last value failed, and the calls of `next` after it
+  -- were refused or found nothing.
   pub data NextsIf (Passes Fails : T → Type 0) : StateNumbered T → Result (Next T) FlowFault → StateNumbered T → Type 0 where
     passed : {s t : StateNumbered T} {value : T} → ComesTo Fails s value t → Passes value → NextsIf Passes Fails s (Ok (Value value)) t
     look_refused : {s t : StateNumbered T} {fault : FlowFault} → Looks s (Err fault) t → NextsIf Passes Fails s (Err fault) t
     next_refused : {s t u : StateNumbered T} {failed : T} {fault : FlowFault} → ComesTo Fails s failed t → Fails failed → NextsUntil state_flow flow t (Err fault) u → NextsIf Passes Fails s (Err fault) u
     none_passed : {s t u : StateNumbered T} {failed : T} → ComesTo Fails s failed t → Fails failed → NextsUntil state_flow flow t (Ok Empty) u → NextsIf Passes Fails s (Ok Empty) u
 
-  -- the same without a time limit: this value passed, or this was the refusal
+  -- `NextsIf` without a time limit: this value passed, or this was the refusal
   abbrev pub ReceivesIf : (Passes Fails : T → Type 0) → StateNumbered T → Result T FlowFault → StateNumbered T → Type 0
   ReceivesIf Passes Fails old result new = NextsIf Passes Fails old (taken result) new

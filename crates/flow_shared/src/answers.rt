@@ -32,13 +32,13 @@ impl<T: FlowValue, A: Allocator + Copy> Model for Emission<T, A> {
     ghost invariant = { λ e. IsEmission shared_flow e.seat.knows e.number };
 }
 
-/// What `emit` and `emit_now` answer.
+/// The answer of `emit` and `emit_now`.
 #[derive(Drop)]
 pub enum Emitted<T: FlowValue, A: Allocator + Copy = Global> {
     Done(FlowSeat<SharedCore<T, A>, A>),
-    /// The emitter has to wait: `poll_emit` returns whether it still does, and `cancel` ends the wait.
+    /// The emitter has to wait: `poll_emit` returns whether it still waits, and `cancel` ends the wait.
     Queued(Emission<T, A>),
-    /// Nothing was emitted. Only `emit_now` answers `FlowFault::Busy`.
+    /// Nothing was emitted. Only `emit_now` returns `FlowFault::Busy`.
     Refused(FlowSeat<SharedCore<T, A>, A>, T, FlowFault),
 }
 
@@ -51,14 +51,14 @@ pub enum SendEnd {
     Cancelled,
 }
 
-/// What `poll_emit` answers.
+/// The answer of `poll_emit`.
 #[derive(Drop)]
 pub enum Polled<T: FlowValue, A: Allocator + Copy = Global> {
     Done(FlowSeat<SharedCore<T, A>, A>),
     Waiting(Emission<T, A>),
 }
 
-/// What `poll_now` answers.
+/// The answer of `poll_now`.
 #[derive(Drop)]
 pub enum PolledNow<T: FlowValue, A: Allocator + Copy = Global> {
     Done(FlowSeat<SharedCore<T, A>, A>),

@@ -12,9 +12,9 @@ use flow_law::{Guarded, Said};
 use flow_sleepers::{Sleepers, Woken};
 use std::alloc::{Allocator, Global};
 
-/// A core, and the callers that sleep: readers, under their subscribers' numbers, emitters, under the numbers of their
-/// emissions, and watchers of the number of subscribers, under numbers of their own. A caller that sleeps has nothing
-/// yet: a call that gives it something, ends its emission, or adds or ends a subscriber, removes and wakes it.
+/// A core, and the callers that sleep: readers under their subscribers' numbers, emitters under the numbers of their
+/// emissions, and watchers of the number of subscribers under numbers of their own. A caller that sleeps has nothing
+/// yet: a call that gives it something, ends its emission, or adds or ends a subscriber, removes it and wakes it.
 pub struct Attended<S: FlowCore, A: Allocator + Copy = Global> {
     pub(crate) core: S,
     readers: Sleepers<A>,
@@ -25,7 +25,7 @@ pub struct Attended<S: FlowCore, A: Allocator + Copy = Global> {
     to_wake: ToWake<A>,
 }
 
-/// The callers that a call has taken out. They are woken after it has left the gate.
+/// The sleepers that a call has removed. They are woken after the call has left the gate.
 #[derive(Drop)]
 pub(crate) struct ToWake<A: Allocator = Global> {
     readers: Woken<A>,
@@ -45,7 +45,7 @@ impl<A: Allocator + Copy> ToWake<A> {
         }
     }
 
-    /// Returns all of them, and leaves none.
+    /// Takes all sleepers out, and leaves none.
     fn take(&mut self) -> Self {
         self.any = false;
         ToWake {
@@ -112,7 +112,7 @@ impl<S: FlowCore, A: Allocator + Copy> Attended<S, A> {
         }
     }
 
-    /// Returns the core. Sleepers are woken.
+    /// Returns the core, and wakes all sleepers.
     pub(crate) fn into_core(self) -> S
         ensures { result ≡ self.core }
     {
@@ -149,7 +149,7 @@ impl<S: FlowCore, A: Allocator + Copy> Attended<S, A> {
         }
     }
 
-    /// Removes all readers if they have something now: if the value was set, or if the core's mark has changed.
+    /// Removes all readers if they may have something now: if the value was set, or if the core's mark has changed.
     fn wake_readers_if_due(&mut self, is_set: bool, mark: u64)
         ensures core { self.new.core ≡ self.old.core }
         ensures readers { Rests S.sleeping S.stands_as
@@ -195,7 +195,7 @@ impl<S: FlowCore, A: Allocator + Copy> Attended<S, A> {
         self.to_wake.any = true;
     }
 
-    /// Removes all watchers if the number of subscribers is another one than they have seen.
+    /// Removes all watchers if the number of subscribers differs from the one that they have seen.
     fn wake_watchers_if_due(&mut self)
         ensures core { self.new.core ≡ self.old.core }
         ensures readers { self.new.readers ≡ self.old.readers }
@@ -233,8 +233,8 @@ impl<S: FlowCore, A: Allocator + Copy> Attended<S, A> {
         self.call_and_take_out(call)
     }
 
-    /// Makes a call of the core, and takes out those who have something after it. It is a call of its own, so that a
-    /// call while no caller sleeps saves no registers for it.
+    /// Makes a call of the core, and removes the sleepers that have something after it. This is a separate function, so
+    /// that a call while no caller sleeps saves no registers for it.
     #[cold]
     #[inline(never)]
     fn call_and_take_out<C: CoreCall<S>>(&mut self, call: C) -> C::Answer
@@ -252,12 +252,12 @@ impl<S: FlowCore, A: Allocator + Copy> Attended<S, A> {
         answer
     }
 
-    /// Returns whether a caller is to be woken.
+    /// Returns whether there are sleepers to wake.
     pub(crate) fn wakes_any(&self) -> bool {
         self.to_wake.any
     }
 
-    /// Takes those out who are to be woken.
+    /// Takes out the sleepers to wake.
     pub(crate) fn take_woken(&mut self) -> ToWake<A>
         ensures core { self.new.core ≡ self.old.core }
         ensures readers { self.new.readers ≡ self.old.readers }

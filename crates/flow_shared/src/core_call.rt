@@ -60,7 +60,7 @@ impl<'a, S: FlowCore, C: CoreCall<S>> NamesEvents<Said<S::Call, S::Reply>> for C
     ghost events = { λ e knows. said (C.call e.call.value (subscription_name knows)) (C.reply e.answer.now) ∷ [] };
 }
 
-/// Leaves the gate, and then wakes the callers that have something.
+/// Leaves the gate, and then wakes the sleepers that calls have removed.
 #[inline]
 pub(crate) fn leave_and_wake<S: FlowCore, A: Allocator + Copy, X>(
     held: Held<'_, Attended<S, A>, A>,
@@ -81,7 +81,7 @@ where
 }
 
 impl<S: FlowCore, A: Allocator + Copy> Attended<S, A> {
-    /// As `leave_and_wake`, if a caller is to be woken.
+    /// Leaves the gate and wakes sleepers: the part of `leave_and_wake` that runs only if there are any to wake.
     #[cold]
     #[inline(never)]
     fn leave_then_wake<X: NamesEvents<Said<S::Call, S::Reply>>>(
@@ -100,7 +100,7 @@ impl<S: FlowCore, A: Allocator + Copy> Attended<S, A> {
     }
 }
 
-/// Calls the core, and leaves with the call and its answer.
+/// Calls the core, and leaves with the call and its answer as one event.
 #[inline]
 pub(crate) fn call_core<S: FlowCore, A: Allocator + Copy, C: CoreCall<S>>(
     held: Held<'_, Attended<S, A>, A>,
@@ -132,7 +132,7 @@ pub(crate) trait SleepingCall<S: FlowCore, A: Allocator + Copy>: CoreCall<S> {
     /// The answer says that the caller has to wait.
     ghost is_wait: { Self.Answer → Type 0 };
 
-    /// Makes the call. If the answer is to wait, the caller sleeps, or it asks again.
+    /// Makes the call. If the answer is a wait, the caller sleeps or asks again.
     fn run_or_sleep<W: Waiter<A>>(self, state: &mut Attended<S, A>, waiter: &mut W) -> Self::Answer
         ensures documented { (name : List ℕ) → Documents S.kind (AttendedAs S.sleeping S.stands_as)
             state.old (Self.call self name) (Self.reply result) state.new }
@@ -141,7 +141,7 @@ pub(crate) trait SleepingCall<S: FlowCore, A: Allocator + Copy>: CoreCall<S> {
         ensures kept { W.keeps waiter.old waiter.new };
 }
 
-/// Does the same as `call_core`. If the reply is a wait, the caller sleeps.
+/// Calls the core as `call_core` does. If the reply is a wait, the caller sleeps.
 pub(crate) fn call_core_or_sleep<
     S: FlowCore,
     A: Allocator + Copy,

@@ -24,8 +24,8 @@ use std::alloc::Allocator;
 use std::snapshot::Snapshot;
 use std::sync::Wait;
 
-/// Takes what a subscriber can receive, at most so many values, into a list that has room for all: first what the core
-/// holds for it, at once, and then by `next`.
+/// Takes the values that a subscriber can receive, at most `most`, into a list that has room for them: first those that
+/// the core holds, all at once, and then the others by `next`.
 fn take_values<S: FlowCore, A: Allocator + Copy, B: Allocator>(
     state: &mut Attended<S, A>,
     id: SubId,
@@ -49,7 +49,7 @@ fn take_values<S: FlowCore, A: Allocator + Copy, B: Allocator>(
     Ok(Drained::Most)
 }
 
-/// The values by which a list has grown, and how that ended: the events with which a caller that drains leaves.
+/// The values that a drain appended to a list, and how it ended: the events with which its caller leaves.
 #[derive(Drop)]
 struct Taken<'a, S: FlowCore, B: Allocator> {
     id: SubId,
@@ -96,7 +96,7 @@ fn take_inside<S: FlowCore, A: Allocator + Copy, B: Allocator>(
 }
 
 impl<S: FlowCore + Drop, A: Allocator + Copy> Flow<S, A> {
-    /// Takes values under one entry: no other caller comes between.
+    /// Takes values in one entry, so that no other caller comes in between.
     fn take<R: Wait, B: Allocator>(
         &self,
         rt: &R,
@@ -123,7 +123,7 @@ impl<S: FlowCore + Drop, A: Allocator + Copy> Flow<S, A> {
         ended
     }
 
-    /// Takes values, under one entry for all that the list has room for.
+    /// Takes values, in one entry for all that the list has room for.
     fn drain_by<R: Wait, B: Allocator>(
         &self,
         rt: &R,
@@ -155,15 +155,15 @@ impl<S: FlowCore + Drop, A: Allocator + Copy> Flow<S, A> {
         Ok(Drained::Most)
     }
 
-    /// Appends what the subscriber can receive now, at most `most` values, to the list, just as so many calls of `next`
-    /// would return it. `Ok` says why it stopped.
+    /// Appends the values that the subscriber can receive now, at most `most`, to the list, as if by calls of `next`.
+    /// `Ok` says why it stopped.
     ///
-    /// All that the list has room for is taken under one entry, which costs little more than one `next`: pass a list
-    /// that is kept. Other callers come between two values only if the list has to grow.
+    /// All that the list has room for is taken in one entry, which costs little more than one `next`: use the same list
+    /// again. Other callers come in between two values only if the list has to grow.
     ///
     /// # Errors
-    /// `OutOfMemory` if the list has no room or a copy was refused. That value is still in the flow, the values before
-    /// it are in the list, and a later call continues.
+    /// `OutOfMemory` if the list cannot grow or a copy is refused. The next value is still in the flow, the values
+    /// before it are in the list, and a later call continues.
     pub fn drain<R: Wait, B: Allocator>(
         &self,
         rt: &R,
@@ -178,7 +178,7 @@ impl<S: FlowCore + Drop, A: Allocator + Copy> Flow<S, A> {
         ensures flow { subscription.new.token.table_id ≡ subscription.old.token.table_id }
         ensures number { subscription.new.number ≡ subscription.old.number }
         ensures live { result ≢ Ok Gone }
-        // If copies are always given, it stops early only with a list that is full and cannot grow.
+        // If copies are never refused, it fails only with a list that is full and cannot grow.
         ensures full { S.Item.IsAlwaysCopied → OnErr result (IsFull values.new) }
     {
         let id = subscription.id;

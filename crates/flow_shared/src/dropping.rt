@@ -1,7 +1,7 @@
-//! What becomes of a subscription or an emission whose handle or future is dropped.
+//! Ending the subscription or the emission of a handle or a future that is dropped.
 //!
-//! A drop has no `rt`, so it cannot wait. It makes the call that does not wait. While other callers are inside the flow
-//! it lets other threads go first and tries again, `TRIES` times at most.
+//! A drop has no `rt`, so it makes the call that does not wait. While other callers are inside the flow, it yields the
+//! thread and tries again, at most `TRIES` times.
 ghost use Rattle.std.specs.Prelude.{◌≡◌, ◌+◌, IfOk, IfErr};
 ghost use Rattle.flow_shared.specs.Calls.{Unsubscribes, UnsubscribesNow};
 ghost use Rattle.flow_shared.specs.SharedReplies.{Cancels};
@@ -35,8 +35,8 @@ impl<S: FlowCore + Drop, A: Allocator + Copy> Flow<S, A> {
         }
     }
 
-    /// Ends the subscription within so many tries. `Err` is the subscription, if another caller was inside at each of
-    /// them.
+    /// Ends the subscription within `tries` tries. If another caller was inside at each of them, returns the
+    /// subscription as `Err`.
     pub(crate) fn unsubscribe_within(
         &self,
         subscription: FlowSubscription<S, A>,
@@ -60,7 +60,7 @@ impl<S: FlowCore + Drop, A: Allocator + Copy> Flow<S, A> {
 }
 
 impl<T: FlowValue, A: Allocator + Copy> Flow<SharedCore<T, A>, A> {
-    /// Cancels the emission within so many tries. `Err` is the emission, if another caller was inside at each of them.
+    /// Cancels the emission within `tries` tries. If another caller was inside at each of them, returns it as `Err`.
     pub(crate) fn cancel_within(
         &self,
         emission: Emission<T, A>,

@@ -40,7 +40,8 @@ pub enum EmitStage<T: FlowValue, A: Allocator + Copy = Global> {
     Ended,
 }
 
-/// Emits a value once, and is ready when the emitter need not wait any more (`MutableSharedFlow.emit`, which suspends).
+/// A future that emits a value once, and is ready when the emitter need not wait any more (`MutableSharedFlow.emit`,
+/// which suspends).
 ///
 /// A poll makes one call of the flow that does not wait: `emit_now`, and later `poll_now` of the emission. Each pending
 /// poll asks to be polled again; `SendFuture` is woken instead. After `Ready` a poll is pending and calls nothing.
@@ -82,11 +83,11 @@ impl<'a, T: FlowValue, A: Allocator + Copy> EmitFuture<'a, T, A> {
         }
     }
 
-    /// Ends the future, and returns its seat and whether the value was still on its way. It was, too, if no poll came
-    /// before, or only busy ones. Returns `None` after `Ready`, when the answer had the seat.
+    /// Ends the future, and returns its seat, with `true` if the value was not emitted yet (after no polls, or only
+    /// busy ones) or its emission still waited. Returns `None` after `Ready`, when the output had the seat.
     ///
-    /// A value that was not emitted, or is queued, is dropped. An offered one is withdrawn from the subscribers that have
-    /// not received it.
+    /// A value that was not emitted, or is queued, is dropped. An offered one is withdrawn from the subscribers that
+    /// have not received it.
     pub fn cancel<R: Wait>(self, rt: &R) -> Option<(Seat<T, A>, bool)>
         ensures { Cancels self.entry result }
     {
@@ -112,7 +113,7 @@ impl<'a, T: FlowValue, A: Allocator + Copy> Future for EmitFuture<'a, T, A> {
         ensures asked { OnPending result (cx.new.is_woken ≡ true) }
         ensures count { KeepsCount self.old.stage result self.new.stage }
         ensures refused { IfReady result IsRefusedIfDue }
-        // The trait's own clauses.
+        // The clauses of the trait.
         ensures value { IfReady result (GivesSent self.old) }
         ensures again { OnPending result ⊤ }
         ensures same { OnPending result ((x : _) → GivesSent self.new x → GivesSent self.old x) }
@@ -183,7 +184,7 @@ impl<'a, T: FlowValue, A: Allocator + Copy> EmitFuture<'a, T, A> {
         }
     }
 
-    /// Does what a poll does with this waiter, and proves what it promises of the whole run.
+    /// Polls with this waiter, and proves what a poll promises about the whole run.
     pub(crate) fn advance<W: Waiter<A>>(&mut self, waiter: &mut W) -> Poll<Sent<T, A>>
         ensures value { IfReady result (GivesSent self.old) }
         ensures same { OnPending result ((x : _) → GivesSent self.new x → GivesSent self.old x) }

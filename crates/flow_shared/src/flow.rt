@@ -25,7 +25,7 @@ pub struct Flow<S: FlowCore, A: Allocator + Copy = Global> {
     pub(crate) watchers: AtomicU64,
 }
 
-// Not derived: each crate that drops a flow would prove again how its gate is dropped.
+// Not derived: each crate that drops a flow would have to prove again how its gate is dropped.
 impl<S: FlowCore + Drop, A: Allocator + Copy> Drop for Flow<S, A> {
     fn drop(self) {
         let Self {
@@ -47,7 +47,7 @@ impl<S: FlowCore, A: Allocator + Copy> Model for Flow<S, A> {
 /// A seat at the gate of a flow.
 type GateSeat<S, A> = flow_gate::Seat<Attended<S, A>, A>;
 
-/// What a call that does not wait came to: the seat and the answer, or the seat and the call if another caller was
+/// The result of a call that does not wait: the seat and the answer, or the seat and the call if another caller was
 /// inside.
 type Tried<S, A, Answer, C> = Result<(GateSeat<S, A>, Answer), (GateSeat<S, A>, C)>;
 
@@ -105,8 +105,8 @@ impl<S: FlowCore + Drop, A: Allocator + Copy> Flow<S, A> {
         }
     }
 
-    /// Does the same as `call_by_now`. If the reply is a wait, the caller sleeps. If another caller is inside, it asks
-    /// again.
+    /// Makes a call as `call_by_now` does. The caller sleeps if the reply is a wait, and asks again if another caller
+    /// is inside.
     pub(crate) fn call_by_or_sleep<C: SleepingCall<S, A>, W: Waiter<A>>(
         &self,
         seat: GateSeat<S, A>,
@@ -133,7 +133,7 @@ impl<S: FlowCore + Drop, A: Allocator + Copy> Flow<S, A> {
         }
     }
 
-    /// Does the same as `call_by`. If the reply is a wait, the caller sleeps.
+    /// Makes a call as `call_by` does. If the reply is a wait, the caller sleeps.
     pub(crate) fn call_by_asleep<R: Wait, C: SleepingCall<S, A>, W: Waiter<A>>(
         &self,
         rt: &R,
@@ -174,7 +174,7 @@ impl<S: FlowCore + Drop, A: Allocator + Copy> Flow<S, A> {
         answer
     }
 
-    /// Does the same as `call`. If the reply is a wait, the caller sleeps.
+    /// Makes a call as `call` does. If the reply is a wait, the caller sleeps.
     pub(crate) fn call_asleep<R: Wait, C: SleepingCall<S, A>, W: Waiter<A>>(
         &self,
         rt: &R,
@@ -223,8 +223,8 @@ impl<S: FlowCore + Drop, A: Allocator + Copy> Flow<S, A> {
         }
     }
 
-    /// Does the same as `call_now`. If the reply is a wait, the caller sleeps; if another caller is inside, it asks
-    /// again.
+    /// Makes a call as `call_now` does. The caller sleeps if the reply is a wait, and asks again if another caller is
+    /// inside.
     pub(crate) fn call_or_sleep<C: SleepingCall<S, A>, W: Waiter<A>>(
         &self,
         seat: &mut FlowSeat<S, A>,
@@ -258,8 +258,8 @@ impl<S: FlowCore + Drop, A: Allocator + Copy> Flow<S, A> {
     /// Makes a seat through another one. Call it for each thread, before the thread starts, or for one more emission
     /// that may wait.
     ///
-    /// The new seat has seen what its maker had seen, and has a name of its own. If it is dropped, no call is made
-    /// under its name any more, and the flow goes on.
+    /// The new seat has seen what its maker had seen, and has a name of its own. After it is dropped, no call is made
+    /// under its name; the flow does not change.
     pub fn seat(&self, seat: &mut FlowSeat<S, A>) -> FlowSeat<S, A>
         requires { seat.old.table_id ≡ self.now.table_id }
         ensures maker { seat.new ≡ knowing seat.old (makes seat.old.knows) }
@@ -281,11 +281,11 @@ impl<S: FlowCore + Drop, A: Allocator + Copy> Flow<S, A> {
         self.gate.look(inside);
     }
 
-    /// Ends the flow, and returns its core, for one thread: what all calls so far led to. Returns `None` only if a
-    /// caller that was inside never left.
+    /// Ends the flow, and returns its core: a flow for one thread, in the state to which all calls so far led. Returns
+    /// `None` only if a caller that was inside never left.
     ///
-    /// It is no event of the history, does not wait and takes no memory. Call it when all threads have ended; the core
-    /// also has what calls of other seats did. Seats, subscriptions and emissions that are left are of no further use.
+    /// It adds no event to the history, does not wait and takes no memory. Call it when all threads have ended; the
+    /// core also has what calls of other seats did. Other seats, subscriptions and emissions are of no further use.
     pub fn close(self, seat: FlowSeat<S, A>) -> Option<S>
         requires { seat.table_id ≡ self.table_id }
         ensures { IfSome result (ClosesAs S.kind self S.stands_as seat) }

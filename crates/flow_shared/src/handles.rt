@@ -1,10 +1,9 @@
-//! Handles: a token with its flow, so that no caller has to show that they belong together.
+//! Handles: tokens bound to their flows, so that no caller has to show that they belong together.
 //!
 //! # Names
-//! The plain name is the flow's own call: it takes `rt`, and waits while another caller is inside the flow. A name that
-//! begins with `try_` is the same call without `rt`: it answers at once, and may be `Busy`. The exception is
-//! `try_emit`, as in kotlinx.coroutines: it takes `rt`, and does not wait for room. `emit_now` is the emission that
-//! waits for nothing.
+//! A plain name is the flow's own call: it takes `rt`, and waits while another caller is inside the flow. A name that
+//! begins with `try_` is the same call without `rt`: it returns at once, and may fail with `Busy`. The exception is
+//! `try_emit`, named as in kotlinx.coroutines: it takes `rt`, and does not wait for room. `emit_now` waits for nothing.
 //!
 //! `receive`, `changed` and `send` wait for a value and for room: the thread sleeps until another call wakes it.
 mod awaiting;

@@ -11,20 +11,21 @@
 //! or `flow.setter(seat)`.
 //!
 //! # What each call promises
-//! The word is `Calls` (of a state flow `StateCalls`): the token has then seen a history of the flow that begins with
-//! all that it had seen, goes on with events of others, and ends with this call and this reply. The history is legal
-//! (each reply is the documented flow's at that point) and owned (no caller speaks for another one's subscription or
-//! emission).
+//! A call that is one event has a clause with the word `Calls` (of a state flow `StateCalls`): the token has then seen
+//! a history of the flow, which is all that it had seen, followed by events of other callers and by this call with this
+//! reply. The history is legal (each reply is one that the documented flow may give at that point) and owned (no caller
+//! uses another one's subscription or emission).
 //!
 //! # Waiting
 //! A call that takes `rt` waits while another caller is inside the flow. A call whose name ends in `_now`, or of a
-//! handle begins with `try_`, does not: it answers `Busy`, and has done nothing. Neither waits for room or for a value:
-//! `emit` answers `Queued`, and `next` answers `Empty`. `send`, `receive`, `changed` and `wait_for` of handles wait for
-//! these: the thread sleeps meanwhile. A `Watcher` sleeps until the number of subscribers changes.
+//! handle begins with `try_` (except `try_emit`), does not wait: it returns `Busy` if another caller is inside, and
+//! changes nothing. Neither waits for room or for a value: `emit` returns `Queued`, and `next` returns `Empty`. `send`,
+//! `receive`, `changed` and `wait_for` of handles wait for these: the thread sleeps meanwhile. A `Watcher` sleeps until
+//! the number of subscribers changes.
 //!
 //! # Dropping
-//! A seat that is dropped is lost. A subscription that is dropped stays, and may block emitters for good. An emission
-//! that is dropped stays queued or offered. A handle or a future ends the subscription or the emission that it holds.
+//! A dropped seat is lost. A dropped subscription stays, and may block emitters for good. A dropped emission stays
+//! queued or offered. Dropping a handle or a future ends the subscription or the emission that it holds.
 #![tactic(auto)]
 
 mod answers;

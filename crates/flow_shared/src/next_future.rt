@@ -18,8 +18,8 @@ use std::marker::Model;
 /// The output of a `NextFuture`: its subscription, with a value or an error.
 pub type Received<T, A = Global> = (Subscription<T, A>, Result<T, FlowFault>);
 
-/// Waits for the next value of a subscriber (a collector of a `SharedFlow` suspends until there is one), and gives it
-/// with the subscription.
+/// A future that waits for the next value of a subscriber (a collector of a `SharedFlow` suspends until there is one),
+/// and gives it with the subscription.
 ///
 /// A poll makes one call of the flow that does not wait, `next_now`. Each pending poll (there is no value yet, or
 /// another caller was inside) asks to be polled again; `ReceiveFuture` is woken instead. After `Ready` a poll is
@@ -49,7 +49,7 @@ impl<'a, T: FlowValue, A: Allocator + Copy> Model for NextFuture<'a, T, A> {
     ghost invariant = { λ f. IsTo f.flow.now.table_id f.subscription };
 }
 
-/// Returns what an answer of the flow gives the future to answer: nothing if it has to ask again.
+/// Returns what a future gives for this answer of the flow: nothing if it has to ask again.
 fn given_by<T: FlowValue>(answer: Result<Next<T>, FlowFault>) -> Option<Result<T, FlowFault>>
     ensures { result ≡ given_by answer }
 {
@@ -72,7 +72,7 @@ impl<'a, T: FlowValue, A: Allocator + Copy> NextFuture<'a, T, A> {
         }
     }
 
-    /// Ends the future, and returns the subscription, or `None` after `Ready`, when the answer had it.
+    /// Ends the future, and returns the subscription, or `None` after `Ready`, when the output had it.
     pub fn into_subscription(self) -> Option<Subscription<T, A>>
         ensures { result ≡ self.entry.subscription }
     {
@@ -125,7 +125,7 @@ impl<'a, T: FlowValue, A: Allocator + Copy> NextFuture<'a, T, A> {
         }
     }
 
-    /// Does what a poll does with this waiter, and proves what it promises of the whole run.
+    /// Polls with this waiter, and proves what a poll promises about the whole run.
     pub(crate) fn advance<W: Waiter<A>>(&mut self, waiter: &mut W) -> Poll<Received<T, A>>
         ensures value { IfReady result (GivesReceived self.old) }
         ensures same { OnPending result
@@ -154,7 +154,7 @@ impl<'a, T: FlowValue, A: Allocator + Copy> Future for NextFuture<'a, T, A> {
         ensures one { OneEach Says self.old.flow (held self.old.subscription) result
             (token_after result self.new.subscription) }
         ensures refused { IfReady result IsRefusedIfDue }
-        // The trait's own clauses.
+        // The clauses of the trait.
         ensures value { IfReady result (GivesReceived self.old) }
         ensures again { OnPending result ⊤ }
         ensures same { OnPending result

@@ -13,7 +13,7 @@ use futures::task::{Context, Poll};
 use std::alloc::{Allocator, Global};
 use std::marker::Model;
 
-/// Waits for the next value of a subscriber, as a `NextFuture` does, and is woken when there is one.
+/// A future that waits for the next value of a subscriber, as a `NextFuture` does, and is woken when there is one.
 ///
 /// A poll makes one call of the flow that does not wait. If there is nothing to receive, it leaves the task's waker
 /// inside the flow; the call that gives subscribers something removes it, and wakes the task once it has left the flow.
@@ -47,7 +47,7 @@ impl<'a, T: FlowValue, A: Allocator + Copy> ReceiveFuture<'a, T, A> {
         ReceiveFuture { next }
     }
 
-    /// Ends the future, and returns the subscription, or `None` after `Ready`, when the answer had it.
+    /// Ends the future, and returns the subscription, or `None` after `Ready`, when the output had it.
     pub fn into_subscription(self) -> Option<Subscription<T, A>>
         ensures { result ≡ self.entry.subscription }
     {
@@ -67,7 +67,7 @@ impl<'a, T: FlowValue, A: Allocator + Copy> Future for ReceiveFuture<'a, T, A> {
         ensures one { OneEach Says self.old.flow (held self.old.subscription)
             result (token_after result self.new.subscription) }
         ensures refused { IfReady result IsRefusedIfDue }
-        // The trait's own clauses. A pending poll has left its waker, or asked to be polled again (`registered`).
+        // The clauses of the trait. A pending poll has left its waker, or asked to be polled again (`registered`).
         ensures value { IfReady result (GivesReceived self.old) }
         ensures again { OnPending result ⊤ }
         ensures same { OnPending result

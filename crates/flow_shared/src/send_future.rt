@@ -15,7 +15,7 @@ use std::alloc::{Allocator, Global};
 use std::marker::Model;
 use std::sync::Wait;
 
-/// Emits a value once, as an `EmitFuture` does, and is woken when its emission ends.
+/// A future that emits a value once, as an `EmitFuture` does, and is woken when its emission ends.
 ///
 /// A poll makes one call of the flow that does not wait: `emit`, and later `poll` of the emission. If the emission
 /// waits, it leaves the task's waker inside the flow; the call that ends the emission removes it, and wakes the task.
@@ -46,11 +46,11 @@ impl<'a, T: FlowValue, A: Allocator + Copy> SendFuture<'a, T, A> {
         SendFuture { emit }
     }
 
-    /// Ends the future, and returns its seat and whether the value was still on its way. It was, too, if no poll came
-    /// before, or only busy ones. Returns `None` after `Ready`, when the answer had the seat.
+    /// Ends the future, and returns its seat, with `true` if the value was not emitted yet (after no polls, or only
+    /// busy ones) or its emission still waited. Returns `None` after `Ready`, when the output had the seat.
     ///
-    /// A value that was not emitted, or is queued, is dropped. An offered one is withdrawn from the subscribers that have
-    /// not received it.
+    /// A value that was not emitted, or is queued, is dropped. An offered one is withdrawn from the subscribers that
+    /// have not received it.
     pub fn cancel<R: Wait>(self, rt: &R) -> Option<(Seat<T, A>, bool)>
         ensures { Cancels self.entry result }
     {
@@ -71,7 +71,7 @@ impl<'a, T: FlowValue, A: Allocator + Copy> Future for SendFuture<'a, T, A> {
             (token_after result self.new.stage) }
         ensures count { KeepsCount self.old.stage result self.new.stage }
         ensures refused { IfReady result IsRefusedIfDue }
-        // The trait's own clauses. A pending poll has left its waker, or asked to be polled again (`registered`).
+        // The clauses of the trait. A pending poll has left its waker, or asked to be polled again (`registered`).
         ensures value { IfReady result (GivesSent self.old) }
         ensures again { OnPending result ⊤ }
         ensures same { OnPending result ((x : _) → GivesSent self.new x → GivesSent self.old x) }

@@ -37,7 +37,7 @@ pub type Seat<T, A = Global> = FlowSeat<SharedCore<T, A>, A>;
 pub type Subscription<T, A = Global> = FlowSubscription<SharedCore<T, A>, A>;
 
 impl<T: FlowValue, A: Allocator + Copy> Flow<SharedCore<T, A>, A> {
-    /// Makes a flow, and its first seat. Every other seat is made through this one, or through one that was made so.
+    /// Makes a flow, and its first seat. Every other seat is made through this one, directly or through other seats.
     ///
     /// # Errors
     /// `TooLarge` or `NeedsBuffer` if no flow can have this configuration, else `OutOfMemory`.

@@ -33,7 +33,7 @@ pub type StateSubscription<T, A = Global> = FlowSubscription<StateCore<T, A>, A>
 impl<T: FlowValue, A: Allocator + Copy> Flow<StateCore<T, A>, A> {
     /// Makes a state flow with this value, and its first seat. It issues at most `limit` numbers to subscribers.
     ///
-    /// Every other seat is made through this one, or through one that was made so. Once all seats and subscriptions are
+    /// Every other seat is made through this one, directly or through other seats. Once all seats and subscriptions are
     /// dropped, no call can be made any more.
     ///
     /// # Errors
@@ -52,7 +52,7 @@ impl<T: FlowValue, A: Allocator + Copy> Flow<StateCore<T, A>, A> {
 
     /// Returns a list of the current value, which is a state flow's replay cache. The only error is `OutOfMemory`.
     ///
-    /// Use it if a state flow takes the place of a shared flow; `value` returns the value itself.
+    /// It lets a state flow be used in place of a shared flow; `value` returns the value itself.
     pub fn replay_cache<R: Wait>(
         &self,
         rt: &R,
@@ -66,7 +66,7 @@ impl<T: FlowValue, A: Allocator + Copy> Flow<StateCore<T, A>, A> {
         self.call(rt, seat, ReplayCache)
     }
 
-    /// Fails with `Unsupported`, always: a state flow has a value at any time. To go back to the first value, `set` it.
+    /// Always fails with `Unsupported`: a state flow has a value at any time. To go back to the first value, `set` it.
     pub fn reset_replay_cache<R: Wait>(
         &self,
         rt: &R,

@@ -122,11 +122,11 @@ impl<S: FlowCore> CoreCall<S> for Unsubscribe {
 }
 
 impl<S: FlowCore + Drop, A: Allocator + Copy> Flow<S, A> {
-    /// Adds a subscriber. It receives first the replay cache of a shared flow, or the value that is being offered, or
-    /// the current value of a state flow.
+    /// Adds a subscriber. In a shared flow it receives the replay cache first, or the value that is being offered; in a
+    /// state flow it receives the current value first.
     ///
     /// The subscription has a seat of its own, made through this one. A subscriber that does not read blocks the
-    /// emitters of a shared flow or loses values, depending on the strategy, until `unsubscribe`.
+    /// emitters of a shared flow or loses values, depending on `overflow`, until `unsubscribe`.
     ///
     /// # Errors
     /// `Exhausted` if the flow has issued as many numbers as its limit allows, else `OutOfMemory`.
@@ -147,8 +147,8 @@ impl<S: FlowCore + Drop, A: Allocator + Copy> Flow<S, A> {
     /// Returns what the subscriber receives next, or `Empty` if it has received all values. The only error is
     /// `OutOfMemory`; a later call returns the value.
     ///
-    /// In a shared flow it makes room, so queued values may be emitted. A slow subscriber of a state flow skips values
-    /// and gets the most recent one.
+    /// In a shared flow this makes room, so queued values may be emitted. A slow subscriber of a state flow skips
+    /// values and gets the most recent one.
     pub fn next<R: Wait>(
         &self,
         rt: &R,
@@ -179,7 +179,7 @@ impl<S: FlowCore + Drop, A: Allocator + Copy> Flow<S, A> {
         tried.unwrap_or(Err(FlowFault::Busy))
     }
 
-    /// Does the same as `next`. If there is nothing to receive, the caller sleeps.
+    /// Returns what `next` returns. If there is nothing to receive, the caller sleeps.
     pub(crate) fn next_asleep<R: Wait, W: Waiter<A>>(
         &self,
         rt: &R,
@@ -198,8 +198,8 @@ impl<S: FlowCore + Drop, A: Allocator + Copy> Flow<S, A> {
         self.call_asleep(rt, &mut subscription.seat, TakeNext { id }, waiter)
     }
 
-    /// Does the same as `next_now`. If there is nothing to receive, the caller sleeps. If another caller is inside, it asks
-    /// again.
+    /// Returns what `next_now` returns. The caller sleeps if there is nothing to receive, and asks again if another
+    /// caller is inside.
     pub(crate) fn next_or_sleep<W: Waiter<A>>(
         &self,
         subscription: &mut FlowSubscription<S, A>,
@@ -229,7 +229,7 @@ impl<S: FlowCore + Drop, A: Allocator + Copy> Flow<S, A> {
         seat
     }
 
-    /// Counts the subscribers. A dropped subscription is counted: only `unsubscribe` ends one.
+    /// Counts the subscribers. A dropped subscription still counts: only `unsubscribe` ends one.
     pub fn subscription_count<R: Wait>(&self, rt: &R, seat: &mut FlowSeat<S, A>) -> u64
         requires { seat.old.table_id ≡ self.now.table_id }
         ensures { Counts S.kind self.now seat.old result seat.new }
@@ -248,7 +248,7 @@ impl<S: FlowCore + Drop, A: Allocator + Copy> Flow<S, A> {
         }
     }
 
-    /// Lets two seats meet: both have then seen one history, which has all that was done so far. It makes no call of
+    /// Lets two seats meet: both have then seen the same history, which has all calls so far. It makes no call of
     /// the flow and does not wait.
     ///
     /// Call it if a caller relies on what the other one did, for instance after a thread has ended and returned its

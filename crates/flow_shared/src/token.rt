@@ -15,7 +15,7 @@ use std::marker::Model;
 
 /// A seat at a flow, by which a caller calls it. Contracts see the history that it has seen.
 ///
-/// If a seat is dropped, no call is made under its name any more. The flow goes on.
+/// After a seat is dropped, no call is made under its name. The flow does not change.
 #[derive(Drop)]
 pub struct FlowSeat<S: FlowCore, A: Allocator + Copy = Global> {
     /// `None` only in the middle of a call.

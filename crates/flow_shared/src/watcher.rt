@@ -1,4 +1,4 @@
-//! Callers that sleep until there are more or fewer subscribers.
+//! Callers that sleep until the number of subscribers changes.
 ghost use Rattle.std.specs.Prelude.{◌≡◌, ⊤};
 ghost use Rattle.flow_shared.specs.Calls.{Counts, CountsNow};
 ghost use Rattle.flow_shared.specs.SharedReplies.{PollsNow};
@@ -24,7 +24,7 @@ pub(crate) enum Watching {
     Same,
     /// The caller sleeps under this number until there are more or fewer subscribers.
     Begins(u64),
-    /// The caller of this number sleeps no more.
+    /// The watcher of this number is removed.
     Ends(u64),
     /// All watchers are woken.
     AllEnd,
@@ -36,7 +36,7 @@ pub(crate) struct Count {
 }
 
 impl Count {
-    /// A count that leaves the watchers as they are.
+    /// Returns a count that does not change the watchers.
     pub(crate) fn new() -> Count {
         Count {
             watching: Watching::Same,
@@ -100,8 +100,9 @@ enum Watch {
 
 /// A thread that can sleep until the number of subscribers changes, or its emission ends. It watches one flow.
 ///
-/// A turn of calls after `watch` leaves its waker in the flow, under the gate that the calls take anyway. It then sleeps
-/// or ends the watch. The next count after that removes the waker, so that a flow without sleepers is as fast as before.
+/// A turn of calls after `watch` leaves its waker in the flow, inside the gate that the calls enter anyway. The thread
+/// then sleeps or ends the watch. The next count removes the waker, so that a flow without sleepers is as fast as
+/// before.
 #[derive(Drop)]
 pub struct Watcher<A: Allocator = Global> {
     thread: ThreadWaiter<A>,
@@ -125,7 +126,7 @@ impl<A: Allocator + Copy> Watcher<A> {
     }
 
     /// Ends a watch, and sleeps until a waker that was left is dropped, or for `most`, if that is given. It may return
-    /// early. If no waker was left, other threads go first.
+    /// early. If no waker was left, it yields instead.
     pub fn sleep<R: Wait>(&mut self, rt: &R, most: Option<Duration>) {
         self.unwatch();
         self.thread.sleep(rt, most);
@@ -133,7 +134,7 @@ impl<A: Allocator + Copy> Watcher<A> {
 }
 
 impl<S: FlowCore + Drop, A: Allocator + Copy> Flow<S, A> {
-    /// Makes a watcher of this flow. It takes no memory.
+    /// Makes a watcher of this flow. Does not allocate.
     pub fn watcher(&self) -> Watcher<A> {
         Watcher {
             thread: ThreadWaiter::new(),
@@ -142,7 +143,7 @@ impl<S: FlowCore + Drop, A: Allocator + Copy> Flow<S, A> {
         }
     }
 
-    /// Counts the subscribers as `count_now` does. In a watch, the watcher is then woken when there are more or fewer.
+    /// Counts the subscribers as `count_now` does. In a watch, the watcher is then woken when the number changes.
     pub fn count_watched(
         &self,
         seat: &mut FlowSeat<S, A>,

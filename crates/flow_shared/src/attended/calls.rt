@@ -90,7 +90,8 @@ impl<S: FlowCore, A: Allocator + Copy> Attended<S, A> {
         count
     }
 
-    /// Takes values of the core that a subscriber can receive, at most so many, if no caller sleeps. Returns how many.
+    /// Appends values that a subscriber can receive, at most `most`, to the list, if no caller sleeps. Returns how
+    /// many.
     pub(crate) fn take_held<B: Allocator>(
         &mut self,
         id: SubId,

@@ -1,4 +1,4 @@
-//! Futures of handles: a value on its way, and the next value of a reader. Both are woken.
+//! Futures of handles: to send a value, and to receive a reader's next value. Both are woken.
 ghost use Rattle.std.specs.Prelude.{◌≡◌, Some};
 ghost use Rattle.flow_shared.specs.declared.emit_future.EmitStage.TheVariants.{Fresh};
 ghost use Rattle.flow_shared.specs.EmitFutures.{emitting};
@@ -14,7 +14,7 @@ use std::alloc::Allocator;
 
 impl<'a, T: FlowValue, A: Allocator + Copy> FlowCaller<'a, SharedCore<T, A>, A> {
     /// Returns a future that emits a value, and is woken when its emission is done. Nothing is emitted before it is
-    /// polled. Its answer has the seat: bind it again by `emitter` of the flow.
+    /// polled. Its output has the seat: bind it again by `emitter` of the flow.
     pub fn into_send(self, value: T) -> SendFuture<'a, T, A>
         ensures { result ≡ emitting self.entry.flow (Fresh self.entry.token value) }
     {
@@ -25,7 +25,7 @@ impl<'a, T: FlowValue, A: Allocator + Copy> FlowCaller<'a, SharedCore<T, A>, A> 
 
 impl<'a, T: FlowValue, A: Allocator + Copy> FlowReader<'a, SharedCore<T, A>, A> {
     /// Returns a future that waits for the next value, and is woken when there is one. Nothing is received before it is
-    /// polled. Its answer has the subscription: bind it again by `reader` of the flow.
+    /// polled. Its output has the subscription: bind it again by `reader` of the flow.
     pub fn into_receive(self) -> ReceiveFuture<'a, T, A>
         ensures { result ≡ receiving self.entry.flow (Some self.entry.subscription) }
     {

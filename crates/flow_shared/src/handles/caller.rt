@@ -19,7 +19,7 @@ use std::sync::Wait;
 /// A seat and its flow: an `Emitter` of a shared flow, or a `Setter` of a state flow. Contracts see both.
 ///
 /// # Dropping
-/// Dropping it drops its seat: no caller has that name any more, and the flow does not change.
+/// Dropping it drops its seat: no call is made under its name any more, and the flow does not change.
 #[derive(Drop)]
 pub struct FlowCaller<'a, S: FlowCore, A: Allocator + Copy = Global> {
     pub(crate) flow: &'a Flow<S, A>,
@@ -57,10 +57,10 @@ impl<'a, S: FlowCore + Drop, A: Allocator + Copy> FlowCaller<'a, S, A> {
         FlowCaller::new(self.flow, made)
     }
 
-    /// Subscribes. The reader gets the replay cache of a shared flow first, or the value that is offered, and the
-    /// current value of a state flow.
+    /// Subscribes. A reader of a shared flow gets the replay cache first, or the value that is being offered; a reader
+    /// of a state flow gets the current value.
     ///
-    /// A subscriber that does not read blocks the emitters of a shared flow or loses values, depending on the strategy,
+    /// A subscriber that does not read blocks the emitters of a shared flow or loses values, depending on `overflow`,
     /// until `unsubscribe`.
     pub fn subscribe<R: Wait>(&mut self, rt: &R) -> Result<FlowReader<'a, S, A>, NumberError>
         ensures flow { self.new.flow ≡ self.old.flow }
@@ -73,7 +73,7 @@ impl<'a, S: FlowCore + Drop, A: Allocator + Copy> FlowCaller<'a, S, A> {
         }
     }
 
-    /// Counts the subscribers. A subscription whose token was dropped is counted; one whose handle was dropped has
+    /// Counts the subscribers. A subscription whose token was dropped still counts; one whose handle was dropped has
     /// ended, unless the drop found the flow taken at each of its many tries.
     pub fn subscription_count<R: Wait>(&mut self, rt: &R) -> u64
         ensures flow { self.new.flow ≡ self.old.flow }
@@ -94,7 +94,7 @@ impl<'a, S: FlowCore + Drop, A: Allocator + Copy> FlowCaller<'a, S, A> {
         }
     }
 
-    /// Joins what two callers of one flow have seen: afterwards both have seen one history, with all calls so far.
+    /// Joins what two callers of one flow have seen: afterwards both have seen the same history, with all calls so far.
     ///
     /// Call it when one caller relies on what another did, for example after a thread has ended and returned its
     /// handle.

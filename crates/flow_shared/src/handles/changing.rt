@@ -10,8 +10,8 @@ use futures::task::{Context, Poll};
 use std::alloc::{Allocator, Global};
 use std::marker::Model;
 
-/// Waits until the value differs from the one that a reader got last, and gives the reader and the value, or
-/// `OutOfMemory` if the value could not be copied: a later call returns it, or a newer one.
+/// A future that waits until the value differs from the one that a reader got last. Its output is the reader, with the
+/// value, or with `OutOfMemory` if the value could not be copied: a later call returns it, or a newer one.
 ///
 /// A poll makes one call of the flow that does not wait, as a `ReceiveFuture` does. The call that sets the value wakes
 /// the task. After `Ready` a poll is pending and calls nothing.
@@ -49,7 +49,7 @@ impl<'a, T: FlowValue, A: Allocator + Copy> StateReader<'a, T, A> {
 }
 
 impl<'a, T: FlowValue, A: Allocator + Copy> StateChangedFuture<'a, T, A> {
-    /// Ends the future, and returns the reader, or `None` after `Ready`, when the answer had it.
+    /// Ends the future, and returns the reader, or `None` after `Ready`, when the output had it.
     pub fn into_reader(self) -> Option<StateReader<'a, T, A>>
         ensures { result ≡ self.entry }
     {

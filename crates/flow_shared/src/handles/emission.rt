@@ -78,7 +78,7 @@ impl<T: FlowValue, A: Allocator + Copy> Flow<SharedCore<T, A>, A> {
 
 impl<'a, T: FlowValue, A: Allocator + Copy> BoundEmission<'a, T, A> {
     /// Returns whether the emission still waits. If it does not, the flow has taken its value, and the answer has its
-    /// emitter. Without a buffer every subscriber has then received it.
+    /// emitter. Without a buffer every subscriber has then received it or left.
     pub fn poll<R: Wait>(self, rt: &R) -> PollAnswer<'a, T, A>
         ensures flow { polled_flow result ≡ self.entry.flow }
         ensures polls { Polls self.entry.flow self.entry.emission (polled_by result) }

@@ -43,7 +43,7 @@ impl<T: FlowValue, A: Allocator + Copy> Flow<SharedCore<T, A>, A> {
 
 impl<'a, T: FlowValue, A: Allocator + Copy> FlowCaller<'a, SharedCore<T, A>, A> {
     /// Emits a value if it need not wait for room, and returns `true` if the flow took it or, under `DropLatest`,
-    /// dropped it. At `false` an `emit` would wait; the value is dropped, and the flow is not changed.
+    /// dropped it. If `emit` would wait, it returns `false`, drops the value and does not change the flow.
     ///
     /// It waits while another caller holds the flow.
     ///
@@ -67,12 +67,11 @@ impl<'a, T: FlowValue, A: Allocator + Copy> FlowCaller<'a, SharedCore<T, A>, A> 
         }
     }
 
-    /// Emits a value, or queues it. A queued emission is polled until it is done, or cancelled; if it is dropped, it is
-    /// cancelled.
+    /// Emits a value, or queues it. Poll a queued emission until it is done, or cancel it; dropping it cancels it.
     ///
     /// # Errors
-    /// `Refused`, with the emitter and the value: `Exhausted`, or `OutOfMemory` if the value would have to wait and there is
-    /// no memory for it.
+    /// `Refused`, with the emitter and the value: `Exhausted`, or `OutOfMemory` if the value would have to wait and
+    /// there is no memory for it.
     pub fn emit<R: Wait>(self, rt: &R, value: T) -> EmitAnswer<'a, T, NumberError, A>
         ensures flow { emitted_flow result ≡ self.entry.flow }
         ensures emits { Emits self.entry.flow self.entry.token value

@@ -39,7 +39,7 @@ pub(crate) fn try_next_error(fault: FlowFault) -> TryNextError
     }
 }
 
-/// Returns how a drain ended whose subscriber is not gone.
+/// Returns how a drain ended, for a subscriber that is not gone.
 pub(crate) fn drain_end(ended: Result<Drained, FlowFault>) -> Result<DrainEnd, OutOfMemory>
     requires live { ended ≢ Ok Gone }
     requires memory { IfErr ended (λ fault. fault ≡ FlowFault.OutOfMemory) }

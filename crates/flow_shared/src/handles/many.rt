@@ -1,4 +1,4 @@
-//! Callers and readers with a thread each, and what they have done once these threads have ended.
+//! Callers and readers with a thread each, and what they did, once these threads have ended.
 ghost use Rattle.std.specs.Prelude.{◌≡◌, ◌∷◌, ◌++◌, ℕ, ◌<◌, All, IfOk, length, map, slice_index_or, vec_len};
 ghost use Rattle.flow_law.specs.Closed.{makes_many, nth_child};
 ghost use Rattle.flow_law.specs.Handles.{called_by};
@@ -13,10 +13,10 @@ use std::alloc::{Allocator, Global};
 use std::sync::Wait;
 
 impl<'a, S: FlowCore + Drop, A: Allocator + Copy> FlowCaller<'a, S, A> {
-    /// Makes so many more callers through this one. Call it before their threads start.
+    /// Makes `count` more callers through this one. Call it before their threads start.
     ///
     /// # Errors
-    /// `OutOfMemory` if there is no room for them. The seats that were made by then are dropped.
+    /// `OutOfMemory` if there is no memory for them. The seats that were made by then are dropped.
     pub fn others(
         &mut self,
         alloc: Global,
@@ -85,8 +85,8 @@ impl<'a, S: FlowCore + Drop, A: Allocator + Copy> FlowCaller<'a, S, A> {
     /// Proves that a history of the flow has all that this caller, the others and the readers did, and nothing else
     /// under their names. Call it once their threads have ended.
     ///
-    /// All meet, the subscribers are counted, and all meet again: because of the first round nothing is left out of the
-    /// history, and the second round shows that none of them has done more.
+    /// All meet, the subscribers are counted, and all meet again. After the first round the history has all that they
+    /// did; the second round shows that none of them has done more.
     pub fn meet_twice<R: Wait>(
         &mut self,
         rt: &R,

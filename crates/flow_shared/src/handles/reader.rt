@@ -92,8 +92,8 @@ impl<'a, S: FlowCore + Drop, A: Allocator + Copy> FlowReader<'a, S, A> {
     /// # Errors
     /// `OutOfMemory` if the value could not be copied: a later call returns it.
     ///
-    /// In a shared flow it makes room, so queued values may be emitted. A slow subscriber of a state flow skips values
-    /// and gets the most recent one.
+    /// In a shared flow this makes room, so queued values may be emitted. A slow subscriber of a state flow skips
+    /// values and gets the most recent one.
     pub fn next<R: Wait>(&mut self, rt: &R) -> Result<Option<S::Item>, OutOfMemory>
         ensures flow { self.new.flow ≡ self.old.flow }
         ensures called { NextsOf S.kind self.old.flow self.old.subscription
@@ -121,10 +121,10 @@ impl<'a, S: FlowCore + Drop, A: Allocator + Copy> FlowReader<'a, S, A> {
         }
     }
 
-    /// Appends what the subscriber can receive now to the list, at most `most` values.
+    /// Appends the values that the subscriber can receive now, at most `most`, to the list.
     ///
     /// # Errors
-    /// `OutOfMemory` if the list has no room or a value could not be copied. That value is still in the flow, the
+    /// `OutOfMemory` if the list cannot grow or a value could not be copied. The next value is still in the flow, the
     /// values before it are in the list, and a later call continues.
     pub fn drain<R: Wait, B: Allocator>(
         &mut self,
@@ -179,7 +179,7 @@ impl<'a, S: FlowCore + Drop, A: Allocator + Copy> FlowReader<'a, S, A> {
         }
     }
 
-    /// Gives the subscription back, for the flow's own calls.
+    /// Returns the subscription, for the flow's own calls.
     pub fn into_subscription(self) -> FlowSubscription<S, A>
         ensures subscription { result ≡ self.entry.subscription }
         ensures flow { result.token.table_id ≡ self.entry.flow.table_id }
@@ -193,7 +193,7 @@ impl<'a, S: FlowCore + Drop, A: Allocator + Copy> FlowReader<'a, S, A> {
 }
 
 impl<S: FlowCore + Drop, A: Allocator + Copy> Flow<S, A> {
-    /// Makes a seat through a subscription's.
+    /// Makes a seat through the seat of a subscription.
     fn seat_by(&self, subscription: &mut FlowSubscription<S, A>) -> crate::token::FlowSeat<S, A>
         requires { subscription.old.token.table_id ≡ self.now.table_id }
         ensures maker { subscription.new.token

@@ -44,7 +44,7 @@ impl<'a, T: FlowValue, A: Allocator + Copy> FlowReader<'a, SharedCore<T, A>, A> 
 }
 
 impl<'a, T: FlowValue, A: Allocator + Copy> FlowReader<'a, StateCore<T, A>, A> {
-    /// Proves the laws of state flows for what the subscription has seen, as that of a shared flow's reader does.
+    /// Proves the laws of state flows for what the subscription has seen, as `seen` of a shared flow's reader does.
     pub fn seen(&mut self)
         ensures unchanged { self.new ≡ self.old }
         ensures history { IsStateHistory self.new.flow.first

@@ -34,7 +34,7 @@ impl<'a, S: FlowCore + Drop, A: Allocator + Copy> FlowReader<'a, S, A> {
         }
     }
 
-    /// Takes the next value when there is one.
+    /// Waits for the next value, and takes it.
     fn await_next<R: Wait>(&mut self, rt: &R) -> Result<S::Item, OutOfMemory>
         ensures flow { self.new.flow ≡ self.old.flow }
         ensures received { Receives S.kind self.old.flow self.old.subscription
@@ -54,9 +54,8 @@ impl<'a, S: FlowCore + Drop, A: Allocator + Copy> FlowReader<'a, S, A> {
 }
 
 impl<'a, T: FlowValue, A: Allocator + Copy> FlowReader<'a, SharedCore<T, A>, A> {
-    /// Takes the next value, and waits until there is one. The thread asks some times, and lets other threads go first
-    /// between; then it sleeps, and the call that gives the subscriber something wakes it. If there is no memory for its
-    /// waker, it asks again.
+    /// Waits for the next value, and takes it. The thread asks several times, and yields in between; then it sleeps,
+    /// and the call that gives the subscriber a value wakes it. If there is no memory for its waker, it asks again.
     ///
     /// # Errors
     /// `OutOfMemory` if the value could not be copied: a later call returns it.
@@ -74,8 +73,8 @@ impl<'a, T: FlowValue, A: Allocator + Copy> FlowReader<'a, SharedCore<T, A>, A> 
 }
 
 impl<'a, T: FlowValue, A: Allocator + Copy> FlowReader<'a, StateCore<T, A>, A> {
-    /// Takes the current value if the subscriber has not got it, and waits until there is such a value: a new subscriber
-    /// gets the current value at once. The thread waits as in `receive` of a shared flow's reader.
+    /// Waits until the current value differs from the one that the subscriber received last, and takes it. A new
+    /// subscriber gets the current value at once. The thread waits as in `receive` of a shared flow's reader.
     ///
     /// # Errors
     /// `OutOfMemory` if the value could not be copied: a later call returns it, or a newer one.

@@ -14,9 +14,8 @@ use std::sync::Wait;
 use std::time::{Clock, Duration};
 
 impl<'a, T: FlowValue, A: Allocator + Copy> FlowCaller<'a, SharedCore<T, A>, A> {
-    /// Emits a value, and waits until the emission is done. The thread asks some times, and lets other threads go first
-    /// between; then it sleeps, and the call that ends the emission wakes it. If there is no memory for its waker, it asks
-    /// again.
+    /// Emits a value, and waits until the emission is done. The thread asks several times, and yields in between; then
+    /// it sleeps, and the call that ends the emission wakes it. If there is no memory for its waker, it asks again.
     ///
     /// # Errors
     /// `Exhausted` if the flow has issued as many numbers as its limit allows, `OutOfMemory` if the value would have to
@@ -42,7 +41,7 @@ impl<'a, T: FlowValue, A: Allocator + Copy> FlowCaller<'a, SharedCore<T, A>, A> 
     /// Emits a value as `send` does, and cancels the emission if it is not done within `limit`. If the clock cannot be
     /// read, an emission that has to wait is cancelled.
     ///
-    /// A cancelled value is lost, for those subscribers that have not received it.
+    /// A cancelled value is lost for the subscribers that have not received it.
     ///
     /// # Errors
     /// As `send`. Nothing was emitted, and the error has the value.

@@ -85,8 +85,8 @@ impl<'a, T: FlowValue, A: Allocator + Copy> FlowCaller<'a, StateCore<T, A>, A> {
     /// Sets the value to `update` if it is equal to `expect`, and returns whether it was. Both happen in one event.
     ///
     /// If both `expect` and `update` are equal to the current value, the result is `true`, and subscribers get nothing
-    /// new. At `false` the value was another one, and `update` is dropped: read the value and try again, as `update`
-    /// of the setter does.
+    /// new. If the result is `false`, the value was another one, and `update` is dropped: read the value and try again,
+    /// as `update` of the setter does.
     pub fn compare_and_set<R: Wait>(&mut self, rt: &R, expect: &T, update: T) -> bool
         ensures flow { self.new.flow ≡ self.old.flow }
         ensures called { StateCalls self.old.flow self.old.token
@@ -97,7 +97,7 @@ impl<'a, T: FlowValue, A: Allocator + Copy> FlowCaller<'a, StateCore<T, A>, A> {
             .compare_and_set(rt, &mut self.seat, expect, update)
     }
 
-    /// Returns a snapshot of the replay cache: that of a state flow is a copy of its current value alone.
+    /// Returns a snapshot of the replay cache, which for a state flow is a list with a copy of its current value.
     pub fn replay_cache<R: Wait>(&mut self, rt: &R) -> Result<Vec<T, A>, OutOfMemory>
         ensures flow { self.new.flow ≡ self.old.flow }
         ensures called { StateCalls self.old.flow self.old.token call.ReplayCache

@@ -15,7 +15,7 @@ use std::sync::Wait;
 use std::time::{Clock, Duration};
 
 impl<'a, S: FlowCore + Drop, A: Allocator + Copy> FlowReader<'a, S, A> {
-    /// Takes the next value when there is one, or returns `None` when the time is up.
+    /// Waits for the next value, and takes it, or returns `None` when the time is up.
     pub(super) fn await_next_within<R: Wait + Clock>(
         &mut self,
         rt: &R,

@@ -15,7 +15,7 @@ use std::sync::Wait;
 use std::thread;
 
 impl<'a, T: FlowValue, A: Allocator + Copy> FlowCaller<'a, StateCore<T, A>, A> {
-    /// Returns the value that was read, and the function's answer to it.
+    /// Reads the value, and returns it with the function's result for it.
     fn answered<R: Wait, F: Fn(&T) -> Result<T, OutOfMemory>>(
         &mut self,
         rt: &R,
@@ -38,10 +38,10 @@ impl<'a, T: FlowValue, A: Allocator + Copy> FlowCaller<'a, StateCore<T, A>, A> {
         }
     }
 
-    /// Updates the value by a function of it, and returns the value that was there before.
+    /// Updates the value by a function of it, and returns the previous value.
     ///
     /// The function may be called several times: if another caller sets the value in between, the update reads again.
-    /// No other caller waits while it runs.
+    /// No other caller waits while the function runs.
     ///
     /// # Errors
     /// `OutOfMemory` if the value could not be copied or the function refuses. Then the update has set nothing.
@@ -94,8 +94,8 @@ impl<'a, T: FlowValue, A: Allocator + Copy> FlowCaller<'a, StateCore<T, A>, A> {
         }
     }
 
-    /// Updates the value by a function of it, as `get_and_update` does, and returns the value that was set: a copy of
-    /// it, which is made before it is set.
+    /// Updates the value by a function of it, as `get_and_update` does, and returns the new value: a copy that is made
+    /// before the value is set.
     pub fn update_and_get<R: Wait, F: Fn(&T) -> Result<T, OutOfMemory>>(
         &mut self,
         rt: &R,

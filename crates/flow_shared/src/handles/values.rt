@@ -24,7 +24,7 @@ fn polled<T>(answer: Result<Next<T>, FlowFault>) -> Poll<Result<T, OutOfMemory>>
 }
 
 impl<'a, S: FlowCore + Drop, A: Allocator + Copy> FlowReader<'a, S, A> {
-    /// Takes the next value if no other caller holds the flow. If there is none, the task that is polled sleeps.
+    /// Takes the next value if no other caller holds the flow. If there is none, the polled task sleeps.
     pub(super) fn poll_next_value(
         &mut self,
         cx: &mut Context<'_>,
@@ -50,7 +50,7 @@ impl<'a, S: FlowCore + Drop, A: Allocator + Copy> FlowReader<'a, S, A> {
     }
 }
 
-/// The values that a reader receives. The stream does not end.
+/// A stream of the values that a reader receives. It does not end.
 ///
 /// A poll makes one call of the flow that does not wait, as a `ReceiveFuture` does. An item is `OutOfMemory` if a value
 /// could not be copied; the value is then the next item.

@@ -14,7 +14,7 @@ use std::sync::Wait;
 use std::time::{Clock, Duration};
 
 impl<'a, T: FlowValue, A: Allocator + Copy> FlowReader<'a, StateCore<T, A>, A> {
-    /// Returns the current value, and takes it if the subscriber has not got it.
+    /// Returns the current value, and takes it if the subscriber has not received it.
     fn current<R: Wait>(&mut self, rt: &R) -> Result<T, OutOfMemory>
         ensures flow { self.new.flow ≡ self.old.flow }
         ensures looked { Looks self.old.flow self.old.subscription
@@ -32,9 +32,9 @@ impl<'a, T: FlowValue, A: Allocator + Copy> FlowReader<'a, StateCore<T, A>, A> {
         }
     }
 
-    /// Waits until the current value passes a test, and returns it. It is tested at once, also if the subscriber got it
-    /// before. The subscriber gets the values up to the one that passed, each as `changed` gives it, and `changed` does not
-    /// give them again.
+    /// Waits until the current value passes a test, and returns it. The current value is tested at once, even if the
+    /// subscriber received it before. The subscriber receives all tested values, as by `changed`, which does not return
+    /// them again.
     ///
     /// # Errors
     /// `OutOfMemory` if a value could not be copied: a later call tests it, or a newer one.
@@ -70,8 +70,8 @@ impl<'a, T: FlowValue, A: Allocator + Copy> FlowReader<'a, StateCore<T, A>, A> {
     }
 
     /// Waits as `wait_for` does, for no longer than `limit`, and returns `None` if no value has passed the test by
-    /// then. The current value is tested in any case; if the clock cannot be read, it alone is. Values that failed count as
-    /// received.
+    /// then. The current value is tested in any case; if the clock cannot be read, no other value is. Values that
+    /// failed count as received.
     ///
     /// # Errors
     /// `OutOfMemory` if a value could not be copied: a later call tests it, or a newer one.

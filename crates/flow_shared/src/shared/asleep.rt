@@ -1,4 +1,4 @@
-//! Emissions of callers that sleep while these wait.
+//! Emissions whose callers sleep while they wait.
 ghost use Rattle.std.specs.Prelude.{◌≡◌, ℕ, List, true, IfErr};
 ghost use Rattle.flow_law.specs.declared.call.SharedCall.TheVariants as call;
 ghost use Rattle.flow_law.specs.declared.call.SharedReply.TheVariants as reply;
@@ -112,8 +112,8 @@ impl<T: FlowValue, A: Allocator + Copy> SleepingCall<SharedCore<T, A>, A> for Po
 }
 
 impl<T: FlowValue, A: Allocator + Copy> Flow<SharedCore<T, A>, A> {
-    /// Does the same as `emit_now`. If the emission waits, the caller sleeps. If another caller is inside, it asks
-    /// again.
+    /// Emits a value as `emit_now` does. The caller sleeps if the emission waits, and asks again if another caller is
+    /// inside.
     pub(crate) fn emit_or_sleep<W: Waiter<A>>(
         &self,
         seat: Seat<T, A>,
@@ -139,8 +139,8 @@ impl<T: FlowValue, A: Allocator + Copy> Flow<SharedCore<T, A>, A> {
         }
     }
 
-    /// Does the same as `poll_now`. If the emission waits, the caller sleeps. If another caller is inside, it asks
-    /// again.
+    /// Polls an emission as `poll_now` does. The caller sleeps if the emission waits, and asks again if another caller
+    /// is inside.
     pub(crate) fn poll_or_sleep<W: Waiter<A>>(
         &self,
         emission: Emission<T, A>,

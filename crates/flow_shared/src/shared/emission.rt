@@ -40,7 +40,7 @@ pub(super) fn answered<T: FlowValue, A: Allocator + Copy>(
 
 impl<T: FlowValue, A: Allocator + Copy> Flow<SharedCore<T, A>, A> {
     /// Emits a value if it need not wait for subscribers, and returns `true` if the flow took it or, under
-    /// `DropLatest`, dropped it. At `false` an `emit` would wait; the value is dropped, and nothing changes.
+    /// `DropLatest`, dropped it. If `emit` would wait, it returns `false`, drops the value and changes nothing.
     pub fn try_emit<R: Wait>(
         &self,
         rt: &R,
@@ -58,8 +58,8 @@ impl<T: FlowValue, A: Allocator + Copy> Flow<SharedCore<T, A>, A> {
 
     /// Emits a value, or queues it.
     ///
-    /// The seat goes with the emission: a caller that waits makes no other call through it. At `Queued`, `poll_emit`
-    /// returns whether the emission still waits, and `cancel` ends the wait.
+    /// A queued emission keeps the seat: a caller that waits makes no other call through it. `poll_emit` then returns
+    /// whether the emission still waits, and `cancel` ends the wait.
     pub fn emit<R: Wait>(&self, rt: &R, seat: Seat<T, A>, value: T) -> Emitted<T, A>
         requires { seat.table_id ≡ self.now.table_id }
         ensures emits { Emits self.now seat value result }
@@ -71,7 +71,7 @@ impl<T: FlowValue, A: Allocator + Copy> Flow<SharedCore<T, A>, A> {
     }
 
     /// Returns whether the emission still waits. If it does not, the flow has taken its value, and the answer has its
-    /// seat. Without a buffer every subscriber has then received it.
+    /// seat. Without a buffer every subscriber has then received it or left.
     pub fn poll_emit<R: Wait>(&self, rt: &R, emission: Emission<T, A>) -> Polled<T, A>
         requires { emission.token.table_id ≡ self.now.table_id }
         ensures { Polls self.now emission result }

@@ -1,4 +1,4 @@
-//! Emissions that do not wait: if another caller is inside, they answer `Busy` and have done nothing.
+//! Calls of emissions that do not wait: if another caller is inside, they return at once and change nothing.
 ghost use Rattle.std.specs.Prelude.{◌≡◌};
 ghost use Rattle.flow_shared.specs.SharedReplies.{EmitsNow, PollsNow, CancelsNow};
 

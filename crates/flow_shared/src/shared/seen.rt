@@ -47,7 +47,7 @@ impl<T: FlowValue, A: Allocator + Copy> Flow<SharedCore<T, A>, A> {
         ensures admitted { EachWaits self.now.first.config subscription.new.token.knows.seen }
         ensures lagged { EachLags self.now.first.config subscription.new.token.knows.seen }
         ensures replayed { EachReplays self.now.first.config subscription.new.token.knows.seen }
-        // Its subscriber is there.
+        // After this history the flow has its subscriber.
         ensures subscribed { IsSome (position_of subscription.new.number
             (state_after self.now.first.config subscription.new.token.knows.seen).subscribers) }
     {

@@ -1,4 +1,4 @@
-//! Emissions of threads that sleep while these wait.
+//! Emissions whose threads sleep while they wait.
 ghost use Rattle.std.specs.Prelude.{◌≡◌, IfErr};
 ghost use Rattle.flow_sleepers.specs.Waiters.{IsToldToWait};
 ghost use Rattle.flow_shared.specs.EmitFutures.{Ends};
@@ -18,7 +18,7 @@ use std::alloc::Allocator;
 use std::sync::Wait;
 
 impl<T: FlowValue, A: Allocator + Copy> Flow<SharedCore<T, A>, A> {
-    /// Does the same as `emit`. If the emission waits, the caller sleeps.
+    /// Emits a value as `emit` does. If the emission waits, the caller sleeps.
     pub(super) fn emit_asleep<R: Wait, W: Waiter<A>>(
         &self,
         rt: &R,
@@ -36,7 +36,7 @@ impl<T: FlowValue, A: Allocator + Copy> Flow<SharedCore<T, A>, A> {
         answered(own, answer)
     }
 
-    /// Does the same as `poll_emit`. If the emission waits, the caller sleeps.
+    /// Polls an emission as `poll_emit` does. If the emission waits, the caller sleeps.
     pub(super) fn poll_asleep<R: Wait, W: Waiter<A>>(
         &self,
         rt: &R,
@@ -103,7 +103,7 @@ impl<T: FlowValue, A: Allocator + Copy> Flow<SharedCore<T, A>, A> {
         }
     }
 
-    /// Emits a value through a seat that stays where it is, and waits until the emission is done.
+    /// Emits a value through a seat that its caller keeps, and waits until the emission is done.
     pub(crate) fn send<R: Wait>(
         &self,
         rt: &R,

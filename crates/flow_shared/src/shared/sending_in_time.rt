@@ -1,4 +1,4 @@
-//! Emissions of threads that sleep while these wait, but no longer than a time limit.
+//! Emissions whose threads sleep while they wait, but no longer than a time limit.
 ghost use Rattle.std.specs.Prelude.{◌≡◌, IfErr};
 ghost use Rattle.flow_sleepers.specs.Waiters.{IsToldToWait};
 ghost use Rattle.flow_shared.specs.Sending.{EndsBy, EndsInTime, SendsInTime};
@@ -16,7 +16,7 @@ use std::sync::Wait;
 use std::time::Clock;
 
 impl<T: FlowValue, A: Allocator + Copy> Flow<SharedCore<T, A>, A> {
-    /// Cancels an emission whose time is up. If it did not wait any more, it is done.
+    /// Cancels an emission whose time is up. If it no longer waited, it is done.
     fn end_wait<R: Wait>(&self, rt: &R, emission: Emission<T, A>) -> (Seat<T, A>, SendEnd)
         requires flow { emission.token.table_id ≡ self.now.table_id }
         ensures ends { EndsBy self.now emission.number emission.token result.1 result.0 }
@@ -81,7 +81,7 @@ impl<T: FlowValue, A: Allocator + Copy> Flow<SharedCore<T, A>, A> {
         }
     }
 
-    /// Emits a value through a seat that stays where it is, and waits until the emission is done or the time is up.
+    /// Emits a value through a seat that its caller keeps, and waits until the emission is done or the time is up.
     pub(crate) fn send_within<R: Wait + Clock>(
         &self,
         rt: &R,

@@ -14,7 +14,7 @@ impl<T: FlowValue, A: Allocator + Copy> Flow<StateCore<T, A>, A> {
     /// Proves the laws of state flows for what the seat has seen, whichever caller made the flow. It makes no call of
     /// the flow, changes nothing and does not wait.
     ///
-    /// Call it on a lent flow, to conclude what a subscriber received, or that it comes to the current value.
+    /// Call it on a lent flow, to conclude what a subscriber received, or that it reaches the current value.
     pub fn seen(&self, seat: &mut StateSeat<T, A>)
         requires { seat.old.table_id ≡ self.now.table_id }
         ensures unchanged { seat.new ≡ seat.old }
@@ -33,7 +33,7 @@ impl<T: FlowValue, A: Allocator + Copy> Flow<StateCore<T, A>, A> {
         ensures history { IsStateHistory self.now.first subscription.new.token.knows.seen }
         ensures conflated { Conflates self.now.first.value subscription.new.token.knows.seen }
         ensures current { (u : ℕ) → Converges u self.now.first subscription.new.token.knows.seen }
-        // Its subscriber is there.
+        // After this history the flow has its subscriber.
         ensures subscribed { IsThere subscription.new.number
             (state_after_all self.now.first subscription.new.token.knows.seen) }
     {

@@ -28,7 +28,8 @@ impl<T: FlowValue, A: Allocator + Copy> Flow<StateCore<T, A>, A> {
         self.call(rt, seat, GetValue)
     }
 
-    /// Does the same as `value`, through the seat of a subscription. The subscriber does not receive the value by it.
+    /// Returns what `value` returns, through the seat of a subscription. The subscriber does not receive the value by
+    /// it.
     pub(crate) fn value_by<R: Wait>(
         &self,
         rt: &R,
@@ -70,8 +71,8 @@ impl<T: FlowValue, A: Allocator + Copy> Flow<StateCore<T, A>, A> {
         }
     }
 
-    /// Does the same as `set`, and returns `true`: a state flow takes every value without suspending. It waits while
-    /// another caller is inside; `set_now` does not.
+    /// Sets the value as `set` does, and returns `true`: a state flow takes every value without suspending. It waits
+    /// while another caller is inside; `set_now` does not.
     pub fn try_emit<R: Wait>(&self, rt: &R, seat: &mut StateSeat<T, A>, value: T) -> bool
         requires { seat.old.table_id ≡ self.now.table_id }
         ensures { StateCalls self.now seat.old
@@ -80,11 +81,11 @@ impl<T: FlowValue, A: Allocator + Copy> Flow<StateCore<T, A>, A> {
         self.call(rt, seat, TryEmit { value })
     }
 
-    /// Sets the value to `update` if it is equal to `expect`, and returns whether it was. Both happen in one event. At
-    /// `false` it drops `update`.
+    /// Sets the value to `update` if it is equal to `expect`, and returns whether it was; if not, drops `update`. Both
+    /// happen in one event.
     ///
     /// If both `expect` and `update` are equal to the current value, the result is `true`, and subscribers get nothing
-    /// new. At `false` the value was another one: read it and try again.
+    /// new. If the result is `false`, the value was another one: read it and try again.
     pub fn compare_and_set<R: Wait>(
         &self,
         rt: &R,

@@ -13,7 +13,7 @@ use Rattle.flow_shared.specs.Calls.{NextsOf}
 use Rattle.flow_shared.proofs.Drains.{taken_room, drained_within}
 use Rattle.flow_shared.proofs.flow.Flow.drain_by.Goals as goal
 
--- so many values are left to take, of which there is room for some
+-- the drain has values left to take, and the list has room for some of them
 module _ {X T : Type 0} (R : X → Result (Next T) FlowFault → X → Type 0) (most left room : ℕ) (old now after : X) (old_list list same longer : List T) (taken : HasTaken R (most - left) old old_list list now)
     (within : left ≤ most) (fits : room ≤ left) (is : same ≡ list) (result : Result Drained FlowFault) (d : DrainsBy R room now same result longer after) where
   so_far : HasTaken R (most - left) old old_list same now
