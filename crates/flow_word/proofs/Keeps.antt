@@ -107,7 +107,7 @@ module _ (T : Type 0) (packs : ℕ → Type 0) (value_of : ℕ → T) (start : S
           let xz : IsApartFrom x.knows z.knows = r.seats.apart id 0 i a x z place p (inl (λ q. ne (sym q))) in let zx : IsApartFrom z.knows x.knows = r.seats.apart i a id 0 z x p place (inl ne) in
           (fits_more h z.knows x.knows.name (said c y ∷ []) xz.0 zx.1 f.0, f.1)
 
-  -- and tells the call
+  -- and the step proves that call to its caller
   pub tells_event : (s : St) (r : Rule s) (id : ℕ) (v : V) (cs : List (ℕ × Unit {0})) (c : StateCall T) (y : StateReply T) (got : Option LastGot) → v ≡ only v ∷ [] → get_elem? s.views id ≡ some v
       → Replies (now r.history) c y → MayCall state_flow c (only v).knows.name r.history → Makes value_of (v, cs) c y (after_call (only v) r.history c y got ∷ [], cs)
   tells_event s r id v cs c y got is at replies may = (

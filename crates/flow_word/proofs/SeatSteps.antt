@@ -1,5 +1,5 @@
--- Steps without an event keep the rule of the table: the start, a token that is made through another, and two that meet in one view
--- and part.
+-- Steps without an event keep the rule of the table: the start, making a token through another one, and joining two tokens in one
+-- view and splitting it again.
 use Rattle.std.proofs.Common.{◌≡◌, ℕ, ◌<◌, List, [], ◌∷◌, ◌++◌, map, set, refl, sym, ap, ◌∙◌, subst, ⊎_elim, le_refl}
 use Rattle.std.specs.List.{AllByRecursion}
 use mathlib.Core.Option.{none, some}
@@ -115,7 +115,7 @@ module _ (T : Type 0) (packs : ℕ → Type 0) (value_of : ℕ → T) (start : S
     (r.history, subst (λ (z : Start). IsStateHistory (begun value_of z) r.history) (sym (started T packs value_of start s r id me.0 is at)) r.is_history, fits_at T packs value_of start s r id me.0 is at, refl),
   )
 
-  -- two tokens part
+  -- two tokens are split again
   pub parts : (id : ℕ) (v : V) (x y : Known T) → v ≡ x ∷ y ∷ [] → Splits Rule id v (first_of v) (others_of v)
   parts id v x y is s r at =
       reseated s r _ (parted (λ (v : V). v) (λ (x : Known T). x.knows) (IsFine start r.history) s.views id v (first_of v) (others_of v) x y is (ap (λ (l : V). first_of l) is) (ap (λ (l : V). others_of l) is) at r.seats)

@@ -1,5 +1,5 @@
--- The steps of subscribers keep the rule of the table. Begin with `has_grown`: what a subscription knows still holds of a history
--- that others went on with.
+-- The steps of subscribers keep the rule of the table. Begin with `has_grown`: what a subscription knows still holds after events of
+-- other callers.
 use Rattle.std.proofs.Common.{◌≡◌, ◌≢◌, ℕ, Bool, true, false, eqb, eq-eqb, ne_eqb, suc, ◌+◌, ◌-◌, ◌*◌, ◌/◌, ◌%◌, ◌^◌, ◌<◌, ◌==◌, List, [], ◌∷◌, ◌++◌, length, get_or, set, Option, Some, None, refl, sym, ap, ◌∙◌, subst, inl, inr, length-append, arith}
 use Rattle.std.specs.Prelude.{is_some}
 use Rattle.std.proofs.lemmas.Bool.{cond-true, cond-false}
@@ -61,13 +61,13 @@ module _ (T : Type 0) (packs : ℕ → Type 0) (value_of : ℕ → T) (start : S
   abbrev current : StateHistory T → StateFlowState T
   current h = state_after_all (begun value_of start) h
 
-  -- the same of the one history
+  -- what a subscription knows holds of the history of the rule
   has_now : (s : St) (r : Rule s) (id : ℕ) (v : V) (x : LastGot) → v ≡ only v ∷ [] → get_elem? s.views id ≡ some v → HasGot packs value_of (begun value_of (only v).start) (only v).knows x.number x.last
       → HasGot packs value_of (begun value_of start) (sees r.history (only v).knows) x.number x.last
   has_now s r id v x is at old = has_grown packs value_of (begun value_of start) (only v).knows x.number x.last r.history r.is_history (fits_at T packs value_of start s r id v is at)
       (subst (λ (z : Start). HasGot packs value_of (begun value_of z) (only v).knows x.number x.last) (started T packs value_of start s r id v is at) old)
 
-  -- what holds of the flow that began so holds of the seat's
+  -- what holds of the flow with this start holds of the seat's flow
   as_started : (s : St) (r : Rule s) (id : ℕ) (v : V) (k : StateKnowledge T) (number : ℕ) (last : Option ℕ) → v ≡ only v ∷ [] → get_elem? s.views id ≡ some v → HasGot packs value_of (begun value_of start) k number last
       → HasGot packs value_of (begun value_of (only v).start) k number last
   as_started s r id v k number last is at new = subst (λ (z : Start). HasGot packs value_of (begun value_of z) k number last) (sym (started T packs value_of start s r id v is at)) new
@@ -82,12 +82,12 @@ module _ (T : Type 0) (packs : ℕ → Type 0) (value_of : ℕ → T) (start : S
     packed = packed;
   }
 
-  -- what a call of `next` owes
+  -- what the step of a `next` has to prove
   abbrev NextOwes : St → ℕ → Me Unit V → LastGot → ℕ → Next T → Type 0
   NextOwes s id me x found y = (w : V) × (a : Act Unit) × Valid s.homes me.1 a × Rule (stepped s 0 found id me.1 w a) × packs found × Makes value_of me (call.TakeNext x.number) (reply.Received y) (w, carried_after me.1 a)
       × ((only w).subscriber ≡ Some (last_got x.number (Some found))) × HasGot packs value_of (begun value_of (only me.0).start) (only w).knows x.number (Some found)
 
-  -- where the reply is the flow's, and the subscriber has then got the value found
+  -- the step proves it if the documented flow may give the reply, and the subscriber has then got the value found
   next_is : (s : St) (r : Rule s) (id : ℕ) (me : Me Unit V) (x : LastGot) (y : Next T) → me.0 ≡ only me.0 ∷ [] → get_elem? s.views id ≡ some me.0 → IsGiven state_flow (only me.0).knows.name (subscriber x.number) r.history
       → Replies (current r.history) (call.TakeNext x.number) (reply.Received y)
       → last_of x.number (after (current r.history) (call.TakeNext x.number) (reply.Received y)).subscribers ≡ Some (Some (value_of (get_or s.words 0 0)))

@@ -1,4 +1,4 @@
--- What callers of a word state have updated: one call after the other, each in a thread of its own, and what all of it comes to.
+-- What callers of a word state have updated: one call after another, each caller in its own thread, and the final value.
 use Rattle.std.proofs.Common.{◌≡◌, ℕ, zero, suc, pos, ◌+◌, ◌*◌, ◌^◌, ◌<◌, w64, List, ◌∷◌, length, get_or, map, refl, ap, subst, ◌∙◌, arith}
 use Rattle.std.proofs.lemmas.Int.{wrapping_add_is, int_wrap_fits}
 use Rattle.std.specs.Fork.{ChangesEach}
@@ -25,7 +25,7 @@ module _ {T : Type 0} {g : T → T} where
   pub updated_nothing : (c : CallerOfWord T) → HasUpdated g 0 c c
   updated_nothing c = record { flow = refl; updates = times_none g c.token.knows }
 
-  -- one more update, by a function that answers what g says
+  -- one more update, by a function that returns what g does
   pub updated_more : {n : ℕ} {a b c : CallerOfWord T} {Gives : T → T → Type 0} → ((x y : T) → Gives x y → y ≡ g x) → HasUpdated g n a b → c.flow ≡ b.flow
       → (x : T) × (y : T) × Updates b.flow.first Gives b.token x y c.token → HasUpdated g (n + 1) a c
   updated_more {n} {a} {b} {c} {Gives} gives was same u = record {
@@ -42,8 +42,8 @@ at_each P holds xs ys changes i d l =
     let e = (changes i d l).1 in
     subst (λ y. P (get_or xs i d) y) e.left (subst (λ x. P x e.after_call.now) e.argument_is (holds i e.argument e.after_call e.call))
 
--- Callers were made through the first one of a new flow, and then each of them has updated so often, in a call of `for_each_mut`. At
--- the end the value is g of the first one, as often as all of them updated.
+-- n callers were made through the first one of a new flow, and then each of them has made `each` updates in a call of `for_each_mut`.
+-- The final value is g applied n * each times to the first value.
 pub value_of_updates : {T F : Type 0} {m : Shared F (ℕ × (MutBor (CallerOfWord T) × Unit {0})) ((Unit {0}) × (MutBor (CallerOfWord T) × Unit {0}))} {f : F} {g : T → T} {limit n each : ℕ} {v value : T}
     {flow now : Origin T} {seat token : Token T} {maker : CallerOfWord T} {made xs : List (CallerOfWord T)} (ys : List (CallerOfWord T))
     → Begins (first_state_flow limit v) (flow, seat) → maker ≡ called_by flow seat → now ≡ maker.flow → MakesMany n maker.token token → AreNextSeats maker.flow maker.token n made
@@ -69,6 +69,6 @@ adds_up (suc n) v h =
     let k : (v + 1) + n ≡ v + suc n = omega arith in
     ap (iterate plus_one n) one ∙ rest ∙ ap pos k
 
--- so long as it fits 64 bits, the value is how many there were
+-- as long as it fits 64 bits, the value is the number of updates
 pub counts_up : (n : ℕ) → n < 2 ^ 63 → iterate plus_one n (pos 0) ≡ pos n
 counts_up n h = adds_up n 0 (omega arith) ∙ ap pos (let z : 0 + n ≡ n = omega arith in z)

@@ -1,4 +1,4 @@
--- Calls of `next` that found nothing, before one that did.
+-- Calls of `next` that found nothing, before one that found something.
 use Rattle.std.proofs.Common.{◌≡◌, subst, List, [], ◌∷◌, Option, Some, None, Ok}
 use Rattle.futures.specs.Runs.{After, Within}
 use Rattle.flow_law.specs.declared.history.Said.{Said}

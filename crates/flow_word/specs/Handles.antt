@@ -1,4 +1,4 @@
--- What contracts see of the handles of a word state: callers and readers, and what the callers know that one of them made.
+-- What contracts see of the handles of a word state: callers and readers, and what callers know that one caller has made.
 use Rattle.std.specs.Prelude.{◌≡◌, ◌<◌, ℕ, List, slice_index_or}
 use Rattle.flow_law.specs.declared.call.StateCall.{StateCall}
 use Rattle.flow_law.specs.declared.call.StateReply.{StateReply}
@@ -19,15 +19,15 @@ CallerOfWord T = CallerOf WordId (StateFlowState T) (Said (StateCall T) (StateRe
 abbrev pub ReaderOfWord : Type 0 → Type 0
 ReaderOfWord T = ReaderOf WordId (StateFlowState T) (Said (StateCall T) (StateReply T))
 
--- after a history from this first state there is a subscriber of this number
+-- after this history from the first state, the flow has a subscriber with this number
 abbrev pub IsThereAfter : {T : Type 0} → StateFlowState T → StateHistory T → ℕ → Type 0
 IsThereAfter first seen number = IsThere number (state_after_all first seen)
 
--- so many seats were made through the token
+-- `count` seats were made through the token
 abbrev pub MakesMany : {Id E : Type 0} → ℕ → Token Id E → Token Id E → Type 0
 MakesMany count old new = new ≡ knowing old (makes_many count old.knows)
 
--- these are the callers whose seats are the next ones that are made through the token, in order
+-- the seats of these callers are the next `count` seats that are made through the token, in order
 abbrev pub AreNextSeats : {Id S E : Type 0} → Origin Id S → Token Id E → ℕ → List (CallerOf Id S E) → Type 0
 AreNextSeats flow token count made =
     (i : ℕ) (d : _) → i < count → slice_index_or made i d ≡ called_by flow (knowing token (nth_child i token.knows))

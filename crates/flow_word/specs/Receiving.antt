@@ -1,4 +1,4 @@
--- What waiting for a value is: calls of `next`, each one event of the one history. Begin with `Receives`. `first` is the state that the
+-- What a wait for a value does: calls of `next`, each one event of the history. Begin with `Receives`. `first` is the state that the
 -- flow began with.
 use Rattle.std.specs.Prelude.{◌≡◌, List, [], ◌∷◌, Option, Some, None, Ok}
 use Rattle.flow_law.specs.declared.history.Said.{Said}
@@ -30,18 +30,18 @@ module _ {Id T S C R : Type 0} (kind : Kind T S C R) (first : S) where
     pub in_vain : AsksInVain old between
     pub empty : NextGives between Empty new
 
-  -- what a look that ends at a time found
+  -- what a wait with a time limit does: it receives a value, or all its calls of `next` find nothing
   abbrev pub ReceivesInTime : NumberedToken Id (Said C R) → Option T → NumberedToken Id (Said C R) → Type 0
   ReceivesInTime old (Some value) new = Receives old value new
   ReceivesInTime old None new = FindsNone old new
 
-  -- each value of a stream is what may be received at its turn, and there is no end
+  -- each value of a stream is what one wait may receive, in order, and the stream does not end
   abbrev pub Yields : NumberedToken Id (Said C R) → List T → Option T → Type 0
   Yields old [] (Some value) = (new : NumberedToken Id (Said C R)) × Receives old value new
   Yields old [] None = ⊥
   Yields old (value ∷ values) next = (new : NumberedToken Id (Said C R)) × Receives old value new × Yields new values next
 
--- what a future of a reader may give: the reader, which has received this value. None is left once it was ready
+-- what a future of a reader may give: the reader, and the value that it received; nothing more after `Ready`
 abbrev pub GivesChanged : {Id T S C R : Type 0} → Kind T S C R → Option (ReaderOf Id S (Said C R)) → ReaderOf Id S (Said C R) × T → Type 0
 GivesChanged kind (Some reader) given = (given.0.flow ≡ reader.flow) × Receives kind reader.flow.first reader.subscription given.1 given.0.subscription
 GivesChanged kind None given = ⊥

@@ -9,11 +9,11 @@ use Rattle.flow_word.specs.declared.view.Known.{Known}
 use Rattle.flow_word.specs.declared.view.Start.{Start}
 use Rattle.flow_word.specs.View.{begun}
 
--- how many numbers were issued in the upper half, and how many subscribers there are in the lower one
+-- the word of the counts: the number of issued numbers in the upper half, and the number of subscribers in the lower half
 abbrev pub counts : {T : Type 0} → StateFlowState T → ℕ
 counts s = s.issued * 4294967296 + length s.subscribers
 
--- the history begins with what the token has seen, as far as others go, and the token is of the flow that began so
+-- the history begins with what the token has seen and keeps the token's rule of names, and the token is of the flow with this start
 abbrev pub IsFine : {T : Type 0} → Start → StateHistory T → Known T → Type 0
 IsFine start history x = Fits history x.knows × (x.start ≡ start)
 

@@ -19,7 +19,7 @@ use Rattle.flow_word.specs.declared.view.Known.{Known}
 use Rattle.flow_word.specs.declared.view.LastGot.{LastGot}
 use Rattle.flow_word.specs.View.{StateKnowledge, begun, last_got, with_knows, only}
 
--- what a subscriber gets where the word is found, by the pack of the last value that it got
+-- what a subscriber receives if this word is found, by the pack of the last value that it got
 abbrev pub received : {T : Type 0} → (ℕ → T) → Option ℕ → ℕ → Next T
 received value_of None found = Value (value_of found)
 received value_of (Some last) found = if last == found then Empty else Value (value_of found)
@@ -34,14 +34,14 @@ abbrev pub IsPack : (ℕ → Type 0) → Option ℕ → Type 0
 IsPack packs None = Unit {0}
 IsPack packs (Some w) = packs w
 
--- the token was given the number, and after what it has seen the subscriber is there and got last the value of this pack
+-- the token was given the number, and after what it has seen the subscriber is in the flow and got the value of this pack last
 pub record HasGot {T : Type 0} (packs : ℕ → Type 0) (value_of : ℕ → T) (first : StateFlowState T) (k : StateKnowledge T) (number : ℕ) (last : Option ℕ) : Type 0 where
   pub given : IsGiven state_flow k.name (subscriber number) k.seen
   pub got : last_of number (state_after_all first k.seen).subscribers ≡ Some (value_in value_of last)
   pub packed : IsPack packs last
 
 module _ {T : Type 0} (value_of : ℕ → T) where
-  -- the step was the event of this call with this reply, the seat has one token still, and no exchange was lost
+  -- the step was the event of this call with this reply, the seat still has one token, and no exchange was lost
   abbrev pub Makes : Me Unit (List (Known T)) → StateCall T → StateReply T → Me Unit (List (Known T)) → Type 0
   Makes before call reply after =
       AddsOne (IsStateHistory (begun value_of (only before.0).start)) (only before.0).knows call reply (only after.0).knows × ((only after.0).start ≡ (only before.0).start) × (after ≡ (only after.0 ∷ [], before.1))
@@ -51,7 +51,7 @@ module _ {T : Type 0} (value_of : ℕ → T) where
   abbrev pub sets : Step Unit → Me Unit (List (Known T)) → ℕ → Me Unit (List (Known T)) → Type 0
   sets step before found after = Makes before (Set (value_of step.first)) Done after
 
-  -- won or lost, by whether the word found was the one expected
+  -- `compare_and_set`: an exchange of the value's word, which succeeds if the word found is the expected one
   abbrev pub exchanges : Step Unit → Me Unit (List (Known T)) → ℕ → Me Unit (List (Known T)) → Type 0
   exchanges step before found after = Makes before (CompareAndSet (value_of step.first) (value_of step.second)) (Answered (found == step.first)) after
 
@@ -63,13 +63,13 @@ module _ {T : Type 0} (value_of : ℕ → T) where
   abbrev pub leaves : Step Unit → Me Unit (List (Known T)) → ℕ → Me Unit (List (Known T)) → Type 0
   leaves step before found after = (x : LastGot) → (only before.0).subscriber ≡ Some x → Makes before (Unsubscribe x.number) (Answered true) after
 
-  -- a refusal where no number is left. Else no event, and one more fits
+  -- if no number is left, a refused `subscribe`; else no event, and the counts have room for one more subscription
   abbrev pub finds_room : Step Unit → Me Unit (List (Known T)) → ℕ → Me Unit (List (Known T)) → Type 0
   finds_room step before found after =
       ((only before.0).start.limit ≤ found / 4294967296 → Makes before (Subscribe (subscription_name (only before.0).knows)) (Refused Exhausted) after)
       × (found / 4294967296 < (only before.0).start.limit → (after ≡ before) × (found + 4294967297 < 18446744073709551616))
 
-  -- the whole history so far was seen by each token of the view
+  -- each token of the view has seen the whole history so far
   abbrev pub observes : Step Unit → Me Unit (List (Known T)) → ℕ → Me Unit (List (Known T)) → Type 0
   observes step before found after =
       (history : StateHistory T) × IsStateHistory (begun value_of (only before.0).start) history × AllByRecursion (λ x. Fits history x.knows) before.0 × (after ≡ (map (with_knows (sees history)) before.0, before.1))
@@ -83,18 +83,18 @@ module _ {T : Type 0} (packs : ℕ → Type 0) (value_of : ℕ → T) where
   abbrev pub reads : Step Unit → Me Unit (List (Known T)) → ℕ → Me Unit (List (Known T)) → Type 0
   reads step before found after = packs found × Makes value_of before GetValue (Got (value_of found)) after
 
-  -- the same through the seat of a subscriber, which has then got last what it had got before
+  -- `value` through the seat of a subscriber; the last value that the subscriber got stays the same
   abbrev pub reads_by : Step Unit → Me Unit (List (Known T)) → ℕ → Me Unit (List (Known T)) → Type 0
   reads_by step before found after = (x : LastGot) → (only before.0).subscriber ≡ Some x
       → packs found × Makes value_of before GetValue (Got (value_of found)) after × ((only after.0).subscriber ≡ Some x) × HasGot packs value_of (begun value_of (only before.0).start) (only after.0).knows x.number x.last
 
-  -- `next` of the subscriber whose seat it is, which has then got the value of the word found
+  -- `next` of the subscriber whose seat it is; the value of the word found is then the last one that it got
   abbrev pub receives : Step Unit → Me Unit (List (Known T)) → ℕ → Me Unit (List (Known T)) → Type 0
   receives step before found after = (x : LastGot) → (only before.0).subscriber ≡ Some x
       → packs found × Makes value_of before (TakeNext x.number) (Received (received value_of x.last found)) after
       × ((only after.0).subscriber ≡ Some (last_got x.number (Some found))) × HasGot packs value_of (begun value_of (only before.0).start) (only after.0).knows x.number (Some found)
 
-  -- won, the next number is issued for the token that is made next. Lost, it is no event
+  -- if the exchange succeeds, a `subscribe` that issues the next number to the token that is made next; else no event
   abbrev pub enters : Step Unit → Me Unit (List (Known T)) → ℕ → Me Unit (List (Known T)) → Type 0
   enters step before found after =
       (found ≡ step.first → Makes value_of before (Subscribe (subscription_name (only before.0).knows)) (Subscribed (step.first / 4294967296 + 1)) after

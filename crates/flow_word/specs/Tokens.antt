@@ -40,11 +40,11 @@ module _ {T : Type 0} where
   abbrev pub token_of : Seat Unit (List (Known T)) → Token T
   token_of s = token (word_id s.table_id (only s.me.0).start) (only s.me.0).knows
 
-  -- the seat is one token's
+  -- the seat has one token
   abbrev pub IsIdle : Seat Unit (List (Known T)) → Type 0
   IsIdle s = s.me ≡ (only s.me.0 ∷ [], [])
 
-  -- and it is a subscriber's, which got last the value of this pack
+  -- the seat has one token, of a subscriber that got the value of this pack last
   abbrev pub IsSubscribed : (ℕ → Type 0) → (ℕ → T) → Seat Unit (List (Known T)) → ℕ → Option ℕ → Type 0
   IsSubscribed packs value_of s number last =
       IsIdle s × ((only s.me.0).subscriber ≡ Some (last_got number last)) × HasGot packs value_of (begun value_of (only s.me.0).start) (only s.me.0).knows number last

@@ -32,11 +32,11 @@ module _ {T : Type 0} where
   abbrev pub known : StateKnowledge T → Start → Option LastGot → Known T
   known knows start subscriber = record { knows = knows; start = start; subscriber = subscriber }
 
-  -- the token knows something else instead
+  -- the token, with f applied to what it knows
   abbrev pub with_knows : (StateKnowledge T → StateKnowledge T) → Known T → Known T
   with_knows f x = known (f x.knows) x.start x.subscriber
 
-  -- of the first seat
+  -- the view of the first seat
   abbrev pub first_view : Start → List (Known T)
   first_view start = known first_knowledge start None ∷ []
 
@@ -45,7 +45,7 @@ module _ {T : Type 0} where
   only [] = known first_knowledge no_start None
   only (x ∷ xs) = x
 
-  -- a joined view has two tokens. Its two parts
+  -- the first token of a view (a joined view has two tokens)
   abbrev pub first_of : List (Known T) → List (Known T)
   first_of [] = []
   first_of (x ∷ xs) = x ∷ []

@@ -20,7 +20,7 @@ module _ {Id T : Type 0} (first : StateFlowState T) where
   abbrev pub ValueBy : StateNumbered Id T → T → StateNumbered Id T → Type 0
   ValueBy old value new = CallsAtOnceIn state_flow first old.token GetValue (Got value) new.token × (new.number ≡ old.number)
 
-  -- One `value`, and then one `next`. It comes to what the `next` gave, or, if that found nothing, to what the `value` had given.
+  -- One `value`, and then one `next`. The result is what the `next` gave or, if that found nothing, what the `value` had given.
   pub data Looks : StateNumbered Id T → T → StateNumbered Id T → Type 0 where
     got_now : {s t u : StateNumbered Id T} {shown value : T} → ValueBy s shown t → NextGives state_flow first t (Value value) u → Looks s value u
     got_before : {s t u : StateNumbered Id T} {value : T} → ValueBy s value t → NextGives state_flow first t Empty u → Looks s value u
@@ -30,11 +30,11 @@ module _ {Id T : Type 0} (first : StateFlowState T) where
     looked : {s t : StateNumbered Id T} {value : T} → Looks s value t → ComesTo Fails s value t
     passed_over : {s t u : StateNumbered Id T} {failed value : T} → ComesTo Fails s failed t → Fails failed → Receives state_flow first t value u → ComesTo Fails s value u
 
-  -- the value that these came to passed the test
+  -- the last value of these passed the test
   abbrev pub ReceivesIf : (Passes Fails : T → Type 0) → StateNumbered Id T → T → StateNumbered Id T → Type 0
   ReceivesIf Passes Fails old value new = ComesTo Fails old value new × Passes value
 
-  -- the value that these came to failed the test, and then calls of `next` found nothing
+  -- the last value of these failed the test, and then calls of `next` found nothing
   pub record PassesNone (Fails : T → Type 0) (old new : StateNumbered Id T) : Type 0 where
     pub value : T
     pub between : StateNumbered Id T
@@ -42,7 +42,7 @@ module _ {Id T : Type 0} (first : StateFlowState T) where
     pub fails : Fails value
     pub empty : FindsNone state_flow first between new
 
-  -- what a wait for a value that passes a test came to at its end or in its time
+  -- what a wait with a time limit for a value that passes a test does: it gives such a value, or none has passed
   abbrev pub ReceivesIfInTime : (Passes Fails : T → Type 0) → StateNumbered Id T → Option T → StateNumbered Id T → Type 0
   ReceivesIfInTime Passes Fails old (Some value) new = ReceivesIf Passes Fails old value new
   ReceivesIfInTime Passes Fails old None new = PassesNone Fails old new

@@ -17,7 +17,7 @@ use std::alloc::Global;
 impl<T: Packed> WordState<T> {
     /// Makes a state flow with this value, and its first seat. It issues at most `limit` numbers to subscribers.
     ///
-    /// Every other seat is made through this one, or through one that was made so. Once all seats and subscriptions are
+    /// Every other seat is made through this one, directly or through other seats. Once all seats and subscriptions are
     /// dropped, no call can be made any more.
     ///
     /// # Errors
@@ -50,8 +50,8 @@ impl<T: Packed> WordState<T> {
 
     /// Makes a seat through another one. Call it for each thread, before the thread starts.
     ///
-    /// The new seat has seen what its maker had seen, and has a name of its own. If it is dropped, no call is made
-    /// under its name any more, and the flow goes on.
+    /// The new seat has seen what its maker had seen, and has a name of its own. After it is dropped, no call is made
+    /// under its name; the flow does not change.
     pub fn seat(&self, seat: &mut WordSeat<T>) -> WordSeat<T>
         requires { seat.old.table_id ≡ self.now.table_id }
         ensures maker { seat.new ≡ knowing seat.old (makes seat.old.knows) }
@@ -72,7 +72,7 @@ impl<T: Packed> WordState<T> {
         self.table.shared.load::<Read>(&mut seat.seat, 0)
     }
 
-    /// Does `compare_and_set` by packs.
+    /// Makes a call of `compare_and_set`, with the packs of its arguments.
     pub(crate) fn exchange(&self, seat: &mut WordSeat<T>, expect: u64, update: u64) -> bool
         requires flow { seat.old.table_id ≡ self.now.table_id }
         requires packs { T.packs expect × T.packs update }
@@ -121,8 +121,8 @@ impl<T: Packed> WordState<T> {
 
     /// Sets the value to `update` if it is equal to `expect`, and returns whether it was. Both happen in one event.
     ///
-    /// If both are equal to the current value, returns `true`, and subscribers get nothing new. At `false` the
-    /// value was another one: read it and try again, as `update` does.
+    /// If both are equal to the current value, returns `true`, and subscribers get nothing new. If the result is
+    /// `false`, the value was another one: read it and try again, as `update` does.
     pub fn compare_and_set(&self, seat: &mut WordSeat<T>, expect: T, update: T) -> bool
         requires { seat.old.table_id ≡ self.now.table_id }
         ensures { CallsAtOnceIn state_flow self.now.first seat.old

@@ -11,7 +11,7 @@ use futures::Future;
 use futures::task::{Context, Poll};
 use std::marker::Model;
 
-/// Waits until the value differs from the one that a reader got last, and gives the reader and the value.
+/// A future that waits until the value differs from the one that a reader got last, and gives the reader and the value.
 ///
 /// A poll that finds nothing leaves its task's waker with the flow, and looks once more. The call that changes the
 /// value wakes the task. If no waker can be kept at that moment, the task asks to be polled again. After `Ready` a poll
@@ -50,7 +50,7 @@ impl<'a, T: Packed> WordReader<'a, T> {
 }
 
 impl<'a, T: Packed> ChangedFuture<'a, T> {
-    /// Ends the future, and returns the reader, or `None` after `Ready`, when the answer had it.
+    /// Ends the future, and returns the reader, or `None` after `Ready`, when the output had it.
     pub fn into_reader(self) -> Option<WordReader<'a, T>>
         ensures { result ≡ self.entry }
     {

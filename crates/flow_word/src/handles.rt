@@ -1,4 +1,4 @@
-//! Handles: a token with its word state, so that no caller has to show that they belong together.
+//! Handles: tokens bound to their word states, so that no caller has to show that they belong together.
 mod many;
 mod reader;
 mod setter;

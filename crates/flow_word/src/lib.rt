@@ -11,16 +11,16 @@
 //! `WordReader`) are tokens with their flow, and require nothing.
 //!
 //! # What each call promises
-//! The same as a call of a `StateFlow`, in the same words: the token has then seen a history of the flow that begins
-//! with all that it had seen, goes on with events of others, and ends with this call and this reply.
+//! A call promises what the call of a `StateFlow` does, in the same words: the token has then seen a history of the
+//! flow, which is all that it had seen, followed by events of other callers and by this call with this reply.
 //!
 //! # Trying again
 //! `subscribe` and the updates try again if another caller was faster. They take `rt`, and no contract says that they
 //! ever succeed.
 //!
 //! # Dropping
-//! A dropped seat makes no more calls. A dropped subscription stays in the flow, and is counted. A dropped reader, and a
-//! stream or a future of one, ends its subscription.
+//! A dropped seat makes no more calls. A dropped subscription stays in the flow, and still counts. Dropping a reader,
+//! or a stream or a future of one, ends its subscription.
 #![tactic(auto)]
 
 mod calls;

@@ -1,4 +1,4 @@
-//! Meetings: two callers have then seen one history.
+//! Meetings, after which two callers have seen the same history.
 ghost use Rattle.std.specs.Prelude.{◌≡◌};
 ghost use Rattle.flow_law.specs.StateFlow.{state_flow};
 ghost use Rattle.flow_law.specs.Tokens.{MeetsIn};
@@ -35,8 +35,8 @@ impl<T: Packed> WordState<T> {
         *other = shared.split_seat::<Part>(one);
     }
 
-    /// Lets two seats meet: both have then seen one history, which has all that was done so far. It makes no call of
-    /// the flow.
+    /// Lets two seats meet: both have then seen the same history, which has all calls so far. It makes no call of the
+    /// flow.
     ///
     /// Call it if a caller relies on what the other one did, for instance after a thread has ended and returned its
     /// seat.

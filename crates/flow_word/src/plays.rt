@@ -98,14 +98,14 @@ impl<T> Join<Sequence<Known<T>>> for Meet {
     ghost spent = { [] };
 }
 
-/// A load, by which both see the whole history so far.
+/// A load, by which both tokens see the whole history so far.
 pub(crate) struct Observe;
 
 impl<T: Packed> Play<(), Sequence<Known<T>>> for Observe {
     ghost then = { observes T.value_of };
 }
 
-/// A load that changes nothing, by which a token learns that what it has seen begins a history.
+/// A load that changes nothing, and proves that what a token has seen begins a history.
 pub(crate) struct Look;
 
 impl<T: Packed> Play<(), Sequence<Known<T>>> for Look {

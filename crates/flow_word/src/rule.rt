@@ -3,7 +3,7 @@ use crate::view::{Known, Start};
 use atomic_table::TableRule;
 use flow_law::{Packed, Sequence};
 
-/// The rule that the two words, and what all tokens know, keep between any two steps.
+/// The rule that holds of the two words, and of what all tokens know, between any two steps.
 pub struct WordRule;
 
 impl<T: Packed> TableRule<(), Sequence<Known<T>>, Start> for WordRule {

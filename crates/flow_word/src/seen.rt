@@ -27,7 +27,7 @@ impl<T: Packed> WordState<T> {
     /// Proves the laws of state flows for what the seat has seen, whichever caller made the flow. It makes no call of
     /// the flow and changes nothing.
     ///
-    /// Call it on a lent flow, to conclude what a subscriber received, or that it comes to the current value.
+    /// Call it on a lent flow, to conclude what a subscriber received, or that it reaches the current value.
     pub fn seen(&self, seat: &mut WordSeat<T>)
         requires { seat.old.table_id ≡ self.now.table_id }
         ensures unchanged { seat.new ≡ seat.old }
@@ -46,7 +46,7 @@ impl<T: Packed> WordState<T> {
         ensures history { IsStateHistory self.now.first subscription.new.token.knows.seen }
         ensures conflated { Conflates self.now.first.value subscription.new.token.knows.seen }
         ensures current { (u : ℕ) → Converges u self.now.first subscription.new.token.knows.seen }
-        // Its subscriber is there.
+        // After this history the flow has its subscriber.
         ensures subscribed { IsThereAfter self.now.first
             subscription.new.token.knows.seen subscription.new.number }
     {

@@ -27,14 +27,14 @@ pub(crate) struct WordSleepers {
     tasks: Mutex<Sleepers<Global>>,
 }
 
-/// A thread that is counted among the sleepers. Dropping this ends that.
+/// A thread that is counted among the sleepers until this is dropped.
 pub(crate) struct Announced<'a> {
     sleepers: &'a WordSleepers,
     epoch: u64,
 }
 
 impl WordSleepers {
-    /// Returns a list without sleepers. It takes no memory.
+    /// Returns a list without sleepers. Does not allocate.
     pub fn new(alloc: Global) -> WordSleepers {
         WordSleepers {
             waiting: AtomicU64::new(0),
@@ -60,8 +60,8 @@ impl WordSleepers {
         self.wake_tasks();
     }
 
-    /// Wakes the tasks if a change has not woken them yet. It waits for no other caller: if one has the list, that one
-    /// wakes the tasks once it has given the list back.
+    /// Wakes the tasks if a change has not woken them yet. Does not wait: if another caller has the list, that caller
+    /// wakes the tasks after it has given the list back.
     fn wake_tasks(&self) {
         for _ in 0..u64::MAX {
             if self.is_missed.load(SeqCst) == 0 {
@@ -84,7 +84,7 @@ impl WordSleepers {
         Some(tasks.take_all())
     }
 
-    /// Counts the thread among the sleepers. It looks at the word after that, and then sleeps or drops the result.
+    /// Counts the thread among the sleepers. After that, look at the word, and then sleep or drop the result.
     pub fn announce(&self) -> Announced<'_> {
         self.waiting.fetch_add(1, SeqCst);
         Announced {
@@ -93,7 +93,7 @@ impl WordSleepers {
         }
     }
 
-    /// Leaves the waker of the task that is polled, under its subscriber's number. The task looks at the word after that. If
+    /// Leaves the waker of the polled task, under its subscriber's number. After that, look at the word once more. If
     /// no waker can be kept now, the task asks to be polled again.
     pub fn leave_waker(&self, cx: &mut Context<'_>, number: u64)
         ensures armed { IsArmed cx.new }

@@ -17,7 +17,7 @@ use std::thread;
 const ENTRY: u64 = (1 << 32) + 1;
 
 impl<T: Packed> WordState<T> {
-    /// Tries once. Returns `None` if another caller changed the counts in between.
+    /// Tries to subscribe once. Returns `None` if another caller changed the counts in between.
     fn try_subscribe(
         &self,
         seat: &mut WordSeat<T>,
@@ -51,7 +51,7 @@ impl<T: Packed> WordState<T> {
     /// Subscribes. The subscriber gets the current value first.
     ///
     /// The subscription has a seat of its own, made through this one. If another caller subscribes or unsubscribes at
-    /// the same moment, lets other threads go first, and tries again.
+    /// the same moment, yields the thread and tries again.
     ///
     /// # Errors
     /// `Exhausted` if the flow has issued as many numbers as its limit allows.
@@ -93,7 +93,8 @@ impl<T: Packed> WordState<T> {
         }
     }
 
-    /// Does the same as `value`, through the seat of a subscription. The subscriber does not receive the value by it.
+    /// Returns what `value` returns, through the seat of a subscription. The subscriber does not receive the value by
+    /// it.
     pub(crate) fn value_by(&self, subscription: &mut WordSubscription<T>) -> T
         requires { subscription.old.token.table_id ≡ self.now.table_id }
         ensures called { CallsAtOnceIn state_flow
@@ -115,7 +116,7 @@ impl<T: Packed> WordState<T> {
         WordSeat { seat }
     }
 
-    /// Counts the subscribers. A dropped subscription is counted: only `unsubscribe` ends one.
+    /// Counts the subscribers. A dropped subscription still counts: only `unsubscribe` ends one.
     pub fn subscription_count(&self, seat: &mut WordSeat<T>) -> u64
         requires { seat.old.table_id ≡ self.now.table_id }
         ensures { CallsAtOnceIn state_flow self.now.first seat.old call.SubscriptionCount

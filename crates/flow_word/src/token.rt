@@ -55,12 +55,12 @@ impl<T: Packed> Model for WordState<T> {
 
 /// A seat at a word state, by which a caller calls the flow. Contracts see the history that it has seen.
 ///
-/// If a seat is dropped, no call is made under its name any more. The flow goes on.
+/// After a seat is dropped, no call is made under its name. The flow does not change.
 pub struct WordSeat<T> {
     pub(crate) seat: Seat<(), Sequence<Known<T>>>,
 }
 
-// Not derived: each crate that drops a seat would prove again how that is done.
+// Not derived: each crate that drops a seat would have to prove again how it is dropped.
 impl<T> Drop for WordSeat<T> {
     fn drop(self) {
         let Self { seat: _ } = self;
@@ -77,7 +77,7 @@ impl<T> Model for WordSeat<T> {
 
 /// A subscription to a word state: a seat of its own, its number, and the pack of the last value that it got.
 ///
-/// A dropped subscription stays, and is counted; its seat is lost. Call `unsubscribe` to end it.
+/// A dropped subscription stays, and still counts; its seat is lost. Call `unsubscribe` to end it.
 #[derive(Drop)]
 pub struct WordSubscription<T: Packed> {
     pub(crate) seat: Seat<(), Sequence<Known<T>>>,

@@ -8,7 +8,7 @@ use std::sync::Wait;
 use std::thread;
 
 impl<T: Packed> WordState<T> {
-    /// Returns the packs of the value that was read and of the function's answer, in the round that succeeded.
+    /// Makes rounds until one succeeds. Returns the packs of the value that it read and of the function's result.
     fn rounds<R: Wait, F: Fn(T) -> T>(&self, rt: &R, seat: &mut WordSeat<T>, f: F) -> (u64, u64)
         requires flow { seat.old.table_id ≡ self.now.table_id }
         requires callable { F.IsAlwaysCallable f }
@@ -30,9 +30,8 @@ impl<T: Packed> WordState<T> {
 
     /// Updates the value by a function of it.
     ///
-    /// The function may be called several times: once in each round, of which all but the last were lost because
-    /// another caller set the value in between. No caller waits while it runs. After a lost round other threads go
-    /// first.
+    /// The function is called once in each round. If another caller sets the value in between, the round is lost: the
+    /// thread yields, and the next round begins. No caller waits while the function runs.
     pub fn update<R: Wait, F: Fn(T) -> T>(&self, rt: &R, seat: &mut WordSeat<T>, f: F)
         requires flow { seat.old.table_id ≡ self.now.table_id }
         requires callable { F.IsAlwaysCallable f }
@@ -43,7 +42,7 @@ impl<T: Packed> WordState<T> {
         self.rounds(rt, seat, f);
     }
 
-    /// Updates the value as `update` does, and returns the value that was there before.
+    /// Updates the value as `update` does, and returns the previous value.
     pub fn get_and_update<R: Wait, F: Fn(T) -> T>(&self, rt: &R, seat: &mut WordSeat<T>, f: F) -> T
         requires flow { seat.old.table_id ≡ self.now.table_id }
         requires callable { F.IsAlwaysCallable f }
@@ -54,7 +53,7 @@ impl<T: Packed> WordState<T> {
         T::unpack(self.rounds(rt, seat, f).0)
     }
 
-    /// Updates the value as `update` does, and returns the value that was set.
+    /// Updates the value as `update` does, and returns the new value.
     pub fn update_and_get<R: Wait, F: Fn(T) -> T>(&self, rt: &R, seat: &mut WordSeat<T>, f: F) -> T
         requires flow { seat.old.table_id ≡ self.now.table_id }
         requires callable { F.IsAlwaysCallable f }

@@ -10,7 +10,7 @@ use futures::Stream;
 use futures::task::{Context, Poll};
 use std::marker::Model;
 
-/// The values that a reader receives, as a stream without an end.
+/// A stream of the values that a reader receives. It does not end.
 ///
 /// A poll that finds nothing leaves its task's waker with the flow, and looks once more. The call that changes the
 /// value wakes the task. If no waker can be kept at that moment, the task asks to be polled again.
@@ -40,7 +40,7 @@ impl<'a, T: Packed> Model for WordValues<'a, T> {
 }
 
 impl<'a, T: Packed> WordReader<'a, T> {
-    /// Returns the values that it receives as a stream.
+    /// Returns the values that the subscriber receives, as a stream that is woken.
     pub fn into_stream(self) -> WordValues<'a, T>
         ensures { result ≡ self.entry }
     {

@@ -1,4 +1,4 @@
-//! What the table of a word state knows of its seats. But for `Start`, no value of these types is made.
+//! What the table of a word state knows of its seats. Except for `Start`, no value of these types is ever made.
 ghost use Rattle.std.specs.Prelude.{◌≡◌};
 
 use flow_law::{Knowledge, Said, StateCall, StateReply};

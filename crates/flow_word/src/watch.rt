@@ -5,18 +5,18 @@ use flow_law::Packed;
 use std::sync::Wait;
 use std::time::Duration;
 
-/// A thread that is counted among those that a change of the number of subscribers wakes.
+/// A thread that is registered to be woken when the number of subscribers changes.
 ///
 /// # Dropping
-/// Dropping it takes the thread out of that count.
+/// Dropping it ends the registration.
 #[derive(Drop)]
 pub struct CountWatch<'a> {
     announced: Announced<'a>,
 }
 
 impl<T: Packed> WordState<T> {
-    /// Counts the thread among those that a change of the number of subscribers wakes. It looks at `subscription_count` after
-    /// that, and then sleeps or drops the result.
+    /// Registers the thread to be woken when the number of subscribers changes. After that, call `subscription_count`,
+    /// and then sleep or drop the result.
     pub fn watch_count(&self) -> CountWatch<'_> {
         CountWatch {
             announced: self.watchers.announce(),
@@ -30,8 +30,8 @@ impl<T: Packed> WordState<T> {
 }
 
 impl CountWatch<'_> {
-    /// Sleeps until a subscriber has come or gone since the thread was counted, or for `most`, if that is given. It may
-    /// return early.
+    /// Sleeps until a subscriber was added or removed since the thread was registered, or for `most`, if that is given.
+    /// It may return early.
     pub fn sleep<R: Wait>(self, rt: &R, most: Option<Duration>) {
         self.announced.sleep(rt, most);
     }

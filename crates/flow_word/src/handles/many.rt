@@ -1,4 +1,4 @@
-//! Callers with a thread each, and what they have done once these threads have ended.
+//! Callers with a thread each, and what they did, once these threads have ended.
 ghost use Rattle.std.specs.Prelude.{◌≡◌, ◌∷◌, ℕ, ◌<◌, All, IfOk, length, map, slice_index_or, vec_len};
 ghost use Rattle.flow_law.specs.Rounds.{OnlyMeets, MeetsInTurn, IsFinalValue};
 ghost use Rattle.flow_law.specs.StateFlow.{state_flow};
@@ -9,10 +9,10 @@ use flow_law::{OutOfMemory, Packed};
 use std::alloc::Global;
 
 impl<'a, T: Packed> WordSetter<'a, T> {
-    /// Makes so many more callers through this one. Call it before their threads start.
+    /// Makes `count` more callers through this one. Call it before their threads start.
     ///
     /// # Errors
-    /// `OutOfMemory` if there is no room for them. The seats that were made by then are dropped.
+    /// `OutOfMemory` if there is no memory for them. The seats that were made by then are dropped.
     pub fn others(
         &mut self,
         alloc: Global,
@@ -35,7 +35,8 @@ impl<'a, T: Packed> WordSetter<'a, T> {
 
     /// Meets each of the others, one after the other.
     ///
-    /// Each of them has then seen what this caller had seen before, and this caller has seen what each of them had seen.
+    /// Each of them has then seen what this caller had seen before, and this caller has seen what each of them had
+    /// seen.
     pub fn meet_all(&mut self, others: &mut [WordSetter<'_, T>])
         requires { All (λ c. c.flow.table_id ≡ self.old.flow.table_id) others.old }
         ensures flow { self.new.flow ≡ self.old.flow }
@@ -53,11 +54,11 @@ impl<'a, T: Packed> WordSetter<'a, T> {
         }
     }
 
-    /// Returns the value after all that this caller and the others did, and after nothing else under their names. Call it
-    /// once the threads of the others have ended.
+    /// Returns the value after all that this caller and the others did, and after nothing else under their names. Call
+    /// it once the threads of the others have ended.
     ///
-    /// All meet, the value is read, and all meet again: because of the first round nothing is left out of what is read, and
-    /// the second round shows that none of them has done more.
+    /// All meet, the value is read, and all meet again. After the first round the value that is read comes after all
+    /// that they did; the second round shows that none of them has done more.
     pub fn final_value(&mut self, others: &mut [WordSetter<'_, T>]) -> T
         requires { All (λ c. c.flow.table_id ≡ self.old.flow.table_id) others.old }
         ensures flow { self.new.flow ≡ self.old.flow }

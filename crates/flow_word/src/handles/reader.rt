@@ -87,7 +87,8 @@ impl<'a, T: Packed> WordReader<'a, T> {
         WordSetter::new(flow, seat)
     }
 
-    /// Proves the laws of state flows for what the subscription has seen. It makes no call of the flow and changes nothing.
+    /// Proves the laws of state flows for what the subscription has seen. It makes no call of the flow and changes
+    /// nothing.
     pub fn seen(&mut self)
         ensures unchanged { self.new ≡ self.old }
         ensures history { IsStateHistory

@@ -19,7 +19,7 @@ use std::sync::Wait;
 /// A seat, and its word state. Contracts see both.
 ///
 /// # Dropping
-/// Dropping it drops its seat: no caller has that name any more, and the flow does not change.
+/// Dropping it drops its seat: no call is made under its name any more, and the flow does not change.
 pub struct WordSetter<'a, T: Packed> {
     pub(crate) flow: &'a WordState<T>,
     pub(crate) seat: WordSeat<T>,
@@ -88,8 +88,8 @@ impl<'a, T: Packed> WordSetter<'a, T> {
 
     /// Returns the current value.
     ///
-    /// Another caller may set the value right after. Call `update` or `compare_and_set` to set a value that depends on the
-    /// current one.
+    /// Another caller may set the value right after. Call `update` or `compare_and_set` to set a value that depends on
+    /// the current one.
     pub fn value(&mut self) -> T
         ensures flow { self.new.flow ≡ self.old.flow }
         ensures called { CallsAtOnceIn state_flow self.old.flow.first self.old.token call.GetValue
@@ -98,7 +98,8 @@ impl<'a, T: Packed> WordSetter<'a, T> {
         self.flow.value(&mut self.seat)
     }
 
-    /// Sets the current value. Setting a value that is equal to the current one does nothing: no subscriber gets it again.
+    /// Sets the current value. Setting a value that is equal to the current one does nothing: no subscriber gets it
+    /// again.
     pub fn set(&mut self, value: T)
         ensures flow { self.new.flow ≡ self.old.flow }
         ensures called { CallsAtOnceIn state_flow self.old.flow.first self.old.token
@@ -110,7 +111,7 @@ impl<'a, T: Packed> WordSetter<'a, T> {
 
     /// Sets the value to `update` if it is equal to `expect`, and returns whether it was. Both happen in one event.
     ///
-    /// At `false` the value was another one: read it and try again, as `update` does.
+    /// If the result is `false`, the value was another one: read it and try again, as `update` does.
     pub fn compare_and_set(&mut self, expect: T, update: T) -> bool
         ensures flow { self.new.flow ≡ self.old.flow }
         ensures called { CallsAtOnceIn state_flow self.old.flow.first self.old.token
@@ -119,7 +120,8 @@ impl<'a, T: Packed> WordSetter<'a, T> {
         self.flow.compare_and_set(&mut self.seat, expect, update)
     }
 
-    /// Counts the subscribers. A subscription whose token was dropped is counted; one whose handle was dropped has ended.
+    /// Counts the subscribers. A subscription whose token was dropped still counts; one whose handle was dropped has
+    /// ended.
     pub fn subscription_count(&mut self) -> u64
         ensures flow { self.new.flow ≡ self.old.flow }
         ensures counted { CallsAtOnceIn state_flow
@@ -129,7 +131,7 @@ impl<'a, T: Packed> WordSetter<'a, T> {
         self.flow.subscription_count(&mut self.seat)
     }
 
-    /// Joins what two callers of one flow have seen: afterwards both have seen one history, with all calls so far.
+    /// Joins what two callers of one flow have seen: afterwards both have seen the same history, with all calls so far.
     pub fn meet(&mut self, other: &mut WordSetter<'_, T>)
         requires { other.old.flow.table_id ≡ self.old.flow.table_id }
         ensures flow { (self.new.flow ≡ self.old.flow) × (other.new.flow ≡ other.old.flow) }

@@ -9,8 +9,8 @@ use std::sync::Wait;
 impl<'a, T: Packed> WordSetter<'a, T> {
     /// Updates the value by a function of it.
     ///
-    /// The function may be called several times: if another caller sets the value in between, the update reads again. No
-    /// other caller waits while it runs.
+    /// The function may be called several times: if another caller sets the value in between, the update reads again.
+    /// No other caller waits while the function runs.
     pub fn update<R: Wait, F: Fn(T) -> T>(&mut self, rt: &R, f: F)
         requires callable { F.IsAlwaysCallable f }
         ensures flow { self.new.flow ≡ self.old.flow }
@@ -20,7 +20,7 @@ impl<'a, T: Packed> WordSetter<'a, T> {
         self.flow.update(rt, &mut self.seat, f);
     }
 
-    /// Updates the value as `update` does, and returns the value that was there before.
+    /// Updates the value as `update` does, and returns the previous value.
     pub fn get_and_update<R: Wait, F: Fn(T) -> T>(&mut self, rt: &R, f: F) -> T
         requires callable { F.IsAlwaysCallable f }
         ensures flow { self.new.flow ≡ self.old.flow }
@@ -30,7 +30,7 @@ impl<'a, T: Packed> WordSetter<'a, T> {
         self.flow.get_and_update(rt, &mut self.seat, f)
     }
 
-    /// Updates the value as `update` does, and returns the value that was set.
+    /// Updates the value as `update` does, and returns the new value.
     pub fn update_and_get<R: Wait, F: Fn(T) -> T>(&mut self, rt: &R, f: F) -> T
         requires callable { F.IsAlwaysCallable f }
         ensures flow { self.new.flow ≡ self.old.flow }

@@ -23,8 +23,8 @@ impl<'a, T: Packed> WordReader<'a, T> {
         self.next()
     }
 
-    /// Takes the value if it has changed. If it has not, sleeps until the next change, or for `most`, if that is given, and
-    /// returns `None`.
+    /// Takes the value if it has changed. If it has not, sleeps until the next change, or for `most`, if that is given,
+    /// and returns `None`.
     fn look_or_sleep<R: Wait>(&mut self, rt: &R, most: Option<Duration>) -> Option<T>
         ensures flow { self.new.flow ≡ self.old.flow }
         ensures received { ReceivesInTime state_flow self.old.flow.first
@@ -41,7 +41,7 @@ impl<'a, T: Packed> WordReader<'a, T> {
         }
     }
 
-    /// Takes the value if it has changed. If it has not, leaves the waker of the task that is polled, and looks once more.
+    /// Takes the value if it has changed. If it has not, leaves the waker of the polled task, and looks once more.
     pub(crate) fn look_or_leave_waker(&mut self, cx: &mut Context<'_>) -> Option<T>
         ensures flow { self.new.flow ≡ self.old.flow }
         ensures received { ReceivesInTime state_flow self.old.flow.first
@@ -58,14 +58,14 @@ impl<'a, T: Packed> WordReader<'a, T> {
         self.look()
     }
 
-    /// Waits until the value differs from the one that the subscriber got last, and returns it. A new subscriber gets the
-    /// current value at once.
+    /// Waits until the value differs from the one that the subscriber got last, and returns it. A new subscriber gets
+    /// the current value at once.
     ///
-    /// The thread sleeps meanwhile: `set`, `compare_and_set` and the updates wake it, also those of the flow itself. A slow
+    /// The thread sleeps meanwhile: `set`, `compare_and_set` and the updates of setters and of the flow wake it. A slow
     /// subscriber skips values and gets the most recent one.
     ///
     /// # Source
-    /// `StateFlow.collect`: what it emits next.
+    /// `StateFlow.collect`: the next value that it emits.
     pub fn changed<R: Wait>(&mut self, rt: &R) -> T
         ensures flow { self.new.flow ≡ self.old.flow }
         ensures received { Receives state_flow self.old.flow.first
@@ -101,8 +101,8 @@ impl<'a, T: Packed> WordReader<'a, T> {
         unreachable!()
     }
 
-    /// Waits as `changed` does, for no longer than `limit`, and returns `None` if the value has not changed by then. If the
-    /// clock cannot be read, it looks once.
+    /// Waits as `changed` does, for no longer than `limit`, and returns `None` if the value has not changed by then. If
+    /// the clock cannot be read, it looks once.
     ///
     /// # Source
     /// `withTimeoutOrNull` around a collection of one value.
@@ -116,7 +116,7 @@ impl<'a, T: Packed> WordReader<'a, T> {
 }
 
 impl<'a, T: Packed + Drop> WordReader<'a, T> {
-    /// Returns the current value, and takes it if the subscriber has not got it.
+    /// Returns the current value, and takes it if the subscriber has not received it.
     fn current(&mut self) -> T
         ensures flow { self.new.flow ≡ self.old.flow }
         ensures looked { Looks self.old.flow.first
@@ -129,9 +129,9 @@ impl<'a, T: Packed + Drop> WordReader<'a, T> {
         }
     }
 
-    /// Waits until the current value passes a test, and returns it. It is tested at once, also if the subscriber got it
-    /// before. The subscriber gets the values up to the one that passed, each as `changed` gives it, and `changed` does not
-    /// give them again.
+    /// Waits until the current value passes a test, and returns it. The current value is tested at once, even if the
+    /// subscriber received it before. The subscriber receives all tested values, as by `changed`, which does not return
+    /// them again.
     ///
     /// # Source
     /// `StateFlow.first { }`.
@@ -152,8 +152,9 @@ impl<'a, T: Packed + Drop> WordReader<'a, T> {
         unreachable!()
     }
 
-    /// Waits as `wait_for` does, for no longer than `limit`, and returns `None` if no value has passed the test by then. The
-    /// current value is tested in any case; if the clock cannot be read, it alone is. Values that failed count as received.
+    /// Waits as `wait_for` does, for no longer than `limit`, and returns `None` if no value has passed the test by
+    /// then. The current value is tested in any case; if the clock cannot be read, no other value is. Values that
+    /// failed count as received.
     ///
     /// # Source
     /// `withTimeoutOrNull` around `StateFlow.first { }`.

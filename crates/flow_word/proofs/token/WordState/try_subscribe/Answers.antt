@@ -12,7 +12,7 @@ use Rattle.flow_word.proofs.SeatSteps.{making}
 use Rattle.flow_word.proofs.Subscribing.{finding, entering}
 use Rattle.flow_word.proofs.token.WordState.try_subscribe.Goals as goal
 
--- an answer is not the lack of one
+-- `Some` is not `None`
 answered : {X P : Type 0} (x : X) → Some x ≡ None → P
 answered x is = absurd (cc)
 
